@@ -1,5 +1,6 @@
 -- The last slash of a path.
-use Rattle.std.proofs.Common.{arith, ◌≡◌, ◌≢◌, ◌<◌, ◌≤◌, ◌+◌, ℕ, suc, List, Some, None, Option, MatchOption, [], ◌∷◌, ◌++◌, length, take, drop, get_or, Bor}
+use Rattle.std.proofs.Common.{arith, ◌≡◌, ◌≢◌, ◌<◌, ◌≤◌, ◌+◌, ℕ, suc, List, Some, None, Option, MatchOption, [], ◌∷◌}
+use Rattle.std.proofs.Common.{◌++◌, length, take, drop, get_or, Bor}
 use Rattle.std.proofs.Common.{true, false, ◌||◌, nat_eq, if◌then◌else◌, refl, sym, ap, ◌∙◌, subst}
 use Rattle.std.specs.List.{list_any}
 use Rattle.std.specs.Str.{NoCharPasses}
@@ -14,7 +15,8 @@ use Rattle.debug_files.specs.DebugPaths.{is_slash, folder}
 abbrev pub SplitsAtSlash : List ℕ → Option (Bor (List ℕ) × Bor (List ℕ)) → Type 0
 SplitsAtSlash bs r =
     MatchOption r (RFindsChar 47 bs None) (λ x.
-    (i : ℕ) × (j : ℕ) × RFindsChar 47 bs (Some (i, j)) × (x.0.now ≡ take i bs) × (x.1.now ≡ drop j bs) × (i ≤ j) × (length x.0.now ≡ i)
+    (i : ℕ) × (j : ℕ) × RFindsChar 47 bs (Some (i, j)) × (x.0.now ≡ take i bs) × (x.1.now ≡ drop j bs) × (i ≤ j)
+    × (length x.0.now ≡ i)
     × (length x.1.now + j ≡ length bs))
 
 no_slash : (bs : List ℕ) → ((i : ℕ) → i < length bs → get_or bs i 0 ≢ 47) → list_any is_slash bs ≡ false
@@ -31,7 +33,8 @@ folder_none (b ∷ path) e = ap (λ v. if v then b ∷ folder path else []) e
 any_split : (xs ys : List ℕ) → list_any is_slash (xs ++ (47 ∷ ys)) ≡ true
 any_split [] ys = refl
 any_split (x ∷ xs) ys =
-    elim (is_slash x) as (λ v. (v || list_any is_slash (xs ++ (47 ∷ ys))) ≡ true) [ true ↦ refl | false ↦ any_split xs ys ]
+    elim (is_slash x) as (λ v. (v || list_any is_slash (xs ++ (47 ∷ ys))) ≡ true)
+    [ true ↦ refl | false ↦ any_split xs ys ]
 
 folder_split : (xs ys : List ℕ) → list_any is_slash ys ≡ false → folder (xs ++ (47 ∷ ys)) ≡ xs ++ (47 ∷ [])
 folder_split [] ys e = ap (λ l. 47 ∷ l) (folder_none ys e)
@@ -39,10 +42,13 @@ folder_split (x ∷ xs) ys e =
     ap (λ v. if v then x ∷ folder (xs ++ (47 ∷ ys)) else []) (any_split (x ∷ xs) ys)
     ∙ ap (λ l. x ∷ l) (folder_split xs ys e)
 
-pub at_last_slash : (bs : List ℕ) (x : Bor (List ℕ) × Bor (List ℕ)) → SplitsAtSlash bs (Some x) → folder bs ≡ x.0.now ++ (47 ∷ [])
+pub at_last_slash : (bs : List ℕ) (x : Bor (List ℕ) × Bor (List ℕ)) → SplitsAtSlash bs (Some x)
+    → folder bs ≡ x.0.now ++ (47 ∷ [])
 at_last_slash bs x h =
     let whole : bs ≡ x.0.now ++ (47 ∷ x.1.now)
-    = sym (take-append-drop h.0 bs) ∙ (λ k. sym h.3 k ++ (drop_at_char 47 bs h.0 h.1 h.2.1 (omega arith) ∙ ap (λ l. 47 ∷ l) (sym h.4)) k) in
+    =
+    sym (take-append-drop h.0 bs)
+    ∙ (λ k. sym h.3 k ++ (drop_at_char 47 bs h.0 h.1 h.2.1 (omega arith) ∙ ap (λ l. 47 ∷ l) (sym h.4)) k) in
     let free : (i : ℕ) → i < length x.1.now → get_or x.1.now i 0 ≢ 47
     = λ i l. NoCharPasses-char 47 x.1.now i (subst (NoCharPasses (λ d. eqb d 47)) (sym h.4) h.2.0) (omega arith) l in
     ap folder whole ∙ folder_split x.0.now x.1.now (no_slash x.1.now free)

@@ -1,5 +1,6 @@
 -- The steps of the checksum, eight at once.
-use Rattle.std.proofs.Common.{◌≡◌, refl, sym, ◌∙◌, ap, ℕ, zero, suc, ◌+◌, ◌*◌, ◌/◌, ◌%◌, ◌<◌, ◌^◌, List, [], ◌∷◌, ◌++◌, map, get_or, if◌then◌else◌, nat_eq}
+use Rattle.std.proofs.Common.{◌≡◌, refl, sym, ◌∙◌, ap, ℕ, zero, suc, ◌+◌, ◌*◌, ◌/◌, ◌%◌, ◌<◌, ◌^◌, List, [], ◌∷◌, ◌++◌}
+use Rattle.std.proofs.Common.{map, get_or, if◌then◌else◌, nat_eq}
 use Rattle.std.proofs.Common.{bit_and, arith}
 use Rattle.std.specs.Int.Bits.{bit_xor, xor_assoc, xor_self, xor_zero_l, xor_zero_r}
 use Rattle.std.specs.List.{range_with_len, fold}
@@ -122,7 +123,8 @@ fold_append f a (x ∷ xs) ys = fold_append f (f a x) xs ys
 twice : (n m : ℕ) → bit_xor (bit_xor n m) m ≡ n
 twice n m = xor_assoc n m m ∙ ap (bit_xor n) (xor_self m) ∙ xor_zero_r n
 
-pub more : (sum start end : ℕ) (before bytes : List ℕ) → start ≡ bit_xor sum 0xffffffff → fold byte_step start bytes ≡ end
+pub more : (sum start end : ℕ) (before bytes : List ℕ) → start ≡ bit_xor sum 0xffffffff
+    → fold byte_step start bytes ≡ end
     → sum ≡ crc32 before → bit_xor end 0xffffffff ≡ crc32 (before ++ bytes)
 more sum start end before bytes begins ends is =
     ap (λ n. bit_xor n 0xffffffff) (sym ends

@@ -1,7 +1,9 @@
 -- The least and the greatest of numbers, and the bounds of sections, found one after the other.
-use Rattle.std.proofs.Common.{◌≡◌, refl, sym, ◌∙◌, ap, subst, ℕ, suc, zero, ◌≤◌, min, max, ◌⊎◌, inl, inr, List, [], ◌∷◌, map, Option, Some, None}
+use Rattle.std.proofs.Common.{◌≡◌, refl, sym, ◌∙◌, ap, subst, ℕ, suc, zero, ◌≤◌, min, max, ◌⊎◌, inl, inr, List, [], ◌∷◌}
+use Rattle.std.proofs.Common.{map, Option, Some, None}
 use Rattle.std.proofs.Common.{MatchOption, arith}
-use Rattle.std.proofs.Math.Nat.{zero-min, min-zero, suc-min-suc, min-le_left, min-le_right, le-max_left, le-max_right, max-add-min}
+use Rattle.std.proofs.Math.Nat.{zero-min, min-zero, suc-min-suc, min-le_left, min-le_right, le-max_left, le-max_right}
+use Rattle.std.proofs.Math.Nat.{max-add-min}
 use Rattle.std.specs.List.{All, Contains}
 use Rattle.elf_sections.specs.File.{IsLeast, IsGreatest}
 use Rattle.elf_sections.specs.SectionHeader.{end_of}
@@ -32,7 +34,9 @@ picks_min = record {
 
 picks_max : Picks max (λ r n. n ≤ r)
 picks_max = record {
-  one = λ a b. elim (min_cases a b) [ inl e ↦ inr (omega (arith, max-add-min a b)) | inr e ↦ inl (omega (arith, max-add-min a b)) ];
+  one = λ a b.
+      elim (min_cases a b)
+      [ inl e ↦ inr (omega (arith, max-add-min a b)) | inr e ↦ inl (omega (arith, max-add-min a b)) ];
   same = λ a. omega arith;
   left = λ r a b h. omega (arith, le-max_left a b);
   right = λ r a b h. omega (arith, le-max_right a b);
@@ -43,13 +47,15 @@ abbrev picked : (ℕ → ℕ → ℕ) → ℕ → List ℕ → ℕ
 picked pick n [] = n
 picked pick n (m ∷ numbers) = picked pick (pick n m) numbers
 
-is_one : (pick : ℕ → ℕ → ℕ) (R : ℕ → ℕ → Type 0) → Picks pick R → (m n r : ℕ) (numbers : List ℕ) → Contains (pick m n ∷ numbers) r
+is_one : (pick : ℕ → ℕ → ℕ) (R : ℕ → ℕ → Type 0) → Picks pick R → (m n r : ℕ) (numbers : List ℕ)
+    → Contains (pick m n ∷ numbers) r
     → Contains (m ∷ n ∷ numbers) r
 is_one pick R picks m n r numbers (zero, inside, is) =
     elim (picks.one m n) [ inl e ↦ (0, omega arith, sym e ∙ is) | inr e ↦ (1, omega arith, sym e ∙ is) ]
 is_one pick R picks m n r numbers (suc k, inside, is) = (suc (suc k), omega arith, is)
 
-holds : (pick : ℕ → ℕ → ℕ) (R : ℕ → ℕ → Type 0) → Picks pick R → (m n r : ℕ) (numbers : List ℕ) → All (R r) (pick m n ∷ numbers)
+holds : (pick : ℕ → ℕ → ℕ) (R : ℕ → ℕ → Type 0) → Picks pick R → (m n r : ℕ) (numbers : List ℕ)
+    → All (R r) (pick m n ∷ numbers)
     → All (R r) (m ∷ n ∷ numbers)
 holds pick R picks m n r numbers h zero d inside = picks.left r m n (h 0 d (omega arith))
 holds pick R picks m n r numbers h (suc zero) d inside = picks.right r m n (h 0 d (omega arith))
@@ -94,7 +100,8 @@ lowest_of_all (header ∷ headers) =
 
 -- they end at the greatest end
 pub end_of_all : (headers : List SectionHeader)
-    → MatchOption (bounds_of None headers) (map end_of headers ≡ []) (λ bounds. IsGreatest (map end_of headers) bounds.end)
+    → MatchOption (bounds_of None headers) (map end_of headers ≡ []) (λ bounds.
+    IsGreatest (map end_of headers) bounds.end)
 end_of_all [] = refl
 end_of_all (header ∷ headers) =
     let ends : List ℕ = map end_of (header ∷ headers) in

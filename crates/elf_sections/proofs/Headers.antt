@@ -1,5 +1,6 @@
 -- The section headers from an index on.
-use Rattle.std.proofs.Common.{◌≡◌, refl, sym, ◌∙◌, ap, ℕ, suc, zero, ◌+◌, ◌-◌, ◌*◌, ◌<◌, ◌≤◌, List, [], ◌∷◌, map, drop, Bool, true, false, cond, Option, Some}
+use Rattle.std.proofs.Common.{◌≡◌, refl, sym, ◌∙◌, ap, ℕ, suc, zero, ◌+◌, ◌-◌, ◌*◌, ◌<◌, ◌≤◌, List, [], ◌∷◌, map, drop}
+use Rattle.std.proofs.Common.{Bool, true, false, cond, Option, Some}
 use Rattle.std.proofs.Common.{None, slice_get, arith}
 use Rattle.std.specs.List.{range_with_len, find, filter}
 use Rattle.elf_sections.specs.SectionHeader.{section_header}
@@ -16,7 +17,8 @@ abbrev pub values : {X : Type 0} → (ℕ → X) → ℕ → ℕ → List X
 values f n index = map f (range_with_len index (n - index))
 
 -- the first of these
-pub values_step : {X : Type 0} (f : ℕ → X) (n index : ℕ) → index < n → values f n index ≡ f index ∷ values f n (index + 1)
+pub values_step : {X : Type 0} (f : ℕ → X) (n index : ℕ) → index < n
+    → values f n index ≡ f index ∷ values f n (index + 1)
 values_step f n index h =
     let more : n - index ≡ suc (n - (index + 1)) = omega arith in
     ap (λ k. map f (range_with_len index k)) more
@@ -27,7 +29,8 @@ values_end f n index h =
     let none : n - index ≡ 0 = omega arith in
     ap (λ k. map f (range_with_len index k)) none
 
-pub get_from : {X : Type 0} (f : ℕ → X) (n first index : ℕ) → index < n → slice_get (map f (range_with_len first n)) index ≡ Some (f (first + index))
+pub get_from : {X : Type 0} (f : ℕ → X) (n first index : ℕ) → index < n
+    → slice_get (map f (range_with_len first n)) index ≡ Some (f (first + index))
 get_from f zero first index h = absurd (omega arith)
 get_from f (suc n) first zero h = let same : first ≡ first + 0 = omega arith in ap (λ k. Some (f k)) same
 get_from f (suc n) first (suc index) h =
@@ -35,7 +38,8 @@ get_from f (suc n) first (suc index) h =
     let less : index < n = omega arith in
     get_from f n (first + 1) index less ∙ ap (λ k. Some (f k)) same
 
-pub get_past : {X : Type 0} (f : ℕ → X) (n first index : ℕ) → n ≤ index → slice_get (map f (range_with_len first n)) index ≡ None
+pub get_past : {X : Type 0} (f : ℕ → X) (n first index : ℕ) → n ≤ index
+    → slice_get (map f (range_with_len first n)) index ≡ None
 get_past f zero first index h = refl
 get_past f (suc n) first zero h = absurd (omega arith)
 get_past f (suc n) first (suc index) h = let less : n ≤ index = omega arith in get_past f n (first + 1) index less
@@ -45,7 +49,8 @@ pub header_at_index : (layout : Layout) (entry_size count : ℕ) (bytes : List �
     → slice_get (section_headers layout entry_size count bytes) index ≡ Some (header_of layout entry_size bytes index)
 header_at_index layout entry_size count bytes index h =
     let same : 0 + index ≡ index = omega arith in
-    get_from (header_of layout entry_size bytes) count 0 index h ∙ ap (λ k. Some (header_of layout entry_size bytes k)) same
+    get_from (header_of layout entry_size bytes) count 0 index h
+    ∙ ap (λ k. Some (header_of layout entry_size bytes k)) same
 
 -- no header is past them
 pub no_header_at_index : (layout : Layout) (entry_size count : ℕ) (bytes : List ℕ) (index : ℕ) → count ≤ index
@@ -63,16 +68,19 @@ first_from p q f n index = find p (filter q (values f n index))
 pub first_step : {X : Type 0} (p q : X → Bool) (f : ℕ → X) (n index : ℕ) (x : X) → index < n → x ≡ f index
     → first_from p q f n index ≡ find p (filter q (x ∷ values f n (index + 1)))
 first_step p q f n index x h is =
-    ap (λ xs. find p (filter q xs)) (values_step f n index h) ∙ ap (λ y. find p (filter q (y ∷ values f n (index + 1)))) (sym is)
+    ap (λ xs. find p (filter q xs)) (values_step f n index h)
+    ∙ ap (λ y. find p (filter q (y ∷ values f n (index + 1)))) (sym is)
 
-pub first_found : {X : Type 0} (p q : X → Bool) (f : ℕ → X) (n index : ℕ) (x : X) → index < n → x ≡ f index → q x ≡ true → p x ≡ true
+pub first_found : {X : Type 0} (p q : X → Bool) (f : ℕ → X) (n index : ℕ) (x : X) → index < n → x ≡ f index → q x ≡ true
+    → p x ≡ true
     → first_from p q f n index ≡ Some x
 first_found p q f n index x h is passes_q passes_p =
     first_step p q f n index x h is
     ∙ ap (λ b. find p (cond b (x ∷ filter q (values f n (index + 1))) (filter q (values f n (index + 1))))) passes_q
     ∙ ap (λ b. cond b (Some x) (find p (filter q (values f n (index + 1))))) passes_p
 
-pub first_passed : {X : Type 0} (p q : X → Bool) (f : ℕ → X) (n index : ℕ) (x : X) → index < n → x ≡ f index → q x ≡ true → p x ≡ false
+pub first_passed : {X : Type 0} (p q : X → Bool) (f : ℕ → X) (n index : ℕ) (x : X) → index < n → x ≡ f index
+    → q x ≡ true → p x ≡ false
     → first_from p q f n index ≡ first_from p q f n (index + 1)
 first_passed p q f n index x h is passes_q fails_p =
     first_step p q f n index x h is
@@ -95,21 +103,26 @@ kept_from p q f n index = filter p (filter q (values f n index))
 kept_step : {X : Type 0} (p q : X → Bool) (f : ℕ → X) (n index : ℕ) (x : X) → index < n → x ≡ f index
     → kept_from p q f n index ≡ filter p (filter q (x ∷ values f n (index + 1)))
 kept_step p q f n index x h is =
-    ap (λ xs. filter p (filter q xs)) (values_step f n index h) ∙ ap (λ y. filter p (filter q (y ∷ values f n (index + 1)))) (sym is)
+    ap (λ xs. filter p (filter q xs)) (values_step f n index h)
+    ∙ ap (λ y. filter p (filter q (y ∷ values f n (index + 1)))) (sym is)
 
-pub kept : {X : Type 0} (p q : X → Bool) (f : ℕ → X) (n index : ℕ) (x : X) → index < n → x ≡ f index → q x ≡ true → p x ≡ true
+pub kept : {X : Type 0} (p q : X → Bool) (f : ℕ → X) (n index : ℕ) (x : X) → index < n → x ≡ f index → q x ≡ true
+    → p x ≡ true
     → kept_from p q f n index ≡ x ∷ kept_from p q f n (index + 1)
 kept p q f n index x h is passes_q passes_p =
     kept_step p q f n index x h is
     ∙ ap (λ b. filter p (cond b (x ∷ filter q (values f n (index + 1))) (filter q (values f n (index + 1))))) passes_q
-    ∙ ap (λ b. cond b (x ∷ filter p (filter q (values f n (index + 1)))) (filter p (filter q (values f n (index + 1))))) passes_p
+    ∙ ap (λ b. cond b (x ∷ filter p (filter q (values f n (index + 1)))) (filter p (filter q (values f n (index + 1)))))
+    passes_p
 
-pub passed : {X : Type 0} (p q : X → Bool) (f : ℕ → X) (n index : ℕ) (x : X) → index < n → x ≡ f index → q x ≡ true → p x ≡ false
+pub passed : {X : Type 0} (p q : X → Bool) (f : ℕ → X) (n index : ℕ) (x : X) → index < n → x ≡ f index → q x ≡ true
+    → p x ≡ false
     → kept_from p q f n index ≡ kept_from p q f n (index + 1)
 passed p q f n index x h is passes_q fails_p =
     kept_step p q f n index x h is
     ∙ ap (λ b. filter p (cond b (x ∷ filter q (values f n (index + 1))) (filter q (values f n (index + 1))))) passes_q
-    ∙ ap (λ b. cond b (x ∷ filter p (filter q (values f n (index + 1)))) (filter p (filter q (values f n (index + 1))))) fails_p
+    ∙ ap (λ b. cond b (x ∷ filter p (filter q (values f n (index + 1)))) (filter p (filter q (values f n (index + 1)))))
+    fails_p
 
 pub left : {X : Type 0} (p q : X → Bool) (f : ℕ → X) (n index : ℕ) (x : X) → index < n → x ≡ f index → q x ≡ false
     → kept_from p q f n index ≡ kept_from p q f n (index + 1)

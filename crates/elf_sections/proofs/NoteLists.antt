@@ -1,5 +1,6 @@
 -- The notes of a section, one after the other.
-use Rattle.std.proofs.Common.{◌≡◌, refl, ◌∙◌, ap, ℕ, zero, suc, ◌≤◌, List, [], ◌∷◌, length, drop, Option, Some, None, length-drop, arith}
+use Rattle.std.proofs.Common.{◌≡◌, refl, ◌∙◌, ap, ℕ, zero, suc, ◌≤◌, List, [], ◌∷◌, length, drop, Option, Some, None}
+use Rattle.std.proofs.Common.{length-drop, arith}
 use Rattle.std.specs.Option.{option_map_or}
 use Rattle.elf_sections.specs.Notes.{Note, note_size, note_at, notes_up_to, notes}
 use Rattle.elf_sections.specs.declared.layout.Layout.{Layout}

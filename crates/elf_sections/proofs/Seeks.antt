@@ -1,5 +1,6 @@
 -- A file that is read by its parts has the sections that it has as a whole.
-use Rattle.std.proofs.Common.{◌≡◌, refl, ◌∙◌, ap, ℕ, zero, suc, ◌+◌, ◌-◌, ◌*◌, ◌≤◌, min, List, [], ◌∷◌, map, length, take, drop, Bool, not, if◌then◌else◌}
+use Rattle.std.proofs.Common.{◌≡◌, refl, ◌∙◌, ap, ℕ, zero, suc, ◌+◌, ◌-◌, ◌*◌, ◌≤◌, min, List, [], ◌∷◌, map, length}
+use Rattle.std.proofs.Common.{take, drop, Bool, not, if◌then◌else◌}
 use Rattle.std.proofs.Common.{nat_eq, nat_lt, Result, Ok, Err, length-take, arith}
 use Rattle.std.proofs.lemmas.Bool.Decides.{nat_tests}
 use Rattle.std.proofs.lemmas.List.{get_or-take, drop-take, take-take}
@@ -103,12 +104,25 @@ entry_in layout n bytes h =
     let v = number_in layout 4 (8 + 4 * a) n bytes (omega arith) in
     let w = number_in layout 4 (12 + 4 * a) n bytes (omega arith) in
     let x = number_in layout a (16 + 5 * a) n bytes (omega arith) in
-    λ i. record { name = p i; kind = q i; flags = r i; address = s i; offset = t i; size = u i; link = v i; info = w i; entry_size = x i }
+    λ i.
+    record {
+      name = p i;
+      kind = q i;
+      flags = r i;
+      address = s i;
+      offset = t i;
+      size = u i;
+      link = v i;
+      info = w i;
+      entry_size = x i;
+    }
 
 -- each of so many headers, by the part that holds them
-headers_from : (layout : Layout) (entry_size count index most : ℕ) (bytes : List ℕ) → section_header_size layout.class ≤ entry_size
+headers_from : (layout : Layout) (entry_size count index most : ℕ) (bytes : List ℕ)
+    → section_header_size layout.class ≤ entry_size
     → index + count ≤ most
-    → map (λ k. section_header layout (drop (k * entry_size) (take (most * entry_size) bytes))) (range_with_len index count)
+    → map (λ k. section_header layout (drop (k * entry_size) (take (most * entry_size) bytes)))
+    (range_with_len index count)
     ≡ map (λ k. section_header layout (drop (k * entry_size) bytes)) (range_with_len index count)
 headers_from layout entry_size zero index most bytes wide h = refl
 headers_from layout entry_size (suc count) index most bytes wide h =
@@ -122,12 +136,16 @@ headers_from layout entry_size (suc count) index most bytes wide h =
     λ i. here i ∷ later i
   where
     split_product : (n k m : ℕ) → k ≤ n → n * m ≡ k * m + (n - k) * m
-    split_product n k m h = let e : n ≡ k + (n - k) = omega arith in ap (λ x. x * m) e ∙ (let f : (k + (n - k)) * m ≡ k * m + (n - k) * m = omega arith in f)
+    split_product n k m h =
+        let e : n ≡ k + (n - k) = omega arith in
+        ap (λ x. x * m) e ∙ (let f : (k + (n - k)) * m ≡ k * m + (n - k) * m = omega arith in f)
 
     at_least : (n m : ℕ) → 1 ≤ n → m ≤ n * m
     at_least zero m h = absurd (omega arith)
     at_least (suc n) m h = omega arith
 
-pub headers_in : (layout : Layout) (entry_size count : ℕ) (bytes : List ℕ) → section_header_size layout.class ≤ entry_size
-    → section_headers layout entry_size count (take (count * entry_size) bytes) ≡ section_headers layout entry_size count bytes
+pub headers_in : (layout : Layout) (entry_size count : ℕ) (bytes : List ℕ)
+    → section_header_size layout.class ≤ entry_size
+    → section_headers layout entry_size count (take (count * entry_size) bytes)
+    ≡ section_headers layout entry_size count bytes
 headers_in layout entry_size count bytes wide = headers_from layout entry_size count 0 count bytes wide (omega arith)

@@ -1,5 +1,6 @@
 -- The data of a section of a file that is read by its parts are those that it has as a whole.
-use Rattle.std.proofs.Common.{◌≡◌, ◌≢◌, refl, sym, ◌∙◌, ap, ℕ, ◌+◌, List, [], length, true, false, Bool, if◌then◌else◌, nat_eq, nat_lt, Option, Some, None}
+use Rattle.std.proofs.Common.{◌≡◌, ◌≢◌, refl, sym, ◌∙◌, ap, ℕ, ◌+◌, List, [], length, true, false, Bool, if◌then◌else◌}
+use Rattle.std.proofs.Common.{nat_eq, nat_lt, Option, Some, None}
 use Rattle.std.proofs.Common.{Result, Ok, Err}
 use Rattle.std.specs.Prelude.{IfOk, IfErr}
 use Rattle.std.specs.List.{slice_range}
@@ -11,7 +12,8 @@ use Rattle.elf_sections.specs.Compression.{uncompressed, uncompressed_old, data_
 use Rattle.elf_sections.specs.File.{File, file_at, some_of, section_named, old_data_in, data_or_old, section_data_at}
 use Rattle.elf_sections.specs.FileRange.{bytes_at, nowhere, range_in, or_refused, stored_range, header_range}
 use Rattle.elf_sections.specs.Seeking.{Listed, listed, listed_of}
-use Rattle.elf_sections.specs.Stored.{stored_at, stored_form, old_stored, stored_or_old, stored_named, data_by, data_there, data_at, data_in}
+use Rattle.elf_sections.specs.Stored.{stored_at, stored_form, old_stored, stored_or_old, stored_named, data_by}
+use Rattle.elf_sections.specs.Stored.{data_there, data_at, data_in}
 use Rattle.elf_sections.specs.declared.error.ElfError.{ElfError}
 use Rattle.elf_sections.specs.declared.error.ElfError.TheVariants.{SectionCut, OutOfMemory}
 use Rattle.elf_sections.specs.declared.file_range.FileRange.{FileRange}
@@ -30,7 +32,8 @@ stored_found : (bytes : List ℕ) (header : SectionHeader)
 stored_found bytes header =
     elim (nat_eq header.kind 8) as (λ b.
     ((if b then Ok nowhere
-    else or_refused SectionCut (range_in header.offset header.size (length bytes))) >>= λ range. Ok (bytes_at bytes range))
+    else or_refused SectionCut (range_in header.offset header.size (length bytes))) >>= λ range.
+    Ok (bytes_at bytes range))
     ≡ (if b then Ok []
     else (if nat_lt (length bytes) (header.offset + header.size) then Err SectionCut
     else Ok (slice_range bytes header.offset (header.offset + header.size))))) [
@@ -62,7 +65,8 @@ plain_found : (bytes : List ℕ) (layout : Layout) (limit : ℕ) (header : Secti
     ≡ some_of (data_of limit layout bytes header)
 plain_found bytes layout limit header =
     by_form bytes layout (stored_form header) limit (stored_range (length bytes) header)
-    ∙ ap (λ (r : Result (List ℕ) ElfError). some_of (r >>= data_by layout (stored_form header) limit)) (stored_found bytes header)
+    ∙ ap (λ (r : Result (List ℕ) ElfError). some_of (r >>= data_by layout (stored_form header) limit))
+    (stored_found bytes header)
     ∙ ap some_of (by_flag layout limit (has_flag header 0x800) (stored_bytes bytes header))
 
 by_old : (layout : Layout) (limit : ℕ) (r : Result (List ℕ) ElfError)
@@ -105,18 +109,21 @@ by_file bytes name limit list (Ok file) kept is =
 sought_data : (bytes name : List ℕ) (limit : ℕ) (list : Listed) → listed bytes ≡ Ok list
     → data_in bytes limit name ≡ data_at limit bytes (stored_named list name)
 sought_data bytes name limit list is =
-    by_file bytes name limit list (file_at bytes) (kept_layout bytes (layout_at bytes)) (sym (sought_is_whole bytes) ∙ is)
+    by_file bytes name limit list (file_at bytes) (kept_layout bytes (layout_at bytes))
+    (sym (sought_is_whole bytes) ∙ is)
 
 -- ---- what the calls answer
 
 pub found_data : (list : Listed) (name bytes : List ℕ) (limit : ℕ) (r : Result (Option StoredSection) ElfError)
     → Gives (λ found. found) r (stored_named list name) → listed bytes ≡ Ok list
     → IfOk r (λ found. data_in bytes limit name ≡ data_there limit bytes found)
-found_data list name bytes limit (Ok found) gives is = sought_data bytes name limit list is ∙ ap (data_at limit bytes) gives
+found_data list name bytes limit (Ok found) gives is =
+    sought_data bytes name limit list is ∙ ap (data_at limit bytes) gives
 found_data list name bytes limit (Err e) gives is = tt
 
 pub refused_data : (list : Listed) (name bytes : List ℕ) (limit : ℕ) (r : Result (Option StoredSection) ElfError)
     → Gives (λ found. found) r (stored_named list name) → listed bytes ≡ Ok list
     → IfErr r (λ e. e ≢ OutOfMemory → data_in bytes limit name ≡ Err e)
 refused_data list name bytes limit (Ok found) gives is = tt
-refused_data list name bytes limit (Err e) gives is = λ other. sought_data bytes name limit list is ∙ ap (data_at limit bytes) (gives other)
+refused_data list name bytes limit (Err e) gives is =
+    λ other. sought_data bytes name limit list is ∙ ap (data_at limit bytes) (gives other)

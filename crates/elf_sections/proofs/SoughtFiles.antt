@@ -1,5 +1,6 @@
 -- A file that is read by its parts has the sections that it has as a whole: the steps.
-use Rattle.std.proofs.Common.{◌≡◌, refl, sym, ◌∙◌, ap, ℕ, ◌+◌, ◌-◌, ◌*◌, ◌≤◌, List, [], length, take, drop, true, false, if◌then◌else◌, nat_eq, nat_lt, Option}
+use Rattle.std.proofs.Common.{◌≡◌, refl, sym, ◌∙◌, ap, ℕ, ◌+◌, ◌-◌, ◌*◌, ◌≤◌, List, [], length, take, drop, true, false}
+use Rattle.std.proofs.Common.{if◌then◌else◌, nat_eq, nat_lt, Option}
 use Rattle.std.proofs.Common.{Some, None, Result, Ok, Err, slice_get, length-take, length-drop, arith}
 use Rattle.std.proofs.lemmas.Bool.Decides.{nat_tests}
 use Rattle.std.proofs.Math.Nat.{zero-mul}
@@ -9,13 +10,17 @@ use Rattle.elf_sections.specs.Steps.{◌>>=◌}
 use Rattle.elf_sections.specs.Layout.{layout_at}
 use Rattle.elf_sections.specs.Header.{header_at}
 use Rattle.elf_sections.specs.SectionHeader.{section_header_size, section_header, has_flag, section_bytes}
-use Rattle.elf_sections.specs.Table.{Table, section_headers, count_of, names_index_of, table_at, names_or_cut, names_in, names_at}
+use Rattle.elf_sections.specs.Table.{Table, section_headers, count_of, names_index_of, table_at, names_or_cut, names_in}
+use Rattle.elf_sections.specs.Table.{names_at}
 use Rattle.elf_sections.specs.File.{File, file_at, bytes_in, section_named, section_at}
 use Rattle.elf_sections.specs.FileRange.{bytes_at, nowhere, range_in, or_refused, header_range}
-use Rattle.elf_sections.specs.Seeking.{Place, Listed, first_range, no_table, table_with, table_by, table_in, range_or_cut, names_of_header, names_in_table}
-use Rattle.elf_sections.specs.Seeking.{names_range, list_by, range_of, range_named, listed, listed_of, listed_at, section_in, read_at}
+use Rattle.elf_sections.specs.Seeking.{Place, Listed, first_range, no_table, table_with, table_by, table_in}
+use Rattle.elf_sections.specs.Seeking.{range_or_cut, names_of_header, names_in_table}
+use Rattle.elf_sections.specs.Seeking.{names_range, list_by, range_of, range_named, listed, listed_of, listed_at}
+use Rattle.elf_sections.specs.Seeking.{section_in, read_at}
 use Rattle.elf_sections.specs.declared.error.ElfError.{ElfError}
-use Rattle.elf_sections.specs.declared.error.ElfError.TheVariants.{SectionHeaderSize, SectionTableCut, SectionCut, Compressed}
+use Rattle.elf_sections.specs.declared.error.ElfError.TheVariants.{SectionHeaderSize, SectionTableCut, SectionCut}
+use Rattle.elf_sections.specs.declared.error.ElfError.TheVariants.{Compressed}
 use Rattle.elf_sections.specs.declared.file_range.FileRange.{FileRange}
 use Rattle.elf_sections.specs.declared.header.Header.{Header}
 use Rattle.elf_sections.specs.declared.layout.Layout.{Layout}
@@ -36,7 +41,8 @@ header_found bytes header =
     elim (has_flag header 0x800) as (λ b.
     ((if b then Err Compressed
     else (if nat_eq header.kind 8 then Ok nowhere
-    else or_refused SectionCut (range_in header.offset header.size (length bytes)))) >>= λ range. Ok (bytes_at bytes range))
+    else or_refused SectionCut (range_in header.offset header.size (length bytes)))) >>= λ range.
+    Ok (bytes_at bytes range))
     ≡ (if b then Err Compressed
     else (if nat_eq header.kind 8 then Ok []
     else (if nat_lt (length bytes) (header.offset + header.size) then Err SectionCut
@@ -44,13 +50,15 @@ header_found bytes header =
       | true ↦ refl
       | false ↦ elim (nat_eq header.kind 8) as (λ b.
           ((if b then Ok nowhere
-          else or_refused SectionCut (range_in header.offset header.size (length bytes))) >>= λ range. Ok (bytes_at bytes range))
+          else or_refused SectionCut (range_in header.offset header.size (length bytes))) >>= λ range.
+          Ok (bytes_at bytes range))
           ≡ (if b then Ok []
           else (if nat_lt (length bytes) (header.offset + header.size) then Err SectionCut
           else Ok (slice_range bytes header.offset (header.offset + header.size))))) [
             | true ↦ refl
             | false ↦ elim (nat_lt (length bytes) (header.offset + header.size)) as (λ b.
-                (or_refused SectionCut (if b then None else Some (record { offset = header.offset; size = header.size }))
+                (or_refused SectionCut
+                (if b then None else Some (record { offset = header.offset; size = header.size }))
                 >>= λ range. Ok (bytes_at bytes range))
                 ≡ (if b then Err SectionCut else Ok (slice_range bytes header.offset (header.offset + header.size))))
                 [ true ↦ refl | false ↦ refl ]
@@ -113,17 +121,33 @@ module _ (bytes : List ℕ) (layout : Layout) (header : Header) where
   abbrev whole : Table → Result Listed ElfError
   whole table =
       (names_at bytes table >>= λ names.
-      Ok (record { bytes = bytes; layout = layout; kind = header.kind; machine = header.machine; headers = table.headers; names = names }))
+      Ok (record {
+        bytes = bytes;
+        layout = layout;
+        kind = header.kind;
+        machine = header.machine;
+        headers = table.headers;
+        names = names;
+      }))
       >>= λ file. Ok (listed_of file)
 
-  at_place : (place : Place) (table : Table) → place.layout ≡ layout → place.kind ≡ header.kind → place.length ≡ length bytes
+  at_place : (place : Place) (table : Table) → place.layout ≡ layout → place.kind ≡ header.kind
+      → place.length ≡ length bytes
       → table_in place (bytes_at bytes place.range) ≡ Ok table → rest_of bytes place ≡ whole table
   at_place place table same kind size is =
       list_found bytes place table size is
       ∙ (λ i. names_at bytes table >>= λ names.
       Ok (record { layout = same i; kind = kind i; length = size i; headers = table.headers; names = names }))
       ∙ sym (then_map (names_at bytes table)
-      (λ names. record { bytes = bytes; layout = layout; kind = header.kind; machine = header.machine; headers = table.headers; names = names }) listed_of)
+      (λ names. record {
+        bytes = bytes;
+        layout = layout;
+        kind = header.kind;
+        machine = header.machine;
+        headers = table.headers;
+        names = names;
+      })
+      listed_of)
 
   without_table : rest_of bytes (no_table known) ≡ whole (record { headers = []; names_index = 0 })
   without_table =
@@ -174,8 +198,11 @@ module _ (bytes : List ℕ) (layout : Layout) (header : Header) where
       → rest_of bytes place ≡ whole table
   entries_found wide fits =
       let enough : nat_lt (length (bytes_at bytes entries_range)) size ≡ false
-      = not_shorter (length (bytes_at bytes entries_range)) size (let e = part_length header.table_offset size fits in omega arith) in
-      let same = ap (section_headers layout header.entry_size (count_of header first)) (part_is header.table_offset size)
+      =
+      not_shorter (length (bytes_at bytes entries_range)) size
+      (let e = part_length header.table_offset size fits in omega arith) in
+      let same =
+      ap (section_headers layout header.entry_size (count_of header first)) (part_is header.table_offset size)
       ∙ headers_in layout header.entry_size (count_of header first) (drop header.table_offset bytes) wide in
       at_place place table refl refl refl
       (λ i. if enough i then Err SectionTableCut
@@ -194,7 +221,9 @@ module _ (bytes : List ℕ) (layout : Layout) (header : Header) where
       Ok (record place { range = range })) >>= rest_of bytes)
       ≡ ((if b then Err SectionTableCut else Ok table) >>= whole)) [
         | true ↦ λ e. refl
-        | false ↦ λ e. entries_found wide (let fits : header.table_offset + size ≤ length bytes = grind (arith, nat_tests) in fits)
+        | false ↦
+            λ e.
+            entries_found wide (let fits : header.table_offset + size ≤ length bytes = grind (arith, nat_tests) in fits)
       ]) refl
 
   abbrev width : ℕ
@@ -208,7 +237,9 @@ module _ (bytes : List ℕ) (layout : Layout) (header : Header) where
       else table_with known (section_header layout (bytes_at bytes first_part))) >>= rest_of bytes) ≡ after_first
   first_found wide fits =
       let enough : nat_lt (length (bytes_at bytes first_part)) width ≡ false
-      = not_shorter (length (bytes_at bytes first_part)) width (let e = part_length header.table_offset width fits in omega arith) in
+      =
+      not_shorter (length (bytes_at bytes first_part)) width
+      (let e = part_length header.table_offset width fits in omega arith) in
       let same = ap (section_header layout) (part_is header.table_offset width)
       ∙ entry_in layout width (drop header.table_offset bytes) (omega arith) in
       (λ i. (if enough i then Err SectionTableCut else table_with known (same i)) >>= rest_of bytes)
@@ -232,7 +263,9 @@ module _ (bytes : List ℕ) (layout : Layout) (header : Header) where
       ≡ ((if b then Err SectionTableCut
       else (if nat_lt (length bytes) (header.table_offset + size) then Err SectionTableCut else Ok table)) >>= whole)) [
         | true ↦ λ e. refl
-        | false ↦ λ e. first_found wide (let fits : header.table_offset + width ≤ length bytes = grind (arith, nat_tests) in fits)
+        | false ↦
+            λ e.
+            first_found wide (let fits : header.table_offset + width ≤ length bytes = grind (arith, nat_tests) in fits)
       ]) refl
 
   -- the table, by the first entry and then by all of them
@@ -252,7 +285,8 @@ module _ (bytes : List ℕ) (layout : Layout) (header : Header) where
       ≡ ((if b then Ok (record { headers = []; names_index = 0 })
       else (if nat_lt header.entry_size width then Err (SectionHeaderSize header.entry_size)
       else (if nat_lt (length bytes) (header.table_offset + width) then Err SectionTableCut
-      else (if nat_lt (length bytes) (header.table_offset + size) then Err SectionTableCut else Ok table)))) >>= whole)) [
+      else (if nat_lt (length bytes) (header.table_offset + size) then Err SectionTableCut
+      else Ok table)))) >>= whole)) [
         | true ↦ without_table
         | false ↦ (elim (nat_lt header.entry_size width) as (λ b. nat_lt header.entry_size width ≡ b →
             (((if b then Err (SectionHeaderSize header.entry_size)
@@ -263,7 +297,8 @@ module _ (bytes : List ℕ) (layout : Layout) (header : Header) where
             else table_with known (section_header layout (bytes_at bytes range))))) >>= rest_of bytes)
             ≡ ((if b then Err (SectionHeaderSize header.entry_size)
             else (if nat_lt (length bytes) (header.table_offset + width) then Err SectionTableCut
-            else (if nat_lt (length bytes) (header.table_offset + size) then Err SectionTableCut else Ok table))) >>= whole)) [
+            else (if nat_lt (length bytes) (header.table_offset + size) then Err SectionTableCut else Ok table)))
+            >>= whole)) [
               | true ↦ λ e. refl
               | false ↦ λ e. wide_found (let wide : width ≤ header.entry_size = grind (arith, nat_tests) in wide)
             ]) refl
@@ -284,7 +319,14 @@ by_header : (bytes : List ℕ) (layout : Layout) (r : Result Header ElfError)
     ≡ ((r >>= λ header.
     table_at layout header bytes >>= λ table.
     names_at bytes table >>= λ names.
-    Ok (record { bytes = bytes; layout = layout; kind = header.kind; machine = header.machine; headers = table.headers; names = names }))
+    Ok (record {
+      bytes = bytes;
+      layout = layout;
+      kind = header.kind;
+      machine = header.machine;
+      headers = table.headers;
+      names = names;
+    }))
     >>= λ file. Ok (listed_of file))
 by_header bytes layout (Err e) = refl
 by_header bytes layout (Ok header) =
@@ -293,7 +335,14 @@ by_header bytes layout (Ok header) =
     ∙ table_found bytes layout header
     ∙ sym (then_then (table_at layout header bytes)
     (λ table. names_at bytes table >>= λ names.
-    Ok (record { bytes = bytes; layout = layout; kind = header.kind; machine = header.machine; headers = table.headers; names = names }))
+    Ok (record {
+      bytes = bytes;
+      layout = layout;
+      kind = header.kind;
+      machine = header.machine;
+      headers = table.headers;
+      names = names;
+    }))
     (λ file. Ok (listed_of file)))
 
 by_layout : (bytes : List ℕ) (r : Result Layout ElfError)
@@ -302,7 +351,14 @@ by_layout : (bytes : List ℕ) (r : Result Layout ElfError)
     ≡ ((r >>= λ layout. header_at layout bytes >>= λ header.
     table_at layout header bytes >>= λ table.
     names_at bytes table >>= λ names.
-    Ok (record { bytes = bytes; layout = layout; kind = header.kind; machine = header.machine; headers = table.headers; names = names }))
+    Ok (record {
+      bytes = bytes;
+      layout = layout;
+      kind = header.kind;
+      machine = header.machine;
+      headers = table.headers;
+      names = names;
+    }))
     >>= λ file. Ok (listed_of file))
 by_layout bytes (Err e) = refl
 by_layout bytes (Ok layout) = by_header bytes layout (header_at layout bytes)
@@ -323,26 +379,54 @@ Keeps bytes (Err e) = Unit {0}
 
 kept_names : (bytes : List ℕ) (layout : Layout) (header : Header) (table : Table) (r : Result (List ℕ) ElfError)
     → Keeps bytes (r >>= λ names.
-    Ok (record { bytes = bytes; layout = layout; kind = header.kind; machine = header.machine; headers = table.headers; names = names }))
+    Ok (record {
+      bytes = bytes;
+      layout = layout;
+      kind = header.kind;
+      machine = header.machine;
+      headers = table.headers;
+      names = names;
+    }))
 kept_names bytes layout header _ (Ok names) = refl
 kept_names bytes layout header _ (Err e) = tt
 
 kept_table : (bytes : List ℕ) (layout : Layout) (header : Header) (r : Result Table ElfError)
     → Keeps bytes (r >>= λ table. names_at bytes table >>= λ names.
-    Ok (record { bytes = bytes; layout = layout; kind = header.kind; machine = header.machine; headers = table.headers; names = names }))
+    Ok (record {
+      bytes = bytes;
+      layout = layout;
+      kind = header.kind;
+      machine = header.machine;
+      headers = table.headers;
+      names = names;
+    }))
 kept_table bytes layout header (Ok table) = kept_names bytes layout header table (names_at bytes table)
 kept_table bytes layout header (Err e) = tt
 
 kept_header : (bytes : List ℕ) (layout : Layout) (r : Result Header ElfError)
     → Keeps bytes (r >>= λ header. table_at layout header bytes >>= λ table. names_at bytes table >>= λ names.
-    Ok (record { bytes = bytes; layout = layout; kind = header.kind; machine = header.machine; headers = table.headers; names = names }))
+    Ok (record {
+      bytes = bytes;
+      layout = layout;
+      kind = header.kind;
+      machine = header.machine;
+      headers = table.headers;
+      names = names;
+    }))
 kept_header bytes layout (Ok header) = kept_table bytes layout header (table_at layout header bytes)
 kept_header bytes layout (Err e) = tt
 
 pub kept_layout : (bytes : List ℕ) (r : Result Layout ElfError)
     → Keeps bytes (r >>= λ layout. header_at layout bytes >>= λ header.
     table_at layout header bytes >>= λ table. names_at bytes table >>= λ names.
-    Ok (record { bytes = bytes; layout = layout; kind = header.kind; machine = header.machine; headers = table.headers; names = names }))
+    Ok (record {
+      bytes = bytes;
+      layout = layout;
+      kind = header.kind;
+      machine = header.machine;
+      headers = table.headers;
+      names = names;
+    }))
 kept_layout bytes (Ok layout) = kept_header bytes layout (header_at layout bytes)
 kept_layout bytes (Err e) = tt
 
@@ -362,7 +446,8 @@ by_file bytes name list (Ok file) kept is =
     let same : listed_of file ≡ list = cc in
     (λ i. bytes_in (kept i) (section_named file name))
     ∙ found_in bytes (section_named file name)
-    ∙ (λ i. range_of (length (sym kept i)) (section_named file name) >>= λ range. Ok (option_map (bytes_at bytes) range))
+    ∙ (λ i. range_of (length (sym kept i)) (section_named file name) >>= λ range.
+    Ok (option_map (bytes_at bytes) range))
     ∙ ap (λ (l : Listed). range_named l name >>= λ range. Ok (option_map (bytes_at bytes) range)) same
 
 pub sought_section : (bytes name : List ℕ) (list : Listed) → listed bytes ≡ Ok list
@@ -372,6 +457,7 @@ sought_section bytes name list is =
 
 -- ---- what the calls answer
 
-pub by_range : (list : Listed) (name bytes : List ℕ) (r : Result (Option FileRange) ElfError) → r ≡ range_named list name
+pub by_range : (list : Listed) (name bytes : List ℕ) (r : Result (Option FileRange) ElfError)
+    → r ≡ range_named list name
     → listed bytes ≡ Ok list → section_in bytes name ≡ read_at bytes r
 by_range list name bytes r e is = sought_section bytes name list is ∙ ap (read_at bytes) (sym e)

@@ -4,7 +4,8 @@ use Rattle.std.specs.Prelude.{codes, replicate, slice_set}
 use Rattle.elf_sections.specs.Steps.{◌>>=◌}
 use Rattle.elf_sections.specs.File.{file_at, section_at, code_addresses, code_ends}
 use Rattle.elf_sections.specs.declared.error.ElfError.{ElfError}
-use Rattle.elf_sections.specs.declared.error.ElfError.TheVariants.{NotElf, Class, ByteOrder, Version, HeaderCut, SectionHeaderSize, SectionTableCut, NamesCut}
+use Rattle.elf_sections.specs.declared.error.ElfError.TheVariants.{NotElf, Class, ByteOrder, Version, HeaderCut}
+use Rattle.elf_sections.specs.declared.error.ElfError.TheVariants.{SectionHeaderSize, SectionTableCut, NamesCut}
 use Rattle.elf_sections.specs.declared.error.ElfError.TheVariants.{SectionCut, Compressed}
 
 -- the bytes of a section of a file
@@ -41,7 +42,8 @@ contents_32 =
 -- a section header: the lowest bytes of its fields, and the three higher ones of its address
 abbrev pub section_32 : ℕ → ℕ → ℕ → ℕ → ℕ → ℕ → ℕ → ℕ → List ℕ
 section_32 name kind flags low middle high offset size =
-    name ∷ 0 ∷ 0 ∷ 0 ∷ kind ∷ 0 ∷ 0 ∷ 0 ∷ flags ∷ 0 ∷ 0 ∷ 0 ∷ 0 ∷ low ∷ middle ∷ high ∷ offset ∷ 0 ∷ 0 ∷ 0 ∷ size ∷ 0 ∷ 0 ∷ 0 ∷ replicate 16 0
+    name ∷ 0 ∷ 0 ∷ 0 ∷ kind ∷ 0 ∷ 0 ∷ 0 ∷ flags ∷ 0 ∷ 0 ∷ 0 ∷ 0 ∷ low ∷ middle ∷ high ∷ offset ∷ 0 ∷ 0 ∷ 0 ∷ size ∷ 0
+    ∷ 0 ∷ 0 ∷ replicate 16 0
 
 -- the code at 0x8049000; data without bytes in the file, below it; two sections of one name; the names
 abbrev table_32 : List ℕ
@@ -148,7 +150,8 @@ pub section_cut : bytes_of (slice_set (slice_set file_32 0xe8 0x4e) 0xe9 1) (cod
 section_cut = refl
 
 -- and one byte before that it ends with the file: the last three bytes of the table
-pub section_at_the_end : bytes_of (slice_set (slice_set file_32 0xe8 0x4d) 0xe9 1) (codes ".debug_line") ≡ Ok (Some (replicate 3 0))
+pub section_at_the_end : bytes_of (slice_set (slice_set file_32 0xe8 0x4d) 0xe9 1) (codes ".debug_line")
+    ≡ Ok (Some (replicate 3 0))
 section_at_the_end = refl
 
 -- SHF_COMPRESSED
@@ -189,7 +192,8 @@ lines_64 = refl
 pub not_linked : kind_of file_64 ≡ Ok 1
 not_linked = refl
 
-pub names_64 : bytes_of file_64 (codes ".shstrtab") ≡ Ok (Some (0 ∷ codes ".text" ++ 0 ∷ codes ".debug_line" ++ 0 ∷ codes ".shstrtab" ++ 0 ∷ []))
+pub names_64 : bytes_of file_64 (codes ".shstrtab")
+    ≡ Ok (Some (0 ∷ codes ".text" ++ 0 ∷ codes ".debug_line" ++ 0 ∷ codes ".shstrtab" ++ 0 ∷ []))
 names_64 = refl
 
 pub lowest_code_64 : code_of file_64 ≡ Ok (0x1000_0000 ∷ [])

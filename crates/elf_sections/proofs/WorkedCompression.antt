@@ -1,5 +1,6 @@
 -- Worked compressed sections: what the definitions say that they hold.
-use Rattle.std.proofs.Common.{◌≡◌, ℕ, List, [], ◌∷◌, ◌++◌, Option, Some, None, Result, Ok, Err, take, drop, length, refl}
+use Rattle.std.proofs.Common.{◌≡◌, ℕ, List, [], ◌∷◌, ◌++◌, Option, Some, None, Result, Ok, Err, take, drop, length}
+use Rattle.std.proofs.Common.{refl}
 use Rattle.std.specs.Prelude.{codes, replicate, slice_set}
 use Rattle.inflate.specs.Bits.{bits_of, bits, number_of}
 use Rattle.inflate.specs.Blocks.{blocks_at, block_at, stored_at, bytes_at}
@@ -9,7 +10,8 @@ use Rattle.inflate.specs.declared.error.Error.TheVariants.{OutputSmaller, Header
 use Rattle.elf_sections.specs.Steps.{◌>>=◌}
 use Rattle.elf_sections.specs.File.{file_at, section_data_at}
 use Rattle.elf_sections.specs.declared.error.ElfError.{ElfError}
-use Rattle.elf_sections.specs.declared.error.ElfError.TheVariants.{Compressed, CompressionHeaderCut, UnknownCompression, Zstd, NotZlib, SectionTooLarge}
+use Rattle.elf_sections.specs.declared.error.ElfError.TheVariants.{Compressed, CompressionHeaderCut, UnknownCompression}
+use Rattle.elf_sections.specs.declared.error.ElfError.TheVariants.{Zstd, NotZlib, SectionTooLarge}
 use Rattle.elf_sections.specs.declared.error.ElfError.TheVariants.{Decompression}
 use Rattle.elf_sections.proofs.Worked.{file_32}
 
@@ -40,7 +42,8 @@ not_compressed = refl
 
 -- as much as the limit
 pub whole : compressed 3 (header 1 3 ++ stream) ≡ Ok (Some (0xaa ∷ 0xbb ∷ 0xcc ∷ []))
-unfolding decompressed header_at bits_of bits number_of blocks_at block_at stored_at bytes_at put checked sum_at adler sum_of_sums
+unfolding decompressed header_at bits_of bits number_of blocks_at block_at stored_at bytes_at put checked sum_at adler
+    sum_of_sums
 whole = refl
 
 -- one byte more than the limit
@@ -49,7 +52,8 @@ above_limit = refl
 
 -- the header says one byte more
 pub larger : compressed 4 (header 1 4 ++ stream) ≡ Err (Decompression OutputSmaller)
-unfolding decompressed header_at bits_of bits number_of blocks_at block_at stored_at bytes_at put checked sum_at adler sum_of_sums
+unfolding decompressed header_at bits_of bits number_of blocks_at block_at stored_at bytes_at put checked sum_at adler
+    sum_of_sums
 larger = refl
 
 -- the stream begins a byte later
@@ -78,7 +82,8 @@ abbrev old_header : List ℕ
 old_header = codes "ZLIB" ++ replicate 7 0 ++ 3 ∷ []
 
 pub old_whole : old 3 0 (old_header ++ stream) ≡ Ok (Some (0xaa ∷ 0xbb ∷ 0xcc ∷ []))
-unfolding decompressed header_at bits_of bits number_of blocks_at block_at stored_at bytes_at put checked sum_at adler sum_of_sums
+unfolding decompressed header_at bits_of bits number_of blocks_at block_at stored_at bytes_at put checked sum_at adler
+    sum_of_sums
 old_whole = refl
 
 pub old_above_limit : old 2 0 (old_header ++ stream) ≡ Err (SectionTooLarge 3)

@@ -23,11 +23,14 @@ note = 4 ∷ 0 ∷ 0 ∷ 0 ∷ 3 ∷ 0 ∷ 0 ∷ 0 ∷ 3 ∷ 0 ∷ 0 ∷ 0 ∷ c
 pub build_id : build_id_in little note ≡ Some (0xaa ∷ 0xbb ∷ 0xcc ∷ [])
 build_id = refl
 
-pub build_id_big : build_id_in big (0 ∷ 0 ∷ 0 ∷ 4 ∷ 0 ∷ 0 ∷ 0 ∷ 1 ∷ 0 ∷ 0 ∷ 0 ∷ 3 ∷ codes "GNU" ++ 0 ∷ 7 ∷ 0 ∷ 0 ∷ 0 ∷ []) ≡ Some (7 ∷ [])
+pub build_id_big : build_id_in big
+    (0 ∷ 0 ∷ 0 ∷ 4 ∷ 0 ∷ 0 ∷ 0 ∷ 1 ∷ 0 ∷ 0 ∷ 0 ∷ 3 ∷ codes "GNU" ++ 0 ∷ 7 ∷ 0 ∷ 0 ∷ 0 ∷ [])
+    ≡ Some (7 ∷ [])
 build_id_big = refl
 
 -- a note of another type (NT_GNU_ABI_TAG), and one with another name, come before it
-pub third_note : build_id_in little (slice_set note 8 1 ++ slice_set note 13 0x4f ++ note) ≡ Some (0xaa ∷ 0xbb ∷ 0xcc ∷ [])
+pub third_note : build_id_in little (slice_set note 8 1 ++ slice_set note 13 0x4f ++ note)
+    ≡ Some (0xaa ∷ 0xbb ∷ 0xcc ∷ [])
 third_note = refl
 
 pub other_type : build_id_in little (slice_set note 8 1) ≡ None
@@ -57,14 +60,17 @@ long_note = refl
 
 -- ---- links
 
-pub link : link_in little (codes "a.debug" ++ 0 ∷ 0x26 ∷ 0x39 ∷ 0xf4 ∷ 0xcb ∷ []) ≡ Some (record { name = codes "a.debug"; checksum = 0xcbf4_3926 })
+pub link : link_in little (codes "a.debug" ++ 0 ∷ 0x26 ∷ 0x39 ∷ 0xf4 ∷ 0xcb ∷ [])
+    ≡ Some (record { name = codes "a.debug"; checksum = 0xcbf4_3926 })
 link = refl
 
-pub link_big : link_in big (codes "a.debug" ++ 0 ∷ 0xcb ∷ 0xf4 ∷ 0x39 ∷ 0x26 ∷ []) ≡ Some (record { name = codes "a.debug"; checksum = 0xcbf4_3926 })
+pub link_big : link_in big (codes "a.debug" ++ 0 ∷ 0xcb ∷ 0xf4 ∷ 0x39 ∷ 0x26 ∷ [])
+    ≡ Some (record { name = codes "a.debug"; checksum = 0xcbf4_3926 })
 link_big = refl
 
 -- a name of eight bytes: four for the zero byte and the padding
-pub link_padded : link_in little (codes "ab.debug" ++ replicate 4 0 ++ 1 ∷ 0 ∷ 0 ∷ 0 ∷ []) ≡ Some (record { name = codes "ab.debug"; checksum = 1 })
+pub link_padded : link_in little (codes "ab.debug" ++ replicate 4 0 ++ 1 ∷ 0 ∷ 0 ∷ 0 ∷ [])
+    ≡ Some (record { name = codes "ab.debug"; checksum = 1 })
 link_padded = refl
 
 pub link_cut : link_in little (codes "a.debug" ++ 0 ∷ 1 ∷ 0 ∷ 0 ∷ []) ≡ None

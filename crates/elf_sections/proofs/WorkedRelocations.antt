@@ -5,7 +5,8 @@ use Rattle.elf_sections.specs.Steps.{◌>>=◌}
 use Rattle.elf_sections.specs.File.{file_at}
 use Rattle.elf_sections.specs.Relocating.{relocated_at, index_of}
 use Rattle.elf_sections.specs.declared.error.ElfError.{ElfError}
-use Rattle.elf_sections.specs.declared.error.ElfError.TheVariants.{UnknownMachine, UnknownRelocation, EntrySize, NoSymbols, SymbolOutside, SymbolSection}
+use Rattle.elf_sections.specs.declared.error.ElfError.TheVariants.{UnknownMachine, UnknownRelocation, EntrySize}
+use Rattle.elf_sections.specs.declared.error.ElfError.TheVariants.{NoSymbols, SymbolOutside, SymbolSection}
 use Rattle.elf_sections.specs.declared.error.ElfError.TheVariants.{RelocationOutside}
 use Rattle.elf_sections.specs.declared.place.SectionPlace.{SectionPlace}
 use Rattle.elf_sections.specs.declared.place.SectionPlace.TheVariants.{AllAtZero, Only}
@@ -19,7 +20,8 @@ relocated place bytes = file_at bytes >>= λ file. relocated_at file place 0 (co
 abbrev section : ℕ → ℕ → ℕ → ℕ → ℕ → ℕ → ℕ → List ℕ
 section name kind offset size link info entry_size =
     name ∷ 0 ∷ 0 ∷ 0 ∷ kind ∷ replicate 11 0
-    ++ offset ∷ 1 ∷ 0 ∷ 0 ∷ size ∷ 0 ∷ 0 ∷ 0 ∷ link ∷ 0 ∷ 0 ∷ 0 ∷ info ∷ 0 ∷ 0 ∷ 0 ∷ 0 ∷ 0 ∷ 0 ∷ 0 ∷ entry_size ∷ 0 ∷ 0 ∷ 0 ∷ []
+    ++ offset ∷ 1 ∷ 0 ∷ 0 ∷ size ∷ 0 ∷ 0 ∷ 0 ∷ link ∷ 0 ∷ 0 ∷ 0 ∷ info ∷ 0 ∷ 0 ∷ 0 ∷ 0 ∷ 0 ∷ 0 ∷ 0 ∷ entry_size ∷ 0 ∷ 0
+    ∷ 0 ∷ []
 
 -- .text, symbols (SHT_SYMTAB), .debug_line, its relocations (SHT_REL), and the names; then from 0x150 on eight bytes of
 -- .debug_line, one relocation, R_386_32 of symbol 1 at 4, and two symbols, of which symbol 1 is 0x10 in section 1
@@ -42,11 +44,13 @@ pub of_its_section : relocated (Only 1) file ≡ Ok (Some (0xaa ∷ 0xbb ∷ 0xc
 of_its_section = refl
 
 -- the symbol's section is in memory, and another one counts
-pub of_another_section : relocated (Only 2) file ≡ Ok (Some (0xaa ∷ 0xbb ∷ 0xcc ∷ 0xdd ∷ 0xff ∷ 0xff ∷ 0xff ∷ 0xff ∷ []))
+pub of_another_section : relocated (Only 2) file
+    ≡ Ok (Some (0xaa ∷ 0xbb ∷ 0xcc ∷ 0xdd ∷ 0xff ∷ 0xff ∷ 0xff ∷ 0xff ∷ []))
 of_another_section = refl
 
 -- .text without SHF_ALLOC
-pub not_in_memory : relocated (Only 2) (slice_set file 0x90 0) ≡ Ok (Some (0xaa ∷ 0xbb ∷ 0xcc ∷ 0xdd ∷ 0x14 ∷ 0 ∷ 0 ∷ 0 ∷ []))
+pub not_in_memory : relocated (Only 2) (slice_set file 0x90 0)
+    ≡ Ok (Some (0xaa ∷ 0xbb ∷ 0xcc ∷ 0xdd ∷ 0x14 ∷ 0 ∷ 0 ∷ 0 ∷ []))
 not_in_memory = refl
 
 -- ET_EXEC: what stands there
@@ -54,7 +58,8 @@ pub linked : relocated AllAtZero (slice_set file 0x10 2) ≡ Ok (Some (0xaa ∷ 
 linked = refl
 
 -- relocations of section 2
-pub of_other_data : relocated AllAtZero (slice_set file 0x11c 2) ≡ Ok (Some (0xaa ∷ 0xbb ∷ 0xcc ∷ 0xdd ∷ 4 ∷ 0 ∷ 0 ∷ 0 ∷ []))
+pub of_other_data : relocated AllAtZero (slice_set file 0x11c 2)
+    ≡ Ok (Some (0xaa ∷ 0xbb ∷ 0xcc ∷ 0xdd ∷ 4 ∷ 0 ∷ 0 ∷ 0 ∷ []))
 of_other_data = refl
 
 pub index : (file_at file >>= λ f. Ok (index_of f (codes ".debug_line"))) ≡ Ok (Some 3)
@@ -70,7 +75,8 @@ pub kind_2 : relocated AllAtZero (slice_set file 0x15c 2) ≡ Err (UnknownReloca
 kind_2 = refl
 
 -- R_386_NONE of a symbol that isn't there
-pub kind_0 : relocated AllAtZero (slice_set (slice_set file 0x15c 0) 0x15d 2) ≡ Ok (Some (0xaa ∷ 0xbb ∷ 0xcc ∷ 0xdd ∷ 4 ∷ 0 ∷ 0 ∷ 0 ∷ []))
+pub kind_0 : relocated AllAtZero (slice_set (slice_set file 0x15c 0) 0x15d 2)
+    ≡ Ok (Some (0xaa ∷ 0xbb ∷ 0xcc ∷ 0xdd ∷ 4 ∷ 0 ∷ 0 ∷ 0 ∷ []))
 kind_0 = refl
 
 pub symbol_2 : relocated AllAtZero (slice_set file 0x15d 2) ≡ Err (SymbolOutside 2)
@@ -98,5 +104,6 @@ pub noted_elsewhere : relocated (Only 1) (slice_set (slice_set file 0x17e 0xff) 
 noted_elsewhere = refl
 
 -- a section of relocations that names itself, and has none then that changes the section
-pub of_itself : relocated AllAtZero (slice_set file 0x11c 4) ≡ Ok (Some (0xaa ∷ 0xbb ∷ 0xcc ∷ 0xdd ∷ 4 ∷ 0 ∷ 0 ∷ 0 ∷ []))
+pub of_itself : relocated AllAtZero (slice_set file 0x11c 4)
+    ≡ Ok (Some (0xaa ∷ 0xbb ∷ 0xcc ∷ 0xdd ∷ 4 ∷ 0 ∷ 0 ∷ 0 ∷ []))
 of_itself = refl

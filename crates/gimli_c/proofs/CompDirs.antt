@@ -17,10 +17,12 @@ sections_by info abbreviations strings line_strings string_offsets big offsets_b
   offsets_notation = notation_of offsets_big (2 ^ 64);
 }
 
-pub same_sections : (info abbreviations strings line_strings string_offsets i a s l o : List ℕ) (big offsets_big b : Bool)
+pub same_sections : (info abbreviations strings line_strings string_offsets i a s l o : List ℕ)
+    (big offsets_big b : Bool)
     → info ≡ i → abbreviations ≡ a → strings ≡ s → line_strings ≡ l → string_offsets ≡ o → big ≡ b → offsets_big ≡ b
     → sections_by info abbreviations strings line_strings string_offsets big offsets_big ≡ sections_handed i a l s o b
-same_sections info abbreviations strings line_strings string_offsets i a s l o big offsets_big b info_is abbreviations_is strings_are line_strings_are
+same_sections info abbreviations strings line_strings string_offsets i a s l o big offsets_big b info_is
+    abbreviations_is strings_are line_strings_are
     string_offsets_are big_is offsets_big_is =
     ap (λ x. sections_by x abbreviations strings line_strings string_offsets big offsets_big) info_is
     ∙ ap (λ x. sections_by i x strings line_strings string_offsets big offsets_big) abbreviations_is

@@ -1,5 +1,6 @@
 -- What is handed over, as it is built.
-use Rattle.std.proofs.Common.{◌≡◌, ℕ, zero, suc, Bool, true, false, ◌&&◌, if◌then◌else◌, List, [], ◌∷◌, ◌++◌, Option, Some, None, refl, sym, ap, subst, ◌∙◌}
+use Rattle.std.proofs.Common.{◌≡◌, ℕ, zero, suc, Bool, true, false, ◌&&◌, if◌then◌else◌, List, [], ◌∷◌, ◌++◌, Option}
+use Rattle.std.proofs.Common.{Some, None, refl, sym, ap, subst, ◌∙◌}
 use Rattle.std.specs.Prelude.{All, IfSome, nat_le, nat_eq, Result, Ok, Err}
 use Rattle.std.specs.List.{list_any}
 use Rattle.std.specs.Option.{is_none}
@@ -42,8 +43,10 @@ text_is_inline (InLineStrings i) bytes is none = absurd cc
 module _ (Q : File → Type 0) (d : Details) (other : (k : FileKey) (e : Details) → Q (k, e) → Q (k, d)) where
   details_with : (files : List File) (i : ℕ) → All Q files → All Q (with_details files i d)
   details_with [] i all = all
-  details_with (f ∷ files) zero all = All-cons Q (f.0, d) files (other f.0 f.1 (All-head Q f files all)) (All-tail Q f files all)
-  details_with (f ∷ files) (suc i) all = All-cons Q f (with_details files i d) (All-head Q f files all) (details_with files i (All-tail Q f files all))
+  details_with (f ∷ files) zero all =
+      All-cons Q (f.0, d) files (other f.0 f.1 (All-head Q f files all)) (All-tail Q f files all)
+  details_with (f ∷ files) (suc i) all =
+      All-cons Q f (with_details files i d) (All-head Q f files all) (details_with files i (All-tail Q f files all))
 
   files_with : (files : List File) (k : FileKey) → All Q files → Q (k, d) → All Q (with_file files k (Some d))
   files_with files k all one = by (has_file files k)
@@ -59,9 +62,12 @@ file_can p k d can is none = record {
   directories = can.directories;
   paths = files_with (λ f. IsWithin no_texts f.0.0) d (λ _ _ q. q) p.files k can.paths (inline_within k.0 is);
   sources =
-      files_with (λ f. IfSome f.1.source (IsWithin no_texts)) d (λ _ _ _. no_source (IsWithin no_texts)) p.files k can.sources (no_source (IsWithin no_texts));
+      files_with (λ f. IfSome f.1.source (IsWithin no_texts)) d (λ _ _ _. no_source (IsWithin no_texts)) p.files k
+      can.sources (no_source (IsWithin no_texts));
   sources_end =
-      λ late has. files_with (λ f. IfSome f.1.source HasNoZero) d (λ _ _ _. no_source HasNoZero) p.files k (can.sources_end late has) (no_source HasNoZero);
+      λ late has.
+      files_with (λ f. IfSome f.1.source HasNoZero) d (λ _ _ _. no_source HasNoZero) p.files k
+      (can.sources_end late has) (no_source HasNoZero);
 }
   where
     no_source : (P : LineText → Type 0) → IfSome d.source P
@@ -86,10 +92,12 @@ no_empty p is = by (nat_le 5 p.encoding.version) p.file_has_source (list_any (λ
     by false true b e = absurd cc
 
 no_strings : (p : Built) → p.file_has_source ≡ false → (texts_after p no_texts).strings ≡ []
-no_strings p is = ap (λ (b : Bool). if b && nat_eq (first_form (sources p.files)) 0x0e then with_text [] [] else []) (no_empty p is)
+no_strings p is =
+    ap (λ (b : Bool). if b && nat_eq (first_form (sources p.files)) 0x0e then with_text [] [] else []) (no_empty p is)
 
 no_line_strings : (p : Built) → p.file_has_source ≡ false → (texts_after p no_texts).line_strings ≡ []
-no_line_strings p is = ap (λ (b : Bool). if b && nat_eq (first_form (sources p.files)) 0x1f then with_text [] [] else []) (no_empty p is)
+no_line_strings p is =
+    ap (λ (b : Bool). if b && nat_eq (first_form (sources p.files)) 0x1f then with_text [] [] else []) (no_empty p is)
 
 -- so what was written to an empty section with empty tables is read back with empty tables
 pub read_back : (written big : Bool) (p : Built) (texts : StringTables) (old new : List ℕ) → written ≡ big → old ≡ []
@@ -98,8 +106,10 @@ pub read_back : (written big : Bool) (p : Built) (texts : StringTables) (old new
 read_back written big p texts old new big_is old_is none gained given =
     subst (λ (b : Bool). ReadsBackAs b p no_texts new) big_is
     (subst (ReadsBackAs written p no_texts) (sym (given.1 ∙ ap (λ (xs : List ℕ). xs ++ given.0) old_is))
-    (subst (λ (l : List (List ℕ)). ReadsBackAs written p (texts_in [] l) given.0) (gained.line_strings ∙ no_line_strings p none)
-    (subst (λ (s : List (List ℕ)). ReadsBackAs written p (texts_in s texts.line_strings) given.0) (gained.strings ∙ no_strings p none) given.2)))
+    (subst (λ (l : List (List ℕ)). ReadsBackAs written p (texts_in [] l) given.0)
+    (gained.line_strings ∙ no_line_strings p none)
+    (subst (λ (s : List (List ℕ)). ReadsBackAs written p (texts_in s texts.line_strings) given.0)
+    (gained.strings ∙ no_strings p none) given.2)))
 
 -- ---- the program that is built
 
@@ -108,18 +118,23 @@ built_source h p b =
     ap (λ (q : Built). q.file_has_source) b.others ∙ ap (λ (q : Built). q.file_has_source) b.files.others
     ∙ ap (λ (q : Built). q.file_has_source) b.directories.others
 
-pub items_built : (details : ℕ) (e : GimliEncoding) (start between after p : Built) (texts : List (List ℕ)) (bytes ids given : List ℕ)
+pub items_built : (details : ℕ) (e : GimliEncoding) (start between after p : Built) (texts : List (List ℕ))
+    (bytes ids given : List ℕ)
     (files : List GimliFileName)
-    (file_ids now : List ℕ) (symbols : List GimliSymbol) (rows : List GimliRow) → start.items ≡ [] → start.encoding ≡ encoding_of e
+    (file_ids now : List ℕ) (symbols : List GimliSymbol) (rows : List GimliRow) → start.items ≡ []
+    → start.encoding ≡ encoding_of e
     → AddsDirectories (program_with details start) between texts ids
-    → AddsFiles between after bytes given files file_ids → now ≡ file_ids → AddsItems after p (items_handed after.encoding.version now symbols 0 None rows)
+    → AddsFiles between after bytes given files file_ids → now ≡ file_ids
+    → AddsItems after p (items_handed after.encoding.version now symbols 0 None rows)
     → p.items ≡ items_handed e.version file_ids symbols 0 None rows
 items_built details e start between after p texts bytes ids given files file_ids now symbols rows none is d f same a =
     let items : after.items ≡ [] = ap (λ (q : Built). q.items) f.others ∙ ap (λ (q : Built). q.items) d.others ∙ none in
     let version : after.encoding.version ≡ e.version =
-    ap (λ (q : Built). q.encoding.version) f.others ∙ ap (λ (q : Built). q.encoding.version) d.others ∙ ap (λ (x : Encoding). x.version) is in
+    ap (λ (q : Built). q.encoding.version) f.others ∙ ap (λ (q : Built). q.encoding.version) d.others
+    ∙ ap (λ (x : Encoding). x.version) is in
     a.items_are ∙ ap (λ (xs : List BuiltItem). xs ++ items_handed after.encoding.version now symbols 0 None rows) items
-    ∙ ap (λ (v : ℕ). items_handed v now symbols 0 None rows) version ∙ ap (λ (xs : List ℕ). items_handed e.version xs symbols 0 None rows) same
+    ∙ ap (λ (v : ℕ). items_handed v now symbols 0 None rows) version
+    ∙ ap (λ (xs : List ℕ). items_handed e.version xs symbols 0 None rows) same
 
 -- which details are written changes nothing of what a program requires to be written, where no source is among them
 pub can_with : (details : ℕ) (p : Built) → CanWrite p no_texts → CanWrite (program_with details p) no_texts

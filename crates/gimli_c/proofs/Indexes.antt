@@ -1,5 +1,6 @@
 -- Answers that take the place of what was asked, one after the other.
-use Rattle.std.proofs.Common.{◌≡◌, ℕ, suc, ◌+◌, ◌<◌, ◌≤◌, List, [], ◌∷◌, ◌++◌, length, take, drop, set, get_or, sym, ap, subst, ◌∙◌, refl, arith, append_assoc}
+use Rattle.std.proofs.Common.{◌≡◌, ℕ, suc, ◌+◌, ◌<◌, ◌≤◌, List, [], ◌∷◌, ◌++◌, length, take, drop, set, get_or, sym, ap}
+use Rattle.std.proofs.Common.{subst, ◌∙◌, refl, arith, append_assoc}
 use Rattle.std.proofs.Common.{drop_of_length-le}
 use Rattle.std.specs.List.{AllZip}
 use Rattle.std.proofs.Math.Seq.{drop-cons, get_or-append_seam, set-append_seam}
@@ -44,4 +45,5 @@ module _ {A : Type 0} (R : A → A → Type 0) (old now : List A) (n : ℕ) (w :
 
   pub all_answered : length old ≤ n → AllZip R old now
   all_answered le = subst (λ xs. AllZip R xs now) (take_all n old le)
-      (subst (λ ys. AllZip R (take n old) ys) (sym (w.now_is ∙ ap (λ xs. w.answers ++ xs) (drop_of_length-le old le) ∙ append-nil w.answers)) w.each)
+      (subst (λ ys. AllZip R (take n old) ys)
+      (sym (w.now_is ∙ ap (λ xs. w.answers ++ xs) (drop_of_length-le old le) ∙ append-nil w.answers)) w.each)

@@ -13,14 +13,17 @@ pub record Unit_at (p : Location) (h : Header) : Type 0 where
 pub record Fault_at (p : Location) (e : Error) : Type 0 where
   pub is : HasHeaderFault (notation_at p) (unit_entry_at p) (drop p.offset p.section) e
 
-pub same_unit : (section other : List ℕ) (big other_big : Bool) (size offset : ℕ) (h : Header) → other ≡ section → other_big ≡ big
+pub same_unit : (section other : List ℕ) (big other_big : Bool) (size offset : ℕ) (h : Header) → other ≡ section
+    → other_big ≡ big
     → HasUnit (location other other_big size offset) h → Unit_at (location section big size offset) h
 same_unit section other big other_big size offset h s b unit =
     subst (λ (x : List ℕ). Unit_at (location x big size offset) h) s
     (subst (λ (x : Bool). Unit_at (location other x size offset) h) b (record { is = unit }))
 
-pub same_fault : (section other : List ℕ) (big other_big : Bool) (size offset : ℕ) (e : Error) → other ≡ section → other_big ≡ big
-    → HasHeaderFault (notation_at (location other other_big size offset)) (unit_entry_at (location other other_big size offset)) (drop offset other) e
+pub same_fault : (section other : List ℕ) (big other_big : Bool) (size offset : ℕ) (e : Error) → other ≡ section
+    → other_big ≡ big
+    → HasHeaderFault (notation_at (location other other_big size offset))
+    (unit_entry_at (location other other_big size offset)) (drop offset other) e
     → Fault_at (location section big size offset) e
 same_fault section other big other_big size offset e s b fault =
     subst (λ (x : List ℕ). Fault_at (location x big size offset) e) s

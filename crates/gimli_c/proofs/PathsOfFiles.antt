@@ -20,12 +20,15 @@ err_more (Ok a) f p = tt
 err_more (Err e) f p = f e p
 
 -- the path of a file that is looked up where it is known
-pub same_path : (texts : Strings) (start now : RunState) (h : Header) (index : ℕ) (comp_dir : List ℕ) (f : File) → IsLookedUp start now h index
+pub same_path : (texts : Strings) (start now : RunState) (h : Header) (index : ℕ) (comp_dir : List ℕ) (f : File)
+    → IsLookedUp start now h index
     → file_path (paths_handed texts h comp_dir) f ≡ file_path (paths_handed texts (complete start) comp_dir) f
 same_path texts start now h index comp_dir f l =
     ap (λ (k : Header). file_path (paths_handed texts k comp_dir) f) l.header
     ∙ ap (λ (k : Header). file_path (paths_handed texts (record k { files = files_at_end start }) comp_dir) f) l.fixed
 
 -- the sections of strings that are handed over, by other names of their bytes
-pub same_texts : (l s line_strings strings : List ℕ) → l ≡ line_strings → s ≡ strings → texts_handed l s ≡ texts_handed line_strings strings
-same_texts l s line_strings strings l_is s_is = ap (λ (xs : List ℕ). texts_handed xs s) l_is ∙ ap (λ (xs : List ℕ). texts_handed line_strings xs) s_is
+pub same_texts : (l s line_strings strings : List ℕ) → l ≡ line_strings → s ≡ strings
+    → texts_handed l s ≡ texts_handed line_strings strings
+same_texts l s line_strings strings l_is s_is =
+    ap (λ (xs : List ℕ). texts_handed xs s) l_is ∙ ap (λ (xs : List ℕ). texts_handed line_strings xs) s_is

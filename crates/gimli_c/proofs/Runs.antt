@@ -1,8 +1,10 @@
 -- Runs: rows that are counted and copied.
-use Rattle.std.proofs.Common.{◌≡◌, ℕ, ◌+◌, ◌-◌, ◌<◌, ◌≤◌, ◌^◌, Bool, true, false, List, [], ◌∷◌, ◌++◌, length, map, drop, set, refl, sym, ap, subst, ◌∙◌}
+use Rattle.std.proofs.Common.{◌≡◌, ℕ, ◌+◌, ◌-◌, ◌<◌, ◌≤◌, ◌^◌, Bool, true, false, List, [], ◌∷◌, ◌++◌, length, map}
+use Rattle.std.proofs.Common.{drop, set, refl, sym, ap, subst, ◌∙◌}
 use Rattle.std.proofs.Common.{append_assoc, arith}
 use Rattle.std.specs.Prelude.{Option, ltb}
-use Rattle.std.proofs.lemmas.List.{map-append, length-append, length-map, append-nil, drop-append-le, drop_all, length-drop}
+use Rattle.std.proofs.lemmas.List.{map-append, length-append, length-map, append-nil, drop-append-le, drop_all}
+use Rattle.std.proofs.lemmas.List.{length-drop}
 use Rattle.std.proofs.lemmas.Bool.{ltb-true, ltb-false}
 use Rattle.gimli_core.specs.declared.error.Error.{Error}
 use Rattle.gimli_core.specs.Notation.{Notation}
@@ -52,16 +54,20 @@ at_start events skip old = record {
   seen = [];
   given = refl;
   count_is = refl;
-  copied = sym (ap (λ (xs : List LineRow). slots_with (map row_seen xs) old) (drop_all skip [] (omega arith)) ∙ written_none old);
+  copied =
+      sym (ap (λ (xs : List LineRow). slots_with (map row_seen xs) old) (drop_all skip [] (omega arith))
+      ∙ written_none old);
 }
 
-pub one_more : (events left rest : List Event) (skip count : ℕ) (old now next : List GimliRow) (r : LineRow) → IsOnTheWay events left skip count old now
+pub one_more : (events left rest : List Event) (skip count : ℕ) (old now next : List GimliRow) (r : LineRow)
+    → IsOnTheWay events left skip count old now
     → left ≡ row r ∷ rest → (count < skip → next ≡ now) → (skip ≤ count → next ≡ set now (count - skip) (row_seen r))
     → IsOnTheWay events rest skip (count + 1) old next
 one_more events left rest skip count old now next r way is skipped put = record {
   seen = way.seen ++ r ∷ [];
   given = way.given ∙ ap (λ (xs : List Event). map row way.seen ++ xs) is
-      ∙ sym (ap (λ (xs : List Event). xs ++ rest) (map-append row way.seen (r ∷ [])) ∙ append_assoc (map row way.seen) (row r ∷ []) rest);
+      ∙ sym (ap (λ (xs : List Event). xs ++ rest) (map-append row way.seen (r ∷ []))
+      ∙ append_assoc (map row way.seen) (row r ∷ []) rest);
   count_is = omega (arith, way.count_is, length-append way.seen (r ∷ []));
   copied = at_test (ltb count skip) refl;
 }
@@ -74,21 +80,26 @@ one_more events left rest skip count old now next r way is skipped put = record 
     above : skip ≤ count → next ≡ slots_with (map row_seen (drop skip (way.seen ++ r ∷ []))) old
     above le =
         let so_far = map row_seen (drop skip way.seen) in
-        let place : count - skip ≡ length so_far = omega (arith, way.count_is, length-map (drop skip way.seen) row_seen, length-drop skip way.seen) in
+        let place : count - skip
+        ≡ length so_far = omega
+        (arith, way.count_is, length-map (drop skip way.seen) row_seen, length-drop skip way.seen) in
         put le ∙ ap (λ (xs : List GimliRow). set xs (count - skip) (row_seen r)) way.copied
         ∙ ap (λ (n : ℕ). set (slots_with so_far old) n (row_seen r)) place
         ∙ sym (written_more so_far (row_seen r) old)
         ∙ ap (λ (xs : List GimliRow). slots_with xs old) (sym (map-append row_seen (drop skip way.seen) (r ∷ [])))
-        ∙ ap (λ (xs : List LineRow). slots_with (map row_seen xs) old) (sym (drop-append-le skip way.seen (r ∷ []) (omega (arith, way.count_is))))
+        ∙ ap (λ (xs : List LineRow). slots_with (map row_seen xs) old)
+        (sym (drop-append-le skip way.seen (r ∷ []) (omega (arith, way.count_is))))
 
     at_test : (b : Bool) → ltb count skip ≡ b → next ≡ slots_with (map row_seen (drop skip (way.seen ++ r ∷ []))) old
     at_test true e = below (ltb-true count skip e)
     at_test false e = above (ltb-false count skip e)
 
-pub at_end : (events left : List Event) (skip count : ℕ) (old now : List GimliRow) (end : Option Error) → IsOnTheWay events left skip count old now
+pub at_end : (events left : List Event) (skip count : ℕ) (old now : List GimliRow) (end : Option Error)
+    → IsOnTheWay events left skip count old now
     → rows_of left ≡ [] → fault_of left ≡ end → Copied events skip old now count end
 at_end events left skip count old now end way none is =
-    let rows_are : rows_of events ≡ way.seen = ap rows_of way.given ∙ rows_after way.seen left ∙ ap (λ (xs : List LineRow). way.seen ++ xs) none
+    let rows_are : rows_of events ≡ way.seen = ap rows_of way.given ∙ rows_after way.seen left
+    ∙ ap (λ (xs : List LineRow). way.seen ++ xs) none
     ∙ append-nil way.seen in
     record {
       count_is = way.count_is ∙ ap length (sym rows_are);
@@ -97,7 +108,8 @@ at_end events left skip count old now end way none is =
     }
 
 -- where it stops, the rows that were seen are the first ones
-pub stopped : (events left : List Event) (skip count : ℕ) (old now : List GimliRow) → IsOnTheWay events left skip count old now → Begun events skip old now
+pub stopped : (events left : List Event) (skip count : ℕ) (old now : List GimliRow)
+    → IsOnTheWay events left skip count old now → Begun events skip old now
 stopped events left skip count old now way = record {
   met = way.seen;
   rest = rows_of left;
@@ -106,13 +118,15 @@ stopped events left skip count old now way = record {
 }
 
 -- those that were seen and the next one are no more than all
-pub counted : (events left rest : List Event) (skip count : ℕ) (old now : List GimliRow) (r : LineRow) → IsOnTheWay events left skip count old now
+pub counted : (events left rest : List Event) (skip count : ℕ) (old now : List GimliRow) (r : LineRow)
+    → IsOnTheWay events left skip count old now
     → left ≡ row r ∷ rest → length (rows_of events) < 2 ^ 64 → count + 1 < 2 ^ 64
 counted events left rest skip count old now r way is fits =
     omega (
       arith,
       way.count_is,
-      ap length (ap rows_of (way.given ∙ ap (λ (xs : List Event). map row way.seen ++ xs) is) ∙ rows_after way.seen (row r ∷ rest)),
+      ap length (ap rows_of (way.given ∙ ap (λ (xs : List Event). map row way.seen ++ xs) is)
+          ∙ rows_after way.seen (row r ∷ rest)),
       length-append way.seen (r ∷ rows_of rest),
       fits,
     )
@@ -120,7 +134,8 @@ counted events left rest skip count old now r way is fits =
 -- ---- the events of a program
 
 -- events that have files are events
-pub without_files : (notation : Notation) (a : Bool) (h : Header) (bytes : List ℕ) (events : List EventWithFiles) → EventsWithFiles notation a h bytes events
+pub without_files : (notation : Notation) (a : Bool) (h : Header) (bytes : List ℕ) (events : List EventWithFiles)
+    → EventsWithFiles notation a h bytes events
     → Events notation h bytes (events_of events)
 without_files notation a h bytes events given = record {
   list = given.list;
@@ -139,7 +154,8 @@ pub few_rows : (events : List EventWithFiles) → length (rows_of (events_of eve
 few_rows events = omega (arith, few_of_events (events_of events), length-map events (λ (t : EventWithFiles). t.event))
 
 -- a unit has no more rows than bytes
-pub rows_at_most : (p : Location) (h k : Header) (events : List Event) → HasEvents p h events → HasUnit p k → length (rows_of events) ≤ k.unit_length
+pub rows_at_most : (p : Location) (h k : Header) (events : List Event) → HasEvents p h events → HasUnit p k
+    → length (rows_of events) ≤ k.unit_length
 rows_at_most p h k events given unit =
     let bytes = drop p.offset p.section in
     let same = one_header (notation_at p) (unit_entry_at p) bytes h k given.unit.1 unit.1 in
@@ -153,14 +169,18 @@ rows_at_most p h k events given unit =
     )
 
 -- what the unit at a location gives, whatever the name of its notation
-pub has_events : (p : Location) (notation : Notation) (h : Header) (events : List EventWithFiles) → HasUnit p h → notation ≡ notation_at p
+pub has_events : (p : Location) (notation : Notation) (h : Header) (events : List EventWithFiles) → HasUnit p h
+    → notation ≡ notation_at p
     → EventsWithFiles notation true h h.program events → HasEvents p h (events_of events)
 has_events p notation h events unit is given = record {
   unit = unit;
-  given = subst (λ (n : Notation). Events n h h.program (events_of events)) is (without_files notation true h h.program events given);
+  given =
+      subst (λ (n : Notation). Events n h h.program (events_of events)) is
+      (without_files notation true h h.program events given);
 }
 
 -- where no bytes are left, no more files come
 pub files_ended : (a : RunState) → a.unread.bytes ≡ [] → files_at_end a ≡ a.files
 unfolding decoded_upto
-files_ended a none = ap (λ (bytes : List ℕ). files_from a.appends a.files (decoded_at a.unread.notation a.fixed bytes).0) none
+files_ended a none =
+    ap (λ (bytes : List ℕ). files_from a.appends a.files (decoded_at a.unread.notation a.fixed bytes).0) none

@@ -12,13 +12,16 @@ use Rattle.gimli_build.specs.declared.built.items.BuiltItem.{BuiltItem}
 use Rattle.gimli_c.specs.Causes.{HasCause, HasHandedFault}
 use Rattle.gimli_c.specs.inside.Causes.{HasNone}
 use Rattle.gimli_c.specs.Causes.HasCause.{of_handed, of_unit}
-use Rattle.gimli_c.specs.Handed.{AddsDirectories, encoding_of, line_encoding_of, directories_handed, files_handed, first_ids, ids_of_directories, ids_of_files}
+use Rattle.gimli_c.specs.Handed.{AddsDirectories, encoding_of, line_encoding_of, directories_handed, files_handed}
+use Rattle.gimli_c.specs.Handed.{first_ids, ids_of_directories, ids_of_files}
 use Rattle.gimli_c.specs.Handed.{items_handed, text_handed}
 use Rattle.gimli_c.specs.Handing.{Handed, IsBuiltOf, program_with}
 use Rattle.gimli_c.specs.Start.{start_program}
 
 abbrev start : Handed → Built
-start h = program_with h.details (start_program (encoding_of h.encoding) (line_encoding_of h.encoding) h.texts h.directories h.files)
+start h =
+    program_with h.details
+    (start_program (encoding_of h.encoding) (line_encoding_of h.encoding) h.texts h.directories h.files)
 
 abbrev names : Handed → List (List ℕ)
 names h = map (text_handed h.texts) h.directories
@@ -37,12 +40,20 @@ file_ids h = ids_of_files h.texts (ids h) (start h).files h.files
 
 abbrev program_of : Handed → LineRow → Bool → Built
 program_of h row in_sequence =
-    record (with_tables h) { items = items_handed h.encoding.version (file_ids h) h.symbols 0 None h.rows; row = row; in_sequence = in_sequence }
+    record (with_tables h) {
+      items = items_handed h.encoding.version (file_ids h) h.symbols 0 None h.rows;
+      row = row;
+      in_sequence = in_sequence;
+    }
 
 is_program_of : (h : Handed) (p : Built) → IsBuiltOf h p → p ≡ program_of h p.row p.in_sequence
 is_program_of h p b =
-    let d = subst (λ (s : Built). AddsDirectories (program_with h.details s) b.between (names h) b.directory_ids) b.is_start.program_is b.directories in
-    let between = d.others ∙ ap (λ (ds : List LineText). let q : Built = record (start h) { directories = ds } in q) d.directories_are in
+    let d =
+    subst (λ (s : Built). AddsDirectories (program_with h.details s) b.between (names h) b.directory_ids)
+    b.is_start.program_is b.directories in
+    let between =
+    d.others
+    ∙ ap (λ (ds : List LineText). let q : Built = record (start h) { directories = ds } in q) d.directories_are in
     let files_between = ap (λ (q : Built). q.files) d.others in
     let files = b.files.files_are ∙ ap (λ (xs : List ℕ). files_handed h.texts xs b.between.files h.files) d.ids_are
     ∙ ap (λ (fs : List File). files_handed h.texts (ids h) fs h.files) files_between in
@@ -51,8 +62,14 @@ is_program_of h p b =
     let given = b.files.ids_are ∙ ap (λ (xs : List ℕ). ids_of_files h.texts xs b.between.files h.files) d.ids_are
     ∙ ap (λ (fs : List File). ids_of_files h.texts (ids h) fs h.files) files_between in
     let items = b.items ∙ ap (λ (xs : List ℕ). items_handed h.encoding.version xs h.symbols 0 None h.rows) given in
-    b.others ∙ ap (λ (q : Built). let r : Built = record q { items = p.items; row = p.row; in_sequence = p.in_sequence } in r) after
-    ∙ ap (λ (xs : List BuiltItem). let r : Built = record (with_tables h) { items = xs; row = p.row; in_sequence = p.in_sequence } in r) items
+    b.others
+    ∙ ap (λ (q : Built). let r : Built = record q { items = p.items; row = p.row; in_sequence = p.in_sequence } in r)
+    after
+    ∙ ap
+    (λ (xs : List BuiltItem). let r : Built =
+    record (with_tables h) { items = xs; row = p.row; in_sequence = p.in_sequence } in
+    r)
+    items
 
 -- so each of them has the same first cause
 same_cause : (h : Handed) (big : Bool) (p q : Built) → IsBuiltOf h p → IsBuiltOf h q
@@ -63,7 +80,9 @@ same_cause h big p q a b =
     ap cause (is_program_of h p a) ∙ same ∙ sym (ap cause (is_program_of h q b))
 
 -- where a program that is built was written, nothing has a cause
-pub no_cause : (h : Handed) (p : Built) (status : ℕ) → HasNone (HasHandedFault h) → IsBuiltOf h p → first_cause h.big p.encoding p no_texts ≡ None
+pub no_cause : (h : Handed) (p : Built) (status : ℕ) → HasNone (HasHandedFault h) → IsBuiltOf h p
+    → first_cause h.big p.encoding p no_texts ≡ None
     → HasCause h status → ⊥
 no_cause h p status well built none (of_handed fault) = well status fault
-no_cause h p status well built none (of_unit unit) = none-some unit.cause (sym none ∙ same_cause h h.big p unit.program built unit.built ∙ unit.first)
+no_cause h p status well built none (of_unit unit) =
+    none-some unit.cause (sym none ∙ same_cause h h.big p unit.program built unit.built ∙ unit.first)

@@ -1,5 +1,6 @@
 -- Items that are taken one by one, and put into an array of the caller.
-use Rattle.std.proofs.Common.{◌≡◌, ◌≤◌, ◌<◌, ℕ, ◌+◌, List, [], ◌∷◌, length, take, drop, get_or, refl, sym, ap, ◌∙◌, inr, arith}
+use Rattle.std.proofs.Common.{◌≡◌, ◌≤◌, ◌<◌, ℕ, ◌+◌, List, [], ◌∷◌, length, take, drop, get_or, refl, sym, ap, ◌∙◌, inr}
+use Rattle.std.proofs.Common.{arith}
 use Rattle.std.specs.Prelude.{Some, slice_get}
 use Rattle.std.proofs.lemmas.List.{drop_more, length-drop}
 use Rattle.std.proofs.lemmas.Option.{slice_get-get_or}
@@ -33,4 +34,5 @@ pub past_room : {A : Type 0} (xs old now : List A) (n : ℕ) → length now ≤ 
     → now ≡ slots_with (take (n + 1) xs) old
 past_room xs old now n past so_far =
     let same = ap (λ (ys : List _). length ys) so_far ∙ slots_length (take n xs) old in
-    so_far ∙ written_take n xs old (inr (omega (arith, same, past))) ∙ sym (written_take (n + 1) xs old (inr (omega (arith, same, past))))
+    so_far ∙ written_take n xs old (inr (omega (arith, same, past)))
+    ∙ sym (written_take (n + 1) xs old (inr (omega (arith, same, past))))

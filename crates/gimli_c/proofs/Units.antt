@@ -1,5 +1,6 @@
 -- Where the next unit begins, and what is said of a unit.
-use Rattle.std.proofs.Common.{◌≡◌, ℕ, ◌+◌, ◌<◌, ◌≤◌, ◌^◌, Bool, true, List, [], ◌∷◌, ◌++◌, length, drop, Ok, Err, refl, sym, ap, subst, ◌∙◌, inl, inr, arith}
+use Rattle.std.proofs.Common.{◌≡◌, ℕ, ◌+◌, ◌<◌, ◌≤◌, ◌^◌, Bool, true, List, [], ◌∷◌, ◌++◌, length, drop, Ok, Err, refl}
+use Rattle.std.proofs.Common.{sym, ap, subst, ◌∙◌, inl, inr, arith}
 use Rattle.std.specs.Prelude.{Result}
 use Rattle.std.proofs.lemmas.Bool.{cases_lt}
 use Rattle.std.proofs.lemmas.List.{append-nil, drop_all, length-append, length-drop}
@@ -32,17 +33,20 @@ none_empty notation = refl
 
 -- after a unit, or at the end where none was taken, the next one begins
 pub next_is : (notation : Notation) (section : List ℕ) (offset next : ℕ) (after : List ℕ)
-    → after ≡ after_unit (any_unit_at notation (drop offset section)) → next + length after ≡ length section → IsNext notation section offset next
+    → after ≡ after_unit (any_unit_at notation (drop offset section)) → next + length after ≡ length section
+    → IsNext notation section offset next
 next_is notation section offset next after is ends = at_answer (any_unit_at notation (drop offset section)) refl is
   where
-    at_answer : (r : Read (List ℕ)) → any_unit_at notation (drop offset section) ≡ r → after ≡ after_unit r → IsNext notation section offset next
+    at_answer : (r : Read (List ℕ)) → any_unit_at notation (drop offset section) ≡ r → after ≡ after_unit r
+        → IsNext notation section offset next
     at_answer (Ok content, rest) read left =
         let f = (reads_any_unit notation).found (drop offset section) content rest read in
         let within : offset < length section = elim (cases_lt offset (length section)) [
           | inl lt ↦ lt
           | inr le ↦
               let wrong : (let r : Result (List ℕ) Error = Err (eof []) in r) ≡ Ok content =
-              sym (none_empty notation) ∙ ap (λ (xs : List ℕ). (any_unit_at notation xs).0) (sym (drop_all offset section le))
+              sym (none_empty notation)
+              ∙ ap (λ (xs : List ℕ). (any_unit_at notation xs).0) (sym (drop_all offset section le))
               ∙ ap (λ (r : Read (List ℕ)). r.0) read in
               absurd cc
         ] in
@@ -52,7 +56,9 @@ next_is notation section offset next after is ends = at_answer (any_unit_at nota
           rest = rest;
           parts = f.1;
           spelled = f.2;
-          follow = omega (arith, ends, within, ap length left, ap length f.1, length-append f.0 rest, length-drop offset section);
+          follow =
+              omega
+              (arith, ends, within, ap length left, ap length f.1, length-append f.0 rest, length-drop offset section);
         })
     at_answer (Err e, rest) read left =
         inr (
@@ -68,19 +74,22 @@ same_next section other big other_big offset next s b is =
     (subst (λ (x : Bool). IsNext (notation_of x (2 ^ 64)) other offset next) b is)
 
 -- a unit with a header is a unit, whatever its content is
-unit_any : (notation : Notation) (unit_entry : UnitEntry) (unit : List ℕ) (h : Header) → (header_production notation unit_entry).Spells unit h
+unit_any : (notation : Notation) (unit_entry : UnitEntry) (unit : List ℕ) (h : Header)
+    → (header_production notation unit_entry).Spells unit h
     → (content : List ℕ) × (any_unit notation).Spells unit content
 unit_any notation unit_entry unit h s =
     let i = s.5 in
     let o = i.5 in
     let f = o.5 in
-    let after : i.2 ≡ [] = o.3 ∙ ap (λ (xs : List ℕ). xs ++ o.2) o.4.0 ∙ f.3 ∙ ap (λ (xs : List ℕ). xs ++ f.2) f.4.0 ∙ f.5.0 in
+    let after : i.2 ≡ [] = o.3 ∙ ap (λ (xs : List ℕ). xs ++ o.2) o.4.0 ∙ f.3 ∙ ap (λ (xs : List ℕ). xs ++ f.2) f.4.0
+    ∙ f.5.0 in
     let inside : s.2 ≡ i.1 = i.3 ∙ ap (λ (xs : List ℕ). i.1 ++ xs) after ∙ append-nil i.1 in
     let whole : unit ≡ s.1 ++ i.1 = s.3 ∙ ap (λ (xs : List ℕ). s.1 ++ xs) inside in
     (i.1, (s.0, s.1, i.1, whole, s.4, (i.4.0, refl)))
 
 -- its size is that of its length and as many bytes as that says: another unit may follow it
-unit_size : (notation : Notation) (unit_entry : UnitEntry) (offset : ℕ) (unit : List ℕ) (h : Header) → (header_production notation unit_entry).Spells unit h
+unit_size : (notation : Notation) (unit_entry : UnitEntry) (offset : ℕ) (unit : List ℕ) (h : Header)
+    → (header_production notation unit_entry).Spells unit h
     → offset + length unit ≡ offset_after offset h
 unit_size notation unit_entry offset unit h s =
     let any = unit_any notation unit_entry unit h s in
@@ -93,13 +102,18 @@ unit_size notation unit_entry offset unit h s =
         rest = one;
         parts = refl;
         spelled = any.1;
-        follow = (refl, inr (record { some = λ none. absurd cc; error = eof one; fault = inl (inl (inl (omega arith, refl))) }, refl));
+        follow = (
+          refl,
+          inr
+              (record { some = λ none. absurd cc; error = eof one; fault = inl (inl (inl (omega arith, refl))) }, refl),
+        );
       }),
     )
 
 -- what follows a unit with a header stands after its bytes
 pub next_follows : (notation : Notation) (unit_entry : UnitEntry) (section : List ℕ) (offset next : ℕ) (h : Header)
-    → SpellsUnit notation unit_entry (drop offset section) h → IsNext notation section offset next → next ≡ offset_after offset h
+    → SpellsUnit notation unit_entry (drop offset section) h → IsNext notation section offset next
+    → next ≡ offset_after offset h
 next_follows notation unit_entry section offset next h u (inl b) =
     let any = unit_any notation unit_entry u.0 h u.3 in
     let read : any_unit_at notation (drop offset section) ≡ (Ok any.0, u.1) = ap (any_unit_at notation) u.2
@@ -122,7 +136,9 @@ next_follows notation unit_entry section offset next h u (inr none) =
     let read : any_unit_at notation (drop offset section) ≡ (Ok any.0, u.1) = ap (any_unit_at notation) u.2
     ∙ (reads_any_unit notation).only u.0 any.0 u.1 any.1 in
     let refused = (reads_any_unit notation).refused (drop offset section) none.0.0 none.0.1 in
-    let wrong : (let r : Result (List ℕ) Error = Ok any.0 in r) ≡ Err none.0.0 = sym (ap (λ (r : Read (List ℕ)). r.0) read) ∙ refused in
+    let wrong : (let r : Result (List ℕ) Error = Ok any.0 in r)
+    ≡ Err none.0.0 = sym (ap (λ (r : Read (List ℕ)). r.0) read)
+    ∙ refused in
     absurd cc
 
 -- ---- a unit
@@ -130,8 +146,10 @@ next_follows notation unit_entry section offset next h u (inr none) =
 -- a unit whose numbers are these is the one that is seen
 pub unit_is : (next : ℕ) (h : Header) (events : List Event) (files : List File)
     (unit directories file_count rows version address_size offset_size fault : ℕ)
-    → unit ≡ h.unit_length → directories ≡ length h.directories → file_count ≡ length files → rows ≡ length (rows_of events)
-    → version ≡ h.parameters.encoding.version → address_size ≡ h.parameters.encoding.address_size → offset_size ≡ word_size h.parameters.encoding.format
+    → unit ≡ h.unit_length → directories ≡ length h.directories → file_count ≡ length files
+    → rows ≡ length (rows_of events)
+    → version ≡ h.parameters.encoding.version → address_size ≡ h.parameters.encoding.address_size
+    → offset_size ≡ word_size h.parameters.encoding.format
     → fault ≡ fault_status (fault_of events)
     → (let u : GimliUnit = record {
       length = unit;
@@ -150,7 +168,8 @@ unit_is next h events files unit directories file_count rows version address_siz
     rw (a, c, d, e, f, g, i, j) refl
 
 -- what is read of the unit at a location
-pub unit_given : (p : Location) (next : ℕ) (h : Header) (notation : Notation) (unit : GimliUnit) → HasUnit p h → notation ≡ notation_at p → TellsNext p next
+pub unit_given : (p : Location) (next : ℕ) (h : Header) (notation : Notation) (unit : GimliUnit) → HasUnit p h
+    → notation ≡ notation_at p → TellsNext p next
     → IsReadUnit next h notation unit → GivesUnit p unit
 unit_given p next h notation unit has is tells read = record {
   header = h;

@@ -1,5 +1,6 @@
 -- A table of declarations, as far as it was read.
-use Rattle.std.proofs.Common.{◌≡◌, ◌≢◌, ℕ, ◌<◌, Bool, true, false, if◌then◌else◌, List, [], Option, Some, None, Result, Ok, Err, refl, sym, ap, ◌∙◌, arith}
+use Rattle.std.proofs.Common.{◌≡◌, ◌≢◌, ℕ, ◌<◌, Bool, true, false, if◌then◌else◌, List, [], Option, Some, None, Result}
+use Rattle.std.proofs.Common.{Ok, Err, refl, sym, ap, ◌∙◌, arith}
 use Rattle.std.specs.Prelude.{IfSome, nat_eq}
 use Rattle.std.proofs.lemmas.Bool.{ne_eqb}
 use Rattle.std.specs.BTreeMap.{BTreeMap, get}
@@ -25,15 +26,19 @@ module _ {R : Type 0} (view : R → List ℕ) where
   module _ (code : ℕ) (input : R) where
     more_answers : (kept : Option R) (declared : ℕ) (part rest : R) → declared ≢ 0
         → (Ok (declared, listed (view part)), view rest) ≡ declaration_at (view input)
-        → answer_to view code (first_of kept (directory_in code (Some (declared, part)))) (Ok (Some rest)) ≡ answer_to view code kept (Ok (Some input))
+        → answer_to view code (first_of kept (directory_in code (Some (declared, part)))) (Ok (Some rest))
+        ≡ answer_to view code kept (Ok (Some input))
     more_answers (Some found) declared part rest some read = refl
     more_answers None declared part rest some read = at_test (nat_eq declared code) refl
       where
         at_test : (test : Bool) → nat_eq declared code ≡ test
-            → answer_to view code (if test then Some part else None) (Ok (Some rest)) ≡ (abbreviation_at code (view input)).0
+            → answer_to view code (if test then Some part else None) (Ok (Some rest))
+            ≡ (abbreviation_at code (view input)).0
         at_test true is =
             let last : ends_search code (declared, listed (view part)) ≡ true = rw (ne_eqb declared 0 some) is in
-            rw (search_last code (view input) (view rest) (declared, listed (view part)) read last, ne_eqb declared 0 some) refl
+            rw
+            (search_last code (view input) (view rest) (declared, listed (view part)) read last, ne_eqb declared 0 some)
+            refl
         at_test false is =
             let more : ends_search code (declared, listed (view part)) ≡ false = rw (ne_eqb declared 0 some) is in
             rw (search_more code (view input) (view rest) (declared, listed (view part)) read more) refl
@@ -48,7 +53,8 @@ module _ {R : Type 0} (view : R → List ℕ) where
     refusal_answers (Some found) e left is = refl
     refusal_answers None e left is = sym (ap (λ (r : Answer). r.0) (search_refused code (view input) left e is))
 
-  first_whole : (code declared : ℕ) (kept : Option R) (part : R) → IsListed (view part) → IfSome kept (λ found. IsListed (view found))
+  first_whole : (code declared : ℕ) (kept : Option R) (part : R) → IsListed (view part)
+      → IfSome kept (λ found. IsListed (view found))
       → IfSome (first_of kept (directory_in code (Some (declared, part)))) (λ found. IsListed (view found))
   first_whole code declared (Some found) part whole before = before
   first_whole code declared None part whole before = at_test (nat_eq declared code)
@@ -62,12 +68,14 @@ module _ {R : Type 0} (view : R → List ℕ) where
   -- of which nothing was read
   module _ (section : List ℕ) (alloc : Global) (offset : ℕ) (kept : BTreeMap ℕ R) (none : kept.entries ≡ []) where
     pub table_new : (part : List ℕ) (rest : R) → (Ok part, view rest) ≡ split_at offset section
-        → IsTable view section (record { alloc = alloc; offset = offset; asked = 0; specifications = kept; next = Ok (Some rest) })
+        → IsTable view section
+        (record { alloc = alloc; offset = offset; asked = 0; specifications = kept; next = Ok (Some rest) })
     unfolding table_at
     table_new part rest read = record { answers = λ code. rw (none, ← read) refl; whole = λ code. rw none tt }
 
     pub table_outside : (e : Error) (left : List ℕ) → (Err e, left) ≡ split_at offset section
-        → IsTable view section (record { alloc = alloc; offset = offset; asked = 0; specifications = kept; next = Err e })
+        → IsTable view section
+        (record { alloc = alloc; offset = offset; asked = 0; specifications = kept; next = Err e })
     unfolding table_at
     table_outside e left read = record { answers = λ code. rw (none, ← read) refl; whole = λ code. rw none tt }
 
@@ -75,20 +83,29 @@ module _ {R : Type 0} (view : R → List ℕ) where
   module _ (section : List ℕ) (table : Abbreviations R) (input : R) (goes_on : table.next ≡ Ok (Some input)) where
     abbrev Same : BTreeMap ℕ R → Result (Option R) Error → Type 0
     Same kept next = (code : ℕ)
-        → answer_to view code (get nat_cmp kept code) next ≡ answer_to view code (get nat_cmp table.specifications code) (Ok (Some input))
+        → answer_to view code (get nat_cmp kept code) next
+        ≡ answer_to view code (get nat_cmp table.specifications code) (Ok (Some input))
 
-    next_answers : (kept : BTreeMap ℕ R) (next : Result (Option R) Error) → Same kept next → IsTable view section table → (code : ℕ)
+    next_answers : (kept : BTreeMap ℕ R) (next : Result (Option R) Error) → Same kept next → IsTable view section table
+        → (code : ℕ)
         → answer_to view code (get nat_cmp kept code) next ≡ (table_at table.offset code section).0
     next_answers kept next same is code =
         same code
-        ∙ ap (λ (n : Result (Option R) Error). answer_to view code (get nat_cmp table.specifications code) n) (sym goes_on) ∙ is.answers code
+        ∙ ap (λ (n : Result (Option R) Error). answer_to view code (get nat_cmp table.specifications code) n)
+        (sym goes_on)
+        ∙ is.answers code
 
     pub table_more : (kept : BTreeMap ℕ R) (declared : ℕ) (part rest : R) → (declared ≢ 0) × IsListed (view part)
         → (Ok (declared, listed (view part)), view rest) ≡ declaration_at (view input)
-        → ((code : ℕ) → get nat_cmp kept code ≡ first_of (get nat_cmp table.specifications code) (directory_in code (Some (declared, part))))
-        → IsTable view section table → IsTable view section (record table { specifications = kept; next = Ok (Some rest) })
+        → ((code : ℕ)
+        → get nat_cmp kept code
+        ≡ first_of (get nat_cmp table.specifications code) (directory_in code (Some (declared, part))))
+        → IsTable view section table
+        → IsTable view section (record table { specifications = kept; next = Ok (Some rest) })
     table_more kept declared part rest known read keeps is = record {
-      answers = next_answers kept (Ok (Some rest)) (λ code. rw (keeps code) (more_answers code input _ declared part rest known.0 read)) is;
+      answers =
+          next_answers kept (Ok (Some rest))
+          (λ code. rw (keeps code) (more_answers code input _ declared part rest known.0 read)) is;
       whole = λ code. rw (keeps code) (first_whole code declared _ part known.1 (is.whole code));
     }
 
@@ -99,7 +116,8 @@ module _ {R : Type 0} (view : R → List ℕ) where
       whole = is.whole;
     }
 
-    pub table_refused : (e : Error) (left : List ℕ) → (Err e, left) ≡ declaration_at (view input) → IsTable view section table
+    pub table_refused : (e : Error) (left : List ℕ) → (Err e, left) ≡ declaration_at (view input)
+        → IsTable view section table
         → IsTable view section (record table { next = Err e })
     table_refused e left read is = record {
       answers = next_answers table.specifications (Err e) (λ code. refusal_answers code input _ e left read) is;
@@ -114,7 +132,8 @@ module _ {R : Type 0} (view : R → List ℕ) where
   pub smaller_more : (next : Result (Option R) Error) (input rest : R) (d : Declaration) → next ≡ Ok (Some input)
       → (Ok d, view rest) ≡ declaration_at (view input)
       → size_left view (Ok (Some rest)) < size_left view next
-  smaller_more next input rest d is read = let less = declaration_smaller (view input) d (view rest) read in rw is (omega arith)
+  smaller_more next input rest d is read =
+      let less = declaration_smaller (view input) d (view rest) read in rw is (omega arith)
 
   pub smaller_end : (next : Result (Option R) Error) (input : R) → next ≡ Ok (Some input) → 0 < size_left view next
   smaller_end next input is = rw is (omega arith)

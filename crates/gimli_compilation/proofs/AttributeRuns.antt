@@ -18,12 +18,14 @@ use Rattle.gimli_compilation.proofs.Specifications.{listed_more, listed_last}
 
 -- a value that is seen before or after it is kept
 seen_if : {R : Type 0} (view : R → List ℕ) (test : Bool) (value before : Value R)
-    → value_seen view (if test then value else before) ≡ (if test then value_seen view value else value_seen view before)
+    → value_seen view (if test then value else before)
+    ≡ (if test then value_seen view value else value_seen view before)
 seen_if view true value before = refl
 seen_if view false value before = refl
 
 pub seen_with : {R : Type 0} (view : R → List ℕ) (before : Attributes R) (name : ℕ) (value : Value R)
-    → attributes_seen view (attributes_with before name value) ≡ attributes_with (attributes_seen view before) name (value_seen view value)
+    → attributes_seen view (attributes_with before name value)
+    ≡ attributes_with (attributes_seen view before) name (value_seen view value)
 seen_with view before name value =
     rw (
       seen_if view (nat_eq name 0x10) value before.stmt_list,
@@ -34,9 +36,11 @@ seen_with view before name value =
     refl
 
 module _ (notation : Notation) (encoding : Encoding) where
-  module _ (specified : List ℕ) (s : Specification) (left : List ℕ) (closed : IsListed specified) (read : (Ok s, left) ≡ specification_at specified)
+  module _ (specified : List ℕ) (s : Specification) (left : List ℕ) (closed : IsListed specified)
+      (read : (Ok s, left) ≡ specification_at specified)
       (on : is_end s ≡ false) where
-    pub attributes_go_on : (before : Attributes (List ℕ)) (value : Value (List ℕ)) (bytes rest : List ℕ) (total : Read (Attributes (List ℕ)))
+    pub attributes_go_on : (before : Attributes (List ℕ)) (value : Value (List ℕ)) (bytes rest : List ℕ)
+        (total : Read (Attributes (List ℕ)))
         → (Ok value, rest) ≡ form_at notation encoding s.form.0 bytes
         → attributes_at notation encoding before (listed specified) bytes ≡ total
         → attributes_at notation encoding (attributes_with before s.name.0 value) (listed left) rest ≡ total
@@ -44,23 +48,32 @@ module _ (notation : Notation) (encoding : Encoding) where
     attributes_go_on before value bytes rest total e so_far =
         let here : attributes_at notation encoding before (s ∷ listed left) bytes
         ≡ attributes_at notation encoding (attributes_with before s.name.0 value) (listed left) rest = rw (← e) refl in
-        sym here ∙ sym (ap (λ (ss : List Specification). attributes_at notation encoding before ss bytes) (listed_more specified s left closed read on))
+        sym here
+        ∙ sym (ap (λ (ss : List Specification). attributes_at notation encoding before ss bytes)
+        (listed_more specified s left closed read on))
         ∙ so_far
 
-    pub attributes_refused : (before : Attributes (List ℕ)) (bytes : List ℕ) (e : Error) (rest : List ℕ) (total : Read (Attributes (List ℕ)))
+    pub attributes_refused : (before : Attributes (List ℕ)) (bytes : List ℕ) (e : Error) (rest : List ℕ)
+        (total : Read (Attributes (List ℕ)))
         → (Err e, rest) ≡ form_at notation encoding s.form.0 bytes
         → attributes_at notation encoding before (listed specified) bytes ≡ total → (Err e, rest) ≡ total
     unfolding attributes_at
     attributes_refused before bytes e rest total is so_far =
         let here : attributes_at notation encoding before (s ∷ listed left) bytes ≡ (Err e, rest) = rw (← is) refl in
-        sym here ∙ sym (ap (λ (ss : List Specification). attributes_at notation encoding before ss bytes) (listed_more specified s left closed read on))
+        sym here
+        ∙ sym (ap (λ (ss : List Specification). attributes_at notation encoding before ss bytes)
+        (listed_more specified s left closed read on))
         ∙ so_far
 
-  pub attributes_done : (specified : List ℕ) (s : Specification) (left : List ℕ) (before : Attributes (List ℕ)) (bytes : List ℕ)
+  pub attributes_done : (specified : List ℕ) (s : Specification) (left : List ℕ) (before : Attributes (List ℕ))
+      (bytes : List ℕ)
       (total : Read (Attributes (List ℕ)))
       → (Ok s, left) ≡ specification_at specified → is_end s ≡ true
       → attributes_at notation encoding before (listed specified) bytes ≡ total → (Ok before, bytes) ≡ total
   unfolding attributes_at
   attributes_done specified s left before bytes total read is so_far =
       let here : attributes_at notation encoding before [] bytes ≡ (Ok before, bytes) = refl in
-      sym here ∙ sym (ap (λ (ss : List Specification). attributes_at notation encoding before ss bytes) (listed_last specified s left read is)) ∙ so_far
+      sym here
+      ∙ sym (ap (λ (ss : List Specification). attributes_at notation encoding before ss bytes)
+      (listed_last specified s left read is))
+      ∙ so_far

@@ -1,12 +1,14 @@
 -- Reading a table of declarations, one by one.
-use Rattle.std.proofs.Common.{◌≡◌, ◌≢◌, ℕ, ◌<◌, true, false, if◌then◌else◌, List, ◌∷◌, length, Option, Some, None, Ok, Err, refl, sym, ap, ◌∙◌}
+use Rattle.std.proofs.Common.{◌≡◌, ◌≢◌, ℕ, ◌<◌, true, false, if◌then◌else◌, List, ◌∷◌, length, Option, Some, None, Ok}
+use Rattle.std.proofs.Common.{Err, refl, sym, ap, ◌∙◌}
 use Rattle.std.specs.Prelude.{nat_eq}
 use Rattle.std.proofs.lemmas.Bool.{ne_eqb}
 use Rattle.gimli_core.specs.Reading.{Read, ◌>>=◌, byte_at, unsigned_at}
 use Rattle.gimli_core.specs.declared.error.Error.{Error}
 use Rattle.gimli_compilation.specs.declared.abbreviation.Specification.{Specification}
 use Rattle.gimli_compilation.specs.Abbreviation.{Declaration, declaration_production, ends_search}
-use Rattle.gimli_compilation.specs.inside.AbbreviationReading.{until_at, specifications_at, specifications_passed, listed, declared_at, declaration_at}
+use Rattle.gimli_compilation.specs.inside.AbbreviationReading.{until_at, specifications_at, specifications_passed}
+use Rattle.gimli_compilation.specs.inside.AbbreviationReading.{listed, declared_at, declaration_at}
 use Rattle.gimli_compilation.specs.inside.AbbreviationReading.{abbreviation_at}
 use Rattle.gimli_compilation.proofs.Until.{shrinks, until_more, until_last, until_refused}
 use Rattle.gimli_compilation.proofs.AbbreviationLaws.{reads_declaration, declaration_takes}
@@ -14,29 +16,36 @@ use Rattle.gimli_compilation.proofs.Specifications.{passed_listed, passed_fault}
 
 -- ---- a declaration
 
-module _ (bytes second third : List ℕ) (tag children : ℕ) (first : (Ok tag, second) ≡ unsigned_at bytes) (next : (Ok children, third) ≡ byte_at second) where
+module _ (bytes second third : List ℕ) (tag children : ℕ) (first : (Ok tag, second) ≡ unsigned_at bytes)
+    (next : (Ok children, third) ≡ byte_at second) where
   after_code : declared_at bytes ≡ specifications_at third
   unfolding declared_at
   after_code = rw (← first, ← next) refl
 
-  pub declared_done : (left : List ℕ) → (Ok tt, left) ≡ specifications_passed third → (Ok (listed third), left) ≡ declared_at bytes
+  pub declared_done : (left : List ℕ) → (Ok tt, left) ≡ specifications_passed third
+      → (Ok (listed third), left) ≡ declared_at bytes
   declared_done left e = sym (after_code ∙ passed_listed third left e)
 
-  pub declared_fault : (e : Error) (left : List ℕ) → (Err e, left) ≡ specifications_passed third → (Err e, left) ≡ declared_at bytes
+  pub declared_fault : (e : Error) (left : List ℕ) → (Err e, left) ≡ specifications_passed third
+      → (Err e, left) ≡ declared_at bytes
   declared_fault e left is = sym (after_code ∙ passed_fault third e left is)
 
 module _ (bytes second : List ℕ) (code : ℕ) (first : (Ok code, second) ≡ unsigned_at bytes) (some : code ≢ 0) where
-  pub declaration_done : (specifications : List Specification) (left : List ℕ) → (Ok specifications, left) ≡ declared_at second
+  pub declaration_done : (specifications : List Specification) (left : List ℕ)
+      → (Ok specifications, left) ≡ declared_at second
       → (Ok (code, specifications), left) ≡ declaration_at bytes
   unfolding declaration_at
   declaration_done specifications left read = rw (← first, ne_eqb code 0 some, ← read) refl
 
-  pub declaration_fault : (e : Error) (left : List ℕ) → (Err e, left) ≡ declared_at second → (Err e, left) ≡ declaration_at bytes
+  pub declaration_fault : (e : Error) (left : List ℕ) → (Err e, left) ≡ declared_at second
+      → (Err e, left) ≡ declaration_at bytes
   unfolding declaration_at
   declaration_fault e left is = rw (← first, ne_eqb code 0 some, ← is) refl
 
-pub declaration_smaller : (bytes : List ℕ) (d : Declaration) (left : List ℕ) → (Ok d, left) ≡ declaration_at bytes → length left < length bytes
-declaration_smaller bytes d left read = shrinks declaration_production declaration_at reads_declaration declaration_takes bytes d left (sym read)
+pub declaration_smaller : (bytes : List ℕ) (d : Declaration) (left : List ℕ) → (Ok d, left) ≡ declaration_at bytes
+    → length left < length bytes
+declaration_smaller bytes d left read =
+    shrinks declaration_production declaration_at reads_declaration declaration_takes bytes d left (sym read)
 
 -- ---- the search for a code
 
@@ -45,7 +54,8 @@ abbrev answer : Read (List Declaration × Declaration) → Read (Option (List Sp
 answer r = r >>= λ found rest. (Ok (if nat_eq found.1.0 0 then None else Some found.1.1), rest)
 
 answer_put : (d : Declaration) (r : Read (List Declaration × Declaration))
-    → answer (r >>= λ v left. (let t : Read (List Declaration × Declaration) = (Ok (d ∷ v.0, v.1), left) in t)) ≡ answer r
+    → answer (r >>= λ v left. (let t : Read (List Declaration × Declaration) = (Ok (d ∷ v.0, v.1), left) in t))
+    ≡ answer r
 answer_put d (Ok v, rest) = refl
 answer_put d (Err e, rest) = refl
 
@@ -53,16 +63,20 @@ module _ (code : ℕ) (bytes left : List ℕ) where
   pub search_refused : (e : Error) → (Err e, left) ≡ declaration_at bytes → abbreviation_at code bytes ≡ (Err e, left)
   unfolding abbreviation_at
   search_refused e is =
-      ap answer (until_refused (ends_search code) declaration_production declaration_at reads_declaration declaration_takes bytes e left (sym is))
+      ap answer (until_refused (ends_search code) declaration_production declaration_at reads_declaration
+      declaration_takes bytes e left (sym is))
 
   module _ (d : Declaration) (read : (Ok d, left) ≡ declaration_at bytes) where
-    pub search_last : ends_search code d ≡ true → abbreviation_at code bytes ≡ (Ok (if nat_eq d.0 0 then None else Some d.1), left)
+    pub search_last : ends_search code d ≡ true
+        → abbreviation_at code bytes ≡ (Ok (if nat_eq d.0 0 then None else Some d.1), left)
     unfolding abbreviation_at
     search_last is =
-        ap answer (until_last (ends_search code) declaration_production declaration_at reads_declaration declaration_takes bytes d left (sym read) is)
+        ap answer (until_last (ends_search code) declaration_production declaration_at reads_declaration
+        declaration_takes bytes d left (sym read) is)
 
     pub search_more : ends_search code d ≡ false → abbreviation_at code bytes ≡ abbreviation_at code left
     unfolding abbreviation_at
     search_more is =
-        ap answer (until_more (ends_search code) declaration_production declaration_at reads_declaration declaration_takes bytes d left (sym read) is)
+        ap answer (until_more (ends_search code) declaration_production declaration_at reads_declaration
+        declaration_takes bytes d left (sym read) is)
         ∙ answer_put d (until_at (ends_search code) declaration_at left)

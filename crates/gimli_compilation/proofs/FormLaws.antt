@@ -2,7 +2,8 @@
 use Rattle.std.proofs.Common.{ℕ, Option, Some, None, Err}
 use Rattle.std.specs.Prelude.{nat_eq}
 use Rattle.gimli_core.specs.Notation.{Notation}
-use Rattle.gimli_core.specs.Production.{done, refuse, number, unsigned, unsigned_16, signed, text, some_bytes, below_limit, Reads}
+use Rattle.gimli_core.specs.Production.{done, refuse, number, unsigned, unsigned_16, signed, text, some_bytes}
+use Rattle.gimli_core.specs.Production.{below_limit, Reads}
 use Rattle.gimli_core.specs.declared.common.Encoding.{Encoding}
 use Rattle.gimli_core.specs.declared.error.Error.TheVariants.{UnknownForm}
 use Rattle.gimli_core.proofs.Productions.{reads_both, reads_done, reads_refuse, reads_if}
@@ -11,8 +12,10 @@ use Rattle.gimli_core.proofs.UnsignedLeb.{reads_unsigned, reads_unsigned_16}
 use Rattle.gimli_core.proofs.SignedLaws.{reads_signed}
 use Rattle.gimli_compilation.specs.declared.form.Value.TheVariants.{Number, Text, Passed}
 use Rattle.gimli_compilation.specs.declared.form.Shape.{Shape}
-use Rattle.gimli_compilation.specs.declared.form.Shape.TheVariants.{Fixed, Unsigned, Signed, Block, Counted, UnsignedCounted, String}
-use Rattle.gimli_compilation.specs.Form.{shape_among, shapes, passed_production, shape_production, known_form_production, form_production}
+use Rattle.gimli_compilation.specs.declared.form.Shape.TheVariants.{Fixed, Unsigned, Signed, Block, Counted}
+use Rattle.gimli_compilation.specs.declared.form.Shape.TheVariants.{UnsignedCounted, String}
+use Rattle.gimli_compilation.specs.Form.{shape_among, shapes, passed_production, shape_production}
+use Rattle.gimli_compilation.specs.Form.{known_form_production, form_production}
 use Rattle.gimli_compilation.specs.inside.FormReading.{passed_at, shape_at, known_form_at, form_at}
 use Rattle.gimli_compilation.proofs.Guards.{reads_offset}
 
@@ -23,7 +26,8 @@ module _ (notation : Notation) where
       (λ count. reads_both (some_bytes count) _ _ _ (reads_some_bytes count) (λ bytes. reads_done Passed))
 
   reads_shape : (shape : Shape) → Reads (shape_production notation shape) (shape_at notation shape)
-  reads_shape (Fixed size kind) = reads_both (number notation.big size) _ _ _ (reads_number notation.big size) (λ n. reads_done (Number kind n))
+  reads_shape (Fixed size kind) =
+      reads_both (number notation.big size) _ _ _ (reads_number notation.big size) (λ n. reads_done (Number kind n))
   reads_shape (Unsigned kind) = reads_both unsigned _ _ _ reads_unsigned (λ n. reads_done (Number kind n))
   reads_shape Signed = reads_both signed _ _ _ reads_signed (λ z. reads_done Passed)
   reads_shape (Block size) = reads_passed size
@@ -32,13 +36,18 @@ module _ (notation : Notation) where
   reads_shape String = reads_both text _ _ _ reads_text (λ name. reads_done (Text name))
 
   module _ (encoding : Encoding) where
-    reads_known_form : (form : ℕ) → Reads (known_form_production notation encoding form) (known_form_at notation encoding form)
+    reads_known_form : (form : ℕ)
+        → Reads (known_form_production notation encoding form) (known_form_at notation encoding form)
     unfolding known_form_at
     reads_known_form form = at_shape (shape_among form (shapes encoding))
       where
         at_shape : (found : Option Shape)
-            → Reads (elim found [ Some shape ↦ shape_production notation shape | None ↦ refuse (UnknownForm (record { 0 = form })) ]) (λ bytes.
-            elim found [ Some shape ↦ shape_at notation shape bytes | None ↦ (Err (UnknownForm (record { 0 = form })), bytes) ])
+            → Reads
+            (elim found
+            [ Some shape ↦ shape_production notation shape | None ↦ refuse (UnknownForm (record { 0 = form })) ])
+            (λ bytes.
+            elim found
+            [ Some shape ↦ shape_at notation shape bytes | None ↦ (Err (UnknownForm (record { 0 = form })), bytes) ])
         at_shape (Some shape) = reads_shape shape
         at_shape None = reads_refuse (UnknownForm (record { 0 = form }))
 
@@ -46,4 +55,5 @@ module _ (notation : Notation) where
     unfolding form_at
     reads_form form =
         reads_if (nat_eq form 0x21) (done Passed) _ _ _ (reads_done Passed)
-        (reads_if (nat_eq form 0x16) _ _ _ _ (reads_both unsigned_16 _ _ _ reads_unsigned_16 reads_known_form) (reads_known_form form))
+        (reads_if (nat_eq form 0x16) _ _ _ _ (reads_both unsigned_16 _ _ _ reads_unsigned_16 reads_known_form)
+        (reads_known_form form))

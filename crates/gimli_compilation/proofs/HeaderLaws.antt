@@ -6,8 +6,10 @@ use Rattle.gimli_core.specs.Production.{done, byte, number, some_bytes, address_
 use Rattle.gimli_core.specs.declared.common.Format.{Format}
 use Rattle.gimli_core.specs.declared.error.Error.TheVariants.{UnknownVersion}
 use Rattle.gimli_core.proofs.Productions.{reads_both, reads_done, reads_if}
-use Rattle.gimli_core.proofs.ProductionLaws.{reads_byte, reads_some_bytes, reads_number, reads_address_size, reads_offset_word, reads_unit_length}
-use Rattle.gimli_compilation.specs.Header.{frame_production, version_production, type_fields_size, old_fields_production, new_fields_production}
+use Rattle.gimli_core.proofs.ProductionLaws.{reads_byte, reads_some_bytes, reads_number, reads_address_size}
+use Rattle.gimli_core.proofs.ProductionLaws.{reads_offset_word, reads_unit_length}
+use Rattle.gimli_compilation.specs.Header.{frame_production, version_production, type_fields_size}
+use Rattle.gimli_compilation.specs.Header.{old_fields_production, new_fields_production}
 use Rattle.gimli_compilation.specs.Header.{header_production}
 use Rattle.gimli_compilation.specs.inside.HeaderReading.{frame_at, version_at, old_fields_at, new_fields_at, header_at}
 use Rattle.gimli_compilation.proofs.Guards.{reads_guard}
@@ -25,19 +27,22 @@ reads_version big =
     reads_guard (nat_le 2 version && nat_le version 5) (UnknownVersion version) (done version) _ (reads_done version))
 
 module _ (notation : Notation) (format : Format) where
-  reads_old_fields : (version : ℕ) → Reads (old_fields_production notation format version) (old_fields_at notation format version)
+  reads_old_fields : (version : ℕ)
+      → Reads (old_fields_production notation format version) (old_fields_at notation format version)
   unfolding old_fields_at
   reads_old_fields version =
       reads_both (offset_word notation format) _ _ _ (reads_offset_word notation format)
       (λ abbreviations. reads_both address_size _ _ _ reads_address_size (λ size. reads_done _))
 
-  reads_new_fields : (version : ℕ) → Reads (new_fields_production notation format version) (new_fields_at notation format version)
+  reads_new_fields : (version : ℕ)
+      → Reads (new_fields_production notation format version) (new_fields_at notation format version)
   unfolding new_fields_at
   reads_new_fields version =
       reads_both byte _ _ _ reads_byte
       (λ unit_type. reads_both address_size _ _ _ reads_address_size
       (λ size. reads_both (offset_word notation format) _ _ _ (reads_offset_word notation format)
-      (λ abbreviations. reads_both (some_bytes (type_fields_size unit_type format)) _ _ _ (reads_some_bytes (type_fields_size unit_type format)) (λ type_fields.
+      (λ abbreviations. reads_both (some_bytes (type_fields_size unit_type format)) _ _ _
+      (reads_some_bytes (type_fields_size unit_type format)) (λ type_fields.
       reads_done _))))
 
   pub reads_header : Reads (header_production notation format) (header_at notation format)

@@ -1,5 +1,6 @@
 -- Reading the first entry of a unit.
-use Rattle.std.proofs.Common.{◌≡◌, ℕ, ◌+◌, ◌*◌, ◌<◌, ◌≤◌, ◌^◌, Bool, true, false, if◌then◌else◌, List, [], ◌∷◌, ◌++◌, length, drop, take, Option, Some, None}
+use Rattle.std.proofs.Common.{◌≡◌, ℕ, ◌+◌, ◌*◌, ◌<◌, ◌≤◌, ◌^◌, Bool, true, false, if◌then◌else◌, List, [], ◌∷◌, ◌++◌}
+use Rattle.std.proofs.Common.{length, drop, take, Option, Some, None}
 use Rattle.std.proofs.Common.{Result, Ok, Err, refl, sym, ap, ◌∙◌, inl, inr, arith, append_assoc}
 use Rattle.std.specs.Prelude.{nat_lt, IfOk, IfErr}
 use Rattle.std.proofs.lemmas.Bool.{cases_lt}
@@ -19,7 +20,8 @@ use Rattle.gimli_core.proofs.UnsignedLeb.{reads_unsigned}
 use Rattle.gimli_compilation.specs.declared.abbreviation.Specification.{Specification}
 use Rattle.gimli_compilation.specs.declared.attributes.Attributes.{Attributes}
 use Rattle.gimli_compilation.specs.declared.form.Kind.{Kind}
-use Rattle.gimli_compilation.specs.declared.form.Kind.TheVariants.{SectionOffset, StringOffset, LineStringOffset, StringIndex, Other}
+use Rattle.gimli_compilation.specs.declared.form.Kind.TheVariants.{SectionOffset, StringOffset, LineStringOffset}
+use Rattle.gimli_compilation.specs.declared.form.Kind.TheVariants.{StringIndex, Other}
 use Rattle.gimli_compilation.specs.declared.form.Value.{Value}
 use Rattle.gimli_compilation.specs.declared.form.Value.TheVariants.{Number, Text, Passed}
 use Rattle.gimli_compilation.specs.declared.refusal.Refusal.{Refusal}
@@ -30,15 +32,19 @@ use Rattle.gimli_compilation.specs.declared.sections.Outcome.TheVariants.{Found,
 use Rattle.gimli_compilation.specs.Form.{form_production}
 use Rattle.gimli_compilation.specs.Header.{Header, frame_production, header_production, is_unit_type}
 use Rattle.gimli_compilation.specs.Sections.{Sections}
-use Rattle.gimli_compilation.specs.Unit.{apart, from_offset, attributes_production, string_offset_production, text_from, text_by, text_of}
-use Rattle.gimli_compilation.specs.Unit.{compilation_production, table_production, declared_entry, entry_production, content_production, unit_production}
+use Rattle.gimli_compilation.specs.Unit.{apart, from_offset, attributes_production, string_offset_production, text_from}
+use Rattle.gimli_compilation.specs.Unit.{text_by, text_of}
+use Rattle.gimli_compilation.specs.Unit.{compilation_production, table_production, declared_entry, entry_production}
+use Rattle.gimli_compilation.specs.Unit.{content_production, unit_production}
 use Rattle.gimli_compilation.specs.Unit.{BeginsWithOutcome, FollowsUnit, HasCompilationAt, HasRefusalAt}
 use Rattle.gimli_compilation.specs.Value.{attributes_with, no_attributes, section_offset}
 use Rattle.gimli_compilation.specs.inside.Value.{value_seen}
 use Rattle.gimli_compilation.specs.inside.AttributesReading.{attributes_at}
 use Rattle.gimli_compilation.specs.inside.HeaderReading.{frame_at, after_frame}
-use Rattle.gimli_compilation.specs.inside.UnitReading.{from_offset_at, text_from_at, place_of, string_offset_at, text_by_at, text_of_at, compilation_at}
-use Rattle.gimli_compilation.specs.inside.UnitReading.{table_at, found_entry_at, declared_entry_at, entry_at, content_at, unit_at, outcome_seen, answer_of}
+use Rattle.gimli_compilation.specs.inside.UnitReading.{from_offset_at, text_from_at, place_of, string_offset_at}
+use Rattle.gimli_compilation.specs.inside.UnitReading.{text_by_at, text_of_at, compilation_at}
+use Rattle.gimli_compilation.specs.inside.UnitReading.{table_at, found_entry_at, declared_entry_at, entry_at}
+use Rattle.gimli_compilation.specs.inside.UnitReading.{content_at, unit_at, outcome_seen, answer_of}
 use Rattle.gimli_compilation.proofs.Guards.{reads_guard, reads_from_offset, reads_apart}
 use Rattle.gimli_compilation.proofs.FormLaws.{reads_form}
 use Rattle.gimli_compilation.proofs.AbbreviationLaws.{reads_abbreviation}
@@ -47,8 +53,10 @@ use Rattle.gimli_compilation.proofs.Until.{TakesBytes, takes_both}
 
 -- ---- attributes
 
-reads_attributes : (notation : Notation) (encoding : Encoding) (specifications : List Specification) (before : Attributes (List ℕ))
-    → Reads (attributes_production notation encoding before specifications) (attributes_at notation encoding before specifications)
+reads_attributes : (notation : Notation) (encoding : Encoding) (specifications : List Specification)
+    (before : Attributes (List ℕ))
+    → Reads (attributes_production notation encoding before specifications)
+    (attributes_at notation encoding before specifications)
 unfolding attributes_at
 reads_attributes notation encoding [] before = reads_done before
 reads_attributes notation encoding (s ∷ specifications) before =
@@ -57,17 +65,21 @@ reads_attributes notation encoding (s ∷ specifications) before =
 
 -- ---- texts
 
-reads_text_from : (notation : Notation) (offset : ℕ) → Reads (from_offset notation offset text) (text_from_at notation.limit offset)
+reads_text_from : (notation : Notation) (offset : ℕ)
+    → Reads (from_offset notation offset text) (text_from_at notation.limit offset)
 unfolding text_from_at
 reads_text_from notation offset = reads_from_offset notation offset text text_at reads_text
 
 place_known : (limit base index size : ℕ) (read : List ℕ → Read ℕ) (bytes : List ℕ)
-    → (if nat_lt (base + index * size) (2 ^ 64) then from_offset_at limit (base + index * size) read bytes else (Err UnsupportedOffset, bytes))
+    → (if nat_lt (base + index * size) (2 ^ 64) then from_offset_at limit (base + index * size) read bytes
+    else (Err UnsupportedOffset, bytes))
     ≡ ((place_of base index size, bytes) >>= λ place rest. from_offset_at limit place read rest)
 place_known limit base index size read bytes = at_test (nat_lt (base + index * size) (2 ^ 64))
   where
-    at_test : (test : Bool) → (if test then from_offset_at limit (base + index * size) read bytes else (Err UnsupportedOffset, bytes))
-        ≡ ((let r : Read ℕ = (if test then Ok (base + index * size) else Err UnsupportedOffset, bytes) in r) >>= λ place rest.
+    at_test : (test : Bool)
+        → (if test then from_offset_at limit (base + index * size) read bytes else (Err UnsupportedOffset, bytes))
+        ≡ ((let r : Read ℕ = (if test then Ok (base + index * size) else Err UnsupportedOffset, bytes) in r)
+        >>= λ place rest.
         from_offset_at limit place read rest)
     at_test true = refl
     at_test false = refl
@@ -79,15 +91,19 @@ reads_string_offset notation format base index =
     let place = base + index * word_size format in
     reads_same (string_offset_production notation format base index) _ _
     (place_known notation.limit base index (word_size format) (number_at notation.big (word_size format)))
-    (reads_guard (nat_lt place (2 ^ 64)) UnsupportedOffset (from_offset notation place (number notation.big (word_size format))) _
-    (reads_from_offset notation place (number notation.big (word_size format)) _ (reads_number notation.big (word_size format))))
+    (reads_guard (nat_lt place (2 ^ 64)) UnsupportedOffset
+    (from_offset notation place (number notation.big (word_size format))) _
+    (reads_from_offset notation place (number notation.big (word_size format)) _
+    (reads_number notation.big (word_size format))))
 
 module _ (sections : Sections) where
   reads_named : (section : List ℕ) (offset : ℕ)
-      → Reads (text_from sections section offset) (λ bytes. ((text_from_at sections.notation.limit offset section).0, bytes) >>= λ name rest.
+      → Reads (text_from sections section offset) (λ bytes.
+      ((text_from_at sections.notation.limit offset section).0, bytes) >>= λ name rest.
       (Ok (Some name), rest))
   reads_named section offset =
-      reads_both (apart section (from_offset sections.notation offset text)) _ _ _ (reads_apart section _ _ (reads_text_from sections.notation offset)) (λ name.
+      reads_both (apart section (from_offset sections.notation offset text)) _ _ _
+      (reads_apart section _ _ (reads_text_from sections.notation offset)) (λ name.
       reads_done (Some name))
 
   reads_text_by : (format : Format) (base : Option ℕ) (kind : Kind) (n : ℕ)
@@ -96,8 +112,10 @@ module _ (sections : Sections) where
   reads_text_by format base StringOffset n = reads_named sections.strings n
   reads_text_by format base LineStringOffset n = reads_named sections.line_strings n
   reads_text_by format (Some base) StringIndex n =
-      reads_both (apart sections.string_offsets (string_offset_production sections.offsets_notation format base n)) _ _ _
-      (reads_apart sections.string_offsets _ _ (reads_string_offset sections.offsets_notation format base n)) (λ offset. reads_named sections.strings offset)
+      reads_both (apart sections.string_offsets (string_offset_production sections.offsets_notation format base n)) _ _
+      _
+      (reads_apart sections.string_offsets _ _ (reads_string_offset sections.offsets_notation format base n)) (λ offset.
+      reads_named sections.strings offset)
   reads_text_by format None StringIndex n = reads_done None
   reads_text_by format base SectionOffset n = reads_done None
   reads_text_by format base Other n = reads_done None
@@ -113,18 +131,22 @@ module _ (sections : Sections) where
   unfolding compilation_at
   reads_compilation encoding attributes =
       let base = section_offset attributes.str_offsets_base in
-      reads_both (text_of sections encoding.format base attributes.comp_dir) _ _ _ (reads_text_of encoding.format base attributes.comp_dir)
-      (λ comp_dir. reads_both (text_of sections encoding.format base attributes.name) _ _ _ (reads_text_of encoding.format base attributes.name) (λ name.
+      reads_both (text_of sections encoding.format base attributes.comp_dir) _ _ _
+      (reads_text_of encoding.format base attributes.comp_dir)
+      (λ comp_dir. reads_both (text_of sections encoding.format base attributes.name) _ _ _
+      (reads_text_of encoding.format base attributes.name) (λ name.
       reads_done _))
 
 -- ---- entries and units
 
 reads_table : (offset code : ℕ) → Reads (table_production offset code) (table_at offset code)
 unfolding table_at
-reads_table offset code = reads_both (some_bytes offset) _ _ _ (reads_some_bytes offset) (λ before. reads_abbreviation code)
+reads_table offset code =
+    reads_both (some_bytes offset) _ _ _ (reads_some_bytes offset) (λ before. reads_abbreviation code)
 
 -- what a value says, seen by its bytes
-pub section_offset_seen : {R : Type 0} (view : R → List ℕ) (value : Value R) → section_offset (value_seen view value) ≡ section_offset value
+pub section_offset_seen : {R : Type 0} (view : R → List ℕ) (value : Value R)
+    → section_offset (value_seen view value) ≡ section_offset value
 section_offset_seen view (Number SectionOffset n) = refl
 section_offset_seen view (Number StringOffset n) = refl
 section_offset_seen view (Number LineStringOffset n) = refl
@@ -134,7 +156,8 @@ section_offset_seen view (Text name) = refl
 section_offset_seen view Passed = refl
 
 -- both texts of a compilation are known
-pub compilation_done : (sections : Sections) (encoding : Encoding) (attributes : Attributes (List ℕ)) (base lines : Option ℕ) (comp_dir name : Option (List ℕ))
+pub compilation_done : (sections : Sections) (encoding : Encoding) (attributes : Attributes (List ℕ))
+    (base lines : Option ℕ) (comp_dir name : Option (List ℕ))
     (bytes : List ℕ)
     → base ≡ section_offset attributes.str_offsets_base → lines ≡ section_offset attributes.stmt_list
     → (Ok comp_dir, bytes) ≡ text_of_at sections encoding.format base attributes.comp_dir bytes
@@ -143,9 +166,11 @@ pub compilation_done : (sections : Sections) (encoding : Encoding) (attributes :
     ≡ compilation_at sections encoding attributes bytes
 unfolding compilation_at
 compilation_done sections encoding attributes base lines comp_dir name bytes based lined first second =
-    let one : (Ok comp_dir, bytes) ≡ text_of_at sections encoding.format (section_offset attributes.str_offsets_base) attributes.comp_dir bytes =
+    let one : (Ok comp_dir, bytes)
+    ≡ text_of_at sections encoding.format (section_offset attributes.str_offsets_base) attributes.comp_dir bytes =
     first ∙ ap (λ (b : Option ℕ). text_of_at sections encoding.format b attributes.comp_dir bytes) based in
-    let two : (Ok name, bytes) ≡ text_of_at sections encoding.format (section_offset attributes.str_offsets_base) attributes.name bytes =
+    let two : (Ok name, bytes)
+    ≡ text_of_at sections encoding.format (section_offset attributes.str_offsets_base) attributes.name bytes =
     second ∙ ap (λ (b : Option ℕ). text_of_at sections encoding.format b attributes.name bytes) based in
     rw (← one, ← two, lined) refl
 
@@ -157,7 +182,8 @@ module _ (sections : Sections) where
   reads_declared_entry encoding code (Some specifications) =
       reads_both (attributes_production sections.notation encoding no_attributes specifications) _ _ _
       (reads_attributes sections.notation encoding specifications no_attributes)
-      (λ attributes. reads_both (compilation_production sections encoding attributes) _ _ _ (reads_compilation sections encoding attributes) (λ compilation.
+      (λ attributes. reads_both (compilation_production sections encoding attributes) _ _ _
+      (reads_compilation sections encoding attributes) (λ compilation.
       reads_done (Found compilation)))
 
   reads_entry : (header : Header) → Reads (entry_production sections header) (entry_at sections header)
@@ -172,14 +198,16 @@ module _ (sections : Sections) where
   unfolding content_at
   reads_content format =
       reads_both (header_production sections.notation format) _ _ _ (reads_header sections.notation format)
-      (λ header. reads_if (is_unit_type header.unit_type) (entry_production sections header) (done (UnknownUnitType header.unit_type)) _ _ (reads_entry header)
+      (λ header. reads_if (is_unit_type header.unit_type) (entry_production sections header)
+      (done (UnknownUnitType header.unit_type)) _ _ (reads_entry header)
       (reads_done (UnknownUnitType header.unit_type)))
 
   pub reads_unit : Reads (unit_production sections) (unit_at sections)
   unfolding unit_at
   reads_unit =
       reads_both (frame_production sections.notation) _ _ _ (reads_frame sections.notation)
-      (λ unit. reads_apart unit.0 (content_production sections unit.1) (content_at sections unit.1) (reads_content unit.1))
+      (λ unit. reads_apart unit.0 (content_production sections unit.1) (content_at sections unit.1)
+      (reads_content unit.1))
 
   -- ---- an answer
 
@@ -194,11 +222,14 @@ module _ (sections : Sections) where
       → (Err e, left) ≡ frame_at sections.notation bytes → HasRefusalAt sections offset (Bytes e)
   unfolding unit_at
   frame_refused offset bytes e left from is =
-      let refused : (unit_at sections bytes).0 ≡ Err e = rw (← is) refl in rw (← from) (reads_unit.fault bytes e refused)
+      let refused : (unit_at sections bytes).0
+      ≡ Err e = rw (← is) refl in rw (← from) (reads_unit.fault bytes e refused)
 
   -- a user has what the unit says
-  module _ {R : Type 0} (view : Compilation R → Compilation (List ℕ)) (offset : ℕ) (bytes left : List ℕ) (from : bytes ≡ drop offset sections.info) where
-    begins : (outcome : Outcome (List ℕ)) → (Ok outcome, left) ≡ unit_at sections bytes → BeginsWithOutcome sections (drop offset sections.info) outcome
+  module _ {R : Type 0} (view : Compilation R → Compilation (List ℕ)) (offset : ℕ) (bytes left : List ℕ)
+      (from : bytes ≡ drop offset sections.info) where
+    begins : (outcome : Outcome (List ℕ)) → (Ok outcome, left) ≡ unit_at sections bytes
+        → BeginsWithOutcome sections (drop offset sections.info) outcome
     begins outcome e = let f = reads_unit.found bytes outcome left (sym e) in (f.0, left, sym from ∙ f.1, f.2)
 
     pub compilation_is : (outcome : Result (Outcome R) Error) (answer : Result (Compilation R) Refusal)
@@ -227,25 +258,31 @@ length_takes big n Dwarf64 s = absurd (omega (arith, ap length s.2, length-appen
 
 frame_takes : (notation : Notation) → TakesBytes (frame_production notation)
 frame_takes notation =
-    takes_both (unit_length notation) _ (takes_both (initial_length notation.big) _ (record { none = λ unit s. length_takes notation.big unit.0 unit.1 s }))
+    takes_both (unit_length notation) _
+    (takes_both (initial_length notation.big) _ (record { none = λ unit s. length_takes notation.big unit.0 unit.1 s }))
 
-some_front : (notation : Notation) (front : List ℕ) (unit : List ℕ × Format) → (frame_production notation).Spells front unit → 0 < length front
+some_front : (notation : Notation) (front : List ℕ) (unit : List ℕ × Format)
+    → (frame_production notation).Spells front unit → 0 < length front
 some_front notation [] unit s = absurd ((frame_takes notation).none unit s)
 some_front notation (b ∷ front) unit s = omega arith
 
 -- what is left after a unit is an end of its section
-pub rest_is_end : (notation : Notation) (section : List ℕ) (offset : ℕ) (bytes after : List ℕ) → bytes ≡ drop offset section
+pub rest_is_end : (notation : Notation) (section : List ℕ) (offset : ℕ) (bytes after : List ℕ)
+    → bytes ≡ drop offset section
     → after ≡ after_frame (frame_at notation bytes) → (front : List ℕ) × (section ≡ front ++ after)
 rest_is_end notation section offset bytes after from is = at_read (frame_at notation bytes) refl is
   where
-    at_read : (r : Read (List ℕ × Format)) → frame_at notation bytes ≡ r → after ≡ after_frame r → (front : List ℕ) × (section ≡ front ++ after)
+    at_read : (r : Read (List ℕ × Format)) → frame_at notation bytes ≡ r → after ≡ after_frame r
+        → (front : List ℕ) × (section ≡ front ++ after)
     at_read (Ok unit, rest) same left =
         let f = (reads_frame notation).found bytes unit rest same in
         let end : drop offset section ≡ f.0 ++ after = sym from ∙ f.1 ∙ ap (λ (xs : List ℕ). f.0 ++ xs) (sym left) in (
           take offset section ++ f.0,
-          sym (take-append-drop offset section) ∙ ap (λ (xs : List ℕ). take offset section ++ xs) end ∙ sym (append_assoc (take offset section) f.0 after),
+          sym (take-append-drop offset section) ∙ ap (λ (xs : List ℕ). take offset section ++ xs) end
+              ∙ sym (append_assoc (take offset section) f.0 after),
         )
-    at_read (Err e, rest) same left = (section, sym (append-nil section) ∙ ap (λ (xs : List ℕ). section ++ xs) (sym left))
+    at_read (Err e, rest) same left =
+        (section, sym (append-nil section) ∙ ap (λ (xs : List ℕ). section ++ xs) (sym left))
 
 -- where the next unit begins
 pub record Steps (notation : Notation) (section : List ℕ) (offset next : ℕ) : Type 0 where
@@ -253,19 +290,25 @@ pub record Steps (notation : Notation) (section : List ℕ) (offset next : ℕ) 
   pub onward : offset < next
   pub inside : next ≤ length section
 
-pub next_offset : (notation : Notation) (section : List ℕ) (offset next : ℕ) (bytes after : List ℕ) → bytes ≡ drop offset section → (bytes ≡ [] → ⊥)
+pub next_offset : (notation : Notation) (section : List ℕ) (offset next : ℕ) (bytes after : List ℕ)
+    → bytes ≡ drop offset section → (bytes ≡ [] → ⊥)
     → after ≡ after_frame (frame_at notation bytes)
     → next + length after ≡ length section → Steps notation section offset next
 next_offset notation section offset next bytes after from some is ends =
     at_read (frame_at notation bytes) refl is
-    (elim (cases_lt offset (length section)) [ inl lt ↦ lt | inr le ↦ absurd (some (from ∙ drop_all offset section le)) ])
+    (elim (cases_lt offset (length section))
+    [ inl lt ↦ lt | inr le ↦ absurd (some (from ∙ drop_all offset section le)) ])
   where
-    at_read : (r : Read (List ℕ × Format)) → frame_at notation bytes ≡ r → after ≡ after_frame r → offset < length section → Steps notation section offset next
+    at_read : (r : Read (List ℕ × Format)) → frame_at notation bytes ≡ r → after ≡ after_frame r
+        → offset < length section → Steps notation section offset next
     at_read (Ok unit, rest) same left before =
         let f = (reads_frame notation).found bytes unit rest same in
         let whole : drop offset section ≡ f.0 ++ rest = sym from ∙ f.1 in
         let long = some_front notation f.0 unit f.2 in
-        let size : next ≡ offset + length f.0 = omega (arith, ap length whole, length-append f.0 rest, length-drop offset section, ap length left, before) in
+        let size : next
+        ≡ offset
+        + length f.0 = omega
+        (arith, ap length whole, length-append f.0 rest, length-drop offset section, ap length left, before) in
         record {
           follows = inl (f.0, rest, unit, whole, f.2, size);
           onward = omega (arith, size, long);

@@ -15,7 +15,8 @@ numbers_ascend index ascending i j lt within =
     omega (arith, higher)
 
 -- a start that is there has an index below their number, and is the start of that
-address_is : (index : Index) (i : ℕ) (x : Start) → slice_get (starts_of index) i ≡ Some x → (i < index.starts) × (x.address ≡ index.base + start_number index i)
+address_is : (index : Index) (i : ℕ) (x : Start) → slice_get (starts_of index) i ≡ Some x
+    → (i < index.starts) × (x.address ≡ index.base + start_number index i)
 address_is index i x there = elim (cases_lt i index.starts) [
   | inl within ↦
       let same : Some x ≡ Some (start_at index i) = sym there ∙ value_at (start_at index) index.starts i within in

@@ -1,5 +1,6 @@
 -- The entries of an index in the making say what is found at each address so far.
-use Rattle.std.proofs.Common.{◌≡◌, ◌⊎◌, ℕ, suc, ◌+◌, ◌-◌, ◌<◌, ◌≤◌, cond, leb, List, [], ◌∷◌, ◌++◌, length, Option, None, Some}
+use Rattle.std.proofs.Common.{◌≡◌, ◌⊎◌, ℕ, suc, ◌+◌, ◌-◌, ◌<◌, ◌≤◌, cond, leb, List, [], ◌∷◌, ◌++◌, length, Option}
+use Rattle.std.proofs.Common.{None, Some}
 use Rattle.std.proofs.Common.{refl, sym, ap, subst, ◌∙◌, inl, inr, arith}
 use Rattle.std.specs.Prelude.{IfSome, slice_get, fold, nat_le, if◌then◌else◌}
 use Rattle.std.specs.Option.{option_and_then, option_map}
@@ -20,7 +21,8 @@ use Rattle.gimli_index.specs.Refused.{AreFound}
 use Rattle.gimli_index.specs.declared.contents.Entry.{Entry}
 use Rattle.gimli_index.specs.declared.contents.SourceLine.{SourceLine}
 use Rattle.gimli_index.specs.Short.{IsShort}
-use Rattle.gimli_index.specs.inside.Table.{Table, AreSources, Entered, IsInside, IsPushed, Keeps, SayTheSame, last_said, place_in, starts_in, with_table}
+use Rattle.gimli_index.specs.inside.Table.{Table, AreSources, Entered, IsInside, IsPushed, Keeps, SayTheSame, last_said}
+use Rattle.gimli_index.specs.inside.Table.{place_in, starts_in, with_table}
 use Rattle.gimli_index.proofs.OneFound.{one_found}
 use Rattle.gimli_index.proofs.LineStarts.{last_place}
 use Rattle.gimli_index.proofs.Lists.{get_pushed, get_seam}
@@ -32,22 +34,27 @@ abbrev said_by : ℕ → Option Place → Start → Option Place
 said_by a current s = if nat_le s.address a then s.place else current
 
 pub at_pushed : (table : Table) (a : ℕ) (entries : List Entry) (e : Entry)
-    → place_at a (starts_in table (entries ++ e ∷ [])) ≡ cond (leb e.address a) (place_in table e.place) (place_at a (starts_in table entries))
+    → place_at a (starts_in table (entries ++ e ∷ []))
+    ≡ cond (leb e.address a) (place_in table e.place) (place_at a (starts_in table entries))
 at_pushed table a entries e =
     ap (place_at a) (map-append (entry_start (with_table table)) entries (e ∷ []))
     ∙ fold-append (said_by a) None (starts_in table entries) (entry_start (with_table table) e ∷ [])
 
 at_last : (table : Table) (a : ℕ) (e : Entry) (entries : List Entry) (current : Option Place) (z : Entry)
     → ((k : ℕ) (x : Entry) → slice_get (e ∷ entries) k ≡ Some x → x.address ≤ a)
-    → slice_get (e ∷ entries) (length entries) ≡ Some z → fold (said_by a) current (starts_in table (e ∷ entries)) ≡ place_in table z.place
+    → slice_get (e ∷ entries) (length entries) ≡ Some z
+    → fold (said_by a) current (starts_in table (e ∷ entries)) ≡ place_in table z.place
 at_last table a e [] current z below last =
     let same : e ≡ z = cc in
-    cond-true (leb e.address a) (place_in table e.place) current (le-leb e.address a (below 0 e refl)) ∙ ap (λ (x : Entry). place_in table x.place) same
+    cond-true (leb e.address a) (place_in table e.place) current (le-leb e.address a (below 0 e refl))
+    ∙ ap (λ (x : Entry). place_in table x.place) same
 at_last table a e (next ∷ entries) current z below last =
-    at_last table a next entries (cond (leb e.address a) (place_in table e.place) current) z (λ k x there. below (suc k) x there) last
+    at_last table a next entries (cond (leb e.address a) (place_in table e.place) current) z
+    (λ k x there. below (suc k) x there) last
 
 -- where all entries are at or below an address, it is the last one that says
-pub at_end : (table : Table) (a : ℕ) (entries : List Entry) → ((k : ℕ) (x : Entry) → slice_get entries k ≡ Some x → x.address ≤ a)
+pub at_end : (table : Table) (a : ℕ) (entries : List Entry)
+    → ((k : ℕ) (x : Entry) → slice_get entries k ≡ Some x → x.address ≤ a)
     → place_at a (starts_in table entries) ≡ place_in table (last_said entries)
 at_end table a [] below = refl
 at_end table a (e ∷ entries) below = by_last (slice_get (e ∷ entries) (length entries)) refl
@@ -62,11 +69,13 @@ at_end table a (e ∷ entries) below = by_last (slice_get (e ∷ entries) (lengt
     by_last (Some z) is =
         let back : length (e ∷ entries) - 1 ≡ length entries = omega arith in
         at_last table a e entries None z below is
-        ∙ ap (λ (o : Option Entry). place_in table (option_and_then (λ (x : Entry). x.place) o)) (sym (ap (slice_get (e ∷ entries)) back ∙ is))
+        ∙ ap (λ (o : Option Entry). place_in table (option_and_then (λ (x : Entry). x.place) o))
+        (sym (ap (slice_get (e ∷ entries)) back ∙ is))
 
 -- ---- entries so far
 
-pub none_entered : (t : Texts) (units : List KeptUnit) {limit : ℕ} (table : Table) → AreSources t units limit table → Entered t units limit table [] (Some 0)
+pub none_entered : (t : Texts) (units : List KeptUnit) {limit : ℕ} (table : Table) → AreSources t units limit table
+    → Entered t units limit table [] (Some 0)
 none_entered t units table are = record {
   are = are;
   inside = λ k e there. absurd cc;
@@ -77,16 +86,19 @@ none_entered t units table are = record {
   says = λ a found before is. absurd (omega (arith, before));
 }
 
-pub same_starts : (old new : Table) (entries : List Entry) → ((k : ℕ) (e : Entry) → slice_get entries k ≡ Some e → place_in new e.place ≡ place_in old e.place)
+pub same_starts : (old new : Table) (entries : List Entry)
+    → ((k : ℕ) (e : Entry) → slice_get entries k ≡ Some e → place_in new e.place ≡ place_in old e.place)
     → starts_in new entries ≡ starts_in old entries
 same_starts old new [] each = refl
 same_starts old new (e ∷ entries) each =
-    ap (λ (p : Option Place). let s : Start = record { address = e.address; place = p } in s ∷ starts_in new entries) (each 0 e refl)
+    ap (λ (p : Option Place). let s : Start = record { address = e.address; place = p } in s ∷ starts_in new entries)
+    (each 0 e refl)
     ∙ ap (λ (ss : List Start). let s : Start = record { address = e.address; place = place_in old e.place } in s ∷ ss)
     (same_starts old new entries (λ k x there. each (suc k) x there))
 
 -- the table goes on
-pub still_entered : (t : Texts) (units : List KeptUnit) {limit : ℕ} (old new : Table) (entries : List Entry) (from : Option ℕ)
+pub still_entered : (t : Texts) (units : List KeptUnit) {limit : ℕ} (old new : Table) (entries : List Entry)
+    (from : Option ℕ)
     → Entered t units limit old entries from
     → Keeps old new → AreSources t units limit new
     → Entered t units limit new entries from
@@ -97,9 +109,13 @@ still_entered t units old new entries from h keeps are = record {
   ascending = h.ascending;
   columns = h.columns;
   short =
-      subst IsShort (sym (same_starts old new entries (λ k e there. place_stays t units old new e.place h.are keeps (h.inside k e there)))) h.short;
+      subst IsShort
+      (sym (same_starts old new entries (λ k e there.
+      place_stays t units old new e.place h.are keeps (h.inside k e there))))
+      h.short;
   says = λ a found before is.
-      ap (place_at a) (same_starts old new entries (λ k e there. place_stays t units old new e.place h.are keeps (h.inside k e there)))
+      ap (place_at a) (same_starts old new entries (λ k e there.
+      place_stays t units old new e.place h.are keeps (h.inside k e there)))
       ∙ h.says a found before is;
 }
 
@@ -111,20 +127,24 @@ start_before : (start : ℕ) (end : Option ℕ) → IfSome end (λ e. start < e)
 start_before start None above = tt
 start_before start (Some e) above = above
 
-pub last_place_is : (table : Table) (entries : List Entry) → last_place (starts_in table entries) ≡ place_in table (last_said entries)
+pub last_place_is : (table : Table) (entries : List Entry)
+    → last_place (starts_in table entries) ≡ place_in table (last_said entries)
 last_place_is table entries =
     ap (λ (n : ℕ). option_and_then (λ (s : Start). s.place) (slice_get (starts_in table entries) (n - 1)))
     (length-map entries (entry_start (with_table table)))
-    ∙ ap (option_and_then (λ (s : Start). s.place)) (slice_get-map (entry_start (with_table table)) entries (length entries - 1))
+    ∙ ap (option_and_then (λ (s : Start). s.place))
+    (slice_get-map (entry_start (with_table table)) entries (length entries - 1))
     ∙ by_entry (slice_get entries (length entries - 1))
   where
-    by_entry : (o : Option Entry) → option_and_then (λ (s : Start). s.place) (option_map (entry_start (with_table table)) o)
+    by_entry : (o : Option Entry)
+        → option_and_then (λ (s : Start). s.place) (option_map (entry_start (with_table table)) o)
         ≡ place_in table (option_and_then (λ (e : Entry). e.place) o)
     by_entry None = refl
     by_entry (Some e) = refl
 
 -- one more start, which says something else than the last one
-pub short_push : (starts : List Start) (s : Start) → IsShort starts → (last_place starts ≡ s.place → ⊥) → IsShort (starts ++ s ∷ [])
+pub short_push : (starts : List Start) (s : Start) → IsShort starts → (last_place starts ≡ s.place → ⊥)
+    → IsShort (starts ++ s ∷ [])
 short_push starts s is other = record {
   first = λ x there. at_first x (get_pushed starts s 0 x there);
   merged = λ k x y first second. at_next k x y (get_pushed starts s k x first) (get_pushed starts s (k + 1) y second);
@@ -145,12 +165,14 @@ short_push starts s is other = record {
     at_next k x y (inl one) (inl two) same = is.merged k x y one two same
     at_next k x y (inl one) (inr last) same =
         let here : k ≡ length starts - 1 = omega (arith, last.0) in
-        other (ap (option_and_then (λ (z : Start). z.place)) (ap (slice_get starts) (sym here) ∙ one) ∙ same ∙ ap (λ (z : Start). z.place) (sym last.1))
+        other (ap (option_and_then (λ (z : Start). z.place)) (ap (slice_get starts) (sym here) ∙ one) ∙ same
+        ∙ ap (λ (z : Start). z.place) (sym last.1))
     at_next k x y (inr last) (inl two) same = absurd (omega (arith, last.0, slice_get_within starts (k + 1) y two))
     at_next k x y (inr last) (inr also) same = absurd (omega (arith, last.0, also.0))
 
 -- an entry that is pushed for a range
-module _ (t : Texts) (units : List KeptUnit) {limit : ℕ} (table : Table) (entries new : List Entry) (range : CoveredRange) (place : Option SourceLine)
+module _ (t : Texts) (units : List KeptUnit) {limit : ℕ} (table : Table) (entries new : List Entry)
+    (range : CoveredRange) (place : Option SourceLine)
     (h : Entered t units limit table entries (Some range.start))
     (above : IfSome range.end (λ e. range.start < e)) (found : AreFoundIn units range) (inside : IsInside table place)
     (says : place_in table place ≡ found_place t units range.rows) (column : HasColumn place) where
@@ -158,7 +180,8 @@ module _ (t : Texts) (units : List KeptUnit) {limit : ℕ} (table : Table) (entr
   entry = record { address = range.start; place = place }
 
   -- what is found from the start on
-  from_start : (a : ℕ) (f : Option CoveringRows) → range.start ≤ a → IsBefore a range.end → IsFoundAt units a f → place_in table place ≡ found_place t units f
+  from_start : (a : ℕ) (f : Option CoveringRows) → range.start ≤ a → IsBefore a range.end → IsFoundAt units a f
+      → place_in table place ≡ found_place t units f
   from_start a f le before is = says ∙ ap (found_place t units) (one_found a units range.rows f (found a le before) is)
 
   -- the last of the entries is inside
@@ -167,11 +190,14 @@ module _ (t : Texts) (units : List KeptUnit) {limit : ℕ} (table : Table) (entr
     where
       by_last : (o : Option Entry) → slice_get entries (length entries - 1) ≡ o
           → IsInside table (option_and_then (λ (e : Entry). e.place) (slice_get entries (length entries - 1)))
-      by_last None is = subst (λ (o : Option Entry). IsInside table (option_and_then (λ (e : Entry). e.place) o)) (sym is) tt
+      by_last None is =
+          subst (λ (o : Option Entry). IsInside table (option_and_then (λ (e : Entry). e.place) o)) (sym is) tt
       by_last (Some e) is =
-          subst (λ (o : Option Entry). IsInside table (option_and_then (λ (e : Entry). e.place) o)) (sym is) (h.inside (length entries - 1) e is)
+          subst (λ (o : Option Entry). IsInside table (option_and_then (λ (e : Entry). e.place) o)) (sym is)
+          (h.inside (length entries - 1) e is)
 
-  appended : (SayTheSame table.sources (last_said entries) place → ⊥) → Entered t units limit table (entries ++ entry ∷ []) range.end
+  appended : (SayTheSame table.sources (last_said entries) place → ⊥)
+      → Entered t units limit table (entries ++ entry ∷ []) range.end
   appended other = record {
     are = h.are;
     inside = λ k e there. elim (get_pushed entries entry k e there) [
@@ -182,16 +208,23 @@ module _ (t : Texts) (units : List KeptUnit) {limit : ℕ} (table : Table) (entr
       | inl earlier ↦ before_end e.address range.start range.end (h.below k e earlier) above
       | inr last ↦ subst (λ (x : Entry). IsBefore x.address range.end) last.1 (start_before range.start range.end above)
     ];
-    ascending = λ i j x y lt first second. rises i j x y lt (get_pushed entries entry i x first) (get_pushed entries entry j y second);
+    ascending =
+        λ i j x y lt first second.
+        rises i j x y lt (get_pushed entries entry i x first) (get_pushed entries entry j y second);
     columns = All-push (λ (e : Entry). HasColumn e.place) entries entry h.columns column;
     short =
         subst IsShort (sym (map-append (entry_start (with_table table)) entries (entry ∷ [])))
         (short_push (starts_in table entries) (entry_start (with_table table) entry) h.short
-        (λ same. other (say_the_same t units table (last_said entries) place h.are last_inside inside (sym (last_place_is table entries) ∙ same))));
+        (λ same. other (say_the_same t units table (last_said entries) place h.are last_inside inside
+        (sym (last_place_is table entries) ∙ same))));
     says = λ a f before is. at_pushed table a entries entry ∙ elim (cases_lt a range.start) [
-      | inl low ↦ cond-false (leb range.start a) (place_in table place) (place_at a (starts_in table entries)) (lt-leb range.start a low) ∙ h.says a f low is
+      | inl low ↦
+          cond-false (leb range.start a) (place_in table place) (place_at a (starts_in table entries))
+          (lt-leb range.start a low)
+          ∙ h.says a f low is
       | inr high ↦
-          cond-true (leb range.start a) (place_in table place) (place_at a (starts_in table entries)) (le-leb range.start a high)
+          cond-true (leb range.start a) (place_in table place) (place_at a (starts_in table entries))
+          (le-leb range.start a high)
           ∙ from_start a f high before is
     ];
   }
@@ -214,19 +247,24 @@ module _ (t : Texts) (units : List KeptUnit) {limit : ℕ} (table : Table) (entr
     short = h.short;
     says = λ a f before is. elim (cases_lt a range.start) [
       | inl low ↦ h.says a f low is
-      | inr high ↦ at_end table a entries (λ k e there. let low = h.below k e there in omega (arith, low, high)) ∙ same ∙ from_start a f high before is
+      | inr high ↦
+          at_end table a entries (λ k e there. let low = h.below k e there in omega (arith, low, high)) ∙ same
+          ∙ from_start a f high before is
     ];
   }
 
   pub pushed : IsPushed table.sources entries new entry → Entered t units limit table new range.end
   pushed (inl is) = subst (λ (es : List Entry). Entered t units limit table es range.end) (sym is.0) (appended is.1)
   pushed (inr is) =
-      subst (λ (es : List Entry). Entered t units limit table es range.end) (sym is.0) (same_said (same_places table (last_said entries) place is.1))
+      subst (λ (es : List Entry). Entered t units limit table es range.end) (sym is.0)
+      (same_said (same_places table (last_said entries) place is.1))
 
 -- what is found in a range stands in a sequence
-pub rows_found : (units : List KeptUnit) (range : CoveredRange) → IfSome range.end (λ e. range.start < e) → AreFoundIn units range
+pub rows_found : (units : List KeptUnit) (range : CoveredRange) → IfSome range.end (λ e. range.start < e)
+    → AreFoundIn units range
     → IfSome range.rows (AreFound units)
-rows_found units range above found = by_rows range.rows (found range.start (omega arith) (start_before range.start range.end above))
+rows_found units range above found =
+    by_rows range.rows (found range.start (omega arith) (start_before range.start range.end above))
   where
     by_rows : (rows : Option CoveringRows) → IsFoundAt units range.start rows → IfSome rows (AreFound units)
     by_rows None none = tt
@@ -241,9 +279,11 @@ rows_found units range above found = by_rows range.rows (found range.start (omeg
       stands = first.is_first.is_first.is_pair.first;
     }
 
-pub unit_within : (units : List KeptUnit) (range : CoveredRange) → IfSome range.end (λ e. range.start < e) → AreFoundIn units range
+pub unit_within : (units : List KeptUnit) (range : CoveredRange) → IfSome range.end (λ e. range.start < e)
+    → AreFoundIn units range
     → IfSome range.rows (λ f. f.unit < length units)
-unit_within units range above found = by_rows range.rows (found range.start (omega arith) (start_before range.start range.end above))
+unit_within units range above found =
+    by_rows range.rows (found range.start (omega arith) (start_before range.start range.end above))
   where
     by_rows : (rows : Option CoveringRows) → IsFoundAt units range.start rows → IfSome rows (λ f. f.unit < length units)
     by_rows None none = tt

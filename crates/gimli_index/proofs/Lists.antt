@@ -1,6 +1,8 @@
 -- Lists that go on, and paths in bytes that do.
-use Rattle.std.proofs.Common.{◌≡◌, ◌⊎◌, ℕ, zero, suc, ◌+◌, ◌-◌, ◌<◌, ◌≤◌, Bool, true, false, cond, if◌then◌else◌, List, [], ◌∷◌, ◌++◌, length, take, drop}
-use Rattle.std.proofs.Common.{Ok, Err, Option, None, Some, refl, sym, ap, ◌∙◌, inl, inr, arith, append_assoc, length-append}
+use Rattle.std.proofs.Common.{◌≡◌, ◌⊎◌, ℕ, zero, suc, ◌+◌, ◌-◌, ◌<◌, ◌≤◌, Bool, true, false, cond, if◌then◌else◌, List}
+use Rattle.std.proofs.Common.{[], ◌∷◌, ◌++◌, length, take, drop}
+use Rattle.std.proofs.Common.{Ok, Err, Option, None, Some, refl, sym, ap, ◌∙◌, inl, inr, arith, append_assoc}
+use Rattle.std.proofs.Common.{length-append}
 use Rattle.std.specs.Option.{option_map_or}
 use Rattle.std.specs.Prelude.{slice_get, slice_range, nat_eq}
 use Rattle.std.proofs.lemmas.Bool.{cases_lt}
@@ -14,7 +16,8 @@ use Rattle.gimli_index.proofs.Slices.{after_bytes, first_bytes}
 
 -- ---- lists that go on
 
-pub get_before : {X : Type 0} (xs ys : List X) (k : ℕ) (x : X) → slice_get xs k ≡ Some x → slice_get (xs ++ ys) k ≡ Some x
+pub get_before : {X : Type 0} (xs ys : List X) (k : ℕ) (x : X) → slice_get xs k ≡ Some x
+    → slice_get (xs ++ ys) k ≡ Some x
 get_before [] ys k x there = absurd cc
 get_before (z ∷ xs) ys zero x there = there
 get_before (z ∷ xs) ys (suc k) x there = get_before xs ys k x there
@@ -44,10 +47,14 @@ get_pushed (z ∷ xs) y (suc k) x there = elim (get_pushed xs y k x there) [
 
 -- ---- paths
 
-path_ended : (paths : List ℕ) (first size : ℕ) → (path_in paths first size ≡ Err Outside → ⊥) → slice_get paths (first + size) ≡ Some 0
+path_ended : (paths : List ℕ) (first size : ℕ) → (path_in paths first size ≡ Err Outside → ⊥)
+    → slice_get paths (first + size) ≡ Some 0
 path_ended paths first size inside = by_byte (slice_get paths (first + size)) inside
   where
-    by_byte : (o : Option ℕ) → (cond (option_map_or (nat_eq 0) o false) (Ok (slice_range paths first (first + size))) (Err Outside) ≡ Err Outside → ⊥)
+    by_byte : (o : Option ℕ)
+        → (cond (option_map_or (nat_eq 0) o false) (Ok (slice_range paths first (first + size))) (Err Outside)
+        ≡ Err Outside
+        → ⊥)
         → o ≡ Some 0
     by_byte None h = absurd (h refl)
     by_byte (Some zero) h = refl
@@ -58,7 +65,10 @@ path_ended paths first size inside = by_byte (slice_get paths (first + size)) in
 pub path_there : (paths : List ℕ) (first size : ℕ) → slice_get paths (first + size) ≡ Some 0
     → path_in paths first size ≡ Ok (slice_range paths first (first + size))
 path_there paths first size ended =
-    ap (λ (o : Option ℕ). if option_map_or (nat_eq 0) o false then Ok (slice_range paths first (first + size)) else Err Outside) ended
+    ap
+    (λ (o : Option ℕ). if option_map_or (nat_eq 0) o false then Ok (slice_range paths first (first + size))
+    else Err Outside)
+    ended
 
 take_none : (xs : List ℕ) → take 0 xs ≡ []
 take_none [] = refl
@@ -69,17 +79,20 @@ take_before xs ys zero le = take_none (xs ++ ys) ∙ sym (take_none xs)
 take_before [] ys (suc n) le = absurd (omega arith)
 take_before (x ∷ xs) ys (suc n) le = ap (λ (zs : List ℕ). x ∷ zs) (take_before xs ys n (omega arith))
 
-part_before : (xs ys : List ℕ) (first n : ℕ) → first + n ≤ length xs → take n (drop first (xs ++ ys)) ≡ take n (drop first xs)
+part_before : (xs ys : List ℕ) (first n : ℕ) → first + n ≤ length xs
+    → take n (drop first (xs ++ ys)) ≡ take n (drop first xs)
 part_before xs ys first zero le = take_none (drop first (xs ++ ys)) ∙ sym (take_none (drop first xs))
 part_before [] ys first (suc n) le = absurd (omega arith)
 part_before (x ∷ xs) ys zero (suc n) le = take_before (x ∷ xs) ys (suc n) (omega arith)
 part_before (x ∷ xs) ys (suc first) (suc n) le = part_before xs ys first (suc n) (omega arith)
 
-range_before : (xs ys : List ℕ) (first end : ℕ) → end ≤ length xs → slice_range (xs ++ ys) first end ≡ slice_range xs first end
+range_before : (xs ys : List ℕ) (first end : ℕ) → end ≤ length xs
+    → slice_range (xs ++ ys) first end ≡ slice_range xs first end
 range_before xs ys first end le = elim (cases_lt end first) [
   | inl none ↦
       let zero_is : end - first ≡ 0 = omega arith in
-      ap (λ (n : ℕ). take n (drop first (xs ++ ys))) zero_is ∙ take_none (drop first (xs ++ ys)) ∙ sym (take_none (drop first xs))
+      ap (λ (n : ℕ). take n (drop first (xs ++ ys))) zero_is ∙ take_none (drop first (xs ++ ys))
+      ∙ sym (take_none (drop first xs))
       ∙ sym (ap (λ (n : ℕ). take n (drop first xs)) zero_is)
   | inr some ↦ part_before xs ys first (end - first) (omega arith)
 ]
@@ -92,18 +105,21 @@ pub path_goes_on_at : (paths more : List ℕ) (first size : ℕ) → slice_get p
     → path_in (paths ++ more) first size ≡ path_in paths first size
 path_goes_on_at paths more first size ended =
     path_there (paths ++ more) first size (get_before paths more (first + size) 0 ended)
-    ∙ ap (λ (p : List ℕ). Ok p) (range_before paths more first (first + size) (omega (arith, slice_get_within paths (first + size) 0 ended)))
+    ∙ ap (λ (p : List ℕ). Ok p)
+    (range_before paths more first (first + size) (omega (arith, slice_get_within paths (first + size) 0 ended)))
     ∙ sym (path_there paths first size ended)
 
 path_goes_on : (paths more : List ℕ) (first size : ℕ) → (path_in paths first size ≡ Err Outside → ⊥)
     → path_in (paths ++ more) first size ≡ path_in paths first size
 path_goes_on paths more first size inside = path_goes_on_at paths more first size (path_ended paths first size inside)
 
-pub source_goes_on : (paths more : List ℕ) (s : Source) → (source_path paths s ≡ Err Outside → ⊥) → source_path (paths ++ more) s ≡ source_path paths s
+pub source_goes_on : (paths more : List ℕ) (s : Source) → (source_path paths s ≡ Err Outside → ⊥)
+    → source_path (paths ++ more) s ≡ source_path paths s
 source_goes_on paths more s inside = by_reason (nat_eq s.reason 0) inside
   where
     by_reason : (b : Bool) → (cond b (path_in paths s.first s.size) (Err (Reason s.reason)) ≡ Err Outside → ⊥)
-        → cond b (path_in (paths ++ more) s.first s.size) (Err (Reason s.reason)) ≡ cond b (path_in paths s.first s.size) (Err (Reason s.reason))
+        → cond b (path_in (paths ++ more) s.first s.size) (Err (Reason s.reason))
+        ≡ cond b (path_in paths s.first s.size) (Err (Reason s.reason))
     by_reason true h = path_goes_on paths more s.first s.size h
     by_reason false h = refl
 
@@ -111,7 +127,8 @@ source_goes_on paths more s inside = by_reason (nat_eq s.reason 0) inside
 pub zero_appended : (paths path : List ℕ) → slice_get (paths ++ (path ++ 0 ∷ [])) (length paths + length path) ≡ Some 0
 zero_appended paths path =
     sym (ap (λ (xs : List ℕ). slice_get xs (length paths + length path)) (append_assoc paths path (0 ∷ [])))
-    ∙ ap (λ (n : ℕ). slice_get ((paths ++ path) ++ 0 ∷ []) n) (sym (length-append paths path)) ∙ get_last (paths ++ path) 0
+    ∙ ap (λ (n : ℕ). slice_get ((paths ++ path) ++ 0 ∷ []) n) (sym (length-append paths path))
+    ∙ get_last (paths ++ path) 0
 
 pub path_appended : (paths path : List ℕ) → path_in (paths ++ (path ++ 0 ∷ [])) (length paths) (length path) ≡ Ok path
 path_appended paths path =

@@ -15,7 +15,8 @@ pub no_line_of : (path : List ℕ) (a : ℕ) (p : Place) (l : ℕ) → is_of_lin
     → is_statement (nat_eq 1) l (place_row path a p) ≡ false
 no_line_of path a p l not_of = ap (λ b. b && p.is_stmt) not_of
 
-pub line_of : (path : List ℕ) (a : ℕ) (p : Place) (l : ℕ) → is_of_line (nat_eq 1) l (place_row path a p) ≡ true → p.is_stmt ≡ true
+pub line_of : (path : List ℕ) (a : ℕ) (p : Place) (l : ℕ) → is_of_line (nat_eq 1) l (place_row path a p) ≡ true
+    → p.is_stmt ≡ true
     → is_statement (nat_eq 1) l (place_row path a p) ≡ true
 line_of path a p l of statement = ap (λ b. b && p.is_stmt) of ∙ statement
 
@@ -29,7 +30,8 @@ no_line_in rows asked none l from =
     ∙ no_line (nat_eq 1) (rows ∷ []) asked (λ m above. ap (λ b. b || false) (none m above)) l from
 
 -- and the first line with one is the first line with an address
-pub first_line_in : (rows : List LineRow) (asked line : ℕ) → IsFirstWith (λ l. has_statement (nat_eq 1) l rows) asked (Some line)
+pub first_line_in : (rows : List LineRow) (asked line : ℕ)
+    → IsFirstWith (λ l. has_statement (nat_eq 1) l rows) asked (Some line)
     → IsFirstLine (λ line. addresses_in (nat_eq 1) line rows) asked line
 first_line_in rows asked line is =
     let first =
@@ -38,5 +40,6 @@ first_line_in rows asked line is =
     record {
       from = first.from;
       some = λ none. first.some (append-nil (addresses_in (nat_eq 1) line rows) ∙ none);
-      none_before = λ l above below. sym (append-nil (addresses_in (nat_eq 1) l rows)) ∙ first.none_before l above below;
+      none_before =
+          λ l above below. sym (append-nil (addresses_in (nat_eq 1) l rows)) ∙ first.none_before l above below;
     }

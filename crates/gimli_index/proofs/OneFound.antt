@@ -1,5 +1,6 @@
 -- A lookup finds one thing at an address.
-use Rattle.std.proofs.Common.{◌≡◌, ℕ, zero, suc, ◌+◌, ◌<◌, List, [], ◌∷◌, length, take, Option, None, Some, refl, sym, ap, subst, ◌∙◌, inl, inr, arith}
+use Rattle.std.proofs.Common.{◌≡◌, ℕ, zero, suc, ◌+◌, ◌<◌, List, [], ◌∷◌, length, take, Option, None, Some, refl, sym}
+use Rattle.std.proofs.Common.{ap, subst, ◌∙◌, inl, inr, arith}
 use Rattle.std.specs.Prelude.{All, slice_get, slice_index_or}
 use Rattle.std.proofs.lemmas.Bool.{cases_order}
 use Rattle.std.proofs.lemmas.List.{length-append, length-take-le, get_or_append_left, get_or-append-add, get_or-take}
@@ -12,7 +13,8 @@ use Rattle.gimli_lookup.specs.declared.section_lookup.CoveringRows.{CoveringRows
 use Rattle.gimli_lookup.proofs.OnePair.{one_pair, stands_there}
 
 -- what holds of the sequences of all units holds of those of each
-each_part : (P : List LineRow → Type 0) (units : List KeptUnit) (i : ℕ) (u : KeptUnit) → All P (all_sequences units) → slice_get units i ≡ Some u
+each_part : (P : List LineRow → Type 0) (units : List KeptUnit) (i : ℕ) (u : KeptUnit) → All P (all_sequences units)
+    → slice_get units i ≡ Some u
     → All P u.sequences
 each_part P [] i u all there = absurd cc
 each_part P (w ∷ units) zero u all there =
@@ -29,30 +31,43 @@ each_part P (w ∷ units) (suc i) u all there =
 -- sequences with a first pair aren't such that none has a pair
 not_none : (a : ℕ) (s : List (List LineRow)) (x y : LineRow) → IsFirstPair a s x y → All (HasNoPair a) s → ⊥
 not_none a s x y f none =
-    let within : length f.earlier < length s = omega (arith, ap (λ (t : List (List LineRow)). length t) f.parts, length-append f.earlier (f.rows ∷ f.later)) in
-    subst (HasNoPair a) (stands_there a s x y f f.rows) (none (length f.earlier) f.rows within) f.is_first.index x y f.is_first.is_pair
+    let within : length f.earlier
+    < length s = omega
+    (arith, ap (λ (t : List (List LineRow)). length t) f.parts, length-append f.earlier (f.rows ∷ f.later)) in
+    subst (HasNoPair a) (stands_there a s x y f f.rows) (none (length f.earlier) f.rows within) f.is_first.index x y
+    f.is_first.is_pair
 
 module _ (a : ℕ) (units : List KeptUnit) where
-  not_before : (i j : ℕ) (x y z w : LineRow) → IsFirstPairOfUnit a units i x y → IsFirstPairOfUnit a units j z w → i < j → ⊥
+  not_before : (i j : ℕ) (x y z w : LineRow) → IsFirstPairOfUnit a units i x y → IsFirstPairOfUnit a units j z w → i < j
+      → ⊥
   not_before i j x y z w f g lt =
       let there = slice_get_within units j g.unit g.there in
-      let within : i < length (take j units) = omega (arith, lt, there, length-take-le j units (omega (arith, there))) in
-      let same : slice_index_or (take j units) i f.unit ≡ f.unit = get_or-take j units i f.unit lt ∙ get_or_from_slice_get units i f.unit f.unit f.there in
-      not_none a f.unit.sequences x y f.is_first (subst (λ (u : KeptUnit). All (HasNoPair a) u.sequences) same (g.none_earlier i f.unit within))
+      let within : i
+      < length (take j units) = omega (arith, lt, there, length-take-le j units (omega (arith, there))) in
+      let same : slice_index_or (take j units) i f.unit ≡ f.unit = get_or-take j units i f.unit lt
+      ∙ get_or_from_slice_get units i f.unit f.unit f.there in
+      not_none a f.unit.sequences x y f.is_first
+      (subst (λ (u : KeptUnit). All (HasNoPair a) u.sequences) same (g.none_earlier i f.unit within))
 
-  same_pair : (i j : ℕ) (x y z w : LineRow) → IsFirstPairOfUnit a units i x y → IsFirstPairOfUnit a units j z w → (i ≡ j) × (x ≡ z) × (y ≡ w)
+  same_pair : (i j : ℕ) (x y z w : LineRow) → IsFirstPairOfUnit a units i x y → IsFirstPairOfUnit a units j z w
+      → (i ≡ j) × (x ≡ z) × (y ≡ w)
   same_pair i j x y z w f g = elim (cases_order i j) [
     | inl same ↦
         let both : Some f.unit ≡ Some g.unit = sym f.there ∙ ap (slice_get units) same ∙ g.there in
         let units_same : f.unit ≡ g.unit = cc in
-        let pairs = one_pair a g.unit.sequences x y z w (subst (λ (u : KeptUnit). IsFirstPair a u.sequences x y) units_same f.is_first) g.is_first in
+        let pairs =
+        one_pair a g.unit.sequences x y z w
+        (subst (λ (u : KeptUnit). IsFirstPair a u.sequences x y) units_same f.is_first) g.is_first in
         (same, pairs.0, pairs.1)
     | inr (inl less) ↦ absurd (not_before i j x y z w f g less)
     | inr (inr more) ↦ absurd (not_before j i z w x y g f more)
   ]
 
-  not_found : (f : CoveringRows) → IsFirstPairOfUnit a units f.unit f.row f.next → All (HasNoPair a) (all_sequences units) → ⊥
-  not_found f first none = not_none a first.unit.sequences f.row f.next first.is_first (each_part (HasNoPair a) units f.unit first.unit none first.there)
+  not_found : (f : CoveringRows) → IsFirstPairOfUnit a units f.unit f.row f.next
+      → All (HasNoPair a) (all_sequences units) → ⊥
+  not_found f first none =
+      not_none a first.unit.sequences f.row f.next first.is_first
+      (each_part (HasNoPair a) units f.unit first.unit none first.there)
 
   pub one_found : (x y : Option CoveringRows) → IsFoundAt units a x → IsFoundAt units a y → x ≡ y
   one_found None None f g = refl

@@ -8,17 +8,23 @@ use Rattle.std.proofs.Math.Nat.{le-min, min-eq_left, min-le_left, min-le_right}
 use Rattle.std.proofs.lemmas.Bool.{cases_lt, cases_order, false≢true}
 use Rattle.std.proofs.lemmas.Bool.Decides.{Decides-eqb}
 use Rattle.std.proofs.lemmas.List.Folds.{Any-from_list_any}
-use Rattle.std.proofs.lemmas.List.FromFn.{get_or-map-range_with_len, length-map-range_with_len, sum_by-map-range_with_len_more}
+use Rattle.std.proofs.lemmas.List.FromFn.{
+  get_or-map-range_with_len,
+  length-map-range_with_len,
+  sum_by-map-range_with_len_more,
+}
 use Rattle.std.proofs.lemmas.Map.Made.{IsDistinct-from_AllPairs}
 use Rattle.std.proofs.lemmas.Map.Steps.{length-le_from_distinct_below}
 use Rattle.gimli_index.specs.Meaning.{Start, starts_of}
-use Rattle.gimli_index.specs.Order.{if_statement, is_statement, key_of, ordered_number, statement_at, statement_key, ComesBefore, IsOrder}
+use Rattle.gimli_index.specs.Order.{if_statement, is_statement, key_of, ordered_number, statement_at, statement_key}
+use Rattle.gimli_index.specs.Order.{ComesBefore, IsOrder}
 use Rattle.gimli_index.specs.Parts.{Index}
 use Rattle.gimli_index.specs.inside.Numbers.{AreInOrder, IsAfter}
 use Rattle.gimli_index.proofs.Values.{value_at, no_value_at}
 
 -- keys don't fall
-pub keys_rise : (starts : List Start) (count : ℕ) (number : ℕ → ℕ) → IsOrder starts count number → (j k : ℕ) → j ≤ k → k < count
+pub keys_rise : (starts : List Start) (count : ℕ) (number : ℕ → ℕ) → IsOrder starts count number → (j k : ℕ) → j ≤ k
+    → k < count
     → statement_key starts (number j) ≤ statement_key starts (number k)
 keys_rise starts count number is j k le within = elim (cases_lt j k) [
   | inl less ↦ elim (is.ascending j k less within) [
@@ -29,7 +35,8 @@ keys_rise starts count number is j k le within = elim (cases_lt j k) [
 ]
 
 -- what comes before another comes before what that comes before
-pub before_after : (starts : List Start) (i j k : ℕ) → ComesBefore starts i j → ComesBefore starts j k → ComesBefore starts i k
+pub before_after : (starts : List Start) (i j k : ℕ) → ComesBefore starts i j → ComesBefore starts j k
+    → ComesBefore starts i k
 before_after starts i j k (inl p) (inl q) = inl (omega (arith, p, q))
 before_after starts i j k (inl p) (inr q) = inl (omega (arith, p, q.0))
 before_after starts i j k (inr p) (inl q) = inl (omega (arith, p.0, q))
@@ -41,19 +48,23 @@ not_before_itself starts i j (inl p) same = omega (arith, p, ap (statement_key s
 not_before_itself starts i j (inr p) same = omega (arith, p.1, same)
 
 -- the same order, by other names of its numbers
-pub same_order : (starts : List Start) (count : ℕ) (f g : ℕ → ℕ) → ((k : ℕ) → k < count → f k ≡ g k) → IsOrder starts count f → IsOrder starts count g
+pub same_order : (starts : List Start) (count : ℕ) (f g : ℕ → ℕ) → ((k : ℕ) → k < count → f k ≡ g k)
+    → IsOrder starts count f → IsOrder starts count g
 same_order starts count f g same is = record {
   statements = λ k within. ap (λ i. is_some (statement_at starts i)) (sym (same k within)) ∙ is.statements k within;
   ascending = λ j k less within.
       let before : j < count = omega arith in
-      subst (λ i. ComesBefore starts i (g k)) (same j before) (subst (ComesBefore starts (f j)) (same k within) (is.ascending j k less within));
+      subst (λ i. ComesBefore starts i (g k)) (same j before)
+      (subst (ComesBefore starts (f j)) (same k within) (is.ascending j k less within));
   all = is.all;
 }
 
 -- one number more in order
 pub more_in_order : (index : Index) (count : ℕ) (last : Option (ℕ × ℕ)) (key start : ℕ) → AreInOrder index count
-    → MatchOption last (count ≡ 0) (λ r. (0 < count) × (r.1 ≡ ordered_number index (count - 1)) × (r.0 ≡ statement_key (starts_of index) r.1))
-    → IfSome last (λ l. IsAfter l (key, start)) → start ≡ ordered_number index count → is_some (statement_at (starts_of index) start) ≡ true
+    → MatchOption last (count ≡ 0) (λ r.
+    (0 < count) × (r.1 ≡ ordered_number index (count - 1)) × (r.0 ≡ statement_key (starts_of index) r.1))
+    → IfSome last (λ l. IsAfter l (key, start)) → start ≡ ordered_number index count
+    → is_some (statement_at (starts_of index) start) ≡ true
     → key ≡ statement_key (starts_of index) start → AreInOrder index (count + 1)
 more_in_order index count last key start are before after start_is is key_is = record {
   statements = λ k within. elim (cases_lt k count) [
@@ -67,7 +78,8 @@ more_in_order index count last key start are before after start_is is key_is = r
     | inr here ↦
         let same : k ≡ count = omega arith in
         let below : j < count = omega arith in
-        subst (λ i. ComesBefore starts (number j) i) (start_is ∙ ap number (sym same)) (by_last last before after j below)
+        subst (λ i. ComesBefore starts (number j) i) (start_is ∙ ap number (sym same))
+        (by_last last before after j below)
   ];
 }
   where
@@ -77,7 +89,9 @@ more_in_order index count last key start are before after start_is is key_is = r
     number : ℕ → ℕ
     number = ordered_number index
 
-    by_last : (last : Option (ℕ × ℕ)) → MatchOption last (count ≡ 0) (λ r. (0 < count) × (r.1 ≡ number (count - 1)) × (r.0 ≡ statement_key starts r.1))
+    by_last : (last : Option (ℕ × ℕ))
+        → MatchOption last (count ≡ 0) (λ r.
+        (0 < count) × (r.1 ≡ number (count - 1)) × (r.0 ≡ statement_key starts r.1))
         → IfSome last (λ l. IsAfter l (key, start)) → (j : ℕ) → j < count → ComesBefore starts (number j) start
     by_last None none after j below = absurd (omega (arith, none, below))
     by_last (Some r) (some, its_number, its_key) after j below =
@@ -86,9 +100,12 @@ more_in_order index count last key start are before after start_is is key_is = r
           | inl lower ↦ inl (omega (arith, lower, its_key, key_is))
           | inr equal ↦ inr (omega (arith, equal.0, its_key, key_is), equal.1)
         ] in
-        let last_is : ComesBefore starts (number (count - 1)) start = subst (λ i. ComesBefore starts i start) its_number beside in
+        let last_is : ComesBefore starts (number (count - 1)) start =
+        subst (λ i. ComesBefore starts i start) its_number beside in
         elim (cases_lt j (count - 1)) [
-          | inl lower ↦ before_after starts (number j) (number (count - 1)) start (are.ascending j (count - 1) lower (omega (arith, some))) last_is
+          | inl lower ↦
+              before_after starts (number j) (number (count - 1)) start
+              (are.ascending j (count - 1) lower (omega (arith, some))) last_is
           | inr here ↦
               let same : count - 1 ≡ j = omega (arith, below) in
               subst (λ i. ComesBefore starts i start) (ap number same) last_is
@@ -107,7 +124,8 @@ key_less name a b less few =
     omega (arith, first, second, less)
 
 -- a higher name has a higher key
-pub name_less : (name other a b : ℕ) → name ≢ other → key_of name a ≤ key_of other b → (c : ℕ) → key_of name c < key_of other b
+pub name_less : (name other a b : ℕ) → name ≢ other → key_of name a ≤ key_of other b → (c : ℕ)
+    → key_of name c < key_of other b
 name_less name other a b differ le c = elim (cases_order name other) [
   | inl same ↦ absurd (differ same)
   | inr (inl less) ↦ omega (arith, less, min-le_right c 0xffff_ffff)
@@ -115,7 +133,8 @@ name_less name other a b differ le c = elim (cases_order name other) [
 ]
 
 -- a number among the first ones, or not
-search_number : (number : ℕ → ℕ) (i count : ℕ) → ((k : ℕ) × (k < count) × (number k ≡ i)) ⊎ ((k : ℕ) → k < count → number k ≢ i)
+search_number : (number : ℕ → ℕ) (i count : ℕ)
+    → ((k : ℕ) × (k < count) × (number k ≡ i)) ⊎ ((k : ℕ) → k < count → number k ≢ i)
 search_number number i zero = inr (λ k within. absurd (omega arith))
 search_number number i (suc count) = elim (search_number number i count) [
   | inl found ↦ inl (found.0, omega (arith, found.1), found.2)
@@ -187,13 +206,15 @@ module _ (f : ℕ → Start) (n : ℕ) where
   abbrev places : ℕ → (ℕ → ℕ) → ℕ → List ℕ
   places count number i = map (place number i) (range_with_len 0 (suc count))
 
-  module _ (count : ℕ) (number : ℕ → ℕ) (is : IsOrder starts count number) (i : ℕ) (statement : is_some (statement_at starts i) ≡ true)
+  module _ (count : ℕ) (number : ℕ → ℕ) (is : IsOrder starts count number) (i : ℕ)
+      (statement : is_some (statement_at starts i) ≡ true)
       (none : (k : ℕ) → k < count → number k ≢ i) where
     differ : (a b : ℕ) → a < b → b < suc count → place number i a ≢ place number i b
     differ a zero less within same = omega arith
     differ zero (suc k) less within same =
         let inside : k < count = omega arith in
-        apart i (number k) (λ equal. none k inside (sym equal)) (there i statement).1 (there (number k) (is.statements k inside)).1 same
+        apart i (number k) (λ equal. none k inside (sym equal)) (there i statement).1
+        (there (number k) (is.statements k inside)).1 same
     differ (suc j) (suc k) less within same =
         let inside : k < count = omega arith in
         let before : j < count = omega arith in
@@ -232,7 +253,8 @@ module _ (f : ℕ → Start) (n : ℕ) where
     too_many = omega (arith, length-le_from_distinct_below (places count number i) count distinct bounded, long)
 
   -- of more different statements than there are numbers none is left out
-  pub all_there : (count : ℕ) (number : ℕ → ℕ) → IsOrder starts count number → (i : ℕ) → is_some (statement_at starts i) ≡ true
+  pub all_there : (count : ℕ) (number : ℕ → ℕ) → IsOrder starts count number → (i : ℕ)
+      → is_some (statement_at starts i) ≡ true
       → (k : ℕ) × (k < count) × (number k ≡ i)
   all_there count number is i statement = elim (search_number number i count) [
     | inl found ↦ found

@@ -1,5 +1,6 @@
 -- Where the components of a path begin.
-use Rattle.std.proofs.Common.{◌≡◌, ◌∙◌, ◌-◌, ℕ, zero, suc, Bool, true, false, List, [], ◌∷◌, drop, if◌then◌else◌, refl, sym, ap, subst, arith}
+use Rattle.std.proofs.Common.{◌≡◌, ◌∙◌, ◌-◌, ℕ, zero, suc, Bool, true, false, List, [], ◌∷◌, drop, if◌then◌else◌, refl}
+use Rattle.std.proofs.Common.{sym, ap, subst, arith}
 use Rattle.std.specs.List.{slice_split}
 use Rattle.gimli_lookup.specs.Paths.{is_separator}
 use Rattle.gimli_lookup.specs.Components.{resolved, with_component}
@@ -13,7 +14,8 @@ abbrev left : ℕ → Bool → List ℕ → List (List ℕ)
 left ups root text = up_by ups (resolved (if root then [] ∷ [] else []) (slice_split is_separator text))
 
 -- at the beginning of a path that begins at the root
-pub at_root : (ups : ℕ) (root : Bool) (text : List ℕ) → text ≡ [] → root ≡ true → left ups root text ≡ [] ∷ resolved [] (slice_split is_separator text)
+pub at_root : (ups : ℕ) (root : Bool) (text : List ℕ) → text ≡ [] → root ≡ true
+    → left ups root text ≡ [] ∷ resolved [] (slice_split is_separator text)
 at_root ups root text nothing yes_root =
     ap (left ups root) nothing ∙ ap (λ b. left ups b []) yes_root ∙ up_by_root ups
     ∙ sym (ap (λ xs. [] ∷ resolved [] (slice_split is_separator xs)) nothing)
@@ -30,7 +32,8 @@ at_dots (suc n) root text nothing no_root some =
     ∙ ap (λ m. (46 ∷ 46 ∷ []) ∷ left m root text) same
 
 -- a text without a separator is one component
-pub one_component : (text : List ℕ) (first : ℕ) → first ≡ 0 → HaveNoSeparator (drop first text) → (before : List (List ℕ))
+pub one_component : (text : List ℕ) (first : ℕ) → first ≡ 0 → HaveNoSeparator (drop first text)
+    → (before : List (List ℕ))
     → resolved before (slice_split is_separator text) ≡ with_component before text
 one_component [] first is clean before = refl
 one_component (b ∷ text) first is clean before =

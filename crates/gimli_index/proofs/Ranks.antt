@@ -1,5 +1,6 @@
 -- The ranks of the statements of an index in the making, and their order.
-use Rattle.std.proofs.Common.{◌≡◌, ◌≢◌, ◌∙◌, ◌<◌, ◌≤◌, ◌+◌, ◌*◌, ◌%◌, ◌^◌, ℕ, Bool, true, false, List, [], ◌∷◌, ◌++◌, get_or, length, map, take, Option}
+use Rattle.std.proofs.Common.{◌≡◌, ◌≢◌, ◌∙◌, ◌<◌, ◌≤◌, ◌+◌, ◌*◌, ◌%◌, ◌^◌, ℕ, Bool, true, false, List, [], ◌∷◌, ◌++◌}
+use Rattle.std.proofs.Common.{get_or, length, map, take, Option}
 use Rattle.std.proofs.Common.{Some, None, refl, sym, ap, subst, arith, inl, inr, eqb, length-append}
 use Rattle.std.specs.Prelude.{is_some, slice_get, slice_index, All, AllPairs}
 use Rattle.std.specs.List.{count_by, IsDistinct}
@@ -17,22 +18,31 @@ use Rattle.std.proofs.lemmas.Map.Keys.{IsDistinct-IsPermutation, IsStrictlyIncre
 use Rattle.std.proofs.lemmas.Map.Made.{IsDistinct-from_AllPairs}
 use Rattle.std.proofs.lemmas.Option.{get_or_from_slice_get, slice_get_within}
 use Rattle.gimli_index.specs.Meaning.{Place, Start}
-use Rattle.gimli_index.specs.Order.{if_statement, is_statement, place_key, statement_at, statement_key, ComesBefore, IsOrder}
+use Rattle.gimli_index.specs.Order.{if_statement, is_statement, place_key, statement_at, statement_key, ComesBefore}
+use Rattle.gimli_index.specs.Order.{IsOrder}
 use Rattle.gimli_index.specs.inside.Ranks.{AreRanks, IsRank}
 
 -- ---- one entry more
 
 later : (starts : List Start) (count rank : ℕ) → IsRank starts count rank → IsRank starts (count + 1) rank
-later starts count rank is = record { index = is.index; before = omega (arith, is.before); statement = is.statement; is = is.is }
+later starts count rank is = record {
+  index = is.index;
+  before = omega (arith, is.before);
+  statement = is.statement;
+  is = is.is;
+}
 
-all_later : (starts : List Start) (count : ℕ) (ranks : List ℕ) → All (IsRank starts count) ranks → All (IsRank starts (count + 1)) ranks
+all_later : (starts : List Start) (count : ℕ) (ranks : List ℕ) → All (IsRank starts count) ranks
+    → All (IsRank starts (count + 1)) ranks
 all_later starts count ranks each = λ k d within. later starts count (get_or ranks k d) (each k d within)
 
 -- the place of the start at an index that is there
-at_index : (starts : List Start) (i : ℕ) (s : Start) → slice_get starts i ≡ Some s → statement_at starts i ≡ if_statement s.place
+at_index : (starts : List Start) (i : ℕ) (s : Start) → slice_get starts i ≡ Some s
+    → statement_at starts i ≡ if_statement s.place
 at_index starts i s there = ap (option_and_then (λ (z : Start). if_statement z.place)) there
 
-module _ (starts : List Start) (count : ℕ) (ranks : List ℕ) (s : Start) (there : slice_get starts count ≡ Some s) (are : AreRanks starts count ranks) where
+module _ (starts : List Start) (count : ℕ) (ranks : List ℕ) (s : Start) (there : slice_get starts count ≡ Some s)
+    (are : AreRanks starts count ranks) where
   within : count < length starts
   within = slice_get_within starts count s there
 
@@ -48,7 +58,8 @@ module _ (starts : List Start) (count : ℕ) (ranks : List ℕ) (s : Start) (the
   }
 
   -- one that is
-  pub rank_more : (p : Place) → if_statement s.place ≡ Some p → count < 2 ^ 32 → AreRanks starts (count + 1) (ranks ++ (place_key p * 2 ^ 32 + count) ∷ [])
+  pub rank_more : (p : Place) → if_statement s.place ≡ Some p → count < 2 ^ 32
+      → AreRanks starts (count + 1) (ranks ++ (place_key p * 2 ^ 32 + count) ∷ [])
   rank_more p is few =
       let rank = place_key p * 2 ^ 32 + count in
       let statement = at_index starts count s there ∙ is in
@@ -86,7 +97,8 @@ module _ (starts : List Start) (count : ℕ) (ranks : List ℕ) (s : Start) (the
       let own = by_place (if_statement s.place) some in
       subst (λ n. AreRanks starts (count + 1) (ranks ++ (n * 2 ^ 32 + count) ∷ [])) own.2 (rank_more own.0 own.1 few)
     where
-      by_place : (o : Option Place) → option_map place_key o ≡ Some key → (p : Place) × (o ≡ Some p) × (place_key p ≡ key)
+      by_place : (o : Option Place) → option_map place_key o ≡ Some key
+          → (p : Place) × (o ≡ Some p) × (place_key p ≡ key)
       by_place None is = absurd cc
       by_place (Some p) is = let same : place_key p ≡ key = cc in (p, refl, same)
 
@@ -101,13 +113,15 @@ flips a b = by_tests (eqb a b) (eqb b a) refl refl
     by_tests true false p q = sym ((Decides-eqb b a).1 (sym ((Decides-eqb a b).0 p))) ∙ q
     by_tests false true p q = sym p ∙ (Decides-eqb a b).1 (sym ((Decides-eqb b a).0 q))
 
-module _ (starts : List Start) (count : ℕ) (ranks sorted : List ℕ) (few : count ≤ 2 ^ 32) (all : count ≡ length starts) (are : AreRanks starts count ranks)
+module _ (starts : List Start) (count : ℕ) (ranks sorted : List ℕ) (few : count ≤ 2 ^ 32) (all : count ≡ length starts)
+    (are : AreRanks starts count ranks)
     (moved : IsPermutation ranks sorted) (rise : IsNonDecreasing sorted) where
   each : All (IsRank starts count) sorted
   each = All-permutation (IsRank starts count) ranks sorted moved are.each
 
   distinct : IsDistinct eqb sorted
-  distinct = IsDistinct-IsPermutation eqb flips ranks sorted moved (IsDistinct-from_AllPairs Decides-eqb ranks are.distinct)
+  distinct =
+      IsDistinct-IsPermutation eqb flips ranks sorted moved (IsDistinct-from_AllPairs Decides-eqb ranks are.distinct)
 
   less : AllPairs (λ x y. x < y) sorted
   less = AllPairs-from_increasing sorted (IsStrictlyIncreasing-from_distinct sorted rise distinct)
@@ -134,10 +148,12 @@ module _ (starts : List Start) (count : ℕ) (ranks sorted : List ℕ) (few : co
         (comes (each j 0 first) (each k 0 inside) (less j k 0 before inside)));
     all =
         length-map sorted low ∙ length_permutation ranks sorted moved ∙ are.all
-        ∙ ap (λ n. count_by is_statement (take n starts)) all ∙ ap (count_by is_statement) (take_all (length starts) starts (omega arith));
+        ∙ ap (λ n. count_by is_statement (take n starts)) all
+        ∙ ap (count_by is_statement) (take_all (length starts) starts (omega arith));
   }
     where
-      comes : {a b : ℕ} (r : IsRank starts count a) (t : IsRank starts count b) → a < b → ComesBefore starts r.index t.index
+      comes : {a b : ℕ} (r : IsRank starts count a) (t : IsRank starts count b) → a < b
+          → ComesBefore starts r.index t.index
       comes r t lower = elim (cases_order (statement_key starts r.index) (statement_key starts t.index)) [
         | inl same ↦ inr (same, omega (arith, same, r.is, t.is, lower))
         | inr (inl below) ↦ inl below

@@ -1,6 +1,8 @@
 -- What is written is read as what it was made of.
-use Rattle.std.proofs.Common.{◌≡◌, ℕ, zero, suc, ◌+◌, ◌-◌, ◌*◌, ◌^◌, ◌<◌, ◌≤◌, Bool, true, false, if◌then◌else◌, nat_lt, List, [], ◌∷◌, ◌++◌, length, take}
-use Rattle.std.proofs.Common.{drop, map, Option, Some, None, Result, Ok, Err, slice_get, refl, sym, ap, ◌∙◌, arith, length-append, append_assoc, inl, inr}
+use Rattle.std.proofs.Common.{◌≡◌, ℕ, zero, suc, ◌+◌, ◌-◌, ◌*◌, ◌^◌, ◌<◌, ◌≤◌, Bool, true, false, if◌then◌else◌, nat_lt}
+use Rattle.std.proofs.Common.{List, [], ◌∷◌, ◌++◌, length, take}
+use Rattle.std.proofs.Common.{drop, map, Option, Some, None, Result, Ok, Err, slice_get, refl, sym, ap, ◌∙◌, arith}
+use Rattle.std.proofs.Common.{length-append, append_assoc, inl, inr}
 use Rattle.std.proofs.Common.{subst, nat_eq}
 use Rattle.std.specs.Prelude.{All, flat_map, nat_le, slice_index, slice_range}
 use Rattle.std.specs.Option.{option_map, option_and_then}
@@ -10,14 +12,19 @@ use Rattle.std.proofs.lemmas.List.Elements.{All-get_or}
 use Rattle.gimli_core.specs.Numbers.{is_address_size, le_value}
 use Rattle.gimli_index.specs.Numbers.{number_at}
 use Rattle.gimli_index.specs.Steps.{◌>>=◌}
-use Rattle.gimli_index.specs.Header.{size_of, highest_base, address_size_of, start_size_of, base_of, fields_at, header_at}
-use Rattle.gimli_index.specs.Parts.{Index, index_at, parts_at, starts_offset, entries_offset, order_offset, paths_offset, identity_offset, end_offset}
+use Rattle.gimli_index.specs.Header.{size_of, highest_base, address_size_of, start_size_of, base_of, fields_at}
+use Rattle.gimli_index.specs.Header.{header_at}
+use Rattle.gimli_index.specs.Parts.{Index, index_at, parts_at, starts_offset, entries_offset, order_offset}
+use Rattle.gimli_index.specs.Parts.{paths_offset, identity_offset, end_offset}
 use Rattle.gimli_index.specs.declared.place.NoPath.{NoPath}
 use Rattle.gimli_index.specs.declared.place.NoPath.TheVariants.{Reason}
 use Rattle.gimli_index.specs.Meaning.{column_in, is_statement_in}
-use Rattle.gimli_index.specs.Meaning.{AreAscending, Place, Start, path_in, entry_place, place_from, start_at, start_number, starts_of, path_of}
-use Rattle.gimli_index.specs.Contents.{Contents, Fits, FitsLine, FitsPlace, FitsSource, IsNear, entry_start, line_place, line_in, header_bytes, source_bytes}
-use Rattle.gimli_index.specs.Contents.{column_word, start_bytes, line_bytes, place_bytes, entry_bytes, index_bytes, le_bytes}
+use Rattle.gimli_index.specs.Meaning.{AreAscending, Place, Start, path_in, entry_place, place_from, start_at}
+use Rattle.gimli_index.specs.Meaning.{start_number, starts_of, path_of}
+use Rattle.gimli_index.specs.Contents.{Contents, Fits, FitsLine, FitsPlace, FitsSource, IsNear, entry_start, line_place}
+use Rattle.gimli_index.specs.Contents.{line_in, header_bytes, source_bytes}
+use Rattle.gimli_index.specs.Contents.{column_word, start_bytes, line_bytes, place_bytes, entry_bytes, index_bytes}
+use Rattle.gimli_index.specs.Contents.{le_bytes}
 use Rattle.gimli_index.specs.Made.{EntriesAscend, HasOrder, SaysWhat}
 use Rattle.gimli_index.specs.Order.{ordered_number, IsOrder, IsOrdered}
 use Rattle.gimli_index.specs.declared.contents.Entry.{Entry}
@@ -30,7 +37,8 @@ use Rattle.gimli_index.specs.declared.header.StartSize.{StartSize}
 use Rattle.gimli_index.specs.declared.header.StartSize.TheVariants.{Four, Eight}
 use Rattle.gimli_index.proofs.Numerals.{number_read}
 use Rattle.gimli_index.proofs.Ordered.{same_order}
-use Rattle.gimli_index.proofs.Slices.{element_at, elements_length, same_values, second_part, third_part, fourth_part, fifth_part, sixth_part, seventh_part}
+use Rattle.gimli_index.proofs.Slices.{element_at, elements_length, same_values, second_part, third_part, fourth_part}
+use Rattle.gimli_index.proofs.Slices.{fifth_part, sixth_part, seventh_part}
 
 -- ---- the header
 
@@ -66,7 +74,8 @@ fields_by address start base starts sources paths identity ordered =
     base_of start_size base >>= λ base.
     Ok (with_fields address_size start_size base starts sources paths identity ordered)
 
-same_fields : (a a' b b' c c' d d' e e' g g' h h' i i' : ℕ) → a ≡ a' → b ≡ b' → c ≡ c' → d ≡ d' → e ≡ e' → g ≡ g' → h ≡ h' → i ≡ i'
+same_fields : (a a' b b' c c' d d' e e' g g' h h' i i' : ℕ) → a ≡ a' → b ≡ b' → c ≡ c' → d ≡ d' → e ≡ e' → g ≡ g'
+    → h ≡ h' → i ≡ i'
     → fields_by a b c d e g h i ≡ fields_by a' b' c' d' e' g' h' i'
 same_fields a a' b b' c c' d d' e e' g g' h h' i i' p q r s t u v w =
     ap (λ x. fields_by x b c d e g h i) p
@@ -88,7 +97,8 @@ start_size_is Four = refl
 start_size_is Eight = refl
 
 fields_are : (c : Contents) → Fits c
-    → fields_by c.address_size (size_of c.start_size) c.base (length c.entries) (length c.sources) (length c.paths) (length c.identity) (length c.order)
+    → fields_by c.address_size (size_of c.start_size) c.base (length c.entries) (length c.sources) (length c.paths)
+    (length c.identity) (length c.order)
     ≡ Ok (header_of c)
 fields_are c fits =
     let starts = length c.entries in
@@ -97,8 +107,10 @@ fields_are c fits =
     let identity = length c.identity in
     let ordered = length c.order in
     let address : address_size_of c.address_size
-    ≡ Ok c.address_size = ap (λ (b : Bool). if b then Ok c.address_size else Err (AddressSize c.address_size)) fits.address_size in
-    ap (λ (r : Result ℕ IndexError). r >>= λ address_size. start_size_of (size_of c.start_size) >>= λ start_size. base_of start_size c.base >>= λ base.
+    ≡ Ok c.address_size = ap (λ (b : Bool). if b then Ok c.address_size else Err (AddressSize c.address_size))
+    fits.address_size in
+    ap (λ (r : Result ℕ IndexError). r >>= λ address_size. start_size_of (size_of c.start_size) >>= λ start_size.
+    base_of start_size c.base >>= λ base.
     Ok (with_fields address_size start_size base starts sources paths identity ordered))
     address
     ∙ ap (λ (r : Result StartSize IndexError). r >>= λ start_size. base_of start_size c.base >>= λ base.
@@ -119,13 +131,15 @@ base_is_long Eight base low = omega arith
 header_length : (c : Contents) → length (header_bytes c) ≡ 48
 header_length c = refl
 
-header_read : (c : Contents) (rest : List ℕ) → c.address_size < 2 ^ 16 → Fits c → header_at (header_bytes c ++ rest) ≡ Ok (header_of c)
+header_read : (c : Contents) (rest : List ℕ) → c.address_size < 2 ^ 16 → Fits c
+    → header_at (header_bytes c ++ rest) ≡ Ok (header_of c)
 header_read c rest half fits =
     let bytes = header_bytes c ++ rest in
     let enough : 48 ≤ length bytes = omega (arith, length-append (header_bytes c) rest, header_length c) in
     let whole : nat_lt (length bytes) 48 ≡ false = grind (arith, nat_tests) in
     ap (λ (b : Bool). if b then Err HeaderCut else fields_at bytes) whole
-    ∙ same_fields _ c.address_size _ (size_of c.start_size) _ c.base _ (length c.entries) _ (length c.sources) _ (length c.paths) _ (length c.identity) _
+    ∙ same_fields _ c.address_size _ (size_of c.start_size) _ c.base _ (length c.entries) _ (length c.sources) _
+    (length c.paths) _ (length c.identity) _
     (length c.order)
     (number_read 2 c.address_size (omega arith))
     (number_read 2 (size_of c.start_size) (size_fits c.start_size))
@@ -183,7 +197,8 @@ source_length : (s : Source) → length (source_bytes s) ≡ 24
 source_length s = refl
 
 -- seven parts and what follows them
-grouped : (a b c d e g h r : List ℕ) → (a ++ b ++ c ++ d ++ e ++ g ++ h) ++ r ≡ a ++ (b ++ (c ++ (d ++ (e ++ (g ++ (h ++ r))))))
+grouped : (a b c d e g h r : List ℕ)
+    → (a ++ b ++ c ++ d ++ e ++ g ++ h) ++ r ≡ a ++ (b ++ (c ++ (d ++ (e ++ (g ++ (h ++ r))))))
 grouped a b c d e g h r =
     append_assoc (a ++ b ++ c ++ d ++ e ++ g) h r
     ∙ append_assoc (a ++ b ++ c ++ d ++ e) g (h ++ r)
@@ -202,7 +217,8 @@ index_of_parts c sources starts entries order paths identity = record (index_of_
   identity = identity;
 }
 
-same_parts : (c : Contents) (a a' b b' d d' e e' g g' h h' : List ℕ) → a ≡ a' → b ≡ b' → d ≡ d' → e ≡ e' → g ≡ g' → h ≡ h'
+same_parts : (c : Contents) (a a' b b' d d' e e' g g' h h' : List ℕ) → a ≡ a' → b ≡ b' → d ≡ d' → e ≡ e' → g ≡ g'
+    → h ≡ h'
     → index_of_parts c a b d e g h ≡ index_of_parts c a' b' d' e' g' h'
 same_parts c a a' b b' d d' e e' g g' h h' p q r s t u =
     ap (λ x. index_of_parts c x b d e g h) p
@@ -214,13 +230,16 @@ same_parts c a a' b b' d d' e e' g g' h h' p q r s t u =
 
 -- what follows the header
 abbrev tail_of : Contents → List ℕ → List ℕ
-tail_of c rest = sources_part c ++ (starts_part c ++ (entries_part c ++ (order_part c ++ (c.paths ++ (c.identity ++ rest)))))
+tail_of c rest =
+    sources_part c ++ (starts_part c ++ (entries_part c ++ (order_part c ++ (c.paths ++ (c.identity ++ rest)))))
 
 bytes_are : (c : Contents) (rest : List ℕ) → index_bytes c ++ rest ≡ header_bytes c ++ tail_of c rest
-bytes_are c rest = grouped (header_bytes c) (sources_part c) (starts_part c) (entries_part c) (order_part c) c.paths c.identity rest
+bytes_are c rest =
+    grouped (header_bytes c) (sources_part c) (starts_part c) (entries_part c) (order_part c) c.paths c.identity rest
 
 part_lengths : (c : Contents)
-    → (length (sources_part c) ≡ 24 * length c.sources) × (length (starts_part c) ≡ size_of c.start_size * length c.entries)
+    → (length (sources_part c) ≡ 24 * length c.sources)
+    × (length (starts_part c) ≡ size_of c.start_size * length c.entries)
     × (length (entries_part c) ≡ 12 * length c.entries) × (length (order_part c) ≡ 4 * length c.order)
 part_lengths c = (
   elements_length source_bytes 24 source_length c.sources,
@@ -230,7 +249,8 @@ part_lengths c = (
 )
 
 whole_length : (h s t e o p i r : List ℕ)
-    → length (h ++ (s ++ (t ++ (e ++ (o ++ (p ++ (i ++ r))))))) ≡ length h + length s + length t + length e + length o + length p + length i + length r
+    → length (h ++ (s ++ (t ++ (e ++ (o ++ (p ++ (i ++ r)))))))
+    ≡ length h + length s + length t + length e + length o + length p + length i + length r
 whole_length h s t e o p i r = omega (
   arith,
   length-append h (s ++ (t ++ (e ++ (o ++ (p ++ (i ++ r)))))),
@@ -243,8 +263,10 @@ whole_length h s t e o p i r = omega (
 )
 
 -- the parts of these bytes, where a header of these numbers stands before them
-parts_by : (c : Contents) (h s t e o p i r : List ℕ) → length h ≡ 48 → length s ≡ 24 * length c.sources → length t ≡ size_of c.start_size * length c.entries
-    → length e ≡ 12 * length c.entries → length o ≡ 4 * length c.order → length p ≡ length c.paths → length i ≡ length c.identity
+parts_by : (c : Contents) (h s t e o p i r : List ℕ) → length h ≡ 48 → length s ≡ 24 * length c.sources
+    → length t ≡ size_of c.start_size * length c.entries
+    → length e ≡ 12 * length c.entries → length o ≡ 4 * length c.order → length p ≡ length c.paths
+    → length i ≡ length c.identity
     → parts_at (h ++ (s ++ (t ++ (e ++ (o ++ (p ++ (i ++ r))))))) (header_of c) ≡ Ok (index_of_parts c s t e o p i)
 parts_by c h s t e o p i r in_header in_sources in_starts in_entries in_order in_paths in_identity =
     let header = header_of c in
@@ -253,33 +275,43 @@ parts_by c h s t e o p i r in_header in_sources in_starts in_entries in_order in
     let enough : end_offset header ≤ length flat = omega (arith, all) in
     let whole : nat_lt (length flat) (end_offset header) ≡ false = grind (arith, nat_tests) in
     ap (λ (b : Bool).
-    if b then Err Cut else Ok (index_of_parts c (slice_range flat 48 (starts_offset header)) (slice_range flat (starts_offset header) (entries_offset header))
-    (slice_range flat (entries_offset header) (order_offset header)) (slice_range flat (order_offset header) (paths_offset header))
+    if b then Err Cut
+    else Ok (index_of_parts c (slice_range flat 48 (starts_offset header))
+    (slice_range flat (starts_offset header) (entries_offset header))
+    (slice_range flat (entries_offset header) (order_offset header))
+    (slice_range flat (order_offset header) (paths_offset header))
     (slice_range flat (paths_offset header) (identity_offset header))
     (slice_range flat (identity_offset header) (end_offset header))))
     whole
     ∙ ap (λ (index : Index). Ok index)
-    (same_parts c (slice_range flat 48 (starts_offset header)) s (slice_range flat (starts_offset header) (entries_offset header)) t
-    (slice_range flat (entries_offset header) (order_offset header)) e (slice_range flat (order_offset header) (paths_offset header)) o
+    (same_parts c (slice_range flat 48 (starts_offset header)) s
+    (slice_range flat (starts_offset header) (entries_offset header)) t
+    (slice_range flat (entries_offset header) (order_offset header)) e
+    (slice_range flat (order_offset header) (paths_offset header)) o
     (slice_range flat (paths_offset header) (identity_offset header)) p
     (slice_range flat (identity_offset header) (end_offset header)) i
     (second_part h s (t ++ (e ++ (o ++ (p ++ (i ++ r))))) 48 (starts_offset header) (omega arith) (omega arith))
-    (third_part h s t (e ++ (o ++ (p ++ (i ++ r)))) (starts_offset header) (entries_offset header) (omega arith) (omega arith))
-    (fourth_part h s t e (o ++ (p ++ (i ++ r))) (entries_offset header) (order_offset header) (omega arith) (omega arith))
+    (third_part h s t (e ++ (o ++ (p ++ (i ++ r)))) (starts_offset header) (entries_offset header) (omega arith)
+    (omega arith))
+    (fourth_part h s t e (o ++ (p ++ (i ++ r))) (entries_offset header) (order_offset header) (omega arith)
+    (omega arith))
     (fifth_part h s t e o (p ++ (i ++ r)) (order_offset header) (paths_offset header) (omega arith) (omega arith))
     (sixth_part h s t e o p (i ++ r) (paths_offset header) (identity_offset header) (omega arith) (omega arith))
     (seventh_part h s t e o p i r (identity_offset header) (end_offset header) (omega arith) (omega arith)))
 
-parts_read : (c : Contents) (rest : List ℕ) → parts_at (header_bytes c ++ tail_of c rest) (header_of c) ≡ Ok (index_of_contents c)
+parts_read : (c : Contents) (rest : List ℕ)
+    → parts_at (header_bytes c ++ tail_of c rest) (header_of c) ≡ Ok (index_of_contents c)
 parts_read c rest =
     let lengths = part_lengths c in
-    parts_by c (header_bytes c) (sources_part c) (starts_part c) (entries_part c) (order_part c) c.paths c.identity rest (header_length c) lengths.0 lengths.1
+    parts_by c (header_bytes c) (sources_part c) (starts_part c) (entries_part c) (order_part c) c.paths c.identity rest
+    (header_length c) lengths.0 lengths.1
     lengths.2 lengths.3 refl refl
 
 -- ---- the starts
 
 -- a start of 4 bytes, and one of 8
-start_read : (size : StartSize) (base n : ℕ) (rest : List ℕ) → n < 256 ^ size_of size → le_value (take (size_of size) (le_bytes (size_of size) n ++ rest)) ≡ n
+start_read : (size : StartSize) (base n : ℕ) (rest : List ℕ) → n < 256 ^ size_of size
+    → le_value (take (size_of size) (le_bytes (size_of size) n ++ rest)) ≡ n
 start_read Four base n rest fits = number_read 4 n fits
 start_read Eight base n rest fits = number_read 8 n fits
 
@@ -287,7 +319,8 @@ start_number_read : (c : Contents) → (i : ℕ) (e : Entry) → slice_get c.ent
     → start_number (index_of_contents c) i ≡ e.address - c.base
 start_number_read c i e there fits =
     let size = size_of c.start_size in
-    let here = element_at (start_bytes c.start_size c.base) size (start_length c.start_size c.base) c.entries i e there in
+    let here =
+    element_at (start_bytes c.start_size c.base) size (start_length c.start_size c.base) c.entries i e there in
     let near : e.address - c.base < 256 ^ size = omega (arith, fits.0, fits.1) in
     ap (λ bytes. le_value (take size bytes)) here.1 ∙ start_read c.start_size c.base (e.address - c.base) here.0 near
 
@@ -323,11 +356,14 @@ source_read : (paths : List ℕ) (l : SourceLine) (s : Source) (rest more : List
     → place_from paths (line_bytes l ++ rest) (source_bytes s ++ more) ≡ line_in paths l s
 source_read paths l s rest more fits source_fits =
     let line : number_at 4 4 (line_bytes l ++ rest) ≡ l.line = number_read 4 l.line (omega (arith, fits.1)) in
-    let word : number_at 4 8 (line_bytes l ++ rest) ≡ column_word l = number_read 4 (column_word l) (word_fits l fits.2) in
+    let word : number_at 4 8 (line_bytes l ++ rest)
+    ≡ column_word l = number_read 4 (column_word l) (word_fits l fits.2) in
     let unit : number_at 8 0 (source_bytes s ++ more) ≡ s.unit = number_read 8 s.unit (omega (arith, source_fits.0)) in
-    let first : number_at 4 8 (source_bytes s ++ more) ≡ s.first = number_read 4 s.first (omega (arith, source_fits.1)) in
+    let first : number_at 4 8 (source_bytes s ++ more)
+    ≡ s.first = number_read 4 s.first (omega (arith, source_fits.1)) in
     let size : number_at 4 12 (source_bytes s ++ more) ≡ s.size = number_read 4 s.size (omega (arith, source_fits.2)) in
-    let reason : number_at 4 16 (source_bytes s ++ more) ≡ s.reason = number_read 4 s.reason (omega (arith, source_fits.3)) in
+    let reason : number_at 4 16 (source_bytes s ++ more)
+    ≡ s.reason = number_read 4 s.reason (omega (arith, source_fits.3)) in
     ap
     (λ n. record {
       path = path_of paths (source_bytes s ++ more);
@@ -361,7 +397,15 @@ source_read paths l s rest more fits source_fits =
       unit = number_at 8 0 (source_bytes s ++ more);
     })
     (statement_read l fits.2)
-    ∙ ap (λ n. record { path = path_of paths (source_bytes s ++ more); line = l.line; column = l.column; is_stmt = l.is_stmt; unit = n }) unit
+    ∙ ap
+    (λ n. record {
+      path = path_of paths (source_bytes s ++ more);
+      line = l.line;
+      column = l.column;
+      is_stmt = l.is_stmt;
+      unit = n;
+    })
+    unit
     ∙ ap (λ path. record { path = path; line = l.line; column = l.column; is_stmt = l.is_stmt; unit = s.unit }) (
     ap (λ n. by_numbers n (number_at 4 8 (source_bytes s ++ more)) (number_at 4 12 (source_bytes s ++ more))) reason
     ∙ ap (λ n. by_numbers s.reason n (number_at 4 12 (source_bytes s ++ more))) first
@@ -380,25 +424,39 @@ place_read c l rest fits sources =
           let s = found.0 in
           let inside : nat_lt l.source (length c.sources) ≡ true = let within = found.1 in grind (arith, nat_tests) in
           let here = element_at source_bytes 24 source_length c.sources l.source s found.2 in
-          let source_fits : FitsSource s = subst (λ (x : Source). FitsSource x) found.3 (All-get_or FitsSource c.sources l.source s found.1 sources) in
-          ap (λ (b : Bool). if b then Some (place_from c.paths (line_bytes l ++ rest) (drop (24 * l.source) (sources_part c))) else None) inside
+          let source_fits : FitsSource s =
+          subst (λ (x : Source). FitsSource x) found.3
+          (All-get_or FitsSource c.sources l.source s found.1 sources) in
+          ap
+          (λ (b : Bool). if b
+          then Some (place_from c.paths (line_bytes l ++ rest) (drop (24 * l.source) (sources_part c))) else None)
+          inside
           ∙ ap (λ bytes. Some (place_from c.paths (line_bytes l ++ rest) bytes)) here.1
           ∙ ap Some (source_read c.paths l s rest here.0 fits source_fits)
           ∙ sym (ap (λ o. option_map (line_in c.paths l) o) found.2)
       | inr past ↦
           let outside : nat_lt l.source (length c.sources) ≡ false = let beyond = past.0 in grind (arith, nat_tests) in
-          ap (λ (b : Bool). if b then Some (place_from c.paths (line_bytes l ++ rest) (drop (24 * l.source) (sources_part c))) else None) outside
+          ap
+          (λ (b : Bool). if b
+          then Some (place_from c.paths (line_bytes l ++ rest) (drop (24 * l.source) (sources_part c))) else None)
+          outside
           ∙ sym (ap (λ o. option_map (line_in c.paths l) o) past.1)
     ]
   where
     by_number : ℕ → Option Place
-    by_number n = if nat_lt n (length c.sources) then Some (place_from c.paths (line_bytes l ++ rest) (drop (24 * n) (sources_part c))) else None
+    by_number n =
+        if nat_lt n (length c.sources)
+        then Some (place_from c.paths (line_bytes l ++ rest) (drop (24 * n) (sources_part c))) else None
 
 -- a gap names no source
-gap_read : (c : Contents) (rest : List ℕ) → length c.sources < 2 ^ 32 → entry_place (index_of_contents c) (place_bytes None ++ rest) ≡ None
+gap_read : (c : Contents) (rest : List ℕ) → length c.sources < 2 ^ 32
+    → entry_place (index_of_contents c) (place_bytes None ++ rest) ≡ None
 gap_read c rest few =
     let outside : nat_lt 0xffff_ffff (length c.sources) ≡ false = grind (arith, nat_tests) in
-    ap (λ (b : Bool). if b then Some (place_from c.paths (place_bytes None ++ rest) (drop (24 * 0xffff_ffff) (sources_part c))) else None) outside
+    ap
+    (λ (b : Bool). if b
+    then Some (place_from c.paths (place_bytes None ++ rest) (drop (24 * 0xffff_ffff) (sources_part c))) else None)
+    outside
 
 entry_read : (c : Contents) (place : Option SourceLine) (rest : List ℕ) → FitsPlace place → Fits c
     → entry_place (index_of_contents c) (place_bytes place ++ rest) ≡ option_and_then (line_place c) place
@@ -417,14 +475,16 @@ at_index P xs i x there all = elim ((slice_get_cases xs i).1) [
       absurd cc
 ]
 
-start_is : (c : Contents) → Fits c → (i : ℕ) (e : Entry) → slice_get c.entries i ≡ Some e → start_at (index_of_contents c) i ≡ entry_start c e
+start_is : (c : Contents) → Fits c → (i : ℕ) (e : Entry) → slice_get c.entries i ≡ Some e
+    → start_at (index_of_contents c) i ≡ entry_start c e
 start_is c fits i e there =
     let near = at_index (IsNear c.start_size c.base) c.entries i e there fits.near in
     let place_fits = at_index (λ (x : Entry). FitsPlace x.place) c.entries i e there fits.places in
     let number = start_number_read c i e there near in
     let address : c.base + start_number (index_of_contents c) i ≡ e.address = omega (arith, number, near.0) in
     let here = element_at entry_bytes 12 entry_length c.entries i e there in
-    let place : entry_place (index_of_contents c) (drop (12 * i) (entries_part c)) ≡ option_and_then (line_place c) e.place =
+    let place : entry_place (index_of_contents c) (drop (12 * i) (entries_part c))
+    ≡ option_and_then (line_place c) e.place =
     ap (entry_place (index_of_contents c)) here.1 ∙ entry_read c e.place here.0 place_fits fits in
     ap (λ n. record { address = n; place = entry_place (index_of_contents c) (drop (12 * i) (entries_part c)) }) address
     ∙ ap (λ p. record { address = e.address; place = p }) place
@@ -433,7 +493,8 @@ small_address : (n : ℕ) → is_address_size n ≡ true → n < 2 ^ 16
 small_address n is = grind (arith, nat_tests)
 
 -- the element that a value was made of
-made_of : {X Y : Type 0} (g : X → Y) (xs : List X) (i : ℕ) (y : Y) → slice_get (map g xs) i ≡ Some y → (x : X) × (slice_get xs i ≡ Some x) × (y ≡ g x)
+made_of : {X Y : Type 0} (g : X → Y) (xs : List X) (i : ℕ) (y : Y) → slice_get (map g xs) i ≡ Some y
+    → (x : X) × (slice_get xs i ≡ Some x) × (y ≡ g x)
 made_of g [] i y there = absurd cc
 made_of g (x ∷ xs) zero y there = let same : y ≡ g x = cc in (x, refl, same)
 made_of g (x ∷ xs) (suc i) y there = made_of g xs i y there
@@ -442,37 +503,49 @@ pub starts_ascend : (c : Contents) → EntriesAscend c.entries → AreAscending 
 starts_ascend c ascend i j x y lt first second =
     let one = made_of (entry_start c) c.entries i x first in
     let other = made_of (entry_start c) c.entries j y second in
-    omega (arith, ap (λ (s : Start). s.address) one.2, ap (λ (s : Start). s.address) other.2, ascend i j one.0 other.0 lt one.1 other.1)
+    omega (
+      arith,
+      ap (λ (s : Start). s.address) one.2,
+      ap (λ (s : Start). s.address) other.2,
+      ascend i j one.0 other.0 lt one.1 other.1,
+    )
 
 starts_are : (c : Contents) → Fits c → starts_of (index_of_contents c) ≡ map (entry_start c) c.entries
 starts_are c fits = same_values (start_at (index_of_contents c)) (entry_start c) c.entries 0 (λ i e there.
     let same : 0 + i ≡ i = omega arith in
     ap (start_at (index_of_contents c)) same ∙ start_is c fits i e there)
 
-index_read : (c : Contents) (rest : List ℕ) → Fits c → index_at (header_bytes c ++ tail_of c rest) ≡ Ok (index_of_contents c)
+index_read : (c : Contents) (rest : List ℕ) → Fits c
+    → index_at (header_bytes c ++ tail_of c rest) ≡ Ok (index_of_contents c)
 index_read c rest fits =
     let bytes = header_bytes c ++ tail_of c rest in
-    ap (λ (r : Result Header IndexError). r >>= λ h. parts_at bytes h) (header_read c (tail_of c rest) (small_address c.address_size fits.address_size) fits)
+    ap (λ (r : Result Header IndexError). r >>= λ h. parts_at bytes h)
+    (header_read c (tail_of c rest) (small_address c.address_size fits.address_size) fits)
     ∙ parts_read c rest
 
 -- the order is read as it was
-number_is : (c : Contents) → Fits c → (k : ℕ) → k < length c.order → slice_index c.order k ≡ ordered_number (index_of_contents c) k
+number_is : (c : Contents) → Fits c → (k : ℕ) → k < length c.order
+    → slice_index c.order k ≡ ordered_number (index_of_contents c) k
 number_is c fits k within =
-    let here = element_at (le_bytes 4) 4 (λ n. refl) c.order k (slice_index c.order k) (slice_get-get_or c.order k 0 within) in
+    let here =
+    element_at (le_bytes 4) 4 (λ n. refl) c.order k (slice_index c.order k) (slice_get-get_or c.order k 0 within) in
     let low : slice_index c.order k < 2 ^ 32 = fits.order k 0 within in
     sym (ap (λ bytes. le_value (take 4 bytes)) here.1 ∙ number_read 4 (slice_index c.order k) (omega (arith, low)))
 
 ordered_as : (c : Contents) → Fits c → HasOrder c → IsOrdered (index_of_contents c)
 ordered_as c fits order =
-    subst (λ (starts : List Start). IsOrder starts (length c.order) (ordered_number (index_of_contents c))) (sym (starts_are c fits))
-    (same_order (map (entry_start c) c.entries) (length c.order) (slice_index c.order) (ordered_number (index_of_contents c)) (number_is c fits) order)
+    subst (λ (starts : List Start). IsOrder starts (length c.order) (ordered_number (index_of_contents c)))
+    (sym (starts_are c fits))
+    (same_order (map (entry_start c) c.entries) (length c.order) (slice_index c.order)
+    (ordered_number (index_of_contents c)) (number_is c fits) order)
 
 pub read_back : (c : Contents) (rest : List ℕ) → Fits c → SaysWhat c (index_at (index_bytes c ++ rest))
 read_back c rest fits = record {
   index = index_of_contents c;
   is_read = ap index_at (bytes_are c rest) ∙ index_read c rest fits;
   starts = starts_are c fits;
-  ascending = λ ascend. subst (λ (starts : List Start). AreAscending starts) (sym (starts_are c fits)) (starts_ascend c ascend);
+  ascending =
+      λ ascend. subst (λ (starts : List Start). AreAscending starts) (sym (starts_are c fits)) (starts_ascend c ascend);
   ordered = ordered_as c fits;
   address_size = refl;
   identity = refl;

@@ -1,6 +1,8 @@
 -- The sources of an index in the making: they stay as more are added.
-use Rattle.std.proofs.Common.{◌≡◌, ◌≢◌, ◌⊎◌, ℕ, zero, suc, ◌+◌, ◌<◌, ◌≤◌, Bool, false, List, [], ◌∷◌, ◌++◌, length, Option, None}
-use Rattle.std.proofs.Common.{Some, Result, Ok, Err, refl, sym, ap, subst, ◌∙◌, inl, inr, arith, length-append, if◌then◌else◌}
+use Rattle.std.proofs.Common.{◌≡◌, ◌≢◌, ◌⊎◌, ℕ, zero, suc, ◌+◌, ◌<◌, ◌≤◌, Bool, false, List, [], ◌∷◌, ◌++◌, length}
+use Rattle.std.proofs.Common.{Option, None}
+use Rattle.std.proofs.Common.{Some, Result, Ok, Err, refl, sym, ap, subst, ◌∙◌, inl, inr, arith, length-append}
+use Rattle.std.proofs.Common.{if◌then◌else◌}
 use Rattle.std.specs.Prelude.{map, min, slice_get, slice_index_or, nat_eq, All}
 use Rattle.std.specs.Option.{option_map}
 use Rattle.std.proofs.lemmas.Bool.Decides.{nat_tests}
@@ -20,13 +22,15 @@ use Rattle.gimli_index.specs.Short.{joined, IsSpanOf}
 use Rattle.gimli_index.specs.declared.contents.Source.{Source}
 use Rattle.gimli_index.specs.declared.contents.SourceLine.{SourceLine}
 use Rattle.gimli_index.specs.declared.error.MakeError.{MakeError}
-use Rattle.gimli_index.specs.declared.error.MakeError.TheVariants.{NotAscending, TooManyEntries, TooManySources, PathsTooLarge, IdentityTooLarge, LineTooLarge}
+use Rattle.gimli_index.specs.declared.error.MakeError.TheVariants.{NotAscending, TooManyEntries, TooManySources}
+use Rattle.gimli_index.specs.declared.error.MakeError.TheVariants.{PathsTooLarge, IdentityTooLarge, LineTooLarge}
 use Rattle.gimli_index.specs.declared.error.MakeError.TheVariants.{ColumnTooLarge, OutOfMemory}
 use Rattle.gimli_index.specs.declared.place.NoPath.{NoPath}
 use Rattle.gimli_index.specs.declared.place.NoPath.TheVariants.{Outside, Reason}
 use Rattle.gimli_index.specs.declared.source_keys.SourceKey.{SourceKey}
 use Rattle.gimli_index.specs.inside.Paths.{ArePaths, GoesOn, IsKept, IsSourceFault, PathList}
-use Rattle.gimli_index.specs.inside.Table.{Table, AreSources, IsInside, IsSourceOf, IsTableFault, Keeps, SayTheSame, key_of, no_table, place_in}
+use Rattle.gimli_index.specs.inside.Table.{Table, AreSources, IsInside, IsSourceOf, IsTableFault, Keeps, SayTheSame}
+use Rattle.gimli_index.specs.inside.Table.{key_of, no_table, place_in}
 use Rattle.gimli_index.proofs.Lists.{append_none, get_inside, get_before, get_last, get_pushed, source_goes_on}
 use Rattle.gimli_index.proofs.PathLists.{joined_push, none_are, one_span, span_read, span_stays}
 
@@ -62,31 +66,41 @@ row_of file = record {
   discriminator = 0;
 }
 
-source_inside : (t : Texts) (units : List KeptUnit) (paths : PathList) (key : SourceKey) (s : Source) → IsSourceOf t units paths key s
+source_inside : (t : Texts) (units : List KeptUnit) (paths : PathList) (key : SourceKey) (s : Source)
+    → IsSourceOf t units paths key s
     → source_path paths.bytes s ≡ Err Outside → ⊥
-source_inside t units paths key s of outside = unit_inside t of.unit.unit (row_of key.file) (sym (of.path (row_of key.file) refl) ∙ outside)
+source_inside t units paths key s of outside =
+    unit_inside t of.unit.unit (row_of key.file) (sym (of.path (row_of key.file) refl) ∙ outside)
 
 -- a span stays where paths go on
-span_kept : (old new : List (List ℕ)) (path : List ℕ) (first : ℕ) (p : List ℕ) → (new ≡ old) ⊎ (new ≡ old ++ path ∷ []) → IsSpanOf old first p
+span_kept : (old new : List (List ℕ)) (path : List ℕ) (first : ℕ) (p : List ℕ) → (new ≡ old) ⊎ (new ≡ old ++ path ∷ [])
+    → IsSpanOf old first p
     → IsSpanOf new first p
-span_kept old new path first p (inl same) span = subst (λ (known : List (List ℕ)). IsSpanOf known first p) (sym same) span
-span_kept old new path first p (inr more) span = subst (λ (known : List (List ℕ)). IsSpanOf known first p) (sym more) (span_stays old (path ∷ []) first p span)
+span_kept old new path first p (inl same) span =
+    subst (λ (known : List (List ℕ)). IsSpanOf known first p) (sym same) span
+span_kept old new path first p (inr more) span =
+    subst (λ (known : List (List ℕ)). IsSpanOf known first p) (sym more) (span_stays old (path ∷ []) first p span)
 
 -- a source is the same where the paths go on
-source_stays : (t : Texts) (units : List KeptUnit) (old new : PathList) (path : List ℕ) (key : SourceKey) (s : Source) → GoesOn old.bytes new.bytes
-    → (new.known ≡ old.known) ⊎ (new.known ≡ old.known ++ path ∷ []) → IsSourceOf t units old key s → IsSourceOf t units new key s
+source_stays : (t : Texts) (units : List KeptUnit) (old new : PathList) (path : List ℕ) (key : SourceKey) (s : Source)
+    → GoesOn old.bytes new.bytes
+    → (new.known ≡ old.known) ⊎ (new.known ≡ old.known ++ path ∷ []) → IsSourceOf t units old key s
+    → IsSourceOf t units new key s
 source_stays t units old new path key s bytes known of = record {
   unit = of.unit;
   there = of.there;
   offset = of.offset;
   path = λ r is.
-      ap (λ (bs : List ℕ). source_path bs s) bytes.1 ∙ source_goes_on old.bytes bytes.0 s (source_inside t units old key s of) ∙ of.path r is;
-  span = λ is. let span = of.span is in (span.0, span_kept old.known new.known path s.first span.0 known span.1, span.2);
+      ap (λ (bs : List ℕ). source_path bs s) bytes.1
+      ∙ source_goes_on old.bytes bytes.0 s (source_inside t units old key s of) ∙ of.path r is;
+  span =
+      λ is. let span = of.span is in (span.0, span_kept old.known new.known path s.first span.0 known span.1, span.2);
   empty = of.empty;
 }
 
 -- what paths are after a source was kept
-kept_bytes : (limit : ℕ) (old new : PathList) (path : Result (List ℕ) NoPath) (s : Source) → IsKept limit old new path s → GoesOn old.bytes new.bytes
+kept_bytes : (limit : ℕ) (old new : PathList) (path : Result (List ℕ) NoPath) (s : Source) → IsKept limit old new path s
+    → GoesOn old.bytes new.bytes
 kept_bytes limit old new (Ok path) s kept = kept.1.bytes
 kept_bytes limit old new (Err (Reason n)) s kept =
     ([], ap (λ (p : PathList). p.bytes) kept.4 ∙ sym (append_none old.bytes))
@@ -140,7 +154,8 @@ module _ (t : Texts) (units : List KeptUnit) {limit : ℕ} (old : Table) (f : Co
     }
 
     -- why a path isn't kept
-    pub path_fault : (path : Result (List ℕ) NoPath) (e : MakeError) → path ≡ unit_path t u.unit f.row → IsSourceFault limit old.paths path e
+    pub path_fault : (path : Result (List ℕ) NoPath) (e : MakeError) → path ≡ unit_path t u.unit f.row
+        → IsSourceFault limit old.paths path e
         → IsTableFault t units limit e
     path_fault (Ok path) PathsTooLarge is fault = long_paths path (sym is) fault.0 fault.1
     path_fault (Ok path) OutOfMemory is fault = tt
@@ -162,17 +177,21 @@ module _ (t : Texts) (units : List KeptUnit) {limit : ℕ} (old : Table) (f : Co
       paths_are (Err (Reason n)) kept = subst (ArePaths limit) (sym kept.4) are.paths
       paths_are (Err Outside) kept = absurd kept
 
-      paths_found : (path : Result (List ℕ) NoPath) → path ≡ unit_path t u.unit f.row → IsKept limit old.paths new path s → All (IsFoundPath t units) new.known
+      paths_found : (path : Result (List ℕ) NoPath) → path ≡ unit_path t u.unit f.row
+          → IsKept limit old.paths new path s → All (IsFoundPath t units) new.known
       paths_found (Ok path) is kept = elim kept.1.known [
         | inl same ↦ subst (All (IsFoundPath t units)) (sym same) are.found
         | inr more ↦
-            subst (All (IsFoundPath t units)) (sym more) (All-push (IsFoundPath t units) old.paths.known path are.found (path_found path (sym is)))
+            subst (All (IsFoundPath t units)) (sym more)
+            (All-push (IsFoundPath t units) old.paths.known path are.found (path_found path (sym is)))
       ]
-      paths_found (Err (Reason n)) is kept = subst (λ (p : PathList). All (IsFoundPath t units) p.known) (sym kept.4) are.found
+      paths_found (Err (Reason n)) is kept =
+          subst (λ (p : PathList). All (IsFoundPath t units) p.known) (sym kept.4) are.found
       paths_found (Err Outside) is kept = absurd kept
 
       -- the source that was there
-      earlier : (path : Result (List ℕ) NoPath) (key' : SourceKey) (s' : Source) → IsKept limit old.paths new path s → IsSourceOf t units old.paths key' s'
+      earlier : (path : Result (List ℕ) NoPath) (key' : SourceKey) (s' : Source) → IsKept limit old.paths new path s
+          → IsSourceOf t units old.paths key' s'
           → IsSourceOf t units new key' s'
       earlier (Ok path) key' s' kept of = source_stays t units old.paths new path key' s' kept.1.bytes kept.1.known of
       earlier (Err (Reason n)) key' s' kept of = subst (λ (p : PathList). IsSourceOf t units p key' s') (sym kept.4) of
@@ -185,7 +204,8 @@ module _ (t : Texts) (units : List KeptUnit) {limit : ℕ} (old : Table) (f : Co
           ∙ ap (λ (n : ℕ). path_in new.bytes s.first n) kept.2 ∙ span_read new s.first path kept.1.are kept.1.span
       reads (Err (Reason n)) kept =
           let other : nat_eq s.reason 0 ≡ false = let some = kept.1 in grind (arith, nat_tests) in
-          ap (λ (b : Bool). if b then path_in new.bytes s.first s.size else Err (Reason s.reason)) other ∙ ap (λ (m : ℕ). Err (Reason m)) kept.0
+          ap (λ (b : Bool). if b then path_in new.bytes s.first s.size else Err (Reason s.reason)) other
+          ∙ ap (λ (m : ℕ). Err (Reason m)) kept.0
       reads (Err Outside) kept = absurd kept
 
       spans : (path : Result (List ℕ) NoPath) → IsKept limit old.paths new path s → s.reason ≡ 0
@@ -194,12 +214,14 @@ module _ (t : Texts) (units : List KeptUnit) {limit : ℕ} (old : Table) (f : Co
       spans (Err (Reason n)) kept is = absurd (kept.1 is)
       spans (Err Outside) kept is = absurd kept
 
-      empties : (path : Result (List ℕ) NoPath) → IsKept limit old.paths new path s → s.reason ≢ 0 → (s.first ≡ 0) × (s.size ≡ 0)
+      empties : (path : Result (List ℕ) NoPath) → IsKept limit old.paths new path s → s.reason ≢ 0
+          → (s.first ≡ 0) × (s.size ≡ 0)
       empties (Ok path) kept is = absurd (is kept.0)
       empties (Err (Reason n)) kept is = (kept.2, kept.3)
       empties (Err Outside) kept is = absurd kept
 
-      last : (path : Result (List ℕ) NoPath) → path ≡ unit_path t u.unit f.row → s.unit ≡ u.unit.offset → IsKept limit old.paths new path s
+      last : (path : Result (List ℕ) NoPath) → path ≡ unit_path t u.unit f.row → s.unit ≡ u.unit.offset
+          → IsKept limit old.paths new path s
           → IsSourceOf t units new key s
       last path is offset kept = record {
         unit = u;
@@ -210,23 +232,30 @@ module _ (t : Texts) (units : List KeptUnit) {limit : ℕ} (old : Table) (f : Co
         empty = empties path kept;
       }
 
-      pub one_more : (path : Result (List ℕ) NoPath) → path ≡ unit_path t u.unit f.row → s.unit ≡ u.unit.offset → IsKept limit old.paths new path s
+      pub one_more : (path : Result (List ℕ) NoPath) → path ≡ unit_path t u.unit f.row → s.unit ≡ u.unit.offset
+          → IsKept limit old.paths new path s
           → All (λ k. k ≢ key) old.keys → length old.sources < 0xffff_ffff → AreSources t units limit longer
       one_more path is offset kept absent few = record {
         count = omega (arith, are.count, length-append old.keys (key ∷ []), length-append old.sources (s ∷ []));
         few = omega (arith, few, length-append old.sources (s ∷ []));
-        each = λ k key' s' at_key at_source. at_both k key' s' (get_pushed old.keys key k key' at_key) (get_pushed old.sources s k s' at_source);
+        each =
+            λ k key' s' at_key at_source.
+            at_both k key' s' (get_pushed old.keys key k key' at_key) (get_pushed old.sources s k s' at_source);
         distinct = all_pairs_push (λ x y. x ≢ y) old.keys key are.distinct absent;
         files = All-push (IsFoundFile units) old.keys key are.files file_is;
         paths = paths_are path kept;
         found = paths_found path is kept;
       }
         where
-          at_both : (k : ℕ) (key' : SourceKey) (s' : Source) → (slice_get old.keys k ≡ Some key') ⊎ ((k ≡ length old.keys) × (key ≡ key'))
-              → (slice_get old.sources k ≡ Some s') ⊎ ((k ≡ length old.sources) × (s ≡ s')) → IsSourceOf t units new key' s'
+          at_both : (k : ℕ) (key' : SourceKey) (s' : Source)
+              → (slice_get old.keys k ≡ Some key') ⊎ ((k ≡ length old.keys) × (key ≡ key'))
+              → (slice_get old.sources k ≡ Some s') ⊎ ((k ≡ length old.sources) × (s ≡ s'))
+              → IsSourceOf t units new key' s'
           at_both k key' s' (inl before) (inl also) = earlier path key' s' kept (are.each k key' s' before also)
-          at_both k key' s' (inl before) (inr end) = absurd (omega (arith, slice_get_within old.keys k key' before, end.0, are.count))
-          at_both k key' s' (inr end) (inl before) = absurd (omega (arith, slice_get_within old.sources k s' before, end.0, are.count))
+          at_both k key' s' (inl before) (inr end) =
+              absurd (omega (arith, slice_get_within old.keys k key' before, end.0, are.count))
+          at_both k key' s' (inr end) (inl before) =
+              absurd (omega (arith, slice_get_within old.sources k s' before, end.0, are.count))
           at_both k key' s' (inr end) (inr also) =
               subst (λ (q : SourceKey). IsSourceOf t units new q s') end.1
               (subst (λ (q : Source). IsSourceOf t units new key q) also.1 (last path is offset kept))
@@ -251,60 +280,94 @@ none_are_sources t units = record {
 -- ---- places
 
 -- the place of a line of a known source
-pub place_known : (t : Texts) (units : List KeptUnit) {limit : ℕ} (table : Table) (number : ℕ) (line column : ℕ) (is_stmt : Bool) (key : SourceKey)
+pub place_known : (t : Texts) (units : List KeptUnit) {limit : ℕ} (table : Table) (number : ℕ) (line column : ℕ)
+    (is_stmt : Bool) (key : SourceKey)
     (u : KeptUnit)
     (r : LineRow)
     → AreSources t units limit table
-    → slice_get table.keys number ≡ Some key → slice_get units key.unit ≡ Some u → r.file ≡ key.file → line ≡ r.line → column ≡ r.column → is_stmt ≡ r.is_stmt
-    → place_in table (let l : SourceLine = record { source = number; line = line; column = column; is_stmt = is_stmt } in Some l)
-    ≡ Some (let p : Place = record { path = unit_path t u.unit r; line = r.line; column = r.column; is_stmt = r.is_stmt; unit = u.unit.offset } in p)
+    → slice_get table.keys number ≡ Some key → slice_get units key.unit ≡ Some u → r.file ≡ key.file → line ≡ r.line
+    → column ≡ r.column → is_stmt ≡ r.is_stmt
+    → place_in table
+    (let l : SourceLine = record { source = number; line = line; column = column; is_stmt = is_stmt } in Some l)
+    ≡ Some (let p : Place = record {
+      path = unit_path t u.unit r;
+      line = r.line;
+      column = r.column;
+      is_stmt = r.is_stmt;
+      unit = u.unit.offset;
+    } in
+    p)
 place_known t units table number line column is_stmt key u r are there unit file lines columns stmts =
-    let known = get_inside table.sources number (omega (arith, slice_get_within table.keys number key there, are.count)) in
+    let known =
+    get_inside table.sources number (omega (arith, slice_get_within table.keys number key there, are.count)) in
     let s = known.0 in
     let of = are.each number key s there known.1 in
     let both : Some of.unit ≡ Some u = sym of.there ∙ unit in
     let same : of.unit ≡ u = cc in
     let l : SourceLine = record { source = number; line = line; column = column; is_stmt = is_stmt } in
     ap (option_map (line_in table.paths.bytes l)) known.1
-    ∙ ap (λ (p : Result (List ℕ) NoPath). let q : Place = record { path = p; line = line; column = column; is_stmt = is_stmt; unit = s.unit } in Some q)
+    ∙ ap (λ (p : Result (List ℕ) NoPath).
+    let q : Place = record { path = p; line = line; column = column; is_stmt = is_stmt; unit = s.unit } in
+    Some q)
     (of.path r file ∙ ap (λ (v : KeptUnit). unit_path t v.unit r) same)
-    ∙ ap (λ (n : ℕ). let q : Place = record { path = unit_path t u.unit r; line = line; column = column; is_stmt = is_stmt; unit = n } in Some q)
+    ∙ ap (λ (n : ℕ).
+    let q : Place = record { path = unit_path t u.unit r; line = line; column = column; is_stmt = is_stmt; unit = n } in
+    Some q)
     (of.offset ∙ ap (λ (v : KeptUnit). v.unit.offset) same)
-    ∙ ap (λ (n : ℕ). let q : Place = record { path = unit_path t u.unit r; line = n; column = column; is_stmt = is_stmt; unit = u.unit.offset } in Some q) lines
-    ∙ ap (λ (n : ℕ). let q : Place = record { path = unit_path t u.unit r; line = r.line; column = n; is_stmt = is_stmt; unit = u.unit.offset } in Some q)
+    ∙ ap
+    (λ (n : ℕ). let q : Place =
+    record { path = unit_path t u.unit r; line = n; column = column; is_stmt = is_stmt; unit = u.unit.offset } in
+    Some q)
+    lines
+    ∙ ap (λ (n : ℕ).
+    let q : Place =
+    record { path = unit_path t u.unit r; line = r.line; column = n; is_stmt = is_stmt; unit = u.unit.offset } in
+    Some q)
     columns
-    ∙ ap (λ (b : Bool). let q : Place = record { path = unit_path t u.unit r; line = r.line; column = r.column; is_stmt = b; unit = u.unit.offset } in Some q)
+    ∙ ap (λ (b : Bool).
+    let q : Place =
+    record { path = unit_path t u.unit r; line = r.line; column = r.column; is_stmt = b; unit = u.unit.offset } in
+    Some q)
     stmts
 
 -- a place stays where a table goes on
-pub place_stays : (t : Texts) (units : List KeptUnit) {limit : ℕ} (old new : Table) (place : Option SourceLine) → AreSources t units limit old → Keeps old new
+pub place_stays : (t : Texts) (units : List KeptUnit) {limit : ℕ} (old new : Table) (place : Option SourceLine)
+    → AreSources t units limit old → Keeps old new
     → IsInside old place → place_in new place ≡ place_in old place
 place_stays t units old new None are keeps inside = refl
 place_stays t units old new (Some l) are keeps inside =
     let source = get_inside old.sources l.source inside in
     let key = get_inside old.keys l.source (omega (arith, inside, are.count)) in
     let s = source.0 in
-    let there : slice_get new.sources l.source ≡ Some s = ap (λ (ss : List Source). slice_get ss l.source) keeps.sources.1
+    let there : slice_get new.sources l.source
+    ≡ Some s = ap (λ (ss : List Source). slice_get ss l.source) keeps.sources.1
     ∙ get_before old.sources keeps.sources.0 l.source s source.1 in
     let path : source_path new.paths.bytes s ≡ source_path old.paths.bytes s =
     ap (λ (ps : List ℕ). source_path ps s) keeps.paths.1
-    ∙ source_goes_on old.paths.bytes keeps.paths.0 s (source_inside t units old.paths key.0 s (are.each l.source key.0 s key.1 source.1)) in
+    ∙ source_goes_on old.paths.bytes keeps.paths.0 s
+    (source_inside t units old.paths key.0 s (are.each l.source key.0 s key.1 source.1)) in
     ap (option_map (line_in new.paths.bytes l)) there
-    ∙ ap (λ (p : Result (List ℕ) NoPath). let q : Place = record { path = p; line = l.line; column = l.column; is_stmt = l.is_stmt; unit = s.unit } in Some q)
+    ∙ ap (λ (p : Result (List ℕ) NoPath).
+    let q : Place = record { path = p; line = l.line; column = l.column; is_stmt = l.is_stmt; unit = s.unit } in
+    Some q)
     path
     ∙ ap (option_map (line_in old.paths.bytes l)) (sym source.1)
 
-pub inside_stays : (old new : Table) (place : Option SourceLine) → Keeps old new → IsInside old place → IsInside new place
+pub inside_stays : (old new : Table) (place : Option SourceLine) → Keeps old new → IsInside old place
+    → IsInside new place
 inside_stays old new None keeps inside = inside
 inside_stays old new (Some l) keeps inside =
-    omega (arith, inside, ap (λ (ss : List Source). length ss) keeps.sources.1, length-append old.sources keeps.sources.0)
+    omega
+    (arith, inside, ap (λ (ss : List Source). length ss) keeps.sources.1, length-append old.sources keeps.sources.0)
 
 -- ---- two places
 
 -- sources that say the same are the same
-same_source : (t : Texts) (units : List KeptUnit) {limit : ℕ} (paths : PathList) (key key' : SourceKey) (s s' : Source) → ArePaths limit paths
+same_source : (t : Texts) (units : List KeptUnit) {limit : ℕ} (paths : PathList) (key key' : SourceKey) (s s' : Source)
+    → ArePaths limit paths
     → IsSourceOf t units paths key s
-    → IsSourceOf t units paths key' s' → s.unit ≡ s'.unit → source_path paths.bytes s ≡ source_path paths.bytes s' → s ≡ s'
+    → IsSourceOf t units paths key' s' → s.unit ≡ s'.unit → source_path paths.bytes s ≡ source_path paths.bytes s'
+    → s ≡ s'
 same_source t units paths key key' s s' are of of' unit path = by_reasons (cases_zero s.reason) (cases_zero s'.reason)
   where
     cases_zero : (n : ℕ) → (n ≡ 0) ⊎ (n ≢ 0)
@@ -313,12 +376,17 @@ same_source t units paths key key' s s' are of of' unit path = by_reasons (cases
 
     from_parts : s.first ≡ s'.first → s.size ≡ s'.size → s.reason ≡ s'.reason → s ≡ s'
     from_parts first size reason =
-        ap (λ (n : ℕ). let x : Source = record { unit = n; first = s.first; size = s.size; reason = s.reason } in x) unit
-        ∙ ap (λ (n : ℕ). let x : Source = record { unit = s'.unit; first = n; size = s.size; reason = s.reason } in x) first
-        ∙ ap (λ (n : ℕ). let x : Source = record { unit = s'.unit; first = s'.first; size = n; reason = s.reason } in x) size
-        ∙ ap (λ (n : ℕ). let x : Source = record { unit = s'.unit; first = s'.first; size = s'.size; reason = n } in x) reason
+        ap (λ (n : ℕ). let x : Source = record { unit = n; first = s.first; size = s.size; reason = s.reason } in x)
+        unit
+        ∙ ap (λ (n : ℕ). let x : Source = record { unit = s'.unit; first = n; size = s.size; reason = s.reason } in x)
+        first
+        ∙ ap (λ (n : ℕ). let x : Source = record { unit = s'.unit; first = s'.first; size = n; reason = s.reason } in x)
+        size
+        ∙ ap (λ (n : ℕ). let x : Source = record { unit = s'.unit; first = s'.first; size = s'.size; reason = n } in x)
+        reason
 
-    told : (x : Source) → x.reason ≡ 0 → (p : List ℕ) → IsSpanOf paths.known x.first p → x.size ≡ length p → source_path paths.bytes x ≡ Ok p
+    told : (x : Source) → x.reason ≡ 0 → (p : List ℕ) → IsSpanOf paths.known x.first p → x.size ≡ length p
+        → source_path paths.bytes x ≡ Ok p
     told x zero_is p span size =
         ap (λ (n : ℕ). if nat_eq n 0 then path_in paths.bytes x.first x.size else Err (Reason n)) zero_is
         ∙ ap (λ (n : ℕ). path_in paths.bytes x.first n) size ∙ span_read paths x.first p are span
@@ -332,9 +400,11 @@ same_source t units paths key key' s s' are of of' unit path = by_reasons (cases
     by_reasons (inl here) (inl there) =
         let one = of.span here in
         let other = of'.span there in
-        let both : Ok one.0 ≡ Ok other.0 = sym (told s here one.0 one.1 one.2) ∙ path ∙ told s' there other.0 other.1 other.2 in
+        let both : Ok one.0 ≡ Ok other.0 = sym (told s here one.0 one.1 one.2) ∙ path
+        ∙ told s' there other.0 other.1 other.2 in
         let same : one.0 ≡ other.0 = cc in
-        let also : IsSpanOf paths.known s'.first one.0 = subst (λ (p : List ℕ). IsSpanOf paths.known s'.first p) (sym same) other.1 in
+        let also : IsSpanOf paths.known s'.first one.0 =
+        subst (λ (p : List ℕ). IsSpanOf paths.known s'.first p) (sym same) other.1 in
         from_parts (one_span paths.known s.first s'.first one.0 are.distinct one.1 also)
         (one.2 ∙ ap (λ (p : List ℕ). length p) same ∙ sym other.2) (here ∙ sym there)
     by_reasons (inl here) (inr there) =
@@ -343,7 +413,8 @@ same_source t units paths key key' s s' are of of' unit path = by_reasons (cases
         absurd cc
     by_reasons (inr here) (inl there) =
         let other = of'.span there in
-        let both : Err (Reason s.reason) ≡ Ok other.0 = sym (untold s here) ∙ path ∙ told s' there other.0 other.1 other.2 in
+        let both : Err (Reason s.reason) ≡ Ok other.0 = sym (untold s here) ∙ path
+        ∙ told s' there other.0 other.1 other.2 in
         absurd cc
     by_reasons (inr here) (inr there) =
         let one = of.empty here in
@@ -353,17 +424,20 @@ same_source t units paths key key' s s' are of of' unit path = by_reasons (cases
         from_parts (one.0 ∙ sym other.0) (one.1 ∙ sym other.1) same
 
 -- places that are the same name the same source
-pub say_the_same : (t : Texts) (units : List KeptUnit) {limit : ℕ} (table : Table) (x y : Option SourceLine) → AreSources t units limit table → IsInside table x
+pub say_the_same : (t : Texts) (units : List KeptUnit) {limit : ℕ} (table : Table) (x y : Option SourceLine)
+    → AreSources t units limit table → IsInside table x
     → IsInside table y
     → place_in table x ≡ place_in table y → SayTheSame table.sources x y
 say_the_same t units table None None are inside also same = tt
 say_the_same t units table None (Some b) are inside also same =
     let known = get_inside table.sources b.source also in
-    let some : None ≡ Some (line_in table.paths.bytes b known.0) = same ∙ ap (option_map (line_in table.paths.bytes b)) known.1 in
+    let some : None ≡ Some (line_in table.paths.bytes b known.0) = same
+    ∙ ap (option_map (line_in table.paths.bytes b)) known.1 in
     absurd cc
 say_the_same t units table (Some a) None are inside also same =
     let known = get_inside table.sources a.source inside in
-    let some : None ≡ Some (line_in table.paths.bytes a known.0) = sym same ∙ ap (option_map (line_in table.paths.bytes a)) known.1 in
+    let some : None ≡ Some (line_in table.paths.bytes a known.0) = sym same
+    ∙ ap (option_map (line_in table.paths.bytes a)) known.1 in
     absurd cc
 say_the_same t units table (Some a) (Some b) are inside also same =
     let one = get_inside table.sources a.source inside in
@@ -371,7 +445,8 @@ say_the_same t units table (Some a) (Some b) are inside also same =
     let key = get_inside table.keys a.source (omega (arith, inside, are.count)) in
     let key' = get_inside table.keys b.source (omega (arith, also, are.count)) in
     let both : Some (line_in table.paths.bytes a one.0) ≡ Some (line_in table.paths.bytes b other.0) =
-    sym (ap (option_map (line_in table.paths.bytes a)) one.1) ∙ same ∙ ap (option_map (line_in table.paths.bytes b)) other.1 in
+    sym (ap (option_map (line_in table.paths.bytes a)) one.1) ∙ same
+    ∙ ap (option_map (line_in table.paths.bytes b)) other.1 in
     let places : line_in table.paths.bytes a one.0 ≡ line_in table.paths.bytes b other.0 = cc in
     let sources =
     same_source t units table.paths key.0 key'.0 one.0 other.0 are.paths (are.each a.source key.0 one.0 key.1 one.1)
@@ -384,7 +459,8 @@ say_the_same t units table (Some a) (Some b) are inside also same =
     )
 
 -- and those that name the same source say the same
-pub same_places : (table : Table) (x y : Option SourceLine) → SayTheSame table.sources x y → place_in table x ≡ place_in table y
+pub same_places : (table : Table) (x y : Option SourceLine) → SayTheSame table.sources x y
+    → place_in table x ≡ place_in table y
 same_places table None None same = refl
 same_places table None (Some b) same = absurd same
 same_places table (Some a) None same = absurd same
@@ -395,7 +471,9 @@ same_places table (Some a) (Some b) same =
     ∙ ap (λ (s : Bool). place_by b.line b.column s) same.3
   where
     place_by : ℕ → ℕ → Bool → Option Place
-    place_by line column is_stmt = option_map (line_in table.paths.bytes (record { source = b.source; line = line; column = column; is_stmt = is_stmt }))
+    place_by line column is_stmt =
+        option_map
+        (line_in table.paths.bytes (record { source = b.source; line = line; column = column; is_stmt = is_stmt }))
         (slice_get table.sources b.source)
 
 -- ---- one more source, by its parts
@@ -407,10 +485,13 @@ listed_at (v ∷ units) zero d u there = let same : v ≡ u = cc in ap (λ (w : 
 listed_at (v ∷ units) (suc k) d u there = listed_at units k d u there
 
 -- the table after one more source
-module _ (t : Texts) (units : List KeptUnit) {limit : ℕ} (old inside : Table) (f : CoveringRows) (listed : ListedUnit) (new : PathList) (s : Source)
-    (path : Result (List ℕ) NoPath) (new_keys : List SourceKey) (new_sources : List Source) (is : inside ≡ old) (is_found : AreFound units f)
+module _ (t : Texts) (units : List KeptUnit) {limit : ℕ} (old inside : Table) (f : CoveringRows) (listed : ListedUnit)
+    (new : PathList) (s : Source)
+    (path : Result (List ℕ) NoPath) (new_keys : List SourceKey) (new_sources : List Source) (is : inside ≡ old)
+    (is_found : AreFound units f)
     (are : AreSources t units limit old) (absent : All (λ k. k ≢ key_of f) old.keys) (within : f.unit < length units)
-    (listed_is : listed ≡ slice_index_or (map (λ (v : KeptUnit). v.unit) units) f.unit listed) (path_is : path ≡ unit_path t listed f.row) where
+    (listed_is : listed ≡ slice_index_or (map (λ (v : KeptUnit). v.unit) units) f.unit listed)
+    (path_is : path ≡ unit_path t listed f.row) where
   abbrev known : (u : KeptUnit) × (slice_get units f.unit ≡ Some u)
   known = get_inside units f.unit within
 
@@ -430,7 +511,8 @@ module _ (t : Texts) (units : List KeptUnit) {limit : ℕ} (old inside : Table) 
   pub not_added : (e : MakeError) → IsSourceFault limit inside.paths path e → IsTableFault t units limit e
   not_added e fault = path_fault t units inside f is_found inside_are known.0 known.1 path e path_of_unit fault
 
-  module _ (offset : s.unit ≡ listed.offset) (kept : IsKept limit inside.paths new path s) (few : length inside.sources < 0xffff_ffff)
+  module _ (offset : s.unit ≡ listed.offset) (kept : IsKept limit inside.paths new path s)
+      (few : length inside.sources < 0xffff_ffff)
       (keys_are : new_keys ≡ inside.keys ++ key_of f ∷ []) (sources_are : new_sources ≡ inside.sources ++ s ∷ []) where
     abbrev added : Table
     added = record { keys = new_keys; sources = new_sources; paths = new }
@@ -440,19 +522,26 @@ module _ (t : Texts) (units : List KeptUnit) {limit : ℕ} (old inside : Table) 
 
     added_is : added ≡ plain
     added_is =
-        ap (λ (ks : List SourceKey). let o : Table = record { keys = ks; sources = new_sources; paths = new } in o) keys_are
-        ∙ ap (λ (ss : List Source). let o : Table = record { keys = inside.keys ++ key_of f ∷ []; sources = ss; paths = new } in o) sources_are
+        ap (λ (ks : List SourceKey). let o : Table = record { keys = ks; sources = new_sources; paths = new } in o)
+        keys_are
+        ∙ ap
+        (λ (ss : List Source). let o : Table =
+        record { keys = inside.keys ++ key_of f ∷ []; sources = ss; paths = new } in
+        o)
+        sources_are
 
     pub added_are : AreSources t units limit added
     added_are =
         subst (AreSources t units limit) (sym added_is)
-        (one_more t units inside f is_found inside_are known.0 known.1 new s path path_of_unit (offset ∙ ap (λ (v : ListedUnit). v.offset) unit_is) kept
+        (one_more t units inside f is_found inside_are known.0 known.1 new s path path_of_unit
+        (offset ∙ ap (λ (v : ListedUnit). v.offset) unit_is) kept
         inside_absent few)
 
     pub added_keeps : Keeps old added
     added_keeps =
         subst (λ (o : Table). Keeps o added) is
-        (subst (Keeps inside) (sym added_is) (more_kept t units inside f is_found inside_are known.0 known.1 new s path kept))
+        (subst (Keeps inside) (sym added_is)
+        (more_kept t units inside f is_found inside_are known.0 known.1 new s path kept))
 
     pub added_number : slice_get new_keys (length inside.sources) ≡ Some (key_of f)
     added_number =

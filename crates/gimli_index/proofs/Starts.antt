@@ -1,5 +1,6 @@
 -- The starts of an index one by one, and their rows.
-use Rattle.std.proofs.Common.{◌≡◌, ◌∙◌, ◌+◌, ◌<◌, ◌≤◌, ℕ, List, [], ◌∷◌, drop, length, map, get_or, Option, None, Some, refl, sym, ap, arith}
+use Rattle.std.proofs.Common.{◌≡◌, ◌∙◌, ◌+◌, ◌<◌, ◌≤◌, ℕ, List, [], ◌∷◌, drop, length, map, get_or, Option, None, Some}
+use Rattle.std.proofs.Common.{refl, sym, ap, arith}
 use Rattle.std.specs.Prelude.{option_map}
 use Rattle.std.specs.List.{range_with_len}
 use Rattle.std.proofs.lemmas.List.{drop_all, drop_more, drop-map, length-map}
@@ -16,12 +17,14 @@ pub value_here : {X : Type 0} (f : ℕ → X) (n i : ℕ) → i < n
 value_here {X} f n i within =
     let values : List X = map f (range_with_len 0 n) in
     let inside : i < length values = omega (arith, within, value_count f n) in
-    drop_more values i (f i) inside ∙ ap (λ (x : X). x ∷ drop (i + 1) values) (get_or_from_slice_get values i (f i) (f i) (value_at f n i within))
+    drop_more values i (f i) inside
+    ∙ ap (λ (x : X). x ∷ drop (i + 1) values) (get_or_from_slice_get values i (f i) (f i) (value_at f n i within))
 
 pub no_value_here : {X : Type 0} (f : ℕ → X) (n i : ℕ) → n ≤ i → drop i (map f (range_with_len 0 n)) ≡ []
 no_value_here f n i past = drop_all i (map f (range_with_len 0 n)) (omega (arith, past, value_count f n))
 
-pub start_here : (index : Index) (i : ℕ) → i < index.starts → drop i (starts_of index) ≡ start_at index i ∷ drop (i + 1) (starts_of index)
+pub start_here : (index : Index) (i : ℕ) → i < index.starts
+    → drop i (starts_of index) ≡ start_at index i ∷ drop (i + 1) (starts_of index)
 start_here index i within = value_here (start_at index) index.starts i within
 
 pub no_start : (index : Index) (i : ℕ) → index.starts ≤ i → drop i (starts_of index) ≡ []
@@ -34,7 +37,8 @@ module _ (index : Index) (path : List ℕ) where
   pub row_here : (i : ℕ) → i < index.starts → drop i rows ≡ row_of path (start_at index i) ∷ drop (i + 1) rows
   row_here i within =
       drop-map (row_of path) i (starts_of index) ∙ ap (map (row_of path)) (start_here index i within)
-      ∙ ap (λ (rs : List LineRow). row_of path (start_at index i) ∷ rs) (sym (drop-map (row_of path) (i + 1) (starts_of index)))
+      ∙ ap (λ (rs : List LineRow). row_of path (start_at index i) ∷ rs)
+      (sym (drop-map (row_of path) (i + 1) (starts_of index)))
 
   pub no_row : (i : ℕ) → index.starts ≤ i → drop i rows ≡ []
   no_row i past = drop-map (row_of path) i (starts_of index) ∙ ap (map (row_of path)) (no_start index i past)
@@ -42,7 +46,8 @@ module _ (index : Index) (path : List ℕ) where
   pub row_got : (i : ℕ) (d : LineRow) → i < index.starts → get_or rows i d ≡ row_of path (start_at index i)
   row_got i d within =
       get_or_from_slice_get rows i (row_of path (start_at index i)) d
-      (slice_get-map (row_of path) (starts_of index) i ∙ ap (option_map (row_of path)) (value_at (start_at index) index.starts i within))
+      (slice_get-map (row_of path) (starts_of index) i
+      ∙ ap (option_map (row_of path)) (value_at (start_at index) index.starts i within))
 
   pub row_count : length rows ≡ index.starts
   row_count = length-map (starts_of index) (row_of path) ∙ value_count (start_at index) index.starts

@@ -1,5 +1,6 @@
 -- The entries of all sequences of a lookup say what is found at each address, and where the code of each line begins.
-use Rattle.std.proofs.Common.{◌≡◌, ◌∙◌, ◌⊎◌, ℕ, zero, suc, ◌^◌, ◌<◌, ◌≤◌, true, nat_eq, List, [], ◌∷◌, ◌++◌, length, map, Option, Some, None, refl}
+use Rattle.std.proofs.Common.{◌≡◌, ◌∙◌, ◌⊎◌, ℕ, zero, suc, ◌^◌, ◌<◌, ◌≤◌, true, nat_eq, List, [], ◌∷◌, ◌++◌, length}
+use Rattle.std.proofs.Common.{map, Option, Some, None, refl}
 use Rattle.std.proofs.Common.{sym}
 use Rattle.std.proofs.Common.{ap, subst, inl, inr, arith}
 use Rattle.std.specs.Prelude.{flat_map, slice_get, slice_index_or, All, IfSome}
@@ -8,7 +9,8 @@ use Rattle.std.specs.Option.{option_map}
 use Rattle.std.specs.List.Sorted.{IsPermutation, IsNonDecreasingBy}
 use Rattle.std.proofs.lemmas.List.{length-map, map-append}
 use Rattle.std.proofs.lemmas.List.Elements.{Contains-append_left, Contains-append_right}
-use Rattle.std.proofs.lemmas.List.Sorted.{All-permutation, Contains-permutation, IsPermutation-map, sum_by-IsPermutation}
+use Rattle.std.proofs.lemmas.List.Sorted.{All-permutation, Contains-permutation, IsPermutation-map}
+use Rattle.std.proofs.lemmas.List.Sorted.{sum_by-IsPermutation}
 use Rattle.std.proofs.lemmas.Option.{get_or_from_slice_get, slice_get_within, slice_get-map}
 use Rattle.gimli_line.specs.declared.run.row.LineRow.{LineRow}
 use Rattle.gimli_lookup.specs.Covering.{range}
@@ -18,13 +20,15 @@ use Rattle.gimli_lookup.specs.Ranges.{IsFoundAt}
 use Rattle.gimli_lookup.specs.Section.{KeptUnit, all_sequences}
 use Rattle.gimli_lookup.specs.SequenceRows.{rows_of}
 use Rattle.gimli_lookup.specs.declared.section_lookup.CoveringRows.{CoveringRows}
-use Rattle.gimli_index.specs.Found.{AreApart, EndsLast, StandBelow, Texts, SayWhereLinesBegin, found_place, lookup_addresses, row_place}
+use Rattle.gimli_index.specs.Found.{AreApart, EndsLast, StandBelow, Texts, SayWhereLinesBegin, found_place}
+use Rattle.gimli_index.specs.Found.{lookup_addresses, row_place}
 use Rattle.gimli_index.specs.Lines.{addresses_of}
 use Rattle.gimli_index.specs.Meaning.{Start, place_at}
 use Rattle.gimli_index.specs.declared.contents.Entry.{Entry}
 use Rattle.gimli_index.specs.declared.turns.Turn.{Turn}
 use Rattle.gimli_index.specs.inside.Table.{Entered, Table, starts_in}
-use Rattle.gimli_index.specs.inside.Turns.{AreTurns, IsTurn, UnitRows, Walked, end_after, rows_in, rows_of_turns, rows_of_units, starts_of_turn}
+use Rattle.gimli_index.specs.inside.Turns.{AreTurns, IsTurn, UnitRows, Walked, end_after, rows_in, rows_of_turns}
+use Rattle.gimli_index.specs.inside.Turns.{rows_of_units, starts_of_turn}
 use Rattle.gimli_index.specs.inside.Turns.{turn_rows}
 use Rattle.gimli_index.proofs.LineStarts.{count_in, given_by, in_sequences, in_units}
 use Rattle.gimli_index.proofs.Lists.{append_none, get_inside, get_seam}
@@ -37,7 +41,9 @@ rows_in_unit s = s.rows
 -- ---- the sequences of all units
 
 sequences_in : (u : KeptUnit) (sequences : List (List LineRow))
-    → map rows_in_unit (map (λ (rows : List LineRow). let s : UnitRows = record { unit = u.unit; rows = rows } in s) sequences) ≡ sequences
+    → map rows_in_unit
+    (map (λ (rows : List LineRow). let s : UnitRows = record { unit = u.unit; rows = rows } in s) sequences)
+    ≡ sequences
 sequences_in u [] = refl
 sequences_in u (rows ∷ sequences) = ap (λ (rs : List (List LineRow)). rows ∷ rs) (sequences_in u sequences)
 
@@ -53,7 +59,8 @@ module _ (units : List KeptUnit) (d : KeptUnit) where
   rows_same [] = refl
   rows_same (turn ∷ turns) = ap (λ (rs : List LineRow). rows_of turn.rows ++ rs) (rows_same turns)
 
-  sequences_same : (turns : List Turn) → map rows_in_unit (map (turn_rows units d) turns) ≡ map (λ (turn : Turn). rows_of turn.rows) turns
+  sequences_same : (turns : List Turn)
+      → map rows_in_unit (map (turn_rows units d) turns) ≡ map (λ (turn : Turn). rows_of turn.rows) turns
   sequences_same [] = refl
   sequences_same (turn ∷ turns) = ap (λ (rs : List (List LineRow)). rows_of turn.rows ∷ rs) (sequences_same turns)
 
@@ -61,8 +68,10 @@ pub some_unit : KeptUnit
 some_unit = record { unit = record { offset = 0; header = None; fault = None; first = 0; end = 0 }; sequences = [] }
 
 -- a sequence of a unit is one of all units
-contained_in : (u : KeptUnit) (sequences : List (List LineRow)) (k : ℕ) (rows : List LineRow) → slice_get sequences k ≡ Some rows
-    → Contains (map (λ (rs : List LineRow). let s : UnitRows = record { unit = u.unit; rows = rs } in s) sequences) (record { unit = u.unit; rows = rows })
+contained_in : (u : KeptUnit) (sequences : List (List LineRow)) (k : ℕ) (rows : List LineRow)
+    → slice_get sequences k ≡ Some rows
+    → Contains (map (λ (rs : List LineRow). let s : UnitRows = record { unit = u.unit; rows = rs } in s) sequences)
+    (record { unit = u.unit; rows = rows })
 contained_in u [] k rows there = absurd cc
 contained_in u (first ∷ sequences) zero rows there =
     let same : first ≡ rows = cc in
@@ -71,21 +80,25 @@ contained_in u (first ∷ sequences) (suc k) rows there =
     let at = contained_in u sequences k rows there in
     (suc at.0, omega (arith, at.1), at.2)
 
-contained : (units : List KeptUnit) (i k : ℕ) (u : KeptUnit) (rows : List LineRow) → slice_get units i ≡ Some u → slice_get u.sequences k ≡ Some rows
+contained : (units : List KeptUnit) (i k : ℕ) (u : KeptUnit) (rows : List LineRow) → slice_get units i ≡ Some u
+    → slice_get u.sequences k ≡ Some rows
     → Contains (rows_of_units units) (record { unit = u.unit; rows = rows })
 contained [] i k u rows there stands = absurd cc
 contained (w ∷ units) zero k u rows there stands =
     let same : w ≡ u = cc in
     Contains-append_left (rows_in w) (rows_of_units units) (record { unit = u.unit; rows = rows })
-    (subst (λ (v : KeptUnit). Contains (rows_in v) (record { unit = u.unit; rows = rows })) (sym same) (contained_in u u.sequences k rows stands))
+    (subst (λ (v : KeptUnit). Contains (rows_in v) (record { unit = u.unit; rows = rows })) (sym same)
+    (contained_in u u.sequences k rows stands))
 contained (w ∷ units) (suc i) k u rows there stands =
-    Contains-append_right (rows_in w) (rows_of_units units) (record { unit = u.unit; rows = rows }) (contained units i k u rows there stands)
+    Contains-append_right (rows_in w) (rows_of_units units) (record { unit = u.unit; rows = rows })
+    (contained units i k u rows there stands)
 
 -- what holds of each of some, by its place
 each_at : {X : Type 0} (P : X → Type 0) (xs : List X) → All P xs → (k : ℕ) (x : X) → slice_get xs k ≡ Some x → P x
 each_at P xs all k x there = subst P (get_or_from_slice_get xs k x x there) (all k x (slice_get_within xs k x there))
 
-all_at : {X Y : Type 0} (P : Y → Type 0) (f : X → Y) (xs : List X) → All P (map f xs) → (k : ℕ) (x : X) → slice_get xs k ≡ Some x → P (f x)
+all_at : {X Y : Type 0} (P : Y → Type 0) (f : X → Y) (xs : List X) → All P (map f xs) → (k : ℕ) (x : X)
+    → slice_get xs k ≡ Some x → P (f x)
 all_at {X} P f xs all k x there =
     each_at P (map f xs) all k (f x) (slice_get-map f xs k ∙ ap (option_map f) there)
 
@@ -100,7 +113,8 @@ module _ (t : Texts) (units : List KeptUnit) (turns : List Turn) (are : AreTurns
 
   sequences_shuffled : IsPermutation (all_sequences units) (map (λ (turn : Turn). rows_of turn.rows) turns)
   sequences_shuffled =
-      subst (λ (ss : List (List LineRow)). IsPermutation ss (map (λ (turn : Turn). rows_of turn.rows) turns)) (sequences_are units)
+      subst (λ (ss : List (List LineRow)). IsPermutation ss (map (λ (turn : Turn). rows_of turn.rows) turns))
+      (sequences_are units)
       (subst (IsPermutation (map rows_in_unit (rows_of_units units))) (sequences_same units some_unit turns)
       (IsPermutation-map rows_in_unit (rows_of_units units) ordered shuffled))
 
@@ -108,11 +122,14 @@ module _ (t : Texts) (units : List KeptUnit) (turns : List Turn) (are : AreTurns
 
   module _ (order : IsNonDecreasingBy (λ (turn : Turn). turn.key) turns) (apart : AreApart (all_sequences units)) where
     in_orders : All (λ rows. never_go_down rows ≡ true) (map (λ (turn : Turn). rows_of turn.rows) turns)
-    in_orders = All-permutation (λ rows. never_go_down rows ≡ true) (all_sequences units) (map (λ (turn : Turn). rows_of turn.rows) turns)
+    in_orders =
+        All-permutation (λ rows. never_go_down rows ≡ true) (all_sequences units)
+        (map (λ (turn : Turn). rows_of turn.rows) turns)
         sequences_shuffled apart.in_order
 
     turn_down : (k : ℕ) (turn : Turn) → slice_get turns k ≡ Some turn → never_go_down (rows_of turn.rows) ≡ true
-    turn_down k turn there = all_at (λ rows. never_go_down rows ≡ true) (λ (turn : Turn). rows_of turn.rows) turns in_orders k turn there
+    turn_down k turn there =
+        all_at (λ rows. never_go_down rows ≡ true) (λ (turn : Turn). rows_of turn.rows) turns in_orders k turn there
 
     few_of : (turn : Turn) → IsTurn units turn → end_after 0 (rows_of turn.rows) < 2 ^ 64
     few_of turn is = by_rows (rows_of turn.rows) is.few
@@ -121,7 +138,8 @@ module _ (t : Texts) (units : List KeptUnit) (turns : List Turn) (are : AreTurns
         by_rows [] few = omega arith
         by_rows (r ∷ rows) few = omega (arith, few, end_is_last 0 r rows)
 
-    two_below : (i j : ℕ) (x y : Turn) → i < j → slice_get turns i ≡ Some x → slice_get turns j ≡ Some y → StandBelow (rows_of x.rows) (rows_of y.rows)
+    two_below : (i j : ℕ) (x y : Turn) → i < j → slice_get turns i ≡ Some x → slice_get turns j ≡ Some y
+        → StandBelow (rows_of x.rows) (rows_of y.rows)
     two_below i j x y lt one two =
         let i_in = slice_get_within turns i x one in
         let j_in = slice_get_within turns j y two in
@@ -144,15 +162,19 @@ module _ (t : Texts) (units : List KeptUnit) (turns : List Turn) (are : AreTurns
             let d = rows_of x.rows in
             let x_at : slice_index_or S i d ≡ rows_of x.rows =
             get_or_from_slice_get S i (rows_of x.rows) d
-            (slice_get-map (λ (turn : Turn). rows_of turn.rows) turns i ∙ ap (option_map (λ (turn : Turn). rows_of turn.rows)) one) in
+            (slice_get-map (λ (turn : Turn). rows_of turn.rows) turns i
+            ∙ ap (option_map (λ (turn : Turn). rows_of turn.rows)) one) in
             let y_at : slice_index_or S j d ≡ rows_of y.rows =
             get_or_from_slice_get S j (rows_of y.rows) d
-            (slice_get-map (λ (turn : Turn). rows_of turn.rows) turns j ∙ ap (option_map (λ (turn : Turn). rows_of turn.rows)) two) in
+            (slice_get-map (λ (turn : Turn). rows_of turn.rows) turns j
+            ∙ ap (option_map (λ (turn : Turn). rows_of turn.rows)) two) in
             subst (λ (rs : List LineRow). StandBelow rs (rows_of y.rows) ⊎ StandBelow (rows_of y.rows) rs) x_at
-            (subst (λ (rs : List LineRow). StandBelow (slice_index_or S i d) rs ⊎ StandBelow rs (slice_index_or S i d)) y_at
+            (subst (λ (rs : List LineRow). StandBelow (slice_index_or S i d) rs ⊎ StandBelow rs (slice_index_or S i d))
+            y_at
             (each_two_permuted (λ xs ys. StandBelow xs ys ⊎ StandBelow ys xs)
             (λ xs ys is. elim is [ inl a ↦ inr a | inr b ↦ inl b ])
-            (all_sequences units) S sequences_shuffled apart.apart i j d (omega (arith, lt, j_in, long)) (omega (arith, j_in, long)) (λ same.
+            (all_sequences units) S sequences_shuffled apart.apart i j d (omega (arith, lt, j_in, long))
+            (omega (arith, j_in, long)) (λ same.
             omega (arith, same, lt))))
 
     pub never_down : never_go_down (rows_of_turns turns) ≡ true
@@ -163,15 +185,18 @@ module _ (t : Texts) (units : List KeptUnit) (turns : List Turn) (are : AreTurns
     ends_last k s there =
         all_at EndsLast rows_in_unit ordered
         (subst (All EndsLast) (sym (sequences_same units some_unit turns))
-        (All-permutation EndsLast (all_sequences units) (map (λ (turn : Turn). rows_of turn.rows) turns) sequences_shuffled apart.ends))
+        (All-permutation EndsLast (all_sequences units) (map (λ (turn : Turn). rows_of turn.rows) turns)
+        sequences_shuffled apart.ends))
         k s there
 
-    pub lines_are : (path : List ℕ) (line a : ℕ) → count_by (nat_eq a) (addresses_of path (flat_map (starts_of_turn t) ordered) line)
+    pub lines_are : (path : List ℕ) (line a : ℕ)
+        → count_by (nat_eq a) (addresses_of path (flat_map (starts_of_turn t) ordered) line)
         ≡ count_by (nat_eq a) (lookup_addresses t path units line)
     lines_are path line a =
         ap (count_by (nat_eq a)) (in_sequences t path line ordered ends_last)
         ∙ count_in t path line (nat_eq a) ordered
-        ∙ sum_by-IsPermutation (λ (s : UnitRows). count_by (nat_eq a) (given_by t path line s)) (rows_of_units units) ordered shuffled
+        ∙ sum_by-IsPermutation (λ (s : UnitRows). count_by (nat_eq a) (given_by t path line s)) (rows_of_units units)
+        ordered shuffled
         ∙ sym (count_in t path line (nat_eq a) (rows_of_units units))
         ∙ ap (count_by (nat_eq a)) (in_units t path line units)
 
@@ -181,11 +206,13 @@ module _ (t : Texts) (units : List KeptUnit) (turns : List Turn) (are : AreTurns
     all_down : never_go_below 0 (rows_of_all ordered) ≡ true
     all_down = ap (never_go_below 0) (rows_same units some_unit turns) ∙ down
 
-    no_pair_in : (a : ℕ) → All (HasNoPair a) (all_sequences units) → (k : ℕ) (s : UnitRows) → slice_get ordered k ≡ Some s → HasNoPair a s.rows
+    no_pair_in : (a : ℕ) → All (HasNoPair a) (all_sequences units) → (k : ℕ) (s : UnitRows)
+        → slice_get ordered k ≡ Some s → HasNoPair a s.rows
     no_pair_in a none k s there =
         all_at (HasNoPair a) rows_in_unit ordered
         (subst (All (HasNoPair a)) (sym (sequences_same units some_unit turns))
-        (All-permutation (HasNoPair a) (all_sequences units) (map (λ (turn : Turn). rows_of turn.rows) turns) sequences_shuffled none))
+        (All-permutation (HasNoPair a) (all_sequences units) (map (λ (turn : Turn). rows_of turn.rows) turns)
+        sequences_shuffled none))
         k s there
 
     pub found_is_said : (a : ℕ) (found : Option CoveringRows) → IsFoundAt units a found
@@ -195,21 +222,27 @@ module _ (t : Texts) (units : List KeptUnit) (turns : List Turn) (are : AreTurns
         let rows = first.is_first.rows in
         let e = length first.is_first.earlier in
         let at : slice_get first.unit.sequences e ≡ Some rows =
-        ap (λ (ss : List (List LineRow)). slice_get ss e) first.is_first.parts ∙ get_seam first.is_first.earlier rows first.is_first.later in
-        let there = Contains-permutation (rows_of_units units) ordered (record { unit = first.unit.unit; rows = rows }) shuffled
+        ap (λ (ss : List (List LineRow)). slice_get ss e) first.is_first.parts
+        ∙ get_seam first.is_first.earlier rows first.is_first.later in
+        let there =
+        Contains-permutation (rows_of_units units) ordered (record { unit = first.unit.unit; rows = rows }) shuffled
         (contained units f.unit e first.unit rows first.there at) in
-        one_round t a 0 ordered there.0 (record { unit = first.unit.unit; rows = rows }) first.is_first.is_first.index f.row f.next all_down
-        (get_there ordered there.0 (record { unit = first.unit.unit; rows = rows }) there.1 there.2) first.is_first.is_first.is_pair None
+        one_round t a 0 ordered there.0 (record { unit = first.unit.unit; rows = rows }) first.is_first.is_first.index
+        f.row f.next all_down
+        (get_there ordered there.0 (record { unit = first.unit.unit; rows = rows }) there.1 there.2)
+        first.is_first.is_first.is_pair None
         ∙ sym (ap (option_map (λ (u : KeptUnit). row_place t u.unit f.row)) first.there)
       where
-        get_there : {X : Type 0} (xs : List X) (k : ℕ) (x : X) → k < length xs → slice_index_or xs k x ≡ x → slice_get xs k ≡ Some x
+        get_there : {X : Type 0} (xs : List X) (k : ℕ) (x : X) → k < length xs → slice_index_or xs k x ≡ x
+            → slice_get xs k ≡ Some x
         get_there {X} xs k x within is =
             let some = get_inside xs k within in
             some.1 ∙ ap (λ (y : X). Some y) (sym (get_or_from_slice_get xs k some.0 x some.1) ∙ is)
 
     -- so the entries say what is found
     pub all_entered : {limit : ℕ} (table : Table) (entries : List Entry) (end : ℕ)
-        → Walked t units limit table entries (flat_map (starts_of_turn t) ordered) end → Entered t units limit table entries None
+        → Walked t units limit table entries (flat_map (starts_of_turn t) ordered) end
+        → Entered t units limit table entries None
     all_entered table entries end h = record {
       are = h.are;
       inside = h.inside;
@@ -221,10 +254,14 @@ module _ (t : Texts) (units : List KeptUnit) (turns : List Turn) (are : AreTurns
     }
 
   -- and where the code of a line begins
-  pub all_lines : {limit : ℕ} → IsNonDecreasingBy (λ (turn : Turn). turn.key) turns → (table : Table) (entries : List Entry) (end : ℕ)
-      → Walked t units limit table entries (flat_map (starts_of_turn t) ordered) end → SayWhereLinesBegin t units (starts_in table entries)
+  pub all_lines : {limit : ℕ} → IsNonDecreasingBy (λ (turn : Turn). turn.key) turns
+      → (table : Table) (entries : List Entry) (end : ℕ)
+      → Walked t units limit table entries (flat_map (starts_of_turn t) ordered) end
+      → SayWhereLinesBegin t units (starts_in table entries)
   all_lines order table entries end h apart path line a =
-      ap (λ (ss : List Start). count_by (nat_eq a) (addresses_of path ss line)) (sym (append_none (starts_in table entries)))
+      ap (λ (ss : List Start). count_by (nat_eq a) (addresses_of path ss line))
+      (sym (append_none (starts_in table entries)))
       ∙ ap (count_by (nat_eq a)) (h.agree.lines path line [])
-      ∙ ap (λ (ss : List Start). count_by (nat_eq a) (addresses_of path ss line)) (append_none (flat_map (starts_of_turn t) ordered))
+      ∙ ap (λ (ss : List Start). count_by (nat_eq a) (addresses_of path ss line))
+      (append_none (flat_map (starts_of_turn t) ordered))
       ∙ lines_are order apart path line a

@@ -1,5 +1,6 @@
 -- Sequences that don't overlap, by their first and last addresses.
-use Rattle.std.proofs.Common.{◌≡◌, ◌≢◌, ◌∙◌, ◌⊎◌, ℕ, zero, suc, ◌^◌, ◌<◌, ◌≤◌, true, List, [], ◌∷◌, ◌++◌, length, Some, refl, sym, ap}
+use Rattle.std.proofs.Common.{◌≡◌, ◌≢◌, ◌∙◌, ◌⊎◌, ℕ, zero, suc, ◌^◌, ◌<◌, ◌≤◌, true, List, [], ◌∷◌, ◌++◌, length, Some}
+use Rattle.std.proofs.Common.{refl, sym, ap}
 use Rattle.std.proofs.Common.{subst, inl, inr, arith}
 use Rattle.std.specs.Prelude.{flat_map, slice_get, slice_index_or, AllPairs}
 use Rattle.std.specs.List.{swap}
@@ -19,7 +20,8 @@ use Rattle.gimli_index.proofs.TurnPlaces.{after_first, below_end, first_from}
 -- ---- any two of some
 
 abbrev pub EachTwo : {X : Type 0} → (X → X → Type 0) → List X → Type 0
-EachTwo {X} R xs = (i j : ℕ) (d : X) → i < length xs → j < length xs → i ≢ j → R (slice_index_or xs i d) (slice_index_or xs j d)
+EachTwo {X} R xs =
+    (i j : ℕ) (d : X) → i < length xs → j < length xs → i ≢ j → R (slice_index_or xs i d) (slice_index_or xs j d)
 
 module _ {X : Type 0} (R : X → X → Type 0) (turned : (x y : X) → R x y → R y x) where
   from_pairs : (xs : List X) → AllPairs R xs → EachTwo R xs
@@ -36,15 +38,18 @@ module _ {X : Type 0} (R : X → X → Type 0) (turned : (x y : X) → R x y →
       let j_in : j < length xs = omega (arith, also, long) in
       subst (λ (x : X). R x (slice_index_or (swap xs a b) j d)) (sym (get_or-swap xs a b d p q i))
       (subst (λ (y : X). R (slice_index_or xs (exchange a b i) d) y) (sym (get_or-swap xs a b d p q j))
-      (each (exchange a b i) (exchange a b j) d (exchange-within a b (length xs) i p q i_in) (exchange-within a b (length xs) j p q j_in)
+      (each (exchange a b i) (exchange a b j) d (exchange-within a b (length xs) i p q i_in)
+      (exchange-within a b (length xs) j p q j_in)
       (λ same. other (sym (exchange-twice a b i) ∙ ap (exchange a b) same ∙ exchange-twice a b j))))
 
   pub each_two_permuted : (xs ys : List X) → IsPermutation xs ys → AllPairs R xs → EachTwo R ys
-  each_two_permuted xs ys shuffled pairs = IsPermutation-keeps xs (EachTwo R) (from_pairs xs pairs) exchanged ys shuffled
+  each_two_permuted xs ys shuffled pairs =
+      IsPermutation-keeps xs (EachTwo R) (from_pairs xs pairs) exchanged ys shuffled
 
 -- ---- rows of one sequence
 
-last_there : (r : LineRow) (rows : List LineRow) → (z : LineRow) × (slice_get (r ∷ rows) (length rows) ≡ Some z) × (z.address ≡ last_address r rows)
+last_there : (r : LineRow) (rows : List LineRow)
+    → (z : LineRow) × (slice_get (r ∷ rows) (length rows) ≡ Some z) × (z.address ≡ last_address r rows)
 last_there r [] = (r, refl, refl)
 last_there r (next ∷ rows) = last_there next rows
 
@@ -65,12 +70,14 @@ stands_below (x ∷ xs) (y ∷ ys) down also keys few more (inr above) i j r s o
     let end_x = end_is_last 0 x xs in
     let end_y = end_is_last 0 y ys in
     let r_low : r.address ≤ end_after 0 (x ∷ xs) = below_end 0 (x ∷ xs) i r down one in
-    let y_low : end_after 0 (y ∷ ys) ≤ x.address = omega (arith, above (length ys) 0 last_y.0 x last_y.1 refl, last_y.2, end_y) in
+    let y_low : end_after 0 (y ∷ ys)
+    ≤ x.address = omega (arith, above (length ys) 0 last_y.0 x last_y.1 refl, last_y.2, end_y) in
     let s_high : y.address ≤ s.address = first_below y ys j s (first_from 0 y ys also).1 two in
     let s_low : s.address ≤ end_after 0 (y ∷ ys) = below_end 0 (y ∷ ys) j s also two in
     omega (arith, r_low, y_low, s_high, s_low, keys, few, more, end_x, end_y)
   where
-    first_below : (y : LineRow) (ys : List LineRow) (k : ℕ) (z : LineRow) → never_go_below y.address ys ≡ true → slice_get (y ∷ ys) k ≡ Some z
+    first_below : (y : LineRow) (ys : List LineRow) (k : ℕ) (z : LineRow) → never_go_below y.address ys ≡ true
+        → slice_get (y ∷ ys) k ≡ Some z
         → y.address ≤ z.address
     first_below y ys zero z order there = omega (arith, ap (λ (w : LineRow). w.address) (same_Some y z there))
     first_below y [] (suc k) z order there = absurd cc
@@ -80,13 +87,15 @@ stands_below (x ∷ xs) (y ∷ ys) down also keys few more (inr above) i j r s o
 
 -- ---- rows of sequences, one after the other
 
-joined_order : (b : ℕ) (xs ys : List LineRow) → never_go_below b xs ≡ true → never_go_below (end_after b xs) ys ≡ true → never_go_below b (xs ++ ys) ≡ true
+joined_order : (b : ℕ) (xs ys : List LineRow) → never_go_below b xs ≡ true → never_go_below (end_after b xs) ys ≡ true
+    → never_go_below b (xs ++ ys) ≡ true
 joined_order b [] ys order then = then
 joined_order b (x ∷ xs) ys order then =
     let first = first_from b x xs order in
     after_first b x (xs ++ ys) first.0 (joined_order x.address xs ys first.1 then)
 
-raised : (b : ℕ) (rows : List LineRow) → never_go_down rows ≡ true → ((k : ℕ) (r : LineRow) → slice_get rows k ≡ Some r → b ≤ r.address)
+raised : (b : ℕ) (rows : List LineRow) → never_go_down rows ≡ true
+    → ((k : ℕ) (r : LineRow) → slice_get rows k ≡ Some r → b ≤ r.address)
     → never_go_below b rows ≡ true
 raised b [] down from = refl
 raised b (r ∷ rows) down from = after_first b r rows (from 0 r refl) (first_from 0 r rows down).1
@@ -96,22 +105,28 @@ module _ {X : Type 0} (rows_of : X → List LineRow) where
   all_rows xs = flat_map rows_of xs
 
   pub in_turn : (b : ℕ) (xs : List X) → ((k : ℕ) (x : X) → slice_get xs k ≡ Some x → never_go_down (rows_of x) ≡ true)
-      → ((i j : ℕ) (x y : X) → i < j → slice_get xs i ≡ Some x → slice_get xs j ≡ Some y → StandBelow (rows_of x) (rows_of y))
-      → ((k : ℕ) (x : X) (i : ℕ) (r : LineRow) → slice_get xs k ≡ Some x → slice_get (rows_of x) i ≡ Some r → b ≤ r.address)
+      → ((i j : ℕ) (x y : X) → i < j → slice_get xs i ≡ Some x → slice_get xs j ≡ Some y
+      → StandBelow (rows_of x) (rows_of y))
+      → ((k : ℕ) (x : X) (i : ℕ) (r : LineRow) → slice_get xs k ≡ Some x → slice_get (rows_of x) i ≡ Some r
+      → b ≤ r.address)
       → never_go_below b (all_rows xs) ≡ true
   in_turn b [] down below from = refl
   in_turn b (x ∷ xs) down below from =
-      joined_order b (rows_of x) (all_rows xs) (raised b (rows_of x) (down 0 x refl) (λ k r there. from 0 x k r refl there))
+      joined_order b (rows_of x) (all_rows xs) (raised b (rows_of x) (down 0 x refl) (λ k r there.
+      from 0 x k r refl there))
       (in_turn (end_after b (rows_of x)) xs (λ k y there. down (suc k) y there)
       (λ i j y z lt one two. below (suc i) (suc j) y z (omega (arith, lt)) one two)
       (λ k y i r there stands. by_rows (rows_of x) refl k y i r there stands))
     where
-      by_rows : (rows : List LineRow) → rows_of x ≡ rows → (k : ℕ) (y : X) (i : ℕ) (r : LineRow) → slice_get xs k ≡ Some y
+      by_rows : (rows : List LineRow) → rows_of x ≡ rows → (k : ℕ) (y : X) (i : ℕ) (r : LineRow)
+          → slice_get xs k ≡ Some y
           → slice_get (rows_of y) i ≡ Some r → end_after b (rows_of x) ≤ r.address
       by_rows [] is k y i r there stands = omega (arith, ap (end_after b) is, from (suc k) y i r there stands)
       by_rows (z ∷ zs) is k y i r there stands =
           let last = last_there z zs in
-          let at : slice_get (rows_of x) (length zs) ≡ Some last.0 = ap (λ (rs : List LineRow). slice_get rs (length zs)) is ∙ last.1 in
+          let at : slice_get (rows_of x) (length zs)
+          ≡ Some last.0 = ap (λ (rs : List LineRow). slice_get rs (length zs)) is
+          ∙ last.1 in
           omega (
             arith,
             below 0 (suc k) x y (omega arith) refl there (length zs) i last.0 r at stands,

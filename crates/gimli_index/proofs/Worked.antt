@@ -1,5 +1,6 @@
 -- Worked indexes: what the definitions say of bytes that were written by hand.
-use Rattle.std.proofs.Common.{◌≡◌, ◌+◌, ◌*◌, ℕ, Bool, true, false, List, [], ◌∷◌, ◌++◌, Option, Some, None, Result, Ok, Err, refl}
+use Rattle.std.proofs.Common.{◌≡◌, ◌+◌, ◌*◌, ℕ, Bool, true, false, List, [], ◌∷◌, ◌++◌, Option, Some, None, Result, Ok}
+use Rattle.std.proofs.Common.{Err, refl}
 use Rattle.std.specs.Prelude.{replicate, take, slice_set}
 use Rattle.gimli_core.specs.Reading.{result_map}
 use Rattle.gimli_line.specs.declared.run.row.LineRow.{LineRow}
@@ -12,7 +13,8 @@ use Rattle.gimli_index.specs.Order.{ordered_number, path_number}
 use Rattle.gimli_index.specs.Ranges.{ranges_of}
 use Rattle.gimli_index.specs.inside.Turns.{starts_of_rows}
 use Rattle.gimli_index.specs.declared.error.IndexError.{IndexError}
-use Rattle.gimli_index.specs.declared.error.IndexError.TheVariants.{NotIndex, HeaderCut, Version, AddressSize, StartSize, Base, Cut}
+use Rattle.gimli_index.specs.declared.error.IndexError.TheVariants.{NotIndex, HeaderCut, Version, AddressSize}
+use Rattle.gimli_index.specs.declared.error.IndexError.TheVariants.{StartSize, Base, Cut}
 use Rattle.gimli_index.specs.declared.place.NoPath.TheVariants.{Reason, Outside}
 
 -- what an index says
@@ -114,7 +116,11 @@ index_8 =
     ∷ 0 ∷ 0 ∷ 0 ∷ 0 ∷ 1 ∷ 0 ∷ 0 ∷ 0 ∷ 0 ∷ 0 ∷ 0 ∷ 0 ∷ path_4
 
 pub high_start : starts_in index_8 ≡ Ok (
-    record { address = 0x8000_0000_0000_0001; place = Some (record { path = Err Outside; line = 1; column = 0; is_stmt = false; unit = 0 }) } ∷ [])
+    record {
+      address = 0x8000_0000_0000_0001;
+      place = Some (record { path = Err Outside; line = 1; column = 0; is_stmt = false; unit = 0 });
+    }
+    ∷ [])
 high_start = refl
 
 -- ---- refusals
@@ -145,7 +151,8 @@ base_1 = refl
 pub highest : starts_in (take 16 header_4 ++ 0 ∷ 0 ∷ 0 ∷ 0 ∷ 0xff ∷ 0xff ∷ 0xff ∷ 0xff ∷ replicate 24 0) ≡ Ok []
 highest = refl
 
-pub above_highest : starts_in (take 16 header_4 ++ 1 ∷ 0 ∷ 0 ∷ 0 ∷ 0xff ∷ 0xff ∷ 0xff ∷ 0xff ∷ replicate 24 0) ≡ Err (Base 0xffff_ffff_0000_0001)
+pub above_highest : starts_in (take 16 header_4 ++ 1 ∷ 0 ∷ 0 ∷ 0 ∷ 0xff ∷ 0xff ∷ 0xff ∷ 0xff ∷ replicate 24 0)
+    ≡ Err (Base 0xffff_ffff_0000_0001)
 above_highest = refl
 
 pub cut : starts_in (take 154 index_4) ≡ Err Cut
@@ -154,8 +161,9 @@ cut = refl
 pub whole : result_map (λ index. index.starts) (index_at (take 155 index_4)) ≡ Ok 3
 whole = refl
 
--- ---- optimised code: lines 10 and 11 at 0x1000, line 12 at 0x1004, and an end at 0x1008. No code is between the first two rows, and
--- both are statements: so code of both lines begins at 0x1000 (DWARF 5, section 6.2.2, is_stmt), and the second row holds there
+-- ---- optimised code: lines 10 and 11 at 0x1000, line 12 at 0x1004, and an end at 0x1008. No code is between the first
+-- two rows, and both are statements: so code of both lines begins at 0x1000 (DWARF 5, section 6.2.2, is_stmt),
+-- and the second row holds there
 
 abbrev row_at : ℕ → ℕ → Bool → LineRow
 row_at address line end = record {
@@ -225,8 +233,8 @@ pub three_ranges : ranges_of optimised ≡
     ∷ []
 three_ranges = refl
 
--- ---- two sequences that overlap: line 10 from 0x1000 up to 0x1010, and in an earlier unit line 20 from 0x1004 up to 0x1008. What is
--- found begins anew at 0x1008, and so does line 10
+-- ---- two sequences that overlap: line 10 from 0x1000 up to 0x1010, and in an earlier unit line 20 from 0x1004 up to
+-- 0x1008. What is found begins anew at 0x1008, and so does line 10
 
 abbrev overlapped : List Start
 overlapped =

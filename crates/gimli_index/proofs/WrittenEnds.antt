@@ -1,5 +1,6 @@
 -- Paths that end with their last component as it is written.
-use Rattle.std.proofs.Common.{◌≡◌, ◌∙◌, ◌-◌, ◌+◌, ◌<◌, ℕ, zero, suc, Bool, true, false, ◌&&◌, List, [], ◌∷◌, ◌++◌, length, get_or, take, drop, nat_eq, refl}
+use Rattle.std.proofs.Common.{◌≡◌, ◌∙◌, ◌-◌, ◌+◌, ◌<◌, ℕ, zero, suc, Bool, true, false, ◌&&◌, List, [], ◌∷◌, ◌++◌}
+use Rattle.std.proofs.Common.{length, get_or, take, drop, nat_eq, refl}
 use Rattle.std.proofs.Common.{sym, ap, subst, arith, if◌then◌else◌}
 use Rattle.std.specs.List.{between, slice_split}
 use Rattle.std.proofs.lemmas.List.Elements.{All-nil}
@@ -18,17 +19,21 @@ and_false false = refl
 stays : (a b : Bool) (before other : List (List ℕ)) (c : List ℕ) → a ≡ false → b ≡ false
     → (if a then before else if b then other else c ∷ before) ≡ c ∷ before
 stays a b before other c first second =
-    ap (λ v. if v then before else if b then other else c ∷ before) first ∙ ap (λ v. if v then other else c ∷ before) second
+    ap (λ v. if v then before else if b then other else c ∷ before) first
+    ∙ ap (λ v. if v then other else c ∷ before) second
 
 -- a written component that ends with another byte than `.` is neither `.` nor `..`
-written : (c : List ℕ) → 0 < length c → nat_eq (get_or c (length c - 1) 0) 46 ≡ false → (before : List (List ℕ)) → with_component before c ≡ c ∷ before
+written : (c : List ℕ) → 0 < length c → nat_eq (get_or c (length c - 1) 0) 46 ≡ false → (before : List (List ℕ))
+    → with_component before c ≡ c ∷ before
 written [] some last before = absurd (omega (arith, some))
 written (x ∷ []) some last before =
     stays _ _ before (up before) (x ∷ []) (ap (λ b. b && true) last) (and_false (nat_eq x 46))
 written (x ∷ y ∷ []) some last before =
-    stays _ _ before (up before) (x ∷ y ∷ []) (and_false (nat_eq x 46)) (ap (λ b. nat_eq x 46 && (b && true)) last ∙ and_false (nat_eq x 46))
+    stays _ _ before (up before) (x ∷ y ∷ []) (and_false (nat_eq x 46))
+    (ap (λ b. nat_eq x 46 && (b && true)) last ∙ and_false (nat_eq x 46))
 written (x ∷ y ∷ z ∷ c) some last before =
-    stays _ _ before (up before) (x ∷ y ∷ z ∷ c) (and_false (nat_eq x 46)) (ap (λ b. nat_eq x 46 && b) (and_false (nat_eq y 46)) ∙ and_false (nat_eq x 46))
+    stays _ _ before (up before) (x ∷ y ∷ z ∷ c) (and_false (nat_eq x 46))
+    (ap (λ b. nat_eq x 46 && b) (and_false (nat_eq y 46)) ∙ and_false (nat_eq x 46))
 
 -- a last written component, and what comes before it
 record LastPart (text : List ℕ) : Type 0 where
@@ -43,12 +48,18 @@ last_part text zero within clean = record { first = 0; within = within; last = w
 last_part text (suc n) within clean =
     by_test (is_separator (get_or text (suc n - 1) 0)) refl (λ more. last_part text n (omega (arith, within)) more)
   where
-    by_test : (b : Bool) → is_separator (get_or text (suc n - 1) 0) ≡ b → (HaveNoSeparator (drop n text) → LastPart text) → LastPart text
+    by_test : (b : Bool) → is_separator (get_or text (suc n - 1) 0) ≡ b
+        → (HaveNoSeparator (drop n text) → LastPart text) → LastPart text
     by_test true here before =
-        record { first = suc n; within = within; last = parted text (suc n) (omega arith) (omega (arith, within)) here clean }
+        record {
+          first = suc n;
+          within = within;
+          last = parted text (suc n) (omega arith) (omega (arith, within)) here clean;
+        }
     by_test false here before =
         let same : suc n - 1 ≡ n = omega arith in
-        before (subst (λ (m : ℕ). HaveNoSeparator (drop m text)) same (one_byte_more text (suc n) (omega arith) (omega (arith, within)) here clean))
+        before (subst (λ (m : ℕ). HaveNoSeparator (drop m text)) same
+        (one_byte_more text (suc n) (omega arith) (omega (arith, within)) here clean))
 
 -- a path whose last byte is neither a separator nor `.`
 pub ends_as_written : (path : List ℕ) → 0 < length path → is_separator (get_or path (length path - 1) 0) ≡ false
@@ -56,7 +67,9 @@ pub ends_as_written : (path : List ℕ) → 0 < length path → is_separator (ge
 ends_as_written path some apart dot =
     let none : HaveNoSeparator (drop (length path) path) =
     subst HaveNoSeparator (sym (drop_all (length path) path (omega arith))) (All-nil (λ b. is_separator b ≡ false)) in
-    let part = last_part path (length path - 1) (omega (arith, some)) (one_byte_more path (length path) some (omega arith) apart none) in
+    let part =
+    last_part path (length path - 1) (omega (arith, some))
+    (one_byte_more path (length path) some (omega arith) apart none) in
     let own = drop part.first path in
     let long : length own ≡ length path - part.first = length-drop part.first path in
     let at : part.first + (length own - 1) ≡ length path - 1 = omega (arith, long, part.within) in
@@ -66,13 +79,19 @@ ends_as_written path some apart dot =
     record {
       name = own;
       front = take part.first path;
-      is_last = (before, part.last (start_of path) ∙ written own (omega (arith, long, part.within)) (ap (λ b. nat_eq b 46) same ∙ dot) before);
+      is_last = (
+        before,
+        part.last (start_of path)
+            ∙ written own (omega (arith, long, part.within)) (ap (λ b. nat_eq b 46) same ∙ dot) before,
+      );
       parts = sym (take-append-drop part.first path);
     }
 
 -- the last bytes of a path that is a front and then an end
-pub last_bytes : (path front end : List ℕ) → path ≡ front ++ end → between (length path - length end) (length path) path ≡ end
+pub last_bytes : (path front end : List ℕ) → path ≡ front ++ end
+    → between (length path - length end) (length path) path ≡ end
 last_bytes path front end is =
     let first = length path - length end in
     let long : length path ≡ length front + length end = ap (λ (xs : List ℕ). length xs) is ∙ length-append front end in
-    between_to_end path first (length path) (omega arith) ∙ ap (drop first) is ∙ drop_at front end first (omega (arith, long))
+    between_to_end path first (length path) (omega arith) ∙ ap (drop first) is
+    ∙ drop_at front end first (omega (arith, long))

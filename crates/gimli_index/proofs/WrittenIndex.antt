@@ -1,11 +1,13 @@
 -- The index that was written of the entries of a lookup.
-use Rattle.std.proofs.Common.{◌≡◌, ◌≤◌, ◌∙◌, ℕ, List, [], ◌∷◌, ◌++◌, length, drop, map, None, Some, Result, Ok, Err, refl, sym, ap, subst, arith}
+use Rattle.std.proofs.Common.{◌≡◌, ◌≤◌, ◌∙◌, ℕ, List, [], ◌∷◌, ◌++◌, length, drop, map, None, Some, Result, Ok, Err}
+use Rattle.std.proofs.Common.{refl, sym, ap, subst, arith}
 use Rattle.std.specs.Prelude.{All, IfErr, OnOk, slice_get}
 use Rattle.std.specs.Option.{option_map, option_and_then}
 use Rattle.std.proofs.lemmas.List.{length-map}
 use Rattle.std.proofs.lemmas.Option.{slice_get_within}
 use Rattle.gimli_index.specs.Contents.{Contents, Fits, HasColumn, entry_start, index_bytes, line_in}
-use Rattle.gimli_index.specs.Found.{Given, AreContentsOf, IsAppended, IsIndexAppended, IsIndexOf, SayWhatIsFound, SayWhereLinesBegin}
+use Rattle.gimli_index.specs.Found.{Given, AreContentsOf, IsAppended, IsIndexAppended, IsIndexOf, SayWhatIsFound}
+use Rattle.gimli_index.specs.Found.{SayWhereLinesBegin}
 use Rattle.gimli_index.specs.Made.{EntriesAscend, HasOrder, IsMakeFault}
 use Rattle.gimli_index.specs.Meaning.{Start, place_at}
 use Rattle.gimli_index.specs.Refused.{IsIndexFault}
@@ -14,7 +16,8 @@ use Rattle.gimli_index.specs.declared.contents.Entry.{Entry}
 use Rattle.gimli_index.specs.declared.contents.Source.{Source}
 use Rattle.gimli_index.specs.declared.contents.SourceLine.{SourceLine}
 use Rattle.gimli_index.specs.declared.error.MakeError.{MakeError}
-use Rattle.gimli_index.specs.declared.error.MakeError.TheVariants.{NotAscending, TooManyEntries, TooManySources, PathsTooLarge, IdentityTooLarge, LineTooLarge}
+use Rattle.gimli_index.specs.declared.error.MakeError.TheVariants.{NotAscending, TooManyEntries, TooManySources}
+use Rattle.gimli_index.specs.declared.error.MakeError.TheVariants.{PathsTooLarge, IdentityTooLarge, LineTooLarge}
 use Rattle.gimli_index.specs.declared.error.MakeError.TheVariants.{ColumnTooLarge, OutOfMemory}
 use Rattle.gimli_index.specs.inside.Table.{Entered, Table, starts_in}
 use Rattle.gimli_index.proofs.Lists.{get_inside}
@@ -29,7 +32,8 @@ drop_front [] [] = refl
 drop_front [] (y ∷ ys) = refl
 drop_front (x ∷ xs) ys = drop_front xs ys
 
-index_of : (given : Given) (c : Contents) (rest : List ℕ) → AreContentsOf given c → IsIndexOf given (index_bytes c ++ rest)
+index_of : (given : Given) (c : Contents) (rest : List ℕ) → AreContentsOf given c
+    → IsIndexOf given (index_bytes c ++ rest)
 index_of given c rest are =
     let read = read_back c rest are.fits in
     record {
@@ -44,11 +48,13 @@ index_of given c rest are =
       identity = read.identity ∙ are.identity;
     }
 
-pub index_appended : (given : Given) {limit : ℕ} (old new : List ℕ) → IsAppended given limit old new → IsIndexAppended given old new
+pub index_appended : (given : Given) {limit : ℕ} (old new : List ℕ) → IsAppended given limit old new
+    → IsIndexAppended given old new
 index_appended given old new appended rest =
     let left : drop (length old) new ≡ index_bytes appended.contents =
     ap (drop (length old)) appended.bytes ∙ drop_front old (index_bytes appended.contents) in
-    subst (λ (bs : List ℕ). IsIndexOf given (bs ++ rest)) (sym left) (index_of given appended.contents rest appended.are)
+    subst (λ (bs : List ℕ). IsIndexOf given (bs ++ rest)) (sym left)
+    (index_of given appended.contents rest appended.are)
 
 -- ---- the contents that are made of a lookup
 
@@ -59,8 +65,10 @@ start_by sources paths e = record {
   place = option_and_then (λ (l : SourceLine). option_map (line_in paths l) (slice_get sources l.source)) e.place;
 }
 
-module _ (given : Given) {limit : ℕ} (table : Table) (entries : List Entry) (c : Contents) (h : Entered given.texts given.units limit table entries None)
-    (lines : SayWhereLinesBegin given.texts given.units (starts_in table entries)) (sources : c.sources ≡ table.sources) (entries_are : c.entries ≡ entries)
+module _ (given : Given) {limit : ℕ} (table : Table) (entries : List Entry) (c : Contents)
+    (h : Entered given.texts given.units limit table entries None)
+    (lines : SayWhereLinesBegin given.texts given.units (starts_in table entries)) (sources : c.sources ≡ table.sources)
+    (entries_are : c.entries ≡ entries)
     (paths : c.paths ≡ table.paths.bytes) where
   same_starts : map (entry_start c) c.entries ≡ starts_in table entries
   same_starts =
@@ -118,13 +126,18 @@ module _ (given : Given) {limit : ℕ} (table : Table) (entries : List Entry) (c
     short = short;
     many = omega (arith, fault, length-map c.entries (entry_start c));
   }
-  contents_fault TooManySources name fault = absurd (omega (arith, fault, h.are.few, ap (λ (ss : List Source). length ss) sources))
-  contents_fault PathsTooLarge name fault = absurd (omega (arith, fault, h.are.paths.few, ap (λ (ps : List ℕ). length ps) paths))
+  contents_fault TooManySources name fault =
+      absurd (omega (arith, fault, h.are.few, ap (λ (ss : List Source). length ss) sources))
+  contents_fault PathsTooLarge name fault =
+      absurd (omega (arith, fault, h.are.paths.few, ap (λ (ps : List ℕ). length ps) paths))
   contents_fault IdentityTooLarge name fault = omega (arith, fault, ap (λ (ns : List ℕ). length ns) name)
   contents_fault LineTooLarge name fault = absurd fault
-  contents_fault ColumnTooLarge name fault = absurd (fault (subst (λ (es : List Entry). All (λ (e : Entry). HasColumn e.place) es) (sym entries_are) h.columns))
+  contents_fault ColumnTooLarge name fault =
+      absurd
+      (fault (subst (λ (es : List Entry). All (λ (e : Entry). HasColumn e.place) es) (sym entries_are) h.columns))
   contents_fault OutOfMemory name fault = tt
 
-pub on_fault : {T : Type 0} (r : Result T MakeError) (P Q : MakeError → Type 0) → ((e : MakeError) → P e → Q e) → IfErr r P → IfErr r Q
+pub on_fault : {T : Type 0} (r : Result T MakeError) (P Q : MakeError → Type 0) → ((e : MakeError) → P e → Q e)
+    → IfErr r P → IfErr r Q
 on_fault (Ok x) P Q f fault = tt
 on_fault (Err e) P Q f fault = f e fault

@@ -3,7 +3,8 @@ use Rattle.std.proofs.Common.{arith, ◌≡◌, ◌+◌, ℕ, zero, suc, List, [
 use Rattle.gimli_lookup.specs.Components.{up, with_component, resolved}
 use Rattle.gimli_lookup.specs.inside.Components.{up_by}
 
-pub resolved_last : (before cs : List (List ℕ)) (c : List ℕ) → resolved before (cs ++ c ∷ []) ≡ with_component (resolved before cs) c
+pub resolved_last : (before cs : List (List ℕ)) (c : List ℕ)
+    → resolved before (cs ++ c ∷ []) ≡ with_component (resolved before cs) c
 resolved_last before [] c = refl
 resolved_last before (d ∷ cs) c = resolved_last (with_component before d) cs c
 

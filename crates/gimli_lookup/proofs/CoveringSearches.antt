@@ -1,5 +1,6 @@
 -- The first of some pairs that an address stands between.
-use Rattle.std.proofs.Common.{◌≡◌, ℕ, ◌+◌, ◌<◌, ◌≤◌, Bool, true, false, ◌&&◌, ◌||◌, cond, List, [], ◌∷◌, ◌++◌, length, take, refl, sym, ap, subst, ◌∙◌}
+use Rattle.std.proofs.Common.{◌≡◌, ℕ, ◌+◌, ◌<◌, ◌≤◌, Bool, true, false, ◌&&◌, ◌||◌, cond, List, [], ◌∷◌, ◌++◌, length}
+use Rattle.std.proofs.Common.{take, refl, sym, ap, subst, ◌∙◌}
 use Rattle.std.proofs.Common.{append_assoc}
 use Rattle.std.proofs.Common.{arith}
 use Rattle.std.specs.Prelude.{Option, Some, None, All, is_none, slice_index_or}
@@ -14,20 +15,30 @@ use Rattle.gimli_lookup.specs.inside.UnitSearch.{is_covered, first_covering, Are
 -- ---- pairs one after the other
 
 -- pairs behind others
-by_cover : (b : Bool) (p : CoveringRows) (o q r : Option CoveringRows) → o ≡ option_or q r → cond b (Some p) o ≡ option_or (cond b (Some p) q) r
+by_cover : (b : Bool) (p : CoveringRows) (o q r : Option CoveringRows) → o ≡ option_or q r
+    → cond b (Some p) o ≡ option_or (cond b (Some p) q) r
 by_cover true p o q r e = refl
 by_cover false p o q r e = e
 
-pub covering_append : (a : ℕ) (xs ys : List CoveringRows) → first_covering a (xs ++ ys) ≡ option_or (first_covering a xs) (first_covering a ys)
+pub covering_append : (a : ℕ) (xs ys : List CoveringRows)
+    → first_covering a (xs ++ ys) ≡ option_or (first_covering a xs) (first_covering a ys)
 covering_append a [] ys = refl
-covering_append a (x ∷ xs) ys = by_cover (is_covered a x) x (first_covering a (xs ++ ys)) (first_covering a xs) (first_covering a ys) (covering_append a xs ys)
+covering_append a (x ∷ xs) ys =
+    by_cover (is_covered a x) x (first_covering a (xs ++ ys)) (first_covering a xs) (first_covering a ys)
+    (covering_append a xs ys)
 
 -- ---- pairs that are kept where they are wanted
 
-pub pair_kept : (addresses : List ℕ) (old : List CoveringRows) (p : CoveringRows) → AreKeptBehind addresses old (p ∷ []) (old ++ p ∷ [])
-pair_kept addresses old p = record { more = p ∷ []; parts = refl; first = λ k d lt. covering_append (slice_index_or addresses k d) old (p ∷ []) }
+pub pair_kept : (addresses : List ℕ) (old : List CoveringRows) (p : CoveringRows)
+    → AreKeptBehind addresses old (p ∷ []) (old ++ p ∷ [])
+pair_kept addresses old p = record {
+  more = p ∷ [];
+  parts = refl;
+  first = λ k d lt. covering_append (slice_index_or addresses k d) old (p ∷ []);
+}
 
-by_need : (b : Bool) (p : CoveringRows) (o : Option CoveringRows) → (b && is_none o) ≡ false → o ≡ option_or o (cond b (Some p) None)
+by_need : (b : Bool) (p : CoveringRows) (o : Option CoveringRows) → (b && is_none o) ≡ false
+    → o ≡ option_or o (cond b (Some p) None)
 by_need b p (Some q) none = refl
 by_need true p None none = absurd (true≢false none)
 by_need false p None none = refl
@@ -43,7 +54,8 @@ none_of f (x ∷ xs) none =
     All-cons (λ a. f a ≡ false) x xs both.0 (none_of f xs both.1)
 
 pub pair_let_go : (addresses : List ℕ) (old : List CoveringRows) (p : CoveringRows)
-    → list_any (λ a. is_covered a p && is_none (first_covering a old)) addresses ≡ false → AreKeptBehind addresses old (p ∷ []) old
+    → list_any (λ a. is_covered a p && is_none (first_covering a old)) addresses ≡ false
+    → AreKeptBehind addresses old (p ∷ []) old
 pair_let_go addresses old p none = record {
   more = [];
   parts = sym (append-nil old);
@@ -58,13 +70,18 @@ or_assoc (Some x) p q = refl
 
 -- none is kept of none
 pub none_kept : (addresses : List ℕ) (old : List CoveringRows) → AreKeptBehind addresses old [] old
-none_kept addresses old = record { more = []; parts = sym (append-nil old); first = λ k d lt. at (first_covering (slice_index_or addresses k d) old) }
+none_kept addresses old = record {
+  more = [];
+  parts = sym (append-nil old);
+  first = λ k d lt. at (first_covering (slice_index_or addresses k d) old);
+}
   where
     at : (o : Option CoveringRows) → o ≡ option_or o None
     at None = refl
     at (Some x) = refl
 
-pub kept_both : (addresses : List ℕ) (old pairs new : List CoveringRows) (p : CoveringRows) (after : List CoveringRows) → AreKeptBehind addresses old pairs new
+pub kept_both : (addresses : List ℕ) (old pairs new : List CoveringRows) (p : CoveringRows) (after : List CoveringRows)
+    → AreKeptBehind addresses old pairs new
     → AreKeptBehind addresses new (p ∷ []) after → AreKeptBehind addresses old (pairs ++ p ∷ []) after
 kept_both addresses old pairs new p after f g = record {
   more = f.more ++ g.more;
@@ -77,7 +94,8 @@ kept_both addresses old pairs new p after f g = record {
       ∙ ap (option_or (first_covering a old)) (sym (covering_append a pairs (p ∷ [])));
 }
 
-pub kept_next : (addresses : List ℕ) (old found : List CoveringRows) (i : ℕ) (new : List CoveringRows) (p : CoveringRows) (after : List CoveringRows)
+pub kept_next : (addresses : List ℕ) (old found : List CoveringRows) (i : ℕ) (new : List CoveringRows)
+    (p : CoveringRows) (after : List CoveringRows)
     → i < length found → p ≡ slice_index_or found i p → AreKeptBehind addresses old (take i found) new
     → AreKeptBehind addresses new (p ∷ []) after → AreKeptBehind addresses old (take (i + 1) found) after
 kept_next addresses old found i new p after lt is f g =
@@ -87,9 +105,12 @@ kept_next addresses old found i new p after lt is f g =
 
 -- ---- the next address that is asked for
 
-pub clear_next : (addresses : List ℕ) (i from clear new : ℕ) → i < length addresses → AreClear (take i addresses) from clear → new ≤ clear
-    → (from ≤ slice_index_or addresses i 0 → new ≤ slice_index_or addresses i 0) → AreClear (take (i + 1) addresses) from new
+pub clear_next : (addresses : List ℕ) (i from clear new : ℕ) → i < length addresses
+    → AreClear (take i addresses) from clear → new ≤ clear
+    → (from ≤ slice_index_or addresses i 0 → new ≤ slice_index_or addresses i 0)
+    → AreClear (take (i + 1) addresses) from new
 clear_next addresses i from clear new lt before less at =
     All-more (λ a. from ≤ a → new ≤ a) addresses i 0 lt
-    (All-weaker (λ a. from ≤ a → clear ≤ a) (λ a. from ≤ a → new ≤ a) (λ a is le. omega (arith, is le, less)) (take i addresses) before)
+    (All-weaker (λ a. from ≤ a → clear ≤ a) (λ a. from ≤ a → new ≤ a) (λ a is le. omega (arith, is le, less))
+    (take i addresses) before)
     at

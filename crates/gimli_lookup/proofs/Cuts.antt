@@ -11,16 +11,20 @@ use Rattle.gimli_lookup.specs.Cut.{EndOnce, AreCutAtEnds}
 use Rattle.gimli_lookup.specs.inside.PairSearch.{HasPassed, Knows}
 use Rattle.gimli_lookup.specs.FirstPair.{HasNoPair}
 
-by_recursion_push : {X : Type 0} (P : X → Type 0) (xs : List X) (x : X) → AllByRecursion P xs → P x → AllByRecursion P (xs ++ x ∷ [])
+by_recursion_push : {X : Type 0} (P : X → Type 0) (xs : List X) (x : X) → AllByRecursion P xs → P x
+    → AllByRecursion P (xs ++ x ∷ [])
 by_recursion_push P [] x all one = (one, tt)
 by_recursion_push P (y ∷ xs) x all one = (all.0, by_recursion_push P xs x all.1 one)
 
 -- a row more, which ends no sequence or ends one
-module _ (rows : List LineRow) (sequences : List (List LineRow)) (cut : AreCutAtEnds rows sequences) (row : LineRow) where
+module _ (rows : List LineRow) (sequences : List (List LineRow)) (cut : AreCutAtEnds rows sequences)
+    (row : LineRow) where
   abbrev longer : row.end_sequence ≡ false → AreCutAtEnds (rows ++ row ∷ []) sequences
   longer open_still = record {
     unended = cut.unended ++ row ∷ [];
-    joined = ap (λ (rs : List LineRow). rs ++ row ∷ []) cut.joined ∙ append_assoc (flat_map (λ sequence. sequence) sequences) cut.unended (row ∷ []);
+    joined =
+        ap (λ (rs : List LineRow). rs ++ row ∷ []) cut.joined
+        ∙ append_assoc (flat_map (λ sequence. sequence) sequences) cut.unended (row ∷ []);
     each = cut.each;
     no_end = by_recursion_push (λ (r : LineRow). r.end_sequence ≡ false) cut.unended row cut.no_end open_still;
   }
@@ -31,9 +35,11 @@ module _ (rows : List LineRow) (sequences : List (List LineRow)) (cut : AreCutAt
       ∙ append_assoc (flat_map (λ sequence. sequence) sequences) cut.unended (row ∷ [])
       ∙ sym (append-nil (flat_map (λ sequence. sequence) (sequences ++ (cut.unended ++ row ∷ []) ∷ []))
       ∙ flat_map-append (λ sequence. sequence) sequences ((cut.unended ++ row ∷ []) ∷ [])
-      ∙ ap (λ (rs : List LineRow). flat_map (λ sequence. sequence) sequences ++ rs) (append-nil (cut.unended ++ row ∷ [])))
+      ∙ ap (λ (rs : List LineRow). flat_map (λ sequence. sequence) sequences ++ rs)
+      (append-nil (cut.unended ++ row ∷ [])))
 
-  abbrev one_more : row.end_sequence ≡ true → AreCutAtEnds (rows ++ row ∷ []) (sequences ++ (cut.unended ++ row ∷ []) ∷ [])
+  abbrev one_more : row.end_sequence ≡ true
+      → AreCutAtEnds (rows ++ row ∷ []) (sequences ++ (cut.unended ++ row ∷ []) ∷ [])
   one_more ends = record {
     unended = [];
     joined = last_joined;
@@ -62,7 +68,8 @@ passes_none a = record {
 }
 
 module _ (a : ℕ) (rows : List LineRow) (row : LineRow) (before after : PairSearch)
-    (goes : (ended : List (List LineRow)) (unended : List LineRow) → Knows a ended unended before → Knows a ended (unended ++ row ∷ []) after)
+    (goes : (ended : List (List LineRow)) (unended : List LineRow) → Knows a ended unended before
+    → Knows a ended (unended ++ row ∷ []) after)
     (passed : HasPassed a rows before) where
   pub passes_open : row.end_sequence ≡ false → HasPassed a (rows ++ row ∷ []) after
   passes_open open_still = record {
@@ -72,10 +79,13 @@ module _ (a : ℕ) (rows : List LineRow) (row : LineRow) (before after : PairSea
   }
 
   pub passes_end : (after_end : PairSearch)
-      → ((a : ℕ) (ended : List (List LineRow)) (unended : List LineRow) → Knows a ended unended after → Knows a (ended ++ unended ∷ []) [] after_end)
+      → ((a : ℕ) (ended : List (List LineRow)) (unended : List LineRow) → Knows a ended unended after
+      → Knows a (ended ++ unended ∷ []) [] after_end)
       → row.end_sequence ≡ true → HasPassed a (rows ++ row ∷ []) after_end
   passes_end after_end closes ends = record {
     sequences = passed.sequences ++ (passed.cut.unended ++ row ∷ []) ∷ [];
     cut = one_more rows passed.sequences passed.cut row ends;
-    known = closes a passed.sequences (passed.cut.unended ++ row ∷ []) (goes passed.sequences passed.cut.unended passed.known);
+    known =
+        closes a passed.sequences (passed.cut.unended ++ row ∷ [])
+        (goes passed.sequences passed.cut.unended passed.known);
   }

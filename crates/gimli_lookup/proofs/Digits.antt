@@ -1,5 +1,6 @@
 -- Binary digits, and searches by halves.
-use Rattle.std.proofs.Common.{◌≡◌, ℕ, zero, suc, ◌+◌, ◌/◌, ◌<◌, ◌≤◌, ◌^◌, Bool, true, false, if◌then◌else◌, List, length, refl, ap, arith}
+use Rattle.std.proofs.Common.{◌≡◌, ℕ, zero, suc, ◌+◌, ◌/◌, ◌<◌, ◌≤◌, ◌^◌, Bool, true, false, if◌then◌else◌, List}
+use Rattle.std.proofs.Common.{length, refl, ap, arith}
 use Rattle.std.proofs.Math.Nat.{pow-suc}
 use Rattle.gimli_line.specs.declared.run.row.LineRow.{LineRow}
 use Rattle.gimli_lookup.specs.Probes.{halvings, binary_digits, most_probes, never_go_down}
@@ -27,7 +28,8 @@ fewer : (l m n : ℕ) → m ≤ n → halvings l m ≤ halvings l n
 fewer zero m n p = none_is_least 0
 fewer (suc l) zero n p = none_is_least (halvings (suc l) n)
 fewer (suc l) (suc m) zero p = absurd (omega arith)
-fewer (suc l) (suc m) (suc n) p = one_more (halvings l (suc m / 2)) (halvings l (suc n / 2)) (fewer l (suc m / 2) (suc n / 2) (omega arith))
+fewer (suc l) (suc m) (suc n) p =
+    one_more (halvings l (suc m / 2)) (halvings l (suc n / 2)) (fewer l (suc m / 2) (suc n / 2) (omega arith))
 
 within_limit : (l n : ℕ) → halvings l n ≤ l
 within_limit zero n = none_is_least 0
@@ -60,7 +62,8 @@ halvings_below : (k l n : ℕ) → n < 2 ^ k → halvings l n ≤ k
 halvings_below k zero n lt = none_is_least k
 halvings_below k (suc l) zero lt = none_is_least k
 halvings_below zero (suc l) (suc n) lt = absurd (omega arith)
-halvings_below (suc k) (suc l) (suc n) lt = one_within (halvings l (suc n / 2)) k (halvings_below k l (suc n / 2) (omega (arith, pow-suc 2 k)))
+halvings_below (suc k) (suc l) (suc n) lt =
+    one_within (halvings l (suc n / 2)) k (halvings_below k l (suc n / 2) (omega (arith, pow-suc 2 k)))
 
 pub digits_below : (k n : ℕ) → n < 2 ^ k → binary_digits n ≤ k
 digits_below k n lt = halvings_below k n n lt

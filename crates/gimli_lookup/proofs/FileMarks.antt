@@ -28,4 +28,5 @@ both a b c (Some m) is = ap Some (or_or m a b ∙ ap (λ (x : Bool). m || x) is)
 pub marked_too : (before here all : ℕ → Bool) (old now new : List Bool) → ((n : ℕ) → (before n || here n) ≡ all n)
     → AreMarked before old now → AreMarked here now new → AreMarked all old new
 marked_too before here all old now new is first second n =
-    second n ∙ ap (λ (m : Option Bool). option_map (λ mark. mark || here n) m) (first n) ∙ both (before n) (here n) (all n) (slice_get old n) (is n)
+    second n ∙ ap (λ (m : Option Bool). option_map (λ mark. mark || here n) m) (first n)
+    ∙ both (before n) (here n) (all n) (slice_get old n) (is n)

@@ -56,7 +56,8 @@ through (r ∷ rows) = at_test (list_any ends_sequence (map row (r ∷ rows))) r
 -- ---- the rows of sequences
 
 -- each has one end row, the last
-each_once : (c : Header) (rows : List (List LineRow)) (parts : List Part) → HaveRuns c parts (map (map row) rows) → AllByRecursion EndOnce rows
+each_once : (c : Header) (rows : List (List LineRow)) (parts : List Part) → HaveRuns c parts (map (map row) rows)
+    → AllByRecursion EndOnce rows
 each_once c [] parts kept = tt
 each_once c (x ∷ rows) [] kept = absurd kept
 each_once c (x ∷ rows) (s ∷ parts) kept =
@@ -74,14 +75,18 @@ each_once c (x ∷ rows) (s ∷ parts) kept =
 map_joined : (rows : List (List LineRow)) → map row (flat_map (λ sequence. sequence) rows) ≡ flat_map (map row) rows
 map_joined [] = refl
 map_joined (x ∷ rows) =
-    map-append row x (flat_map (λ sequence. sequence) rows) ∙ ap (λ (es : List Event). map row x ++ es) (map_joined rows)
+    map-append row x (flat_map (λ sequence. sequence) rows)
+    ∙ ap (λ (es : List Event). map row x ++ es) (map_joined rows)
 
-pub are_cut : (notation : Notation) (h c : Header) (parts : List Part) (rows : List (List LineRow)) → AreSequences notation h c parts
+pub are_cut : (notation : Notation) (h c : Header) (parts : List Part) (rows : List (List LineRow))
+    → AreSequences notation h c parts
     → HaveRuns c parts (map (map row) rows) → AreRowsOfSequences notation h rows
 are_cut notation h c parts rows are kept =
     let t = through are.rows in
-    let joined : flat_map (λ sequence. sequence) rows ≡ t.front = same_rows (flat_map (λ sequence. sequence) rows) t.front
-    (map_joined rows ∙ joined_same c rows parts are.runs are.each kept ∙ are.joined ∙ ap through_last_end are.given ∙ sym t.given) in
+    let joined : flat_map (λ sequence. sequence) rows
+    ≡ t.front = same_rows (flat_map (λ sequence. sequence) rows) t.front
+    (map_joined rows ∙ joined_same c rows parts are.runs are.each kept ∙ are.joined ∙ ap through_last_end are.given
+    ∙ sym t.given) in
     record {
       rows = are.rows;
       given = record { list = are.list; end = None; decoding = are.decoding; given = sym are.given };

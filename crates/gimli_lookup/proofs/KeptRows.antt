@@ -11,13 +11,15 @@ use Rattle.gimli_line.proofs.ResumedRuns.{one_list_of_runs}
 use Rattle.gimli_lookup.specs.Kept.{AreRowsThroughLastEnd}
 
 -- the rows of each sequence are its run, so that all of them are all runs
-pub joined_same : (c : Header) (rows : List (List LineRow)) (parts : List Part) (runs : List (List Event)) → HaveRuns c parts runs
+pub joined_same : (c : Header) (rows : List (List LineRow)) (parts : List Part) (runs : List (List Event))
+    → HaveRuns c parts runs
     → HaveRuns c parts (map (map row) rows) → flat_map (map row) rows ≡ flat_map (λ run. run) runs
 joined_same c rows parts runs each kept =
     sym (flat_map-map (λ (run : List Event). run) (map row) rows)
     ∙ ap (flat_map (λ (run : List Event). run)) (one_list_of_runs c parts (map (map row) rows) runs kept each)
 
-pub are_joined : (notation : Notation) (h c : Header) (parts : List Part) (rows : List (List LineRow)) → AreSequences notation h c parts
+pub are_joined : (notation : Notation) (h c : Header) (parts : List Part) (rows : List (List LineRow))
+    → AreSequences notation h c parts
     → HaveRuns c parts (map (map row) rows) → AreRowsThroughLastEnd notation h rows
 are_joined notation h c parts rows are kept = record {
   events = program_events h.parameters are.list None;

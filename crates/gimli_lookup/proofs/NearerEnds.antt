@@ -1,5 +1,6 @@
 -- The nearer of two ends, and the indices of the sequences that go down.
-use Rattle.std.proofs.Common.{◌≡◌, ℕ, zero, suc, ◌+◌, ◌<◌, Bool, true, false, cond, List, [], ◌∷◌, length, Option, None, Some, refl, sym, ap, subst, ◌∙◌, inl}
+use Rattle.std.proofs.Common.{◌≡◌, ℕ, zero, suc, ◌+◌, ◌<◌, Bool, true, false, cond, List, [], ◌∷◌, length, Option, None}
+use Rattle.std.proofs.Common.{Some, refl, sym, ap, subst, ◌∙◌, inl}
 use Rattle.std.proofs.Common.{inr, arith}
 use Rattle.std.specs.Prelude.{slice_get, slice_index_or, IfSome}
 use Rattle.std.proofs.lemmas.Bool.{cases_lt, true≢false}
@@ -10,11 +11,13 @@ use Rattle.gimli_lookup.specs.Steps.{indexes_out_of_order}
 use Rattle.gimli_lookup.specs.inside.Ends.{IsClear, AreRowsClear}
 use Rattle.gimli_lookup.proofs.StillFound.{IsApart}
 
-pub clear_nearer : (a at : ℕ) (end new : Option ℕ) → ((b : ℕ) → IsBefore b new → IsBefore b end) → IsClear a end at → IsClear a new at
+pub clear_nearer : (a at : ℕ) (end new : Option ℕ) → ((b : ℕ) → IsBefore b new → IsBefore b end) → IsClear a end at
+    → IsClear a new at
 clear_nearer a at end new before (inl low) = inl low
 clear_nearer a at end new before (inr high) = inr (λ b is. high b (before b is))
 
-pub rows_nearer : (a : ℕ) (rows : List LineRow) (end new : Option ℕ) → ((b : ℕ) → IsBefore b new → IsBefore b end) → AreRowsClear a end rows
+pub rows_nearer : (a : ℕ) (rows : List LineRow) (end new : Option ℕ) → ((b : ℕ) → IsBefore b new → IsBefore b end)
+    → AreRowsClear a end rows
     → AreRowsClear a new rows
 rows_nearer a rows end new before clear k r is = clear_nearer a r.address end new before (clear k r is)
 
@@ -33,11 +36,15 @@ pub is_listed : (first : ℕ) (sequences : List (List LineRow)) (k : ℕ) (d : L
     → never_go_down (slice_index_or sequences k d) ≡ false
     → StandsAt (indexes_out_of_order first sequences) (first + k)
 is_listed first [] k d lt down = absurd (omega arith)
-is_listed first (rows ∷ later) k d lt down = by_order k lt down (never_go_down rows) refl (λ j less goes_down. is_listed (first + 1) later j d less goes_down)
+is_listed first (rows ∷ later) k d lt down =
+    by_order k lt down (never_go_down rows) refl (λ j less goes_down. is_listed (first + 1) later j d less goes_down)
   where
-    by_order : (k : ℕ) → k < length (rows ∷ later) → never_go_down (slice_index_or (rows ∷ later) k d) ≡ false → (b : Bool) → never_go_down rows ≡ b
-        → ((j : ℕ) → j < length later → never_go_down (slice_index_or later j d) ≡ false → StandsAt (indexes_out_of_order (first + 1) later) (first + 1 + j))
-        → StandsAt (cond b (indexes_out_of_order (first + 1) later) (first ∷ indexes_out_of_order (first + 1) later)) (first + k)
+    by_order : (k : ℕ) → k < length (rows ∷ later) → never_go_down (slice_index_or (rows ∷ later) k d) ≡ false
+        → (b : Bool) → never_go_down rows ≡ b
+        → ((j : ℕ) → j < length later → never_go_down (slice_index_or later j d) ≡ false
+        → StandsAt (indexes_out_of_order (first + 1) later) (first + 1 + j))
+        → StandsAt (cond b (indexes_out_of_order (first + 1) later) (first ∷ indexes_out_of_order (first + 1) later))
+        (first + k)
     by_order zero lt down true order listed = absurd (true≢false (sym order ∙ down))
     by_order zero lt down false order listed = record { place = 0; within = omega arith; is = λ d. omega arith }
     by_order (suc k) lt down true order listed =
@@ -49,23 +56,31 @@ is_listed first (rows ∷ later) k d lt down = by_order k lt down (never_go_down
         record { place = suc h.place; within = omega (arith, h.within); is = h.is }
 
 -- each listed index is one of a sequence
-pub listed_within : (first : ℕ) (sequences : List (List LineRow)) (j : ℕ) (d : ℕ) → j < length (indexes_out_of_order first sequences)
+pub listed_within : (first : ℕ) (sequences : List (List LineRow)) (j : ℕ) (d : ℕ)
+    → j < length (indexes_out_of_order first sequences)
     → slice_index_or (indexes_out_of_order first sequences) j d < first + length sequences
 listed_within first [] j d lt = absurd (omega arith)
-listed_within first (rows ∷ later) j d lt = by_order j (never_go_down rows) lt (λ i less. listed_within (first + 1) later i d less)
+listed_within first (rows ∷ later) j d lt =
+    by_order j (never_go_down rows) lt (λ i less. listed_within (first + 1) later i d less)
   where
-    by_order : (j : ℕ) (b : Bool) → j < length (cond b (indexes_out_of_order (first + 1) later) (first ∷ indexes_out_of_order (first + 1) later))
+    by_order : (j : ℕ) (b : Bool)
+        → j < length (cond b (indexes_out_of_order (first + 1) later) (first ∷ indexes_out_of_order (first + 1) later))
         → ((i : ℕ) → i < length (indexes_out_of_order (first + 1) later)
         → slice_index_or (indexes_out_of_order (first + 1) later) i d < first + 1 + length later)
-        → slice_index_or (cond b (indexes_out_of_order (first + 1) later) (first ∷ indexes_out_of_order (first + 1) later)) j d < first + length (rows ∷ later)
+        → slice_index_or
+        (cond b (indexes_out_of_order (first + 1) later) (first ∷ indexes_out_of_order (first + 1) later)) j d
+        < first + length (rows ∷ later)
     by_order j true lt within = omega (arith, within j lt)
     by_order zero false lt within = omega arith
     by_order (suc j) false lt within = omega (arith, within j (omega arith))
 
 -- the rows before an index are clear, and one more
-pub more_rows : (a : ℕ) (rows : List LineRow) (index : ℕ) (end new : Option ℕ) (row : LineRow) → slice_get rows index ≡ Some row
-    → ((k : ℕ) (r : LineRow) → k < index → slice_get rows k ≡ Some r → IsClear a end r.address) → ((b : ℕ) → IsBefore b new → IsBefore b end)
-    → IsClear a new row.address → (k : ℕ) (r : LineRow) → k < index + 1 → slice_get rows k ≡ Some r → IsClear a new r.address
+pub more_rows : (a : ℕ) (rows : List LineRow) (index : ℕ) (end new : Option ℕ) (row : LineRow)
+    → slice_get rows index ≡ Some row
+    → ((k : ℕ) (r : LineRow) → k < index → slice_get rows k ≡ Some r → IsClear a end r.address)
+    → ((b : ℕ) → IsBefore b new → IsBefore b end)
+    → IsClear a new row.address → (k : ℕ) (r : LineRow) → k < index + 1 → slice_get rows k ≡ Some r
+    → IsClear a new r.address
 more_rows a rows index end new row there before nearer clear k r lt is = elim (cases_lt k index) [
   | inl earlier ↦ clear_nearer a r.address end new nearer (before k r earlier is)
   | inr later ↦

@@ -1,5 +1,6 @@
 -- A program has one list of the rows of its sequences, and one answer at an address.
-use Rattle.std.proofs.Common.{◌≡◌, ℕ, true, List, [], ◌∷◌, ◌++◌, map, refl, sym, ap, subst, ◌∙◌, append_assoc, ◌<◌, length, length-append, arith}
+use Rattle.std.proofs.Common.{◌≡◌, ℕ, true, List, [], ◌∷◌, ◌++◌, map, refl, sym, ap, subst, ◌∙◌, append_assoc, ◌<◌}
+use Rattle.std.proofs.Common.{length, length-append, arith}
 use Rattle.std.specs.Prelude.{Option, Some, None, All}
 use Rattle.std.proofs.lemmas.Bool.{false≢true}
 use Rattle.std.specs.List.{AllByRecursion, flat_map}
@@ -29,7 +30,8 @@ same_rows (x ∷ a) (y ∷ b) is =
     let both : a ≡ b = same_rows a b rest in
     cc
 
-same_events : AreAlwaysDecodedOnce → (notation : Notation) (h : Header) (a b : List Event) → Events notation h h.program a → Events notation h h.program b
+same_events : AreAlwaysDecodedOnce → (notation : Notation) (h : Header) (a b : List Event)
+    → Events notation h h.program a → Events notation h h.program b
     → a ≡ b
 same_events once notation h a b x y =
     let same = once notation h h.program x.list y.list x.end y.end x.decoding y.decoding in
@@ -41,10 +43,12 @@ same_events once notation h a b x y =
 -- ---- one cut
 
 -- rows before an end, and the end, are those that a list of rows begins with
-same_parts : (front other : List LineRow) (last end : LineRow) (rest more : List LineRow) → HaveNoEnd front → HaveNoEnd other → last.end_sequence ≡ true
+same_parts : (front other : List LineRow) (last end : LineRow) (rest more : List LineRow) → HaveNoEnd front
+    → HaveNoEnd other → last.end_sequence ≡ true
     → end.end_sequence ≡ true
     → front ++ last ∷ rest ≡ other ++ end ∷ more → (front ++ last ∷ [] ≡ other ++ end ∷ []) × (rest ≡ more)
-same_parts [] [] last end rest more none no_other ends other_ends is = (let k : last ≡ end = cc in ap (λ (r : LineRow). r ∷ []) k, cc)
+same_parts [] [] last end rest more none no_other ends other_ends is =
+    (let k : last ≡ end = cc in ap (λ (r : LineRow). r ∷ []) k, cc)
 same_parts [] (y ∷ other) last end rest more none no_other ends other_ends is =
     let k : last ≡ y = cc in
     absurd (false≢true (sym no_other.0 ∙ ap (λ (r : LineRow). r.end_sequence) (sym k) ∙ ends))
@@ -58,7 +62,8 @@ same_parts (x ∷ front) (y ∷ other) last end rest more none no_other ends oth
     (let s : front ++ last ∷ [] ≡ other ++ end ∷ [] = both.0 in cc, both.1)
 
 -- rows without an end don't begin with a sequence
-not_ended : (rows front : List LineRow) (last : LineRow) (rest : List LineRow) → HaveNoEnd rows → last.end_sequence ≡ true → rows ≡ front ++ last ∷ rest → ⊥
+not_ended : (rows front : List LineRow) (last : LineRow) (rest : List LineRow) → HaveNoEnd rows
+    → last.end_sequence ≡ true → rows ≡ front ++ last ∷ rest → ⊥
 not_ended [] [] last rest none ends is = absurd cc
 not_ended [] (y ∷ front) last rest none ends is = absurd cc
 not_ended (x ∷ rows) [] last rest none ends is =
@@ -70,41 +75,55 @@ not_ended (x ∷ rows) (y ∷ front) last rest none ends is =
 
 -- the first sequence, and what follows it
 opened : (s : List LineRow) (sequences : List (List LineRow)) (unended : List LineRow) (once : EndOnce s)
-    → flat_map (λ sequence. sequence) (s ∷ sequences) ++ unended ≡ once.front ++ once.last ∷ (flat_map (λ sequence. sequence) sequences ++ unended)
+    → flat_map (λ sequence. sequence) (s ∷ sequences) ++ unended
+    ≡ once.front ++ once.last ∷ (flat_map (λ sequence. sequence) sequences ++ unended)
 opened s sequences unended once =
     append_assoc s (flat_map (λ sequence. sequence) sequences) unended
     ∙ ap (λ (rs : List LineRow). rs ++ (flat_map (λ sequence. sequence) sequences ++ unended)) once.parts
     ∙ append_assoc once.front (once.last ∷ []) (flat_map (λ sequence. sequence) sequences ++ unended)
 
-pub same_cut : (s t : List (List LineRow)) (u v : List LineRow) → AllByRecursion EndOnce s → AllByRecursion EndOnce t → HaveNoEnd u → HaveNoEnd v
+pub same_cut : (s t : List (List LineRow)) (u v : List LineRow) → AllByRecursion EndOnce s → AllByRecursion EndOnce t
+    → HaveNoEnd u → HaveNoEnd v
     → flat_map (λ sequence. sequence) s ++ u ≡ flat_map (λ sequence. sequence) t ++ v → s ≡ t
 same_cut [] [] u v each other none no_other is = refl
 same_cut [] (y ∷ t) u v each other none no_other is =
-    absurd (not_ended u other.0.front other.0.last (flat_map (λ sequence. sequence) t ++ v) none other.0.ended (is ∙ opened y t v other.0))
+    absurd (not_ended u other.0.front other.0.last (flat_map (λ sequence. sequence) t ++ v) none other.0.ended
+    (is ∙ opened y t v other.0))
 same_cut (x ∷ s) [] u v each other none no_other is =
-    absurd (not_ended v each.0.front each.0.last (flat_map (λ sequence. sequence) s ++ u) no_other each.0.ended (sym is ∙ opened x s u each.0))
+    absurd (not_ended v each.0.front each.0.last (flat_map (λ sequence. sequence) s ++ u) no_other each.0.ended
+    (sym is ∙ opened x s u each.0))
 same_cut (x ∷ s) (y ∷ t) u v each other none no_other is =
-    let p = same_parts each.0.front other.0.front each.0.last other.0.last (flat_map (λ sequence. sequence) s ++ u) (flat_map (λ sequence. sequence) t ++ v)
+    let p =
+    same_parts each.0.front other.0.front each.0.last other.0.last (flat_map (λ sequence. sequence) s ++ u)
+    (flat_map (λ sequence. sequence) t ++ v)
     each.0.unended other.0.unended each.0.ended other.0.ended (sym (opened x s u each.0) ∙ is ∙ opened y t v other.0) in
     let here : x ≡ y = each.0.parts ∙ p.0 ∙ sym other.0.parts in
     let later : s ≡ t = same_cut s t u v each.1 other.1 none no_other p.1 in
     cc
 
-pub same_sequences : AreAlwaysDecodedOnce → (notation : Notation) (h : Header) (s t : List (List LineRow)) → AreRowsOfSequences notation h s
+pub same_sequences : AreAlwaysDecodedOnce → (notation : Notation) (h : Header) (s t : List (List LineRow))
+    → AreRowsOfSequences notation h s
     → AreRowsOfSequences notation h t → s ≡ t
 same_sequences once notation h s t x y =
-    let rows : x.rows ≡ y.rows = same_rows x.rows y.rows (same_events once notation h (map row x.rows) (map row y.rows) x.given y.given) in
-    same_cut s t x.cut.unended y.cut.unended x.cut.each y.cut.each x.cut.no_end y.cut.no_end (sym x.cut.joined ∙ rows ∙ y.cut.joined)
+    let rows : x.rows
+    ≡ y.rows = same_rows x.rows y.rows
+    (same_events once notation h (map row x.rows) (map row y.rows) x.given y.given) in
+    same_cut s t x.cut.unended y.cut.unended x.cut.each y.cut.each x.cut.no_end y.cut.no_end
+    (sym x.cut.joined ∙ rows ∙ y.cut.joined)
 
 -- ---- one answer
 
 -- a list of sequences that has a first pair isn't one where none has a pair
 pub not_none : (a : ℕ) (s : List (List LineRow)) (x y : LineRow) → IsFirstPair a s x y → All (HasNoPair a) s → ⊥
 not_none a s x y f none =
-    let within : length f.earlier < length s = omega (arith, ap (λ (t : List (List LineRow)). length t) f.parts, length-append f.earlier (f.rows ∷ f.later)) in
-    subst (HasNoPair a) (stands_there a s x y f f.rows) (none (length f.earlier) f.rows within) f.is_first.index x y f.is_first.is_pair
+    let within : length f.earlier
+    < length s = omega
+    (arith, ap (λ (t : List (List LineRow)). length t) f.parts, length-append f.earlier (f.rows ∷ f.later)) in
+    subst (HasNoPair a) (stands_there a s x y f f.rows) (none (length f.earlier) f.rows within) f.is_first.index x y
+    f.is_first.is_pair
 
-same_found : (a : ℕ) (s : List (List LineRow)) (x y : Option (LineRow × LineRow)) → IsFirstFound a s x → IsFirstFound a s y → x ≡ y
+same_found : (a : ℕ) (s : List (List LineRow)) (x y : Option (LineRow × LineRow)) → IsFirstFound a s x
+    → IsFirstFound a s y → x ≡ y
 same_found a s None None f g = refl
 same_found a s None (Some q) f g = absurd (not_none a s q.0 q.1 g f)
 same_found a s (Some p) None f g = absurd (not_none a s p.0 p.1 f g)
@@ -112,8 +131,10 @@ same_found a s (Some p) (Some q) f g =
     let both = one_pair a s p.0 p.1 q.0 q.1 f g in
     ap Some (λ i. (both.0 i, both.1 i))
 
-pub same_answer : AreAlwaysDecodedOnce → (notation : Notation) (h : Header) (a : ℕ) (rows : List (List LineRow)) (x y : Option (LineRow × LineRow))
+pub same_answer : AreAlwaysDecodedOnce
+    → (notation : Notation) (h : Header) (a : ℕ) (rows : List (List LineRow)) (x y : Option (LineRow × LineRow))
     → AreRowsOfSequences notation h rows → IsFirstFound a rows x → IsFoundInRun notation h a y → x ≡ y
 same_answer once notation h a rows x y are first found =
     same_found a rows x y first
-    (subst (λ (s : List (List LineRow)). IsFirstFound a s y) (same_sequences once notation h found.sequences rows found.are are) found.first)
+    (subst (λ (s : List (List LineRow)). IsFirstFound a s y)
+    (same_sequences once notation h found.sequences rows found.are are) found.first)

@@ -1,5 +1,6 @@
 -- The units of a section keep one list of sequences each, and an address has one answer among them.
-use Rattle.std.proofs.Common.{◌≡◌, ℕ, zero, suc, true, List, [], ◌∷◌, ◌++◌, map, take, drop, refl, sym, ap, subst, ◌∙◌, inl, inr, arith}
+use Rattle.std.proofs.Common.{◌≡◌, ℕ, zero, suc, true, List, [], ◌∷◌, ◌++◌, map, take, drop, refl, sym, ap, subst, ◌∙◌}
+use Rattle.std.proofs.Common.{inl, inr, arith}
 use Rattle.std.specs.Prelude.{Option, Some, None, All}
 use Rattle.std.specs.List.{flat_map}
 use Rattle.std.proofs.lemmas.List.{map-append, append-nil}
@@ -36,7 +37,8 @@ StartsWithNoRow [] = Unit {0}
 StartsWithNoRow (row r ∷ events) = ⊥
 StartsWithNoRow (fault e ∷ events) = Unit {0}
 
-same_front : (a b : List LineRow) (s t : List Event) → StartsWithNoRow s → StartsWithNoRow t → map row a ++ s ≡ map row b ++ t → a ≡ b
+same_front : (a b : List LineRow) (s t : List Event) → StartsWithNoRow s → StartsWithNoRow t
+    → map row a ++ s ≡ map row b ++ t → a ≡ b
 same_front [] [] s t left right is = refl
 same_front [] (y ∷ b) s t left right is = absurd (subst StartsWithNoRow is left)
 same_front (x ∷ a) [] s t left right is = absurd (subst StartsWithNoRow (sym is) right)
@@ -53,7 +55,8 @@ record AreRowsThen (notation : Notation) (h : Header) (rows : List LineRow) : Ty
   no_row : StartsWithNoRow rest
   parts : events_of events ≡ map row rows ++ rest
 
-are_then : (notation : Notation) (h : Header) (rows : List LineRow) (e : Option Error) (files : List File) → AreBeforeFault notation h rows e files
+are_then : (notation : Notation) (h : Header) (rows : List LineRow) (e : Option Error) (files : List File)
+    → AreBeforeFault notation h rows e files
     → AreRowsThen notation h rows
 are_then notation h rows None files before = record {
   events = before.events;
@@ -74,7 +77,8 @@ are_then notation h rows (Some e) files before =
           ∙ ap (λ (es : List Event). es ++ fault e ∷ events_of before.rest) before.rows_are;
     }
 
-same_made : AreAlwaysDecodedOnce → (notation : Notation) (h : Header) (a b : List EventWithFiles) → Makes notation true h h.program a
+same_made : AreAlwaysDecodedOnce → (notation : Notation) (h : Header) (a b : List EventWithFiles)
+    → Makes notation true h h.program a
     → Makes notation true h h.program b → a ≡ b
 same_made once notation h a b x y =
     let same = once notation h h.program x.list y.list x.end y.end x.decoding y.decoding in
@@ -83,44 +87,62 @@ same_made once notation h a b x y =
     ∙ ap (λ (end : Option Error). program_made true h y.list end) same.1
     ∙ sym y.made
 
-same_parts : AreAlwaysDecodedOnce → (notation : Notation) (lowest : ℕ) (h k c : Header) (e d : Option Error) (s t : List (List LineRow))
+same_parts : AreAlwaysDecodedOnce
+    → (notation : Notation) (lowest : ℕ) (h k c : Header) (e d : Option Error) (s t : List (List LineRow))
     → IsKept notation lowest h k e s → IsKept notation lowest h c d t → s ≡ t
 same_parts once notation lowest h k c e d s t x y =
     let a = are_then notation h x.rows e k.files x.before in
     let b = are_then notation h y.rows d c.files y.before in
     let events = same_made once notation h a.events b.events a.made b.made in
-    let rows : x.rows ≡ y.rows = same_front x.rows y.rows a.rest b.rest a.no_row b.no_row (sym a.parts ∙ ap events_of events ∙ b.parts) in
-    let sequences : x.sequences ≡ y.sequences = same_cut x.sequences y.sequences x.cut.unended y.cut.unended x.cut.each y.cut.each x.cut.no_end y.cut.no_end
+    let rows : x.rows
+    ≡ y.rows = same_front x.rows y.rows a.rest b.rest a.no_row b.no_row
+    (sym a.parts ∙ ap events_of events ∙ b.parts) in
+    let sequences : x.sequences
+    ≡ y.sequences = same_cut x.sequences y.sequences x.cut.unended y.cut.unended x.cut.each y.cut.each x.cut.no_end
+    y.cut.no_end
     (sym x.cut.joined ∙ rows ∙ y.cut.joined) in
     x.parts_are ∙ ap (flat_map (standing_parts lowest)) sequences ∙ sym y.parts_are
 
 -- ---- one list of sequences of a unit
 
 abbrev pub AreNeverBoth : Type 0
-AreNeverBoth = (notation : Notation) (entry : UnitEntry) (bytes : List ℕ) → HasUnit notation entry bytes → HasNoUnit notation entry bytes → ⊥
+AreNeverBoth =
+    (notation : Notation) (entry : UnitEntry) (bytes : List ℕ) → HasUnit notation entry bytes
+    → HasNoUnit notation entry bytes → ⊥
 
 abbrev pub IsOneHeader : Type 0
 IsOneHeader =
-    (notation : Notation) (entry : UnitEntry) (bytes : List ℕ) (h k : Header) → SpellsUnit notation entry bytes h → SpellsUnit notation entry bytes k → h ≡ k
+    (notation : Notation) (entry : UnitEntry) (bytes : List ℕ) (h k : Header) → SpellsUnit notation entry bytes h
+    → SpellsUnit notation entry bytes k → h ≡ k
 
-module _ (once : AreAlwaysDecodedOnce) (never : AreNeverBoth) (one : IsOneHeader) (section : Unread) (entry : UnitEntry) (lowest : ℕ) where
-  not_both : (u w : KeptUnit) → u.unit.offset ≡ w.unit.offset → IsRefused section entry u → IsRun section entry lowest w → ⊥
+module _ (once : AreAlwaysDecodedOnce) (never : AreNeverBoth) (one : IsOneHeader) (section : Unread) (entry : UnitEntry)
+    (lowest : ℕ) where
+  not_both : (u w : KeptUnit) → u.unit.offset ≡ w.unit.offset → IsRefused section entry u → IsRun section entry lowest w
+      → ⊥
   not_both u w same refused run =
-      never section.notation entry (drop w.unit.offset section.bytes) (run.read, run.unit)
-      (refused.error, subst (λ (o : ℕ). HasHeaderFault section.notation entry (drop o section.bytes) refused.error) same refused.refusal)
+      never section.notation entry (drop w.unit.offset section.bytes) (run.read, run.unit) (
+        refused.error,
+        subst (λ (o : ℕ). HasHeaderFault section.notation entry (drop o section.bytes) refused.error) same
+            refused.refusal,
+      )
 
-  same_unit : (u w : KeptUnit) → u.unit.offset ≡ w.unit.offset → IsUnitOf section entry lowest u → IsUnitOf section entry lowest w → u.sequences ≡ w.sequences
+  same_unit : (u w : KeptUnit) → u.unit.offset ≡ w.unit.offset → IsUnitOf section entry lowest u
+      → IsUnitOf section entry lowest w → u.sequences ≡ w.sequences
   same_unit u w same (inl x) (inl y) = x.no_sequences ∙ sym y.no_sequences
   same_unit u w same (inl x) (inr y) = absurd (not_both u w same x y)
   same_unit u w same (inr x) (inl y) = absurd (not_both w u (sym same) y x)
   same_unit u w same (inr x) (inr y) =
       let here : SpellsUnit section.notation entry (drop w.unit.offset section.bytes) x.read =
       subst (λ (o : ℕ). SpellsUnit section.notation entry (drop o section.bytes) x.read) same x.unit in
-      let header : x.read ≡ y.read = one section.notation entry (drop w.unit.offset section.bytes) x.read y.read here y.unit in
-      same_parts once section.notation lowest y.read x.header.meaning y.header.meaning u.unit.fault w.unit.fault u.sequences w.sequences
-      (subst (λ (h : Header). IsKept section.notation lowest h x.header.meaning u.unit.fault u.sequences) header x.kept) y.kept
+      let header : x.read
+      ≡ y.read = one section.notation entry (drop w.unit.offset section.bytes) x.read y.read here y.unit in
+      same_parts once section.notation lowest y.read x.header.meaning y.header.meaning u.unit.fault w.unit.fault
+      u.sequences w.sequences
+      (subst (λ (h : Header). IsKept section.notation lowest h x.header.meaning u.unit.fault u.sequences) header x.kept)
+      y.kept
 
-  same_units : (units others : List KeptUnit) → map (λ (u : KeptUnit). u.unit.offset) units ≡ map (λ (u : KeptUnit). u.unit.offset) others
+  same_units : (units others : List KeptUnit)
+      → map (λ (u : KeptUnit). u.unit.offset) units ≡ map (λ (u : KeptUnit). u.unit.offset) others
       → All (IsUnitOf section entry lowest) units → All (IsUnitOf section entry lowest) others
       → map (λ (u : KeptUnit). u.sequences) units ≡ map (λ (u : KeptUnit). u.sequences) others
   same_units [] [] same x y = refl
@@ -130,15 +152,19 @@ module _ (once : AreAlwaysDecodedOnce) (never : AreNeverBoth) (one : IsOneHeader
       let first : u.unit.offset ≡ w.unit.offset = cc in
       let rest : map (λ (u : KeptUnit). u.unit.offset) units ≡ map (λ (u : KeptUnit). u.unit.offset) others = cc in
       let here : u.sequences ≡ w.sequences =
-      same_unit u w first (All-head (IsUnitOf section entry lowest) u units x) (All-head (IsUnitOf section entry lowest) w others y) in
-      let later = same_units units others rest (All-tail (IsUnitOf section entry lowest) u units x) (All-tail (IsUnitOf section entry lowest) w others y) in
+      same_unit u w first (All-head (IsUnitOf section entry lowest) u units x)
+      (All-head (IsUnitOf section entry lowest) w others y) in
+      let later =
+      same_units units others rest (All-tail (IsUnitOf section entry lowest) u units x)
+      (All-tail (IsUnitOf section entry lowest) w others y) in
       ap (λ (s : List (List LineRow)). s ∷ map (λ (u : KeptUnit). u.sequences) units) here
       ∙ ap (λ (s : List (List (List LineRow))). w.sequences ∷ s) later
 
 -- ---- one answer at an address
 
 -- without the first unit
-later_first : (a : ℕ) (u : KeptUnit) (units : List KeptUnit) (i : ℕ) (x y : LineRow) → IsFirstPairOfUnit a (u ∷ units) (suc i) x y
+later_first : (a : ℕ) (u : KeptUnit) (units : List KeptUnit) (i : ℕ) (x y : LineRow)
+    → IsFirstPairOfUnit a (u ∷ units) (suc i) x y
     → IsFirstPairOfUnit a units i x y
 later_first a u units i x y f = record {
   unit = f.unit;
@@ -160,7 +186,8 @@ none_or_first a (u ∷ units) (v ∷ others) zero z w same none g =
     (subst (All (HasNoPair a)) here (All-head (λ (u : KeptUnit). All (HasNoPair a) u.sequences) u units none))
 none_or_first a (u ∷ units) (v ∷ others) (suc j) z w same none g =
     let rest : map (λ (u : KeptUnit). u.sequences) units ≡ map (λ (u : KeptUnit). u.sequences) others = cc in
-    none_or_first a units others j z w rest (All-tail (λ (u : KeptUnit). All (HasNoPair a) u.sequences) u units none) (later_first a v others j z w g)
+    none_or_first a units others j z w rest (All-tail (λ (u : KeptUnit). All (HasNoPair a) u.sequences) u units none)
+    (later_first a v others j z w g)
 
 same_first : (a : ℕ) (units others : List KeptUnit) (i j : ℕ) (x y z w : LineRow)
     → map (λ (u : KeptUnit). u.sequences) units ≡ map (λ (u : KeptUnit). u.sequences) others
@@ -171,7 +198,8 @@ same_first a (u ∷ units) (v ∷ others) zero zero x y z w same f g =
     let here : u.sequences ≡ v.sequences = cc in
     let one = subst (λ (k : KeptUnit). IsFirstPair a k.sequences x y) (sym (same_Some u f.unit f.there)) f.is_first in
     let other = subst (λ (k : KeptUnit). IsFirstPair a k.sequences z w) (sym (same_Some v g.unit g.there)) g.is_first in
-    let both = one_pair a v.sequences x y z w (subst (λ (s : List (List LineRow)). IsFirstPair a s x y) here one) other in
+    let both =
+    one_pair a v.sequences x y z w (subst (λ (s : List (List LineRow)). IsFirstPair a s x y) here one) other in
     (refl, both.0, both.1)
 same_first a (u ∷ units) (v ∷ others) zero (suc j) x y z w same f g =
     let here : u.sequences ≡ v.sequences = cc in
@@ -185,25 +213,31 @@ same_first a (u ∷ units) (v ∷ others) (suc i) zero x y z w same f g =
     (All-head (λ (u : KeptUnit). All (HasNoPair a) u.sequences) u (take i units) f.none_earlier))
 same_first a (u ∷ units) (v ∷ others) (suc i) (suc j) x y z w same f g =
     let rest : map (λ (u : KeptUnit). u.sequences) units ≡ map (λ (u : KeptUnit). u.sequences) others = cc in
-    let later = same_first a units others i j x y z w rest (later_first a u units i x y f) (later_first a v others j z w g) in
+    let later =
+    same_first a units others i j x y z w rest (later_first a u units i x y f) (later_first a v others j z w g) in
     (ap suc later.0, later.1, later.2)
 
 same_found : (a : ℕ) (units others : List KeptUnit) (x y : Option CoveringRows)
     → map (λ (u : KeptUnit). u.sequences) units ≡ map (λ (u : KeptUnit). u.sequences) others
     → IsFoundAt units a x → IsFoundAt others a y → x ≡ y
 same_found a units others None None same f g = refl
-same_found a units others None (Some q) same f g = absurd (none_or_first a units others q.unit q.row q.next same (of_each_unit a units f) g)
-same_found a units others (Some p) None same f g = absurd (none_or_first a others units p.unit p.row p.next (sym same) (of_each_unit a others g) f)
+same_found a units others None (Some q) same f g =
+    absurd (none_or_first a units others q.unit q.row q.next same (of_each_unit a units f) g)
+same_found a units others (Some p) None same f g =
+    absurd (none_or_first a others units p.unit p.row p.next (sym same) (of_each_unit a others g) f)
 same_found a units others (Some p) (Some q) same f g =
     let e = same_first a units others p.unit q.unit p.row p.next q.row q.next same f g in
     let is : p ≡ q = λ i. record { unit = e.0 i; row = e.1 i; next = e.2 i } in
     ap Some is
 
-pub one_answer : AreAlwaysDecodedOnce → AreNeverBoth → IsOneHeader → ((notation : Notation) (offset : ℕ) (bytes : List ℕ) → AreUnitsOnce notation offset bytes)
-    → (section : Unread) (entry : UnitEntry) (lowest a : ℕ) (units others : List KeptUnit) (x y : Option CoveringRows) → AreUnitsOf section entry lowest units
+pub one_answer : AreAlwaysDecodedOnce → AreNeverBoth → IsOneHeader
+    → ((notation : Notation) (offset : ℕ) (bytes : List ℕ) → AreUnitsOnce notation offset bytes)
+    → (section : Unread) (entry : UnitEntry) (lowest a : ℕ) (units others : List KeptUnit) (x y : Option CoveringRows)
+    → AreUnitsOf section entry lowest units
     → AreUnitsOf section entry lowest others → IsFoundAt units a x → IsFoundAt others a y → x ≡ y
 one_answer once never one list section entry lowest a units others x y are too f g =
     same_found a units others x y
     (same_units once never one section entry lowest units others
-    (list section.notation 0 section.bytes (map (λ (u : KeptUnit). u.unit.offset) units) (map (λ (u : KeptUnit). u.unit.offset) others) are.offsets too.offsets)
+    (list section.notation 0 section.bytes (map (λ (u : KeptUnit). u.unit.offset) units)
+    (map (λ (u : KeptUnit). u.unit.offset) others) are.offsets too.offsets)
     are.each too.each) f g

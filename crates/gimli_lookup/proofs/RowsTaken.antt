@@ -40,11 +40,13 @@ none_taken run cut = record {
 keeps_header : (a b c : RunState) → KeepsHeader a b → KeepsHeader b c → KeepsHeader a c
 keeps_header a b c f g = record { run = keeps_both a b c f.run g.run; alone = λ alone. g.alone (f.alone alone) }
 
-with_more : (rows : List LineRow) (r : LineRow) (a : SequenceCut) → with_rows (rows ++ r ∷ []) a ≡ with_row r (with_rows rows a)
+with_more : (rows : List LineRow) (r : LineRow) (a : SequenceCut)
+    → with_rows (rows ++ r ∷ []) a ≡ with_row r (with_rows rows a)
 with_more [] r a = refl
 with_more (s ∷ rows) r a = with_more rows r (with_row s a)
 
-pub one_more : (first old new : RunState) (from to : SequenceCut) (r : LineRow) (files : List File) → TakesIn first old from to
+pub one_more : (first old new : RunState) (from to : SequenceCut) (r : LineRow) (files : List File)
+    → TakesIn first old from to
     → KeepsHeader old new → RowIs live_made old new r files → TakesIn first new from (with_row r to)
 one_more first old new from to r files t keeps next =
     let event : EventWithFiles = record { event = row r; files = files } in
@@ -52,14 +54,16 @@ one_more first old new from to r files t keeps next =
       rows = t.rows ++ r ∷ [];
       front = t.front ++ event ∷ [];
       rows_are =
-          map-append (λ (e : EventWithFiles). e.event) t.front (event ∷ []) ∙ ap (λ es. es ++ row r ∷ []) t.rows_are ∙ sym (map-append row t.rows (r ∷ []));
+          map-append (λ (e : EventWithFiles). e.event) t.front (event ∷ []) ∙ ap (λ es. es ++ row r ∷ []) t.rows_are
+          ∙ sym (map-append row t.rows (r ∷ []));
       to_come = t.to_come ∙ ap (λ es. t.front ++ es) next.0 ∙ sym (append_assoc t.front (event ∷ []) (made_left new));
       files = next.2 ∙ t.files;
       taken = ap (with_row r) t.taken ∙ sym (with_more t.rows r from);
       keeps = keeps_header first old new t.keeps keeps;
     }
 
-pub to_end : (first old new : RunState) (from to : SequenceCut) → TakesIn first old from to → KeepsHeader old new → EndIs live_made old new
+pub to_end : (first old new : RunState) (from to : SequenceCut) → TakesIn first old from to → KeepsHeader old new
+    → EndIs live_made old new
     → AreTaken first new None from to
 to_end first old new from to t keeps next = record {
   rows = t.rows;
@@ -70,7 +74,8 @@ to_end first old new from to t keeps next = record {
   keeps = keeps_header first old new t.keeps keeps;
 }
 
-pub to_fault : (first old new : RunState) (from to : SequenceCut) (e : Error) → TakesIn first old from to → KeepsHeader old new → (e ≡ OutOfMemory → ⊥)
+pub to_fault : (first old new : RunState) (from to : SequenceCut) (e : Error) → TakesIn first old from to
+    → KeepsHeader old new → (e ≡ OutOfMemory → ⊥)
     → FaultIs live_made (with_reset_row old) new e → AreTaken first new (Some e) from to
 to_fault first old new from to e t keeps other (inl memory) = absurd (other memory.0)
 to_fault first old new from to e t keeps other (inr comes) = record {
@@ -83,10 +88,12 @@ to_fault first old new from to e t keeps other (inr comes) = record {
 }
 
 -- a refusal that isn't for memory is the first fault
-pub fault_taken : (first old new : RunState) (from to : SequenceCut) (e : Error) (answer : Result (Option Error) Error) → TakesIn first old from to
+pub fault_taken : (first old new : RunState) (from to : SequenceCut) (e : Error) (answer : Result (Option Error) Error)
+    → TakesIn first old from to
     → KeepsHeader old new
     → FaultIs live_made (with_reset_row old) new e → IfOk answer (λ found. (found ≡ Some e) × (e ≢ OutOfMemory))
     → IfOk answer (λ found. AreTaken first new found from to)
 fault_taken first old new from to e (Ok found) t keeps is as_is =
-    subst (λ (o : Option Error). AreTaken first new o from to) (sym as_is.0) (to_fault first old new from to e t keeps as_is.1 is)
+    subst (λ (o : Option Error). AreTaken first new o from to) (sym as_is.0)
+    (to_fault first old new from to e t keeps as_is.1 is)
 fault_taken first old new from to e (Err d) t keeps is as_is = tt

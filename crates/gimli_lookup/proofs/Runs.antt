@@ -13,7 +13,8 @@ use Rattle.gimli_line.proofs.RunLists.{given_without_files}
 
 -- ---- after some rows
 
-module _ (notation : Notation) (h : Header) (events left : List EventWithFiles) (rows : List LineRow) (given : EventsWithFiles notation true h h.program events)
+module _ (notation : Notation) (h : Header) (events left : List EventWithFiles) (rows : List LineRow)
+    (given : EventsWithFiles notation true h h.program events)
     (so_far : events_of events ≡ map row rows ++ events_of left) where
   whole : events_of events ≡ program_events h.parameters given.list given.end
   whole = ap events_of given.given ∙ given_without_files true h given.list given.end
@@ -24,11 +25,14 @@ module _ (notation : Notation) (h : Header) (events left : List EventWithFiles) 
     list = given.list;
     end = given.end;
     decoding = given.decoding;
-    given = sym (append-nil (map row rows)) ∙ ap (λ (l : List EventWithFiles). map row rows ++ events_of l) (sym none) ∙ sym so_far ∙ whole;
+    given =
+        sym (append-nil (map row rows)) ∙ ap (λ (l : List EventWithFiles). map row rows ++ events_of l) (sym none)
+        ∙ sym so_far ∙ whole;
   }
 
   -- a row comes
-  pub run_goes : (r : LineRow) (files : List File) (rest : List EventWithFiles) → left ≡ record { event = row r; files = files } ∷ rest
+  pub run_goes : (r : LineRow) (files : List File) (rest : List EventWithFiles)
+      → left ≡ record { event = row r; files = files } ∷ rest
       → events_of events ≡ map row (rows ++ r ∷ []) ++ events_of rest
   run_goes r files rest next =
       so_far
@@ -37,7 +41,8 @@ module _ (notation : Notation) (h : Header) (events left : List EventWithFiles) 
       ∙ ap (λ (xs : List Event). xs ++ events_of rest) (sym (map-append row rows (r ∷ [])))
 
   -- a fault comes: it is the first one
-  pub first_fault : (files : List File) (rest : List EventWithFiles) (e : Error) → left ≡ record { event = fault e; files = files } ∷ rest
+  pub first_fault : (files : List File) (rest : List EventWithFiles) (e : Error)
+      → left ≡ record { event = fault e; files = files } ∷ rest
       → HasFirstFault notation h e
   first_fault files rest e next = record {
     list = given.list;

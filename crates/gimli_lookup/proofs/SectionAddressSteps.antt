@@ -12,8 +12,10 @@ some_unit [] i inside = absurd (omega arith)
 some_unit (u ∷ units) i inside = u
 
 -- those of one more unit
-pub one_more_unit : (sections : Strings) (path : List ℕ) (units : List KeptUnit) (i : ℕ) (d : KeptUnit) → i < length units
-    → (λ (line : ℕ). addresses_of_path sections path (take i units) line ++ unit_addresses sections path (get_or units i d) line)
+pub one_more_unit : (sections : Strings) (path : List ℕ) (units : List KeptUnit) (i : ℕ) (d : KeptUnit)
+    → i < length units
+    → (λ (line : ℕ).
+    addresses_of_path sections path (take i units) line ++ unit_addresses sections path (get_or units i d) line)
     ≡ addresses_of_path sections path (take (i + 1) units)
 one_more_unit sections path units i d inside =
     fun_ext (λ line.

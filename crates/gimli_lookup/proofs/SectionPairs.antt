@@ -11,31 +11,38 @@ use Rattle.gimli_lookup.proofs.Pairs.{first_found}
 use Rattle.gimli_lookup.proofs.Sections.{HasPlaces, has_indexes, earlier_ends}
 
 -- a part of sequences of which none has a pair
-none_in_part : (a : ℕ) (s : List (List LineRow)) (index first end : ℕ) → index ≤ length s → end ≤ index → All (HasNoPair a) (take index s)
+none_in_part : (a : ℕ) (s : List (List LineRow)) (index first end : ℕ) → index ≤ length s → end ≤ index
+    → All (HasNoPair a) (take index s)
     → All (HasNoPair a) (take (end - first) (drop first s))
 none_in_part a s index first end within le none j d lt =
     let short : j < end - first = omega (arith, lt, length-take (end - first) (drop first s)) in
     let there : first + j < length (take index s) = omega (arith, short, le, length-take-le index s within) in
     let is : slice_index_or (take (end - first) (drop first s)) j d ≡ slice_index_or s (first + j) d =
     get_or-take (end - first) (drop first s) j d short ∙ get_or-drop first s j d in
-    let same : slice_index_or (take index s) (first + j) d ≡ slice_index_or s (first + j) d = get_or-take index s (first + j) d (omega (arith, short, le)) in
+    let same : slice_index_or (take index s) (first + j) d
+    ≡ slice_index_or s (first + j) d = get_or-take index s (first + j) d (omega (arith, short, le)) in
     subst (HasNoPair a) (same ∙ sym is) (none (first + j) d there)
 
 -- the part with the sequence that has the first pair
-first_in_part : (a : ℕ) (s : List (List LineRow)) (index first end : ℕ) (x y : LineRow) → first ≤ index → index < end → end ≤ length s
+first_in_part : (a : ℕ) (s : List (List LineRow)) (index first end : ℕ) (x y : LineRow) → first ≤ index → index < end
+    → end ≤ length s
     → IsFirstPairIn a s index x y → IsFirstPair a (take (end - first) (drop first s)) x y
 first_in_part a s index first end x y from before within f =
     let part = take (end - first) (drop first s) in
     let i = index - first in
     let short : i < end - first = omega (arith, from, before) in
-    let inside : i < length part = omega (arith, short, from, before, within, length-take (end - first) (drop first s), length-drop first s) in
+    let inside : i
+    < length part = omega
+    (arith, short, from, before, within, length-take (end - first) (drop first s), length-drop first s) in
     let back : first + i ≡ index = omega (arith, from) in
     let item : slice_index_or part i f.rows ≡ f.rows =
-    get_or-take (end - first) (drop first s) i f.rows short ∙ get_or-drop first s i f.rows ∙ ap (λ (n : ℕ). slice_index_or s n f.rows) back
+    get_or-take (end - first) (drop first s) i f.rows short ∙ get_or-drop first s i f.rows
+    ∙ ap (λ (n : ℕ). slice_index_or s n f.rows) back
     ∙ get_or_from_slice_get s index f.rows f.rows f.there in
     first_found a part i f.rows x y inside (sym item) (none i part short inside back) f.is_first
   where
-    none : (i : ℕ) (part : List (List LineRow)) → i < end - first → i < length (take (end - first) (drop first s)) → first + i ≡ index
+    none : (i : ℕ) (part : List (List LineRow)) → i < end - first → i < length (take (end - first) (drop first s))
+        → first + i ≡ index
         → All (HasNoPair a) (take i (take (end - first) (drop first s)))
     none i part short inside back j d lt =
         let part = take (end - first) (drop first s) in
@@ -43,12 +50,15 @@ first_in_part a s index first end x y from before within f =
         let all : index ≤ length s = omega (arith, before, within) in
         let there : first + j < length (take index s) = omega (arith, below, back, length-take-le index s all) in
         let is : slice_index_or (take i part) j d ≡ slice_index_or s (first + j) d =
-        get_or-take i part j d below ∙ get_or-take (end - first) (drop first s) j d (omega (arith, below, short)) ∙ get_or-drop first s j d in
+        get_or-take i part j d below ∙ get_or-take (end - first) (drop first s) j d (omega (arith, below, short))
+        ∙ get_or-drop first s j d in
         let same : slice_index_or (take index s) (first + j) d
         ≡ slice_index_or s (first + j) d = get_or-take index s (first + j) d (omega (arith, below, back)) in
         subst (HasNoPair a) (same ∙ sym is) (f.none_earlier (first + j) d there)
 
-pub first_of_unit : (a : ℕ) (s : List (List LineRow)) (units : List ListedUnit) (k index : ℕ) (d : ListedUnit) (x y : LineRow) → AreAdjacent 0 units (length s)
+pub first_of_unit : (a : ℕ) (s : List (List LineRow)) (units : List ListedUnit) (k index : ℕ) (d : ListedUnit)
+    (x y : LineRow)
+    → AreAdjacent 0 units (length s)
     → k < length units → (slice_index_or units k d).first ≤ index → index < (slice_index_or units k d).end
     → IsFirstPairIn a s index x y → IsFirstPairOfUnit a (map (with_sequences s) units) k x y
 first_of_unit a s units k index d x y are lt from before f =
@@ -56,7 +66,8 @@ first_of_unit a s units k index d x y are lt from before f =
     let indexes : HasPlaces 0 (length s) u = has_indexes 0 units (length s) k d are lt in
     record {
       unit = with_sequences s u;
-      there = slice_get-map (with_sequences s) units k ∙ ap (option_map (with_sequences s)) (slice_get-get_or units k d lt);
+      there =
+          slice_get-map (with_sequences s) units k ∙ ap (option_map (with_sequences s)) (slice_get-get_or units k d lt);
       none_earlier = none;
       is_first = first_in_part a s index u.first u.end x y from before indexes.ends f;
     }
@@ -70,11 +81,13 @@ first_of_unit a s units k index d x y are lt from before f =
         ∙ get_or-map (with_sequences s) units j d e (omega (arith, below, lt)) in
         let ends : v.end ≤ index = omega (arith, earlier_ends 0 units (length s) j k d d are below lt, from) in
         let within : index ≤ length s = omega (arith, slice_get_within s index f.rows f.there) in
-        subst (λ (w : KeptUnit). All (HasNoPair a) w.sequences) (sym is) (none_in_part a s index v.first v.end within ends f.none_earlier)
+        subst (λ (w : KeptUnit). All (HasNoPair a) w.sequences) (sym is)
+        (none_in_part a s index v.first v.end within ends f.none_earlier)
 
 -- ---- what an index finds, and the unit of its index
 
-pub index_within : (a : ℕ) (sequences s : List (List LineRow)) (units us : List ListedUnit) (index : ℕ) (x y : LineRow) → AreAdjacent 0 units (length sequences)
+pub index_within : (a : ℕ) (sequences s : List (List LineRow)) (units us : List ListedUnit) (index : ℕ) (x y : LineRow)
+    → AreAdjacent 0 units (length sequences)
     → s ≡ sequences → us ≡ units
     → IsFirstPairIn a s index x y → (end : ℕ) × AreAdjacent 0 us end × (index < end)
 index_within a sequences s units us index x y are same_s same_us f = (
@@ -83,10 +96,13 @@ index_within a sequences s units us index x y are same_s same_us f = (
   omega (arith, slice_get_within s index f.rows f.there, ap (λ (z : List (List LineRow)). length z) same_s),
 )
 
-pub unit_found : (a : ℕ) (sequences s : List (List LineRow)) (units us : List ListedUnit) (kept : List KeptUnit) (k index : ℕ) (x y : LineRow)
+pub unit_found : (a : ℕ) (sequences s : List (List LineRow)) (units us : List ListedUnit) (kept : List KeptUnit)
+    (k index : ℕ) (x y : LineRow)
     → AreAdjacent 0 units (length sequences)
-    → map (with_sequences sequences) units ≡ kept → s ≡ sequences → us ≡ units → k < length us → ((d : ListedUnit) → (slice_index_or us k d).first ≤ index)
-    → ((d : ListedUnit) → index < (slice_index_or us k d).end) → IsFirstPairIn a s index x y → IsFirstPairOfUnit a kept k x y
+    → map (with_sequences sequences) units ≡ kept → s ≡ sequences → us ≡ units → k < length us
+    → ((d : ListedUnit) → (slice_index_or us k d).first ≤ index)
+    → ((d : ListedUnit) → index < (slice_index_or us k d).end) → IsFirstPairIn a s index x y
+    → IsFirstPairOfUnit a kept k x y
 unit_found a sequences s units us kept k index x y are is same_s same_us lt from before f =
     let d : ListedUnit = record { offset = 0; header = None; fault = None; first = 0; end = 0 } in
     subst (λ (z : List KeptUnit). IsFirstPairOfUnit a z k x y) is

@@ -1,7 +1,9 @@
 -- The units of a section, kept one after the other.
-use Rattle.std.proofs.Common.{◌≡◌, ℕ, ◌-◌, ◌≤◌, List, [], ◌∷◌, ◌++◌, length, map, take, drop, refl, sym, ap, subst, ◌∙◌, append_assoc, inl, inr, arith}
+use Rattle.std.proofs.Common.{◌≡◌, ℕ, ◌-◌, ◌≤◌, List, [], ◌∷◌, ◌++◌, length, map, take, drop, refl, sym, ap, subst, ◌∙◌}
+use Rattle.std.proofs.Common.{append_assoc, inl, inr, arith}
 use Rattle.std.specs.Prelude.{Result, Ok, Err, IfOk, IfErr, All}
-use Rattle.std.proofs.lemmas.List.{append-nil, map-append, take-append-le, drop-append-le, take_all, length-append, length-drop}
+use Rattle.std.proofs.lemmas.List.{append-nil, map-append, take-append-le, drop-append-le, take_all, length-append}
+use Rattle.std.proofs.lemmas.List.{length-drop}
 use Rattle.std.proofs.lemmas.List.Elements.{All-push, All-nil}
 use Rattle.std.proofs.Math.Seq.{drop-append_seam}
 use Rattle.gimli_core.specs.Notation.{Notation}
@@ -17,14 +19,17 @@ use Rattle.gimli_lookup.specs.SectionUnits.{IsUnitOf}
 use Rattle.gimli_lookup.specs.UnitRun.{IsKept}
 use Rattle.gimli_lookup.proofs.Sections.{up_to_end}
 
-adjacent_more : (from : ℕ) (units : List ListedUnit) (end : ℕ) (u : ListedUnit) (new : ℕ) → AreAdjacent from units end → u.first ≡ end → u.first ≤ u.end
+adjacent_more : (from : ℕ) (units : List ListedUnit) (end : ℕ) (u : ListedUnit) (new : ℕ) → AreAdjacent from units end
+    → u.first ≡ end → u.first ≤ u.end
     → u.end ≡ new
     → AreAdjacent from (units ++ u ∷ []) new
 adjacent_more from [] end u new are first order ends = (first ∙ sym are, order, ends)
-adjacent_more from (v ∷ units) end u new are first order ends = (are.0, are.1, adjacent_more v.end units end u new are.2 first order ends)
+adjacent_more from (v ∷ units) end u new are first order ends =
+    (are.0, are.1, adjacent_more v.end units end u new are.2 first order ends)
 
 -- sequences of later units change nothing
-earlier_same : (sequences more : List (List LineRow)) (from : ℕ) (units : List ListedUnit) → AreAdjacent from units (length sequences)
+earlier_same : (sequences more : List (List LineRow)) (from : ℕ) (units : List ListedUnit)
+    → AreAdjacent from units (length sequences)
     → map (with_sequences (sequences ++ more)) units ≡ map (with_sequences sequences) units
 earlier_same sequences more from [] are = refl
 earlier_same sequences more from (u ∷ units) are =
@@ -33,11 +38,15 @@ earlier_same sequences more from (u ∷ units) are =
     let same : take size (drop u.first (sequences ++ more)) ≡ take size (drop u.first sequences) =
     ap (take size) (drop-append-le u.first sequences more (omega (arith, within, are.1)))
     ∙ take-append-le size (drop u.first sequences) more (omega (arith, within, are.1, length-drop u.first sequences)) in
-    ap (λ (part : List (List LineRow)). (let k : KeptUnit = record { unit = u; sequences = part } in k) ∷ map (with_sequences (sequences ++ more)) units) same
+    ap
+    (λ (part : List (List LineRow)). (let k : KeptUnit = record { unit = u; sequences = part } in k)
+    ∷ map (with_sequences (sequences ++ more)) units)
+    same
     ∙ ap (λ (ks : List KeptUnit). with_sequences sequences u ∷ ks) (earlier_same sequences more u.end units are.2)
 
 -- those of the unit that is added
-last_part : (sequences more : List (List LineRow)) (u : ListedUnit) → u.first ≡ length sequences → u.end ≡ length (sequences ++ more)
+last_part : (sequences more : List (List LineRow)) (u : ListedUnit) → u.first ≡ length sequences
+    → u.end ≡ length (sequences ++ more)
     → take (u.end - u.first) (drop u.first (sequences ++ more)) ≡ more
 last_part sequences more u first end =
     let size : length more ≤ u.end - u.first = omega (arith, first, end, length-append sequences more) in
@@ -45,20 +54,26 @@ last_part sequences more u first end =
     ∙ ap (take (u.end - u.first)) (drop-append_seam sequences more)
     ∙ take_all (u.end - u.first) more size
 
-added_unit : (sequences more new : List (List LineRow)) (units : List ListedUnit) (u : ListedUnit) → AreAdjacent 0 units (length sequences)
+added_unit : (sequences more new : List (List LineRow)) (units : List ListedUnit) (u : ListedUnit)
+    → AreAdjacent 0 units (length sequences)
     → new ≡ sequences ++ more
     → u.first ≡ length sequences → u.end ≡ length new
-    → map (with_sequences new) (units ++ u ∷ []) ≡ map (with_sequences sequences) units ++ record { unit = u; sequences = more } ∷ []
+    → map (with_sequences new) (units ++ u ∷ [])
+    ≡ map (with_sequences sequences) units ++ record { unit = u; sequences = more } ∷ []
 added_unit sequences more new units u are is first end =
     ap (λ (s : List (List LineRow)). map (with_sequences s) (units ++ u ∷ [])) is
     ∙ map-append (with_sequences (sequences ++ more)) units (u ∷ [])
-    ∙ ap (λ (ks : List KeptUnit). ks ++ with_sequences (sequences ++ more) u ∷ []) (earlier_same sequences more 0 units are)
-    ∙ ap (λ (part : List (List LineRow)). map (with_sequences sequences) units ++ (let k : KeptUnit = record { unit = u; sequences = part } in k) ∷ [])
+    ∙ ap (λ (ks : List KeptUnit). ks ++ with_sequences (sequences ++ more) u ∷ [])
+    (earlier_same sequences more 0 units are)
+    ∙ ap (λ (part : List (List LineRow)).
+    map (with_sequences sequences) units ++ (let k : KeptUnit = record { unit = u; sequences = part } in k) ∷ [])
     (last_part sequences more u first (end ∙ ap (λ (s : List (List LineRow)). length s) is))
 
-pub is_unit_of : {R Offset Endian : Type 0} (section : Unread) (entry : UnitEntry) (lowest : ℕ) (program : Result (SeenHeader R Offset Endian) Error)
+pub is_unit_of : {R Offset Endian : Type 0} (section : Unread) (entry : UnitEntry) (lowest : ℕ)
+    (program : Result (SeenHeader R Offset Endian) Error)
     (u : ListedUnit) (o : ℕ)
-    (sequences : List (List LineRow)) → u.offset ≡ o → IfOk program (HasUnitAt section o entry) → IfErr program (HasUnitFaultAt section o entry)
+    (sequences : List (List LineRow)) → u.offset ≡ o → IfOk program (HasUnitAt section o entry)
+    → IfErr program (HasUnitFaultAt section o entry)
     → IfOk program (λ p. p.notation ≡ section.notation) → IsOutcome lowest program u sequences
     → IsUnitOf section entry lowest (record { unit = u; sequences = sequences })
 is_unit_of section entry lowest (Err e) u o sequences offset unit fault notation outcome = inl (record {
@@ -74,13 +89,15 @@ is_unit_of section entry lowest (Ok program) u o sequences offset unit fault not
   header = outcome.0;
   is_header = outcome.1;
   notation = outcome.2 ∙ notation;
-  kept = subst (λ (n : Notation). IsKept n lowest program.meaning outcome.0.meaning u.fault sequences) notation outcome.3;
+  kept =
+      subst (λ (n : Notation). IsKept n lowest program.meaning outcome.0.meaning u.fault sequences) notation outcome.3;
 })
 
 -- ---- the walk
 
 -- the units so far are kept, and those that are still to come follow them
-pub record AreKept (section : Unread) (entry : UnitEntry) (lowest : ℕ) (offsets : List ℕ) (units : List ListedUnit) (sequences : List (List LineRow))
+pub record AreKept (section : Unread) (entry : UnitEntry) (lowest : ℕ) (offsets : List ℕ) (units : List ListedUnit)
+    (sequences : List (List LineRow))
     (walk : UnitWalk) : Type 0 where
   pub adjacent : AreAdjacent 0 units (length sequences)
   pub each : All (IsUnitOf section entry lowest) (map (with_sequences sequences) units)
@@ -98,7 +115,8 @@ none_kept lowest walk = record {
 }
 
 -- what a walk says of the unit that it gives
-pub record IsGiven {R Offset Endian : Type 0} (old new : UnitWalk) (o : ℕ) (program : Result (SeenHeader R Offset Endian) Error) : Type 0 where
+pub record IsGiven {R Offset Endian : Type 0} (old new : UnitWalk) (o : ℕ)
+    (program : Result (SeenHeader R Offset Endian) Error) : Type 0 where
   pub next : old.offsets ≡ o ∷ new.offsets
   pub same_section : new.section ≡ old.section
   pub same_entry : new.entry ≡ old.entry
@@ -106,26 +124,39 @@ pub record IsGiven {R Offset Endian : Type 0} (old new : UnitWalk) (o : ℕ) (pr
   pub refusal : IfErr program (HasUnitFaultAt old.section o old.entry)
   pub notation : IfOk program (λ p. p.notation ≡ old.section.notation)
 
-pub one_kept : {R Offset Endian : Type 0} (section : Unread) (entry : UnitEntry) (lowest : ℕ) (offsets : List ℕ) (units : List ListedUnit)
+pub one_kept : {R Offset Endian : Type 0} (section : Unread) (entry : UnitEntry) (lowest : ℕ) (offsets : List ℕ)
+    (units : List ListedUnit)
     (sequences new : List (List LineRow)) (walk after : UnitWalk)
-    (o : ℕ) (program : Result (SeenHeader R Offset Endian) Error) (u : ListedUnit) → AreKept section entry lowest offsets units sequences walk
+    (o : ℕ) (program : Result (SeenHeader R Offset Endian) Error) (u : ListedUnit)
+    → AreKept section entry lowest offsets units sequences walk
     → IsGiven walk after o program → u.offset ≡ o
     → IsAdded lowest program u sequences new → AreKept section entry lowest offsets (units ++ u ∷ []) new after
 one_kept section entry lowest offsets units sequences new walk after o program u kept given offset added =
     let order : u.first
-    ≤ u.end = omega (arith, added.first, added.end, ap (λ (s : List (List LineRow)). length s) added.added, length-append sequences added.sequences) in
+    ≤ u.end = omega (
+      arith,
+      added.first,
+      added.end,
+      ap (λ (s : List (List LineRow)). length s) added.added,
+      length-append sequences added.sequences,
+    ) in
     let here : IsUnitOf walk.section walk.entry lowest (record { unit = u; sequences = added.sequences }) =
-    is_unit_of walk.section walk.entry lowest program u o added.sequences offset given.unit given.refusal given.notation added.outcome in
+    is_unit_of walk.section walk.entry lowest program u o added.sequences offset given.unit given.refusal given.notation
+    added.outcome in
     let there : IsUnitOf section entry lowest (record { unit = u; sequences = added.sequences }) =
     subst (λ (s : Unread). IsUnitOf s entry lowest (record { unit = u; sequences = added.sequences })) kept.same_section
-    (subst (λ (e : UnitEntry). IsUnitOf walk.section e lowest (record { unit = u; sequences = added.sequences })) kept.same_entry here) in
+    (subst (λ (e : UnitEntry). IsUnitOf walk.section e lowest (record { unit = u; sequences = added.sequences }))
+    kept.same_entry here) in
     record {
       adjacent = adjacent_more 0 units (length sequences) u (length new) kept.adjacent added.first order added.end;
       each =
-          subst (All (IsUnitOf section entry lowest)) (sym (added_unit sequences added.sequences new units u kept.adjacent added.added added.first added.end))
-          (All-push (IsUnitOf section entry lowest) (map (with_sequences sequences) units) (record { unit = u; sequences = added.sequences }) kept.each there);
+          subst (All (IsUnitOf section entry lowest))
+          (sym (added_unit sequences added.sequences new units u kept.adjacent added.added added.first added.end))
+          (All-push (IsUnitOf section entry lowest) (map (with_sequences sequences) units)
+          (record { unit = u; sequences = added.sequences }) kept.each there);
       to_come = kept.to_come
-          ∙ ap (λ (os : List ℕ). map (λ (u : ListedUnit). u.offset) units ++ os) (given.next ∙ ap (λ (n : ℕ). n ∷ after.offsets) (sym offset))
+          ∙ ap (λ (os : List ℕ). map (λ (u : ListedUnit). u.offset) units ++ os)
+          (given.next ∙ ap (λ (n : ℕ). n ∷ after.offsets) (sym offset))
           ∙ sym (append_assoc (map (λ (u : ListedUnit). u.offset) units) (u.offset ∷ []) after.offsets)
           ∙ ap (λ (os : List ℕ). os ++ after.offsets) (sym (map-append (λ (u : ListedUnit). u.offset) units (u ∷ [])));
       same_section = given.same_section ∙ kept.same_section;
@@ -133,10 +164,13 @@ one_kept section entry lowest offsets units sequences new walk after o program u
     }
 
 -- at the end the offsets are those of all units
-pub all_kept : (sequences : List (List LineRow)) (units : List ListedUnit) (offsets : List ℕ) → offsets ≡ map (λ (u : ListedUnit). u.offset) units ++ []
+pub all_kept : (sequences : List (List LineRow)) (units : List ListedUnit) (offsets : List ℕ)
+    → offsets ≡ map (λ (u : ListedUnit). u.offset) units ++ []
     → offsets ≡ map (λ (u : KeptUnit). u.unit.offset) (map (with_sequences sequences) units)
 all_kept sequences units offsets is = is ∙ append-nil (map (λ (u : ListedUnit). u.offset) units) ∙ same_offsets units
   where
-    same_offsets : (us : List ListedUnit) → map (λ (u : ListedUnit). u.offset) us ≡ map (λ (u : KeptUnit). u.unit.offset) (map (with_sequences sequences) us)
+    same_offsets : (us : List ListedUnit)
+        → map (λ (u : ListedUnit). u.offset) us
+        ≡ map (λ (u : KeptUnit). u.unit.offset) (map (with_sequences sequences) us)
     same_offsets [] = refl
     same_offsets (u ∷ us) = ap (λ (os : List ℕ). u.offset ∷ os) (same_offsets us)

@@ -1,5 +1,6 @@
 -- What an index says of its sequences.
-use Rattle.std.proofs.Common.{◌≡◌, ◌⊎◌, ℕ, ◌-◌, ◌*◌, ◌<◌, ◌≤◌, true, false, List, length, take, Option, None, Some, MatchOption, sym, ap, subst, ◌∙◌, arith}
+use Rattle.std.proofs.Common.{◌≡◌, ◌⊎◌, ℕ, ◌-◌, ◌*◌, ◌<◌, ◌≤◌, true, false, List, length, take, Option, None, Some}
+use Rattle.std.proofs.Common.{MatchOption, sym, ap, subst, ◌∙◌, arith}
 use Rattle.std.specs.Prelude.{All, Any, sum_by, slice_index_or}
 use Rattle.std.proofs.lemmas.List.{take_all}
 use Rattle.gimli_line.specs.declared.run.row.LineRow.{LineRow}
@@ -19,7 +20,8 @@ module _ (index : StepTable) (sequences : List (List LineRow)) (is : IsStepTable
   said : (o : Option ℕ) → o ≡ step_at a index.steps.items
       → MatchOption o (All (λ (rows : List LineRow). covers a rows ≡ false) sequences) (IsFirstCovering a 0 sequences)
   said o e =
-      subst (λ (p : Option ℕ). MatchOption p (All (λ (rows : List LineRow). covers a rows ≡ false) sequences) (IsFirstCovering a 0 sequences))
+      subst (λ (p : Option ℕ).
+      MatchOption p (All (λ (rows : List LineRow). covers a rows ≡ false) sequences) (IsFirstCovering a 0 sequences))
       (sym (e ∙ is.steps.value a)) (cases_covering a 0 sequences)
 
   pub none_covers : None ≡ step_at a index.steps.items → NoneCovers a (length sequences) sequences
@@ -41,7 +43,8 @@ module _ (index : StepTable) (sequences : List (List LineRow)) (is : IsStepTable
     pub none_covers_before : NoneCovers a sequence sequences
     none_covers_before k d lt = first.none_earlier k d (omega (arith, same))
 
-    pub probes_of_covering : (d : List LineRow) → covering_probes a sequences ≡ binary_digits (length (slice_index_or sequences sequence d))
+    pub probes_of_covering : (d : List LineRow)
+        → covering_probes a sequences ≡ binary_digits (length (slice_index_or sequences sequence d))
     probes_of_covering d = first.probes d ∙ ap (λ (k : ℕ). binary_digits (length (slice_index_or sequences k d))) same
 
   pub step_probes : binary_digits (length index.steps.items) ≤ binary_digits (2 * length sequences)
@@ -53,8 +56,10 @@ module _ (index : StepTable) (sequences : List (List LineRow)) (is : IsStepTable
   pub found_uncovered : None ≡ step_at a index.steps.items → (found : Option Found)
       → MatchOption found (HaveNoUnorderedPair a (take (length sequences) sequences))
       (λ (f : Found). IsFirstUnorderedPair a (length sequences) sequences f.sequence f.row f.next)
-      → MatchOption found (All (HasNoPair a) sequences) (λ (f : Found). IsFirstPairIn a sequences f.sequence f.row f.next)
+      → MatchOption found (All (HasNoPair a) sequences) (λ (f : Found).
+      IsFirstPairIn a sequences f.sequence f.row f.next)
   found_uncovered e None none =
       subst (All (HasNoPair a)) (take_all (length sequences) sequences (omega arith))
       (none_before_covering a (length sequences) sequences (omega arith) (none_covers e) none)
-  found_uncovered e (Some f) first = first_of_unordered a (length sequences) sequences f.sequence f.row f.next (none_covers e) first
+  found_uncovered e (Some f) first =
+      first_of_unordered a (length sequences) sequences f.sequence f.row f.next (none_covers e) first

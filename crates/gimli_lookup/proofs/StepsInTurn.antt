@@ -14,12 +14,14 @@ pub record AreInTurn (first : ℕ) (sequences : List (List LineRow)) (steps : Li
   pub of : AreStepsOf first sequences steps
   pub below : All (λ (s : Step). s.from ≤ end) steps
 
-module _ (first i : ℕ) (sequences : List (List LineRow)) (rows : List LineRow) (steps : List Step) (end : ℕ) (lt : i < length sequences)
+module _ (first i : ℕ) (sequences : List (List LineRow)) (rows : List LineRow) (steps : List Step) (end : ℕ)
+    (lt : i < length sequences)
     (there : rows ≡ slice_index_or sequences i rows) (so_far : AreInTurn first (take i sequences) steps end) where
   more : take i sequences ++ rows ∷ [] ≡ take (i + 1) sequences
   more = sym (take_more sequences i rows lt ∙ ap (λ (r : List LineRow). take i sequences ++ r ∷ []) (sym there))
 
-  appended : (right : List Step) → AreStepsOf (first + i) (rows ∷ []) right → AreApart steps right → AreStepsOf first (take (i + 1) sequences) (steps ++ right)
+  appended : (right : List Step) → AreStepsOf (first + i) (rows ∷ []) right → AreApart steps right
+      → AreStepsOf first (take (i + 1) sequences) (steps ++ right)
   appended right of_one apart =
       let size : i ≡ length (take i sequences) = sym (length-take-le i sequences (omega arith)) in
       let of_right : AreStepsOf (first + length (take i sequences)) (rows ∷ []) right =
@@ -30,21 +32,27 @@ module _ (first i : ℕ) (sequences : List (List LineRow)) (rows : List LineRow)
 
   pub no_step_more : AreStepsOf (first + i) (rows ∷ []) [] → AreInTurn first (take (i + 1) sequences) steps end
   no_step_more of_one = record {
-    of = subst (AreStepsOf first (take (i + 1) sequences)) (append-nil steps) (appended [] of_one (λ j k d left right. absurd (omega arith)));
+    of =
+        subst (AreStepsOf first (take (i + 1) sequences)) (append-nil steps) (appended [] of_one (λ j k d left right.
+        absurd (omega arith)));
     below = so_far.below;
   }
 
-  pub two_steps_more : (covered uncovered : Step) → AreStepsOf (first + i) (rows ∷ []) (covered ∷ uncovered ∷ []) → end ≤ covered.from
+  pub two_steps_more : (covered uncovered : Step) → AreStepsOf (first + i) (rows ∷ []) (covered ∷ uncovered ∷ [])
+      → end ≤ covered.from
       → AreInTurn first (take (i + 1) sequences) (steps ++ covered ∷ [] ++ uncovered ∷ []) uncovered.from
   two_steps_more covered uncovered of_one fits =
       let rises : covered.from ≤ uncovered.from = of_one.in_order 0 1 covered (omega arith) (omega arith) in
       let apart : AreApart steps (covered ∷ uncovered ∷ []) =
       λ j k d left right. omega (arith, so_far.below j d left, of_one.in_order 0 k d (omega arith) right, fits) in
       record {
-        of = subst (AreStepsOf first (take (i + 1) sequences)) (sym (append_assoc steps (covered ∷ []) (uncovered ∷ [])))
+        of =
+            subst (AreStepsOf first (take (i + 1) sequences)) (sym (append_assoc steps (covered ∷ []) (uncovered ∷ [])))
             (appended (covered ∷ uncovered ∷ []) of_one apart);
         below = All-push (λ (s : Step). s.from ≤ uncovered.from) (steps ++ covered ∷ []) uncovered
             (All-push (λ (s : Step). s.from ≤ uncovered.from) steps covered
-            (All-weaker (λ (s : Step). s.from ≤ end) (λ (s : Step). s.from ≤ uncovered.from) (λ s le. omega (arith, le, fits, rises)) steps so_far.below) rises)
+            (All-weaker (λ (s : Step). s.from ≤ end) (λ (s : Step). s.from ≤ uncovered.from)
+            (λ s le. omega (arith, le, fits, rises)) steps so_far.below)
+            rises)
             (omega arith);
       }

@@ -21,7 +21,8 @@ use Rattle.gimli_lookup.proofs.SequenceCuts.{are_cut, starts_cut, same_lowest, p
 
 -- ---- what comes before the first fault
 
-before_fault : (notation : Notation) (h : Header) (old new : RunState) (rows : List LineRow) (front : List EventWithFiles) (e : Option Error)
+before_fault : (notation : Notation) (h : Header) (old new : RunState) (rows : List LineRow)
+    (front : List EventWithFiles) (e : Option Error)
     → Makes notation true h h.program (made_left old) → FilesAtEnd notation true h h.program (files_at_end old)
     → events_of front ≡ map row rows → StopsAt old new front e → AreBeforeFault notation h rows e new.files
 before_fault notation h old new rows front None made files are stops = record {
@@ -37,8 +38,10 @@ before_fault notation h old new rows front (Some e) made files are stops = recor
   rows_are = are;
 }
 
-pub is_kept : (lowest : ℕ) (h : Header) (source : Source) (old new : RunState) (e : Option Error) (to : SequenceCut) → old ≡ whole_run h source
-    → Makes source.notation true h h.program (made_left old) → FilesAtEnd source.notation true h h.program (files_at_end old)
+pub is_kept : (lowest : ℕ) (h : Header) (source : Source) (old new : RunState) (e : Option Error) (to : SequenceCut)
+    → old ≡ whole_run h source
+    → Makes source.notation true h h.program (made_left old)
+    → FilesAtEnd source.notation true h h.program (files_at_end old)
     → AreTaken old new e (no_rows lowest) to
     → IsKept source.notation lowest h (header_of new) e (take to.ended to.parts)
 is_kept lowest h source old new e to starts made files taken =
@@ -48,7 +51,9 @@ is_kept lowest h source old new e to starts made files taken =
     record {
       rows = taken.rows;
       before = before_fault source.notation h old new taken.rows taken.front e made files taken.rows_are taken.stops;
-      header = ap (λ (k : Header). record k { files = new.files }) (taken.keeps.run.fixed ∙ ap (λ (a : RunState). a.fixed) starts);
+      header =
+          ap (λ (k : Header). record k { files = new.files })
+          (taken.keeps.run.fixed ∙ ap (λ (a : RunState). a.fixed) starts);
       sequences = cut.sequences;
       cut = record { unended = cut.unended; joined = cut.joined; each = cut.each; no_end = cut.no_end };
       parts_are =

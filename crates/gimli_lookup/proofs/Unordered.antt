@@ -1,10 +1,13 @@
 -- The sequences whose addresses go down, one after the other, and the first pair of all.
-use Rattle.std.proofs.Common.{◌≡◌, ◌⊎◌, ℕ, zero, suc, ◌+◌, ◌-◌, ◌<◌, ◌≤◌, ◌^◌, Bool, true, false, cond, List, [], ◌∷◌, length, take, drop, Option, Some}
+use Rattle.std.proofs.Common.{◌≡◌, ◌⊎◌, ℕ, zero, suc, ◌+◌, ◌-◌, ◌<◌, ◌≤◌, ◌^◌, Bool, true, false, cond, List, [], ◌∷◌}
+use Rattle.std.proofs.Common.{length, take, drop, Option, Some}
 use Rattle.std.proofs.Common.{MatchOption, refl, sym, ap, subst, ◌∙◌, inl, inr, arith}
 use Rattle.std.specs.Prelude.{All, Any, sum_by, slice_index_or}
 use Rattle.std.proofs.lemmas.Bool.{cond-true, cond-false, cases_lt, cases_Bool, true≢false}
-use Rattle.std.proofs.lemmas.List.{length-drop, length-take-le, take-take, get_or-drop, get_or-take, get_or_default, drop-drop}
-use Rattle.std.proofs.lemmas.List.Sums.{sum_by_more, sum_by_more_le_part, sum_by-take-le, sum_by-take-drop, sum_by-le, sum_by-le-sum_by, sum_by-drop_more}
+use Rattle.std.proofs.lemmas.List.{length-drop, length-take-le, take-take, get_or-drop, get_or-take, get_or_default}
+use Rattle.std.proofs.lemmas.List.{drop-drop}
+use Rattle.std.proofs.lemmas.List.Sums.{sum_by_more, sum_by_more_le_part, sum_by-take-le, sum_by-take-drop, sum_by-le}
+use Rattle.std.proofs.lemmas.List.Sums.{sum_by-le-sum_by, sum_by-drop_more}
 use Rattle.std.proofs.lemmas.List.Sums.{get_or-le-sum_by}
 use Rattle.std.proofs.lemmas.Option.{slice_get-get_or, slice_get_within}
 use Rattle.gimli_line.specs.declared.run.row.LineRow.{LineRow}
@@ -34,14 +37,17 @@ pub record IsNextUnordered (first : ℕ) (sequences : List (List LineRow)) (inde
   pub between : (k : ℕ) (d : List LineRow) → k < index - first → never_go_down (slice_index_or sequences k d) ≡ true
   pub others : indexes ≡ indexes_out_of_order (index + 1) (drop (index + 1 - first) sequences)
 
-pub next_unordered : (first : ℕ) (sequences : List (List LineRow)) (index : ℕ) (indexes : List ℕ) → index ∷ indexes ≡ indexes_out_of_order first sequences
+pub next_unordered : (first : ℕ) (sequences : List (List LineRow)) (index : ℕ) (indexes : List ℕ)
+    → index ∷ indexes ≡ indexes_out_of_order first sequences
     → IsNextUnordered first sequences index indexes
 next_unordered first [] index indexes is = cc
-next_unordered first (rows ∷ later) index indexes is = by_order (never_go_down rows) refl (next_unordered (first + 1) later index indexes) is
+next_unordered first (rows ∷ later) index indexes is =
+    by_order (never_go_down rows) refl (next_unordered (first + 1) later index indexes) is
   where
     by_order : (b : Bool) → never_go_down rows ≡ b
         → (index ∷ indexes ≡ indexes_out_of_order (first + 1) later → IsNextUnordered (first + 1) later index indexes)
-        → index ∷ indexes ≡ cond b (indexes_out_of_order (first + 1) later) (first ∷ indexes_out_of_order (first + 1) later)
+        → index ∷ indexes
+        ≡ cond b (indexes_out_of_order (first + 1) later) (first ∷ indexes_out_of_order (first + 1) later)
         → IsNextUnordered first (rows ∷ later) index indexes
     by_order true order later_next e =
         let h = later_next e in
@@ -55,7 +61,8 @@ next_unordered first (rows ∷ later) index indexes is = by_order (never_go_down
           others = h.others ∙ ap (λ (k : ℕ). indexes_out_of_order (index + 1) (drop k (rows ∷ later))) (sym rest_after);
         }
       where
-        earlier : IsNextUnordered (first + 1) later index indexes → index - first ≡ suc (index - (first + 1)) → (k : ℕ) (d : List LineRow) → k < index - first
+        earlier : IsNextUnordered (first + 1) later index indexes → index - first ≡ suc (index - (first + 1))
+            → (k : ℕ) (d : List LineRow) → k < index - first
             → never_go_down (slice_index_or (rows ∷ later) k d) ≡ true
         earlier h after zero d lt = order
         earlier h after (suc k) d lt = h.between k d (omega arith)
@@ -77,12 +84,15 @@ next_unordered first (rows ∷ later) index indexes is = by_order (never_go_down
 pub none_unordered : (first : ℕ) (sequences : List (List LineRow)) → [] ≡ indexes_out_of_order first sequences
     → (k : ℕ) (d : List LineRow) → k < length sequences → never_go_down (slice_index_or sequences k d) ≡ true
 none_unordered first [] is k d lt = absurd (omega arith)
-none_unordered first (rows ∷ later) is k d lt = by_order (never_go_down rows) refl (none_unordered (first + 1) later) is k d lt
+none_unordered first (rows ∷ later) is k d lt =
+    by_order (never_go_down rows) refl (none_unordered (first + 1) later) is k d lt
   where
     by_order : (b : Bool) → never_go_down rows ≡ b
-        → ([] ≡ indexes_out_of_order (first + 1) later → (k : ℕ) (d : List LineRow) → k < length later → never_go_down (slice_index_or later k d) ≡ true)
+        → ([] ≡ indexes_out_of_order (first + 1) later → (k : ℕ) (d : List LineRow) → k < length later
+        → never_go_down (slice_index_or later k d) ≡ true)
         → [] ≡ cond b (indexes_out_of_order (first + 1) later) (first ∷ indexes_out_of_order (first + 1) later)
-        → (k : ℕ) (d : List LineRow) → k < length (rows ∷ later) → never_go_down (slice_index_or (rows ∷ later) k d) ≡ true
+        → (k : ℕ) (d : List LineRow) → k < length (rows ∷ later)
+        → never_go_down (slice_index_or (rows ∷ later) k d) ≡ true
     by_order true order later_order e zero d lt = order
     by_order true order later_order e (suc k) d lt = later_order e k d (omega arith)
     by_order false goes_down later_order e k d lt = cc
@@ -113,7 +123,8 @@ pub record Scanned (a : ℕ) (sequences : List (List LineRow)) (left : List ℕ)
   pub from : ℕ
   pub within : from ≤ length sequences
   pub indexes : left ≡ indexes_out_of_order from (drop from sequences)
-  pub none : (k : ℕ) (d : List LineRow) → k < from → never_go_down (slice_index_or sequences k d) ≡ false → HasNoPair a (slice_index_or sequences k d)
+  pub none : (k : ℕ) (d : List LineRow) → k < from → never_go_down (slice_index_or sequences k d) ≡ false
+      → HasNoPair a (slice_index_or sequences k d)
   pub grows : at_start ≤ now
   pub at_least : 0 < sum_by scan_probes (take from sequences) → at_start < now
   pub at_most : now ≤ at_start + sum_by scan_probes (take from sequences)
@@ -134,7 +145,8 @@ module _ (a : ℕ) (sequences : List (List LineRow)) (index : ℕ) (others : Lis
       ∙ next.down d
 
   -- those before the index have no pair, if their addresses go down
-  pub none_before : (k : ℕ) (d : List LineRow) → k < index → never_go_down (slice_index_or sequences k d) ≡ false → HasNoPair a (slice_index_or sequences k d)
+  pub none_before : (k : ℕ) (d : List LineRow) → k < index → never_go_down (slice_index_or sequences k d) ≡ false
+      → HasNoPair a (slice_index_or sequences k d)
   none_before k d lt goes_down = elim (cases_lt k scanned.from) [
     | inl before ↦ scanned.none k d before goes_down
     | inr after ↦
@@ -155,7 +167,8 @@ module _ (a : ℕ) (sequences : List (List LineRow)) (index : ℕ) (others : Lis
       )
 
   -- the count can grow by the rows at the index
-  pub next_fits : (rows : List LineRow) → rows ≡ slice_index_or sequences index rows → at_start + sum_by length sequences < 2 ^ 64 → now + length rows < 2 ^ 64
+  pub next_fits : (rows : List LineRow) → rows ≡ slice_index_or sequences index rows
+      → at_start + sum_by length sequences < 2 ^ 64 → now + length rows < 2 ^ 64
   next_fits rows item fits =
       omega (
         arith,
@@ -167,7 +180,8 @@ module _ (a : ℕ) (sequences : List (List LineRow)) (index : ℕ) (others : Lis
 
   module _ (rows : List LineRow) (item : rows ≡ slice_index_or sequences index rows) (later : ℕ) (grows : now ≤ later)
       (at_least : 0 < length rows → now < later) (at_most : later ≤ now + length rows) where
-    counted : later ≤ at_start + (sum_by scan_probes (take index sequences) + scan_probes (slice_index_or sequences index rows))
+    counted : later
+        ≤ at_start + (sum_by scan_probes (take index sequences) + scan_probes (slice_index_or sequences index rows))
     counted =
         omega (
           arith,
@@ -203,7 +217,8 @@ module _ (a : ℕ) (sequences : List (List LineRow)) (index : ℕ) (others : Lis
         | inr after ↦
             let same : k ≡ index = omega arith in
             let there : rows ≡ slice_index_or sequences k d =
-            item ∙ get_or_default sequences index rows d next_within ∙ ap (λ (j : ℕ). slice_index_or sequences j d) (sym same) in
+            item ∙ get_or_default sequences index rows d next_within
+            ∙ ap (λ (j : ℕ). slice_index_or sequences j d) (sym same) in
             subst (HasNoPair a) there none
       ];
       grows = omega (arith, grows, scanned.grows);
@@ -211,30 +226,36 @@ module _ (a : ℕ) (sequences : List (List LineRow)) (index : ℕ) (others : Lis
       at_most = omega (arith, counted, sum_by_more scan_probes sequences index rows next_within);
     }
       where
-        dropped : (p : ℕ) → scanned.from ≤ p → drop (p + 1 - scanned.from) (drop scanned.from sequences) ≡ drop (p + 1) sequences
+        dropped : (p : ℕ) → scanned.from ≤ p
+            → drop (p + 1 - scanned.from) (drop scanned.from sequences) ≡ drop (p + 1) sequences
         dropped p le =
             let same : scanned.from + (p + 1 - scanned.from) ≡ p + 1 = omega arith in
             drop-drop (p + 1 - scanned.from) scanned.from sequences ∙ ap (λ (k : ℕ). drop k sequences) same
 
-  pub first_unordered : (end : ℕ) (rows : List LineRow) (x y : LineRow) → index < end → rows ≡ slice_index_or sequences index rows → IsFirstPairOf a rows x y
+  pub first_unordered : (end : ℕ) (rows : List LineRow) (x y : LineRow) → index < end
+      → rows ≡ slice_index_or sequences index rows → IsFirstPairOf a rows x y
       → IsFirstUnorderedPair a end sequences index x y
   first_unordered end rows x y before item first = record {
     rows = rows;
     before_end = before;
     there = slice_get-get_or sequences index rows next_within ∙ ap (λ (r : List LineRow). Some r) (sym item);
-    none_earlier = all_taken (λ (r : List LineRow). never_go_down r ≡ false → HasNoPair a r) sequences index (omega (arith, next_within)) none_before;
+    none_earlier =
+        all_taken (λ (r : List LineRow). never_go_down r ≡ false → HasNoPair a r) sequences index
+        (omega (arith, next_within)) none_before;
     is_first = first;
   }
 
   -- an end at or before the index
   pub none_before_end : (end : ℕ) → end ≤ index → HaveNoUnorderedPair a (take end sequences)
   none_before_end end le =
-      all_taken (λ (r : List LineRow). never_go_down r ≡ false → HasNoPair a r) sequences end (omega (arith, next_within))
+      all_taken (λ (r : List LineRow). never_go_down r ≡ false → HasNoPair a r) sequences end
+      (omega (arith, next_within))
       (λ k d lt goes_down. none_before k d (omega arith) goes_down)
 
 -- ---- a scan at its end: no index is left
 
-module _ (a : ℕ) (sequences : List (List LineRow)) (at_start now : ℕ) (scanned : Scanned a sequences [] at_start now) where
+module _ (a : ℕ) (sequences : List (List LineRow)) (at_start now : ℕ)
+    (scanned : Scanned a sequences [] at_start now) where
   ordered_after : (k : ℕ) (d : List LineRow) → k < length (drop scanned.from sequences)
       → never_go_down (slice_index_or (drop scanned.from sequences) k d) ≡ true
   ordered_after = none_unordered scanned.from (drop scanned.from sequences) scanned.indexes
@@ -269,7 +290,8 @@ module _ (a : ℕ) (sequences : List (List LineRow)) (at_start now : ℕ) (scann
 
 -- ---- the first pair of all
 
-uncovered_none : (a : ℕ) (rows : List LineRow) → covers a rows ≡ false → (never_go_down rows ≡ false → HasNoPair a rows) → HasNoPair a rows
+uncovered_none : (a : ℕ) (rows : List LineRow) → covers a rows ≡ false → (never_go_down rows ≡ false → HasNoPair a rows)
+    → HasNoPair a rows
 uncovered_none a rows isnt down_none = elim (cases_Bool (never_go_down rows)) [
   | inl order ↦ uncovered_has_none a rows order isnt
   | inr goes_down ↦ down_none goes_down
@@ -279,7 +301,8 @@ uncovered_none a rows isnt down_none = elim (cases_Bool (never_go_down rows)) [
 abbrev pub NoneCovers : ℕ → ℕ → List (List LineRow) → Type 0
 NoneCovers a end sequences = (k : ℕ) (d : List LineRow) → k < end → covers a (slice_index_or sequences k d) ≡ false
 
-pub none_before_covering : (a end : ℕ) (sequences : List (List LineRow)) → end ≤ length sequences → NoneCovers a end sequences
+pub none_before_covering : (a end : ℕ) (sequences : List (List LineRow)) → end ≤ length sequences
+    → NoneCovers a end sequences
     → HaveNoUnorderedPair a (take end sequences) → All (HasNoPair a) (take end sequences)
 none_before_covering a end sequences within uncovered none =
     all_taken (HasNoPair a) sequences end within
@@ -288,19 +311,24 @@ none_before_covering a end sequences within uncovered none =
     let same = get_or-take end sequences k d lt in
     subst (HasNoPair a) same (none k d inside (ap never_go_down same ∙ goes_down))))
 
-pub first_of_unordered : (a end : ℕ) (sequences : List (List LineRow)) (index : ℕ) (x y : LineRow) → NoneCovers a end sequences
+pub first_of_unordered : (a end : ℕ) (sequences : List (List LineRow)) (index : ℕ) (x y : LineRow)
+    → NoneCovers a end sequences
     → IsFirstUnorderedPair a end sequences index x y → IsFirstPairIn a sequences index x y
 first_of_unordered a end sequences index x y uncovered first =
     let within : index ≤ length sequences = omega (arith, slice_get_within sequences index first.rows first.there) in
     record {
       rows = first.rows;
       there = first.there;
-      none_earlier = none_before_covering a index sequences within (λ k d lt. uncovered k d (omega (arith, first.before_end))) first.none_earlier;
+      none_earlier =
+          none_before_covering a index sequences within (λ k d lt. uncovered k d (omega (arith, first.before_end)))
+          first.none_earlier;
       is_first = first.is_first;
     }
 
-pub first_of_covering : (a : ℕ) (sequences : List (List LineRow)) (index : ℕ) (rows : List LineRow) (x y : LineRow) → index < length sequences
-    → rows ≡ slice_index_or sequences index rows → NoneCovers a index sequences → HaveNoUnorderedPair a (take index sequences) → IsFirstPairOf a rows x y
+pub first_of_covering : (a : ℕ) (sequences : List (List LineRow)) (index : ℕ) (rows : List LineRow) (x y : LineRow)
+    → index < length sequences
+    → rows ≡ slice_index_or sequences index rows → NoneCovers a index sequences
+    → HaveNoUnorderedPair a (take index sequences) → IsFirstPairOf a rows x y
     → IsFirstPairIn a sequences index x y
 first_of_covering a sequences index rows x y within item uncovered none first = record {
   rows = rows;
@@ -312,7 +340,8 @@ first_of_covering a sequences index rows x y within item uncovered none first = 
 -- ---- the counts of a search
 
 -- a sequence that covers some address gives steps, and one whose addresses go down gives rows to scan
-pub looked_into : (sequences : List (List LineRow)) (steps : List Step) → ((a : ℕ) → step_at a steps ≡ covering_index a 0 sequences)
+pub looked_into : (sequences : List (List LineRow)) (steps : List Step)
+    → ((a : ℕ) → step_at a steps ≡ covering_index a 0 sequences)
     → Any IsLookedInto sequences → (0 < length steps) ⊎ (0 < sum_by scan_probes sequences)
 looked_into sequences (s ∷ steps) value some = inl (omega arith)
 looked_into sequences [] value some = inr (by_kind some.4)
@@ -321,15 +350,18 @@ looked_into sequences [] value some = inr (by_kind some.4)
     by_kind (inl covering) =
         let none : All (λ (rows : List LineRow). covers covering.0 rows ≡ false) sequences =
         subst (λ (o : Option ℕ).
-        MatchOption o (All (λ (rows : List LineRow). covers covering.0 rows ≡ false) sequences) (IsFirstCovering covering.0 0 sequences))
+        MatchOption o (All (λ (rows : List LineRow). covers covering.0 rows ≡ false) sequences)
+        (IsFirstCovering covering.0 0 sequences))
         (sym (value covering.0)) (cases_covering covering.0 0 sequences) in
         absurd (true≢false (sym covering.1 ∙ ap (covers covering.0) (sym some.3) ∙ none some.0 some.1 some.2))
     by_kind (inr goes_down) =
-        let there : scan_probes (slice_index_or sequences some.0 some.1) ≡ length some.1 = ap scan_probes some.3 ∙ scan_down some.1 goes_down in
+        let there : scan_probes (slice_index_or sequences some.0 some.1) ≡ length some.1 = ap scan_probes some.3
+        ∙ scan_down some.1 goes_down in
         omega (arith, get_or-le-sum_by scan_probes sequences some.0 some.1 some.2, there, down_some some.1 goes_down)
 
 -- the rows of an ordered sequence and all that are scanned are rows of different sequences
-pub scan_and_rows : (sequences : List (List LineRow)) (index : ℕ) (rows : List LineRow) → index < length sequences → rows ≡ slice_index_or sequences index rows
+pub scan_and_rows : (sequences : List (List LineRow)) (index : ℕ) (rows : List LineRow) → index < length sequences
+    → rows ≡ slice_index_or sequences index rows
     → never_go_down rows ≡ true → sum_by scan_probes sequences + length rows ≤ sum_by length sequences
 scan_and_rows sequences index rows within item order =
     let here = ap (λ (r : List LineRow). length r) item in

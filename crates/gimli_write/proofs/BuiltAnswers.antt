@@ -24,7 +24,8 @@ use Rattle.gimli_build.specs.ReadsBack.{IsUnit, IsFile, ReadsBack, ReadsBackAs}
 use Rattle.gimli_write.specs.declared.convert_error.ConvertError.{ConvertError}
 use Rattle.gimli_write.specs.declared.convert_error.ConvertError.TheVariants.{Read, OutOfMemory as NoMemory}
 use Rattle.gimli_write.specs.declared.read_back.RoundTrip.{RoundTrip}
-use Rattle.gimli_write.specs.RoundTrip.{FileAnswer, file_answer, built_file, Answers, IsFileAnswer, AreAnswers, AnswersUnit, AnswersProgram}
+use Rattle.gimli_write.specs.RoundTrip.{FileAnswer, file_answer, built_file, Answers, IsFileAnswer, AreAnswers}
+use Rattle.gimli_write.specs.RoundTrip.{AnswersUnit, AnswersProgram}
 use Rattle.gimli_write.specs.RoundTrip.{IsRunRefusal, RefusesUnit, slice_notation, unit_entry_of, sections_of}
 use Rattle.gimli_write.proofs.ReadTexts.{text_there}
 use Rattle.gimli_write.proofs.ReadUnits.{read_back, AreShort}
@@ -35,7 +36,8 @@ use Rattle.gimli_write.proofs.ReadUnits.{read_back, AreShort}
 text_same : (s : Sections) (v : Value) (text other : List ℕ) → IsText s v text → IsText s v other → other ≡ text
 text_same s v text other is also = let both = sym (text_there s v _ also) ∙ text_there s v _ is in cc
 
-optional_same : (s : Sections) (v : Option Value) (text other : Option (List ℕ)) → IsOptionalText s v text → IsOptionalText s v other → other ≡ text
+optional_same : (s : Sections) (v : Option Value) (text other : Option (List ℕ)) → IsOptionalText s v text
+    → IsOptionalText s v other → other ≡ text
 optional_same s (Some v) (Some text) (Some other) is also = ap (λ t. Some t) (text_same s v _ _ is also)
 optional_same s None None None is also = refl
 optional_same s (Some v) (Some text) None is also = absurd also
@@ -59,7 +61,8 @@ one_by_one_same IsBuilt IsAnswered f same (x ∷ xs) (y ∷ ys) [] built answere
 
 -- ---- one file
 
-same_file : (a b : FileAnswer) → a.path ≡ b.path → a.directory_index ≡ b.directory_index → a.timestamp ≡ b.timestamp → a.size ≡ b.size
+same_file : (a b : FileAnswer) → a.path ≡ b.path → a.directory_index ≡ b.directory_index → a.timestamp ≡ b.timestamp
+    → a.size ≡ b.size
     → a.md5 ≡ b.md5 → a.source ≡ b.source → a ≡ b
 same_file a b path directory time size md5 source =
     ap (λ x. let f : FileAnswer = record a { path = x } in f) path
@@ -83,7 +86,8 @@ file_same s p texts read built answer is also =
 -- ---- one run
 
 -- a program gives one list of events
-pub events_same : (notation : Notation) (h : Header) (bytes : List ℕ) (es fs : List Event) → Events notation h bytes es → Events notation h bytes fs → es ≡ fs
+pub events_same : (notation : Notation) (h : Header) (bytes : List ℕ) (es fs : List Event) → Events notation h bytes es
+    → Events notation h bytes fs → es ≡ fs
 events_same notation h bytes es fs a b =
     a.given
     ∙ ap (λ c. program_events h.parameters c.0 c.1)
@@ -100,7 +104,8 @@ rows_same [] (s ∷ others) is = absurd cc
 rows_same (r ∷ rows) [] is = absurd cc
 
 -- rows have no fault among them
-no_fault_among : (rows others : List ReadRow) (e : Error) (rest : List Event) → map row rows ≡ map row others ++ fault e ∷ rest → ⊥
+no_fault_among : (rows others : List ReadRow) (e : Error) (rest : List Event)
+    → map row rows ≡ map row others ++ fault e ∷ rest → ⊥
 no_fault_among [] [] e rest is = cc
 no_fault_among (r ∷ rows) [] e rest is = cc
 no_fault_among [] (s ∷ others) e rest is = cc
@@ -109,7 +114,8 @@ no_fault_among (r ∷ rows) (s ∷ others) e rest is =
     no_fault_among rows others e rest later
 
 -- a program that gives rows has no first fault, and its rows are answered unless memory is missing
-rows_refused : (notation : Notation) (h : Header) (rows : List ReadRow) (e : ConvertError) → Events notation h h.program (map row rows)
+rows_refused : (notation : Notation) (h : Header) (rows : List ReadRow) (e : ConvertError)
+    → Events notation h h.program (map row rows)
     → IsRunRefusal notation h e → e ≡ NoMemory
 rows_refused notation h rows NoMemory given refused = refl
 rows_refused notation h rows (Read e) given refused =
@@ -125,7 +131,8 @@ rows_refused notation h rows e given refused = absurd refused
 
 -- ---- a unit
 
-module _ (notation : Notation) (unit_entry : UnitEntry) (sections : Sections) (p : Built) (texts : StringTables) (unit : List ℕ)
+module _ (notation : Notation) (unit_entry : UnitEntry) (sections : Sections) (p : Built) (texts : StringTables)
+    (unit : List ℕ)
     (back : ReadsBack notation unit_entry sections p texts unit) where
   begins : (h : Header) → IsUnit notation unit_entry unit h → SpellsUnit notation unit_entry unit h
   begins h is = (unit, [], sym (append-nil unit), is.spelled)
@@ -133,29 +140,34 @@ module _ (notation : Notation) (unit_entry : UnitEntry) (sections : Sections) (p
   header_same : (h : Header) → IsUnit notation unit_entry unit h → h ≡ back.header
   header_same h is = one_header notation unit_entry _ h _ (begins h is) (begins _ back.is_unit)
 
-  answered : (a : Answers) → AnswersUnit notation unit_entry sections unit a → AreAnswers notation sections back.header a
+  answered : (a : Answers) → AnswersUnit notation unit_entry sections unit a
+      → AreAnswers notation sections back.header a
   answered a is = subst (λ h. AreAnswers notation sections h a) (header_same _ is.is_unit) is.answered
 
-  directories_built : (a : Answers) → AnswersUnit notation unit_entry sections unit a → a.directories ≡ map (bytes_in texts) p.directories
+  directories_built : (a : Answers) → AnswersUnit notation unit_entry sections unit a
+      → a.directories ≡ map (bytes_in texts) p.directories
   directories_built a is =
       one_by_one_same _ _ _
       (λ v built text is also. text_same _ v _ _ is also)
       _ _ _ back.directories (answered a is).directories
 
-  files_built : (a : Answers) → AnswersUnit notation unit_entry sections unit a → a.files ≡ map (built_file p texts) p.files
+  files_built : (a : Answers) → AnswersUnit notation unit_entry sections unit a
+      → a.files ≡ map (built_file p texts) p.files
   files_built a is =
       one_by_one_same _ _ _
       (λ read built answer is also. file_same _ p _ _ _ _ is also)
       _ _ _ back.files (answered a is).files
 
-  rows_built : (a : Answers) → AnswersUnit notation unit_entry sections unit a → AddressesFit p.encoding.address_size 0 (0, 0) p.items
+  rows_built : (a : Answers) → AnswersUnit notation unit_entry sections unit a
+      → AddressesFit p.encoding.address_size 0 (0, 0) p.items
       → RowsMatch p.encoding.version [] p.items a.rows
   rows_built a is held =
       let rows = back.rows held in
       let same = rows_same _ _ (events_same _ _ _ _ _ rows.1 (answered a is).rows) in
       subst (λ xs. RowsMatch p.encoding.version [] p.items xs) same rows.2
 
-  refused_for_memory : (e : ConvertError) → AddressesFit p.encoding.address_size 0 (0, 0) p.items → RefusesUnit notation unit_entry unit e → e ≡ NoMemory
+  refused_for_memory : (e : ConvertError) → AddressesFit p.encoding.address_size 0 (0, 0) p.items
+      → RefusesUnit notation unit_entry unit e → e ≡ NoMemory
   refused_for_memory e held refused =
       let rows = back.rows held in
       rows_refused _ _ _ e rows.1
@@ -163,7 +175,8 @@ module _ (notation : Notation) (unit_entry : UnitEntry) (sections : Sections) (p
 
 -- ---- the unit of a program
 
-module _ (big : Bool) (p : Built) (texts : StringTables) (section : List ℕ) (n : ℕ) (whole : ReadsBackAs big p texts (drop n section))
+module _ (big : Bool) (p : Built) (texts : StringTables) (section : List ℕ) (n : ℕ)
+    (whole : ReadsBackAs big p texts (drop n section))
     (fits : length section < 2 ^ 64) (held : AreShort texts) where
   read_again : ReadsBack (slice_notation big) (unit_entry_of p texts) (sections_of texts) p texts (drop n section)
   read_again = read_back big p texts section n whole fits held
@@ -177,9 +190,12 @@ module _ (big : Bool) (p : Built) (texts : StringTables) (section : List ℕ) (n
   built_files r is = IfOk-weaker r _ _ (λ answer a. files_built _ _ _ p texts _ read_again _ a) is
 
   pub built_rows : (r : Result RoundTrip ConvertError) → IfOk r (AnswersProgram big p texts (drop n section))
-      → IfOk r (λ answer. AddressesFit p.encoding.address_size 0 (0, 0) p.items → RowsMatch p.encoding.version [] p.items answer.rows.items)
+      → IfOk r (λ answer.
+      AddressesFit p.encoding.address_size 0 (0, 0) p.items → RowsMatch p.encoding.version [] p.items answer.rows.items)
   built_rows r is = IfOk-weaker r _ _ (λ answer a. rows_built _ _ _ p texts _ read_again _ a) is
 
-  pub never_read : (r : Result RoundTrip ConvertError) → IfErr r (RefusesUnit (slice_notation big) (unit_entry_of p texts) (drop n section))
+  pub never_read : (r : Result RoundTrip ConvertError)
+      → IfErr r (RefusesUnit (slice_notation big) (unit_entry_of p texts) (drop n section))
       → AddressesFit p.encoding.address_size 0 (0, 0) p.items → IfErr r (λ e. e ≡ NoMemory)
-  never_read r is held = MatchResult-weaker r is (λ _ u. u) (λ e f. refused_for_memory _ _ _ p texts _ read_again e held f)
+  never_read r is held =
+      MatchResult-weaker r is (λ _ u. u) (λ e f. refused_for_memory _ _ _ p texts _ read_again e held f)

@@ -1,5 +1,6 @@
 -- A conversion, one read after the other.
-use Rattle.std.proofs.Common.{◌≡◌, ℕ, true, false, not, ◌&&◌, if◌then◌else◌, List, [], ◌∷◌, refl, sym, ap, ◌∙◌, subst, inl, inr}
+use Rattle.std.proofs.Common.{◌≡◌, ℕ, true, false, not, ◌&&◌, if◌then◌else◌, List, [], ◌∷◌, refl, sym, ap, ◌∙◌, subst}
+use Rattle.std.proofs.Common.{inl, inr}
 use Rattle.std.specs.Prelude.{Option, Some, None, Result, Ok, Err, is_err, is_some}
 use Rattle.gimli_core.specs.declared.error.Error.{Error}
 use Rattle.gimli_core.specs.Values.{Value}
@@ -9,10 +10,12 @@ use Rattle.gimli_line.specs.run.Instruction.{Ins}
 use Rattle.gimli_build.specs.Texts.{Sections}
 use Rattle.gimli_write.specs.declared.convert_error.ConvertError.{ConvertError}
 use Rattle.gimli_write.specs.convert.Texts.{◌>>=◌, IsRefusedBy}
-use Rattle.gimli_write.specs.convert.SourceTables.{SourceTables, TablesAndTexts, tables_with, with_path, directory_added, FileParts}
+use Rattle.gimli_write.specs.convert.SourceTables.{SourceTables, TablesAndTexts, tables_with, with_path}
+use Rattle.gimli_write.specs.convert.SourceTables.{directory_added, FileParts}
 use Rattle.gimli_write.specs.convert.SourceTables.{with_parts, file_added, all_added}
 use Rattle.gimli_write.specs.convert.Preparation.{Handed, tables_of_header, start_of_tables, first_texts, encoding_of}
-use Rattle.gimli_write.specs.convert.Items.{Reading, stops, defines, offers, file_id, row_in, built_row, row_offered, row_or_end_offered, defines_first}
+use Rattle.gimli_write.specs.convert.Items.{Reading, stops, defines, offers, file_id, row_in, built_row, row_offered}
+use Rattle.gimli_write.specs.convert.Items.{row_or_end_offered, defines_first}
 use Rattle.gimli_write.specs.convert.Items.{after_definitions}
 use Rattle.gimli_write.specs.declared.convert.run.SourceRow.{SourceRow}
 use Rattle.gimli_write.specs.declared.convert.rows.ConvertLineRow.TheVariants.{Row, EndSequence}
@@ -39,7 +42,8 @@ pub plain_directory : (s : Sections) (tables : TablesAndTexts) (v : Value)
 plain_directory s tables v = by _
   where
     by : (r : Result (List ℕ) ConvertError)
-        → (r >>= λ path. Ok (with_path (without_built tables) path)) ≡ ((r >>= λ path. Ok (with_path tables path)) >>= λ next. Ok (without_built next))
+        → (r >>= λ path. Ok (with_path (without_built tables) path))
+        ≡ ((r >>= λ path. Ok (with_path tables path)) >>= λ next. Ok (without_built next))
     by (Ok path) = refl
     by (Err e) = refl
 
@@ -53,7 +57,8 @@ stops_there sections s e (i ∷ list) end = refl
 module _ (sections : Sections) (s : SourceRun) (tables : TablesAndTexts) (f : File) where
   -- after it
   pub file_taken : (next : TablesAndTexts) → file_added sections tables f ≡ Ok next
-      → reading_upon sections s (file_added sections (without_built tables) f) ≡ reading_left sections s (without_built next)
+      → reading_upon sections s (file_added sections (without_built tables) f)
+      ≡ reading_left sections s (without_built next)
   file_taken next is =
       ap (reading_upon sections s) (plain_file _ _ f ∙ ap (λ r. r >>= λ n. Ok (without_built n)) is)
 
@@ -64,47 +69,63 @@ module _ (sections : Sections) (s : SourceRun) (tables : TablesAndTexts) (f : Fi
       ∙ stops_there _ s e _ _
 
   -- its refusal, where other files are defined before it
-  pub file_refusal : (now old : Reading) (e : ConvertError) → now ≡ defines (reading_upon sections s (file_added sections (without_built tables) f))
+  pub file_refusal : (now old : Reading) (e : ConvertError)
+      → now ≡ defines (reading_upon sections s (file_added sections (without_built tables) f))
       → after_definitions now ≡ after_definitions old → (defines_first now ≡ true → defines_first old ≡ true)
       → IsRefusedBy (file_added sections tables f) e → IsReadRefusal old e
   file_refusal now old e here left first (inl memory) = inr (memory, first (ap defines_first here))
-  file_refusal now old e here left first (inr is) = inl (sym left ∙ ap after_definitions (here ∙ ap defines (file_refused e is)))
+  file_refusal now old e here left first (inr is) =
+      inl (sym left ∙ ap after_definitions (here ∙ ap defines (file_refused e is)))
 
 -- ---- the tables of a header have nothing built
 
 module _ {A : Type 0} (add : TablesAndTexts → A → Result TablesAndTexts ConvertError)
-    (commutes : (tables : TablesAndTexts) (x : A) → add (without_built tables) x ≡ (add tables x >>= λ next. Ok (without_built next))) where
-  one_plain : (tables next : TablesAndTexts) (x : A) → without_built tables ≡ tables → add tables x ≡ Ok next → without_built next ≡ next
+    (commutes : (tables : TablesAndTexts) (x : A)
+    → add (without_built tables) x ≡ (add tables x >>= λ next. Ok (without_built next))) where
+  one_plain : (tables next : TablesAndTexts) (x : A) → without_built tables ≡ tables → add tables x ≡ Ok next
+      → without_built next ≡ next
   one_plain tables next x is added =
       same_ok _ _
       (sym (commutes tables x ∙ ap (λ r. r >>= λ n. Ok (without_built n)) added)
       ∙ ap (λ l. add l x) is ∙ added)
 
-  all_plain : (xs : List A) (tables next : TablesAndTexts) → without_built tables ≡ tables → all_added add xs tables ≡ Ok next → without_built next ≡ next
+  all_plain : (xs : List A) (tables next : TablesAndTexts) → without_built tables ≡ tables
+      → all_added add xs tables ≡ Ok next → without_built next ≡ next
   all_plain [] tables next is added = subst (λ l. without_built l ≡ l) (same_ok _ _ added) is
   all_plain (x ∷ xs) tables next is added =
       let one = took _ _ _ added in
       all_plain xs one.0 next (one_plain _ _ x is one.1) one.2
 
-pub prepared_plain : (sections : Sections) (h : Header) (given : Handed) (line_strings : List (List ℕ)) (tables : TablesAndTexts)
+pub prepared_plain : (sections : Sections) (h : Header) (given : Handed) (line_strings : List (List ℕ))
+    (tables : TablesAndTexts)
     → tables_of_header sections h given line_strings ≡ Ok tables → without_built tables ≡ tables
 prepared_plain sections h given line_strings tables is =
     let encoding = encoding_of h given in
     let p = is_prepared sections h given line_strings tables is in
-    let begun = start_of_tables encoding p.line_encoding h (first_texts encoding.version line_strings p.directory p.file) in
+    let begun =
+    start_of_tables encoding p.line_encoding h (first_texts encoding.version line_strings p.directory p.file) in
     all_plain (file_added sections) (plain_file sections) h.files p.with_directories tables
-    (all_plain (directory_added sections) (plain_directory sections) h.directories begun p.with_directories refl p.directories) p.files
+    (all_plain (directory_added sections) (plain_directory sections) h.directories begun p.with_directories refl
+    p.directories)
+    p.files
 
 -- ---- rows
 
-module _ (version : ℕ) (tables : TablesAndTexts) (r : SourceRow) (rest : Reading) (ends_not : r.row.end_sequence ≡ false) where
+module _ (version : ℕ) (tables : TablesAndTexts) (r : SourceRow) (rest : Reading)
+    (ends_not : r.row.end_sequence ≡ false) where
   by_file : row_or_end_offered version tables r rest ≡ row_offered (built_row version tables r) tables rest
-  by_file = ap (λ b. if b then offers (EndSequence r.address_offset) tables rest else row_offered (built_row version tables r) tables rest) ends_not
+  by_file =
+      ap
+      (λ b. if b then offers (EndSequence r.address_offset) tables rest
+      else row_offered (built_row version tables r) tables rest)
+      ends_not
 
-  pub row_taken : (file : ℕ) → Ok file ≡ file_id version tables r.row.file → row_or_end_offered version tables r rest ≡ offers (Row (row_in r file)) tables rest
+  pub row_taken : (file : ℕ) → Ok file ≡ file_id version tables r.row.file
+      → row_or_end_offered version tables r rest ≡ offers (Row (row_in r file)) tables rest
   row_taken file is = by_file ∙ ap (λ x. row_offered (x >>= λ n. Ok (row_in r n)) tables rest) (sym is)
 
-  pub row_refused : (e : ConvertError) → Err e ≡ file_id version tables r.row.file → row_or_end_offered version tables r rest ≡ stops e
+  pub row_refused : (e : ConvertError) → Err e ≡ file_id version tables r.row.file
+      → row_or_end_offered version tables r rest ≡ stops e
   row_refused e is = by_file ∙ ap (λ x. row_offered (x >>= λ n. Ok (row_in r n)) tables rest) (sym is)
 
   -- so a file has its number, or none has
@@ -118,7 +139,8 @@ module _ (version : ℕ) (tables : TablesAndTexts) (r : SourceRow) (rest : Readi
 
 -- ---- the state of a conversion, by its parts
 
-abbrev pub conversion : Sections → SourceRun → SourceTables → Option ℕ → Option SourceRow → Option ConvertError → Conversion
+abbrev pub conversion : Sections → SourceRun → SourceTables → Option ℕ → Option SourceRow → Option ConvertError
+    → Conversion
 conversion sections source tables address held failed = record {
   sections = sections;
   source = source;
@@ -130,7 +152,8 @@ conversion sections source tables address held failed = record {
 
 -- ---- a row that is held
 
-module _ (sections : Sections) (source : SourceRun) (tables : SourceTables) (address after : Option ℕ) (held taken : Option SourceRow)
+module _ (sections : Sections) (source : SourceRun) (tables : SourceTables) (address after : Option ℕ)
+    (held taken : Option SourceRow)
     (failed : Option ConvertError) (line_strings : List (List ℕ)) (r : SourceRow) (is : held ≡ Some r) where
   abbrev now : TablesAndTexts
   now = tables_with line_strings tables

@@ -12,28 +12,33 @@ use Rattle.gimli_write.proofs.ConvertSteps.{done_first, refused_first, refused_s
 
 -- ---- two steps that don't ask for each other, and what follows them
 
-module _ {A B C : Type 0} (a : Result A ConvertError) (b : Result B ConvertError) (f : A → B → Result C ConvertError) (x : A) (y : B) (first : a ≡ Ok x)
+module _ {A B C : Type 0} (a : Result A ConvertError) (b : Result B ConvertError) (f : A → B → Result C ConvertError)
+    (x : A) (y : B) (first : a ≡ Ok x)
     (second : b ≡ Ok y) where
   pub at_third : (a >>= λ x. b >>= λ y. f x y) ≡ f x y
   at_third = done_first a _ x first ∙ done_first b _ y second
 
 -- ---- the preparation
 
-module _ (s : Sections) (h : Header) (given : Handed) (line_strings : List (List ℕ)) (encoding : Encoding) (target : encoding ≡ encoding_of h given) where
+module _ (s : Sections) (h : Header) (given : Handed) (line_strings : List (List ℕ)) (encoding : Encoding)
+    (target : encoding ≡ encoding_of h given) where
   abbrev start : Result TablesAndTexts ConvertError
   start = tables_at_start s h encoding given.line_encoding given.name line_strings
 
   whole : (start >>= λ tables. lists_added s h tables) ≡ tables_of_header s h given line_strings
   whole =
-      ap (λ e. tables_at_start s h e given.line_encoding given.name line_strings >>= λ tables. lists_added s h tables) target
+      ap (λ e. tables_at_start s h e given.line_encoding given.name line_strings >>= λ tables. lists_added s h tables)
+      target
 
-  pub refused_at_start : (e : ConvertError) → IsRefusedBy (tables_at_start s h encoding given.line_encoding given.name line_strings) e
+  pub refused_at_start : (e : ConvertError)
+      → IsRefusedBy (tables_at_start s h encoding given.line_encoding given.name line_strings) e
       → IsRefusedBy (tables_of_header s h given line_strings) e
   refused_at_start e refused =
       refused_same _ _ e whole
       (refused_first _ _ e refused)
 
-  pub at_listed : (tables : TablesAndTexts) → tables_at_start s h encoding given.line_encoding given.name line_strings ≡ Ok tables
+  pub at_listed : (tables : TablesAndTexts)
+      → tables_at_start s h encoding given.line_encoding given.name line_strings ≡ Ok tables
       → lists_added s h tables ≡ tables_of_header s h given line_strings
   at_listed tables is = sym (done_first _ _ _ is) ∙ whole
 

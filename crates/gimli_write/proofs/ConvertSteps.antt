@@ -1,5 +1,6 @@
 -- Steps of a conversion, one after the other.
-use Rattle.std.proofs.Common.{◌≡◌, ℕ, ◌+◌, ◌<◌, List, [], ◌∷◌, ◌++◌, length, map, drop, get_or, refl, sym, ap, ◌∙◌, inl, inr}
+use Rattle.std.proofs.Common.{◌≡◌, ℕ, ◌+◌, ◌<◌, List, [], ◌∷◌, ◌++◌, length, map, drop, get_or, refl, sym, ap, ◌∙◌, inl}
+use Rattle.std.proofs.Common.{inr}
 use Rattle.std.specs.Prelude.{Result, Ok, Option, Some, option_map}
 use Rattle.std.specs.Option.{option_map_or}
 use Rattle.std.proofs.lemmas.List.{at_drop_more}
@@ -12,12 +13,14 @@ use Rattle.gimli_build.specs.Tables.{with_directory, index_of_directory, with_fi
 use Rattle.gimli_build.specs.Texts.{Sections}
 use Rattle.gimli_write.specs.declared.convert_error.ConvertError.{ConvertError}
 use Rattle.gimli_write.specs.convert.Texts.{◌>>=◌, IsRefusedBy, source_path}
-use Rattle.gimli_write.specs.convert.SourceTables.{TablesAndTexts, version_of, directory_added, FileParts, with_parts, all_added}
+use Rattle.gimli_write.specs.convert.SourceTables.{TablesAndTexts, version_of, directory_added, FileParts, with_parts}
+use Rattle.gimli_write.specs.convert.SourceTables.{all_added}
 
 -- ---- one step and the next
 
 -- after a step that is done the next one follows
-pub done_first : {A B : Type 0} (r : Result A ConvertError) (f : A → Result B ConvertError) (x : A) → r ≡ Ok x → (r >>= f) ≡ f x
+pub done_first : {A B : Type 0} (r : Result A ConvertError) (f : A → Result B ConvertError) (x : A) → r ≡ Ok x
+    → (r >>= f) ≡ f x
 done_first r f x is = ap (λ r. r >>= f) is
 
 -- a call is refused where its first step is
@@ -27,16 +30,19 @@ refused_first r f e (inl memory) = inl memory
 refused_first r f e (inr is) = inr (ap (λ r. r >>= f) is)
 
 -- the same refusal by another name
-pub refused_same : {A : Type 0} (r s : Result A ConvertError) (e : ConvertError) → r ≡ s → IsRefusedBy r e → IsRefusedBy s e
+pub refused_same : {A : Type 0} (r s : Result A ConvertError) (e : ConvertError) → r ≡ s → IsRefusedBy r e
+    → IsRefusedBy s e
 refused_same r s e is (inl memory) = inl memory
 refused_same r s e is (inr refused) = inr (sym is ∙ refused)
 
 -- ---- one directory, and one file
 
 -- the tables after a directory, by the text that was made of its path
-pub directory_is_added : (s : Sections) (tables : TablesAndTexts) (v : Value) (path : List ℕ) (text : LineText) (line_strings : List (List ℕ))
+pub directory_is_added : (s : Sections) (tables : TablesAndTexts) (v : Value) (path : List ℕ) (text : LineText)
+    (line_strings : List (List ℕ))
     → source_path (version_of tables) s v ≡ Ok path
-    → text ≡ made_text (version_of tables) tables.line_strings path → line_strings ≡ made_table (version_of tables) tables.line_strings path
+    → text ≡ made_text (version_of tables) tables.line_strings path
+    → line_strings ≡ made_table (version_of tables) tables.line_strings path
     → directory_added s tables v ≡ Ok (record tables {
       program = record tables.program { directories = with_directory tables.program.directories text };
       directory_ids = tables.directory_ids ++ index_of_directory tables.program.directories text ∷ [];
@@ -46,8 +52,10 @@ directory_is_added s tables v path text line_strings is made after =
     rw (made, after) (done_first _ _ _ is)
 
 -- the tables after a file of these parts, by the texts that were made of its path and its source
-pub parts_are_added : (tables : TablesAndTexts) (f : File) (parts : FileParts) (path : LineText) (source : Option LineText) (paths line_strings : List (List ℕ))
-    → path ≡ made_text (version_of tables) tables.line_strings parts.path → paths ≡ made_table (version_of tables) tables.line_strings parts.path
+pub parts_are_added : (tables : TablesAndTexts) (f : File) (parts : FileParts) (path : LineText)
+    (source : Option LineText) (paths line_strings : List (List ℕ))
+    → path ≡ made_text (version_of tables) tables.line_strings parts.path
+    → paths ≡ made_table (version_of tables) tables.line_strings parts.path
     → source ≡ option_map (made_text (version_of tables) paths) parts.source
     → line_strings ≡ option_map_or (made_table (version_of tables) paths) parts.source paths
     → with_parts tables f parts ≡ record tables {
@@ -64,10 +72,12 @@ parts_are_added tables f parts path source paths line_strings made after source_
 -- ---- many
 
 -- what is left to be added begins with the next element
-pub next_added : {A B : Type 0} (add : TablesAndTexts → B → Result TablesAndTexts ConvertError) (seen : A → B) (xs : List A) (i : ℕ) (x : A)
+pub next_added : {A B : Type 0} (add : TablesAndTexts → B → Result TablesAndTexts ConvertError) (seen : A → B)
+    (xs : List A) (i : ℕ) (x : A)
     (tables : TablesAndTexts)
     → i < length xs → x ≡ get_or xs i x
-    → all_added add (map seen (drop i xs)) tables ≡ (add tables (seen x) >>= λ next. all_added add (map seen (drop (i + 1) xs)) next)
+    → all_added add (map seen (drop i xs)) tables
+    ≡ (add tables (seen x) >>= λ next. all_added add (map seen (drop (i + 1) xs)) next)
 next_added {A = A} add seen xs i x tables lt is =
     at_drop_more (λ (l : List A). all_added add (map seen l) tables) _ i x lt
     ∙ ap (λ y. add tables (seen y) >>= λ next. all_added add (map seen (drop (i + 1) xs)) next) (sym is)

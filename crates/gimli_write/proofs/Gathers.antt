@@ -8,14 +8,16 @@ use Rattle.gimli_write.specs.convert.SourceTables.{TablesAndTexts}
 use Rattle.gimli_write.specs.convert.Items.{Reading, ends, stops, defines, offers, address_offered, after_definitions}
 use Rattle.gimli_write.specs.convert.Sequences.{sequence_from, sequence_with}
 use Rattle.gimli_write.specs.convert.Texts.{IsRefusedBy}
-use Rattle.gimli_write.specs.convert.Conversion.{Conversion, tables_of, version_of_source, after_held, unless_failed, source_left, still_to_read, IsReadRefusal}
+use Rattle.gimli_write.specs.convert.Conversion.{Conversion, tables_of, version_of_source, after_held, unless_failed}
+use Rattle.gimli_write.specs.convert.Conversion.{source_left, still_to_read, IsReadRefusal}
 use Rattle.gimli_write.specs.convert.Conversion.{AddsFiles}
 use Rattle.gimli_write.specs.declared.convert_error.ConvertError.{ConvertError}
 use Rattle.gimli_write.specs.declared.convert_error.ConvertError.TheVariants.{MissingLineEndSequence}
 use Rattle.gimli_write.specs.declared.convert.rows.ConvertLineSequenceEnd.TheVariants.{Address}
 
 -- files that are defined give no row
-pub gathered_after : (start : Option ℕ) (rows : List LineRow) (r : Reading) → sequence_from start rows (after_definitions r) ≡ sequence_from start rows r
+pub gathered_after : (start : Option ℕ) (rows : List LineRow) (r : Reading)
+    → sequence_from start rows (after_definitions r) ≡ sequence_from start rows r
 gathered_after start rows (defines rest) = gathered_after start rows rest
 gathered_after start rows (ends tables) = refl
 gathered_after start rows (stops e) = refl
@@ -27,24 +29,29 @@ pub gathered_first : (start : Option ℕ) (rows : List LineRow) (old next : Read
 gathered_first start rows old next is = sym (gathered_after start rows old) ∙ ap (sequence_from start rows) is
 
 -- after a row
-pub row_gathered : (start : Option ℕ) (rows more : List LineRow) (row : LineRow) (old rest : Reading) (tables : TablesAndTexts)
+pub row_gathered : (start : Option ℕ) (rows more : List LineRow) (row : LineRow) (old rest : Reading)
+    (tables : TablesAndTexts)
     → after_definitions old ≡ offers (Row row) tables rest → more ≡ rows ++ row ∷ []
     → sequence_from start more rest ≡ sequence_from start rows old
 row_gathered start rows more row old rest tables hands more_is =
-    ap (λ (r : List LineRow). sequence_from start r rest) more_is ∙ sym (gathered_first start rows old (offers (Row row) tables rest) hands)
+    ap (λ (r : List LineRow). sequence_from start r rest) more_is
+    ∙ sym (gathered_first start rows old (offers (Row row) tables rest) hands)
 
 -- after an address, before the first row
 pub address_gathered : (start : Option ℕ) (rows : List LineRow) (a : ℕ) (old rest : Reading) (tables : TablesAndTexts)
     → after_definitions old ≡ offers (SetAddress a) tables rest → rows ≡ []
     → sequence_from (Some a) rows rest ≡ sequence_from start rows old
-address_gathered start rows a old rest tables hands none = rw none (sym (gathered_first start [] old (offers (SetAddress a) tables rest) hands))
+address_gathered start rows a old rest tables hands none =
+    rw none (sym (gathered_first start [] old (offers (SetAddress a) tables rest) hands))
 
 -- an address after a row is where a sequence ends, and is read again
 pub address_ends : (start : Option ℕ) (rows : List LineRow) (a : ℕ) (old rest : Reading) (tables : TablesAndTexts)
     → after_definitions old ≡ offers (SetAddress a) tables rest
-    → nat_eq (length rows) 0 ≡ false → sequence_from start rows old ≡ Ok (Some (sequence_with start rows (Address a)), offers (SetAddress a) tables rest)
+    → nat_eq (length rows) 0 ≡ false
+    → sequence_from start rows old ≡ Ok (Some (sequence_with start rows (Address a)), offers (SetAddress a) tables rest)
 address_ends start [] a old rest tables hands some = absurd cc
-address_ends start (row ∷ rows) a old rest tables hands some = gathered_first start (row ∷ rows) old (offers (SetAddress a) tables rest) hands
+address_ends start (row ∷ rows) a old rest tables hands some =
+    gathered_first start (row ∷ rows) old (offers (SetAddress a) tables rest) hands
 
 module _ (c d : Conversion) (line_strings : List (List ℕ)) (a : ℕ) where
   pub given_back : c.failed ≡ None → c.address ≡ None → d ≡ record c { address = Some a }
@@ -65,12 +72,15 @@ module _ (c d : Conversion) (line_strings : List (List ℕ)) (a : ℕ) where
       by None (Some b) well none = absurd cc
 
 -- the end of what is read
-pub nothing_gathered : (start : Option ℕ) (rows : List LineRow) (old rest : Reading) (tables : TablesAndTexts) → after_definitions old ≡ ends tables
+pub nothing_gathered : (start : Option ℕ) (rows : List LineRow) (old rest : Reading) (tables : TablesAndTexts)
+    → after_definitions old ≡ ends tables
     → rest ≡ ends tables → rows ≡ []
     → sequence_from start rows old ≡ Ok (None, rest)
-nothing_gathered start rows old rest tables end left none = rw (none, left) (gathered_first start [] old (ends tables) end)
+nothing_gathered start rows old rest tables end left none =
+    rw (none, left) (gathered_first start [] old (ends tables) end)
 
-pub rows_left : (start : Option ℕ) (rows : List LineRow) (old : Reading) (tables : TablesAndTexts) → after_definitions old ≡ ends tables
+pub rows_left : (start : Option ℕ) (rows : List LineRow) (old : Reading) (tables : TablesAndTexts)
+    → after_definitions old ≡ ends tables
     → nat_eq (length rows) 0 ≡ false
     → sequence_from start rows old ≡ Err MissingLineEndSequence
 rows_left start [] old tables end some = absurd cc

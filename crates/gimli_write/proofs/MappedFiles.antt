@@ -1,6 +1,7 @@
 -- The files of a conversion: each id of a file of the source is that of its paths, with what is known of the last file
 -- that has them.
-use Rattle.std.proofs.Common.{◌≡◌, ◌≢◌, ℕ, zero, suc, ◌+◌, ◌<◌, Bool, true, false, not, cond, ◌||◌, if◌then◌else◌, List, [], ◌∷◌, ◌++◌, length, refl, sym, ap}
+use Rattle.std.proofs.Common.{◌≡◌, ◌≢◌, ℕ, zero, suc, ◌+◌, ◌<◌, Bool, true, false, not, cond, ◌||◌, if◌then◌else◌, List}
+use Rattle.std.proofs.Common.{[], ◌∷◌, ◌++◌, length, refl, sym, ap}
 use Rattle.std.proofs.Common.{subst, ◌∙◌, inl, inr, append_assoc}
 use Rattle.std.specs.Prelude.{◌⊎◌, nat_eq, Option, Some, None, option_map, slice_get, Ok, bytes_eq, IfSome}
 use Rattle.std.specs.List.{list_any, position_or_len, AllByRecursion}
@@ -14,35 +15,42 @@ use Rattle.gimli_line.specs.header.Header.{Header}
 use Rattle.gimli_line.specs.run.Events.{defined_files}
 use Rattle.gimli_line.specs.run.Instruction.{Ins}
 use Rattle.gimli_build.specs.LineText.{LineText, made_text, made_table}
-use Rattle.gimli_build.specs.Tables.{FileKey, Details, File as BuiltFile, key_eq, has_file, index_of_file, with_details, with_file, keys_of}
+use Rattle.gimli_build.specs.Tables.{FileKey, Details, File as BuiltFile, key_eq, has_file, index_of_file, with_details}
+use Rattle.gimli_build.specs.Tables.{with_file, keys_of}
 use Rattle.gimli_build.specs.Texts.{Sections, OneByOne}
 use Rattle.gimli_build.proofs.building.TableLemmas.{file_found_at, file_keeps, file_others, some_within}
-use Rattle.gimli_write.specs.convert.SourceTables.{TablesAndTexts, version_of, FileParts, file_parts, file_added, all_added}
+use Rattle.gimli_write.specs.convert.SourceTables.{TablesAndTexts, version_of, FileParts, file_parts, file_added}
+use Rattle.gimli_write.specs.convert.SourceTables.{all_added}
 use Rattle.gimli_write.specs.convert.Items.{tables_after_definition, tables_at}
 use Rattle.gimli_write.specs.convert.Preparation.{first_ids}
 use Rattle.gimli_write.proofs.ReadTexts.{one_by_one_push}
 use Rattle.gimli_write.proofs.MappedTables.{took, same_ok, sources_table}
-use Rattle.gimli_write.proofs.MappedTexts.{index_stays, index_new, any_stays, any_new, index_none, last_element, same_key, IsMade, HasMade, has_then, is_made}
+use Rattle.gimli_write.proofs.MappedTexts.{index_stays, index_new, any_stays, any_new, index_none, last_element}
+use Rattle.gimli_write.proofs.MappedTexts.{same_key, IsMade, HasMade, has_then, is_made}
 use Rattle.gimli_write.proofs.MappedTexts.{is_same, table_has, made_differ}
 use Rattle.gimli_write.proofs.MappedDirectories.{sources_has}
 
 -- ---- elements one by one
 
-pub one_by_one_map : {A B : Type 0} (R S : A → B → Type 0) → ((x : A) (y : B) → R x y → S x y) → (xs : List A) (ys : List B) → OneByOne R xs ys
+pub one_by_one_map : {A B : Type 0} (R S : A → B → Type 0) → ((x : A) (y : B) → R x y → S x y)
+    → (xs : List A) (ys : List B) → OneByOne R xs ys
     → OneByOne S xs ys
 one_by_one_map R S f [] [] all = tt
 one_by_one_map R S f [] (y ∷ ys) all = elim all [ ]
 one_by_one_map R S f (x ∷ xs) [] all = elim all [ ]
 one_by_one_map R S f (x ∷ xs) (y ∷ ys) all = (f x y all.0, one_by_one_map R S f xs ys all.1)
 
-pub one_by_one_at : {A B : Type 0} (R : A → B → Type 0) (xs : List A) (ys : List B) (i : ℕ) (x : A) → OneByOne R xs ys → slice_get xs i ≡ Some x
+pub one_by_one_at : {A B : Type 0} (R : A → B → Type 0) (xs : List A) (ys : List B) (i : ℕ) (x : A) → OneByOne R xs ys
+    → slice_get xs i ≡ Some x
     → (y : B) × (slice_get ys i ≡ Some y) × R x y
 one_by_one_at R [] ys i x all is = absurd cc
 one_by_one_at R (a ∷ xs) [] i x all is = elim all [ ]
-one_by_one_at {A = A} R (a ∷ xs) (b ∷ ys) zero x all is = let same : a ≡ x = cc in (b, refl, subst (λ z. R z b) same all.0)
+one_by_one_at {A = A} R (a ∷ xs) (b ∷ ys) zero x all is =
+    let same : a ≡ x = cc in (b, refl, subst (λ z. R z b) same all.0)
 one_by_one_at R (a ∷ xs) (b ∷ ys) (suc i) x all is = one_by_one_at R xs ys i x all.1 is
 
-pub one_by_one_back : {A B : Type 0} (R : A → B → Type 0) (xs : List A) (ys : List B) (i : ℕ) (y : B) → OneByOne R xs ys → slice_get ys i ≡ Some y
+pub one_by_one_back : {A B : Type 0} (R : A → B → Type 0) (xs : List A) (ys : List B) (i : ℕ) (y : B) → OneByOne R xs ys
+    → slice_get ys i ≡ Some y
     → (x : A) × (slice_get xs i ≡ Some x)
 one_by_one_back R [] [] i y all is = absurd cc
 one_by_one_back R [] (b ∷ ys) i y all is = elim all [ ]
@@ -50,24 +58,28 @@ one_by_one_back R (a ∷ xs) [] i y all is = elim all [ ]
 one_by_one_back R (a ∷ xs) (b ∷ ys) zero y all is = (a, refl)
 one_by_one_back R (a ∷ xs) (b ∷ ys) (suc i) y all is = one_by_one_back R xs ys i y all.1 is
 
-all_push : {A : Type 0} (P : A → Type 0) (xs : List A) (x : A) → AllByRecursion P xs → P x → AllByRecursion P (xs ++ x ∷ [])
+all_push : {A : Type 0} (P : A → Type 0) (xs : List A) (x : A) → AllByRecursion P xs → P x
+    → AllByRecursion P (xs ++ x ∷ [])
 all_push P [] x all one = (one, tt)
 all_push P (y ∷ xs) x all one = (all.0, all_push P xs x all.1 one)
 
 -- ---- a file is added to a table
 
 module _ (q : FileKey → Bool) where
-  details_any : (files : List BuiltFile) (i : ℕ) (d : Details) → list_any (λ f. q f.0) (with_details files i d) ≡ list_any (λ f. q f.0) files
+  details_any : (files : List BuiltFile) (i : ℕ) (d : Details)
+      → list_any (λ f. q f.0) (with_details files i d) ≡ list_any (λ f. q f.0) files
   details_any [] i d = refl
   details_any (f ∷ files) zero d = refl
   details_any (f ∷ files) (suc i) d = ap (λ b. q f.0 || b) (details_any files i d)
 
-  details_index : (files : List BuiltFile) (i : ℕ) (d : Details) → position_or_len (λ f. q f.0) (with_details files i d) ≡ position_or_len (λ f. q f.0) files
+  details_index : (files : List BuiltFile) (i : ℕ) (d : Details)
+      → position_or_len (λ f. q f.0) (with_details files i d) ≡ position_or_len (λ f. q f.0) files
   details_index [] i d = refl
   details_index (f ∷ files) zero d = refl
   details_index (f ∷ files) (suc i) d = ap (λ n. cond (not (q f.0)) (1 + n) 0) (details_index files i d)
 
-details_at : (files : List BuiltFile) (i : ℕ) (d : Details) → slice_get (with_details files i d) i ≡ option_map (λ f. (f.0, d)) (slice_get files i)
+details_at : (files : List BuiltFile) (i : ℕ) (d : Details)
+    → slice_get (with_details files i d) i ≡ option_map (λ f. (f.0, d)) (slice_get files i)
 details_at [] i d = refl
 details_at (f ∷ files) zero d = refl
 details_at (f ∷ files) (suc i) d = details_at files i d
@@ -77,14 +89,18 @@ module _ (files : List BuiltFile) (k : FileKey) (d : Details) where
   old_any : (l : FileKey) → has_file files l ≡ true → has_file (with_file files k (Some d)) l ≡ true
   old_any l is = by (has_file files k)
     where
-      by : (b : Bool) → has_file (if b then with_details files (index_of_file files k) d else files ++ (k, d) ∷ []) l ≡ true
+      by : (b : Bool)
+          → has_file (if b then with_details files (index_of_file files k) d else files ++ (k, d) ∷ []) l ≡ true
       by true = details_any (key_eq l) _ _ d ∙ is
       by false = any_stays (λ f. key_eq l f.0) _ _ is
 
-  old_index : (l : FileKey) → has_file files l ≡ true → index_of_file (with_file files k (Some d)) l ≡ index_of_file files l
+  old_index : (l : FileKey) → has_file files l ≡ true
+      → index_of_file (with_file files k (Some d)) l ≡ index_of_file files l
   old_index l is = by (has_file files k)
     where
-      by : (b : Bool) → index_of_file (if b then with_details files (index_of_file files k) d else files ++ (k, d) ∷ []) l ≡ index_of_file files l
+      by : (b : Bool)
+          → index_of_file (if b then with_details files (index_of_file files k) d else files ++ (k, d) ∷ []) l
+          ≡ index_of_file files l
       by true = details_index (key_eq l) _ _ d
       by false = index_stays (λ f. key_eq l f.0) _ _ is
 
@@ -92,7 +108,8 @@ module _ (files : List BuiltFile) (k : FileKey) (d : Details) where
   new_any : has_file (with_file files k (Some d)) k ≡ true
   new_any = by (has_file files k) refl
     where
-      by : (b : Bool) → has_file files k ≡ b → has_file (if b then with_details files (index_of_file files k) d else files ++ (k, d) ∷ []) k ≡ true
+      by : (b : Bool) → has_file files k ≡ b
+          → has_file (if b then with_details files (index_of_file files k) d else files ++ (k, d) ∷ []) k ≡ true
       by true is = details_any (key_eq k) _ _ d ∙ is
       by false is = any_new (λ f. key_eq k f.0) _ _ (same_key k)
 
@@ -100,7 +117,8 @@ module _ (files : List BuiltFile) (k : FileKey) (d : Details) where
   new_index = by (has_file files k) refl
     where
       by : (b : Bool) → has_file files k ≡ b
-          → index_of_file (if b then with_details files (index_of_file files k) d else files ++ (k, d) ∷ []) k ≡ index_of_file files k
+          → index_of_file (if b then with_details files (index_of_file files k) d else files ++ (k, d) ∷ []) k
+          ≡ index_of_file files k
       by true is = details_index (key_eq k) _ _ d
       by false is = index_new (λ f. key_eq k f.0) _ _ (same_key k) is
 
@@ -108,29 +126,40 @@ module _ (files : List BuiltFile) (k : FileKey) (d : Details) where
   new_entry : slice_get (with_file files k (Some d)) (index_of_file files k) ≡ Some (k, d)
   new_entry = by (has_file files k) refl (file_found_at files k (Some d))
     where
-      there : (o : Option BuiltFile) → option_map (λ f. f.0) (option_map (λ f. let g : BuiltFile = (f.0, d) in g) o) ≡ Some k
+      there : (o : Option BuiltFile)
+          → option_map (λ f. f.0) (option_map (λ f. let g : BuiltFile = (f.0, d) in g) o) ≡ Some k
           → option_map (λ f. let g : BuiltFile = (f.0, d) in g) o ≡ Some (k, d)
-      there (Some f) is = let same : f.0 ≡ k = cc in ap (λ (l : FileKey). let o : Option BuiltFile = Some (l, d) in o) same
+      there (Some f) is =
+          let same : f.0 ≡ k = cc in ap (λ (l : FileKey). let o : Option BuiltFile = Some (l, d) in o) same
       there None is = absurd cc
 
       by : (b : Bool) → has_file files k ≡ b
-          → slice_get (keys_of (if b then with_details files (index_of_file files k) d else files ++ (k, d) ∷ [])) (index_of_file files k) ≡ Some k
-          → slice_get (if b then with_details files (index_of_file files k) d else files ++ (k, d) ∷ []) (index_of_file files k) ≡ Some (k, d)
+          → slice_get (keys_of (if b then with_details files (index_of_file files k) d else files ++ (k, d) ∷ []))
+          (index_of_file files k)
+          ≡ Some k
+          → slice_get (if b then with_details files (index_of_file files k) d else files ++ (k, d) ∷ [])
+          (index_of_file files k)
+          ≡ Some (k, d)
       by true is found =
           let n = index_of_file files k in
           details_at files n d
           ∙ there (slice_get files n)
-          (ap (option_map (λ f. f.0)) (sym (details_at files n d)) ∙ sym (slice_get-map (λ (f : BuiltFile). f.0) (with_details files n d) n) ∙ found)
+          (ap (option_map (λ f. f.0)) (sym (details_at files n d))
+          ∙ sym (slice_get-map (λ (f : BuiltFile). f.0) (with_details files n d) n) ∙ found)
       by false is found = last_element files (k, d) (index_of_file files k) (index_none (λ f. key_eq k f.0) files is)
 
   -- another file keeps its details
-  other_entry : (l : FileKey) (e : Details) (i : ℕ) → slice_get files i ≡ Some (l, e) → l ≢ k → slice_get (with_file files k (Some d)) i ≡ Some (l, e)
+  other_entry : (l : FileKey) (e : Details) (i : ℕ) → slice_get files i ≡ Some (l, e) → l ≢ k
+      → slice_get (with_file files k (Some d)) i ≡ Some (l, e)
   other_entry l e i is other =
       let lt : i < length files = some_within files i (l, e) is in
-      let keys : slice_get (keys_of files) i ≡ Some l = slice_get-map (λ (f : BuiltFile). f.0) files i ∙ ap (option_map (λ f. f.0)) is in
+      let keys : slice_get (keys_of files) i ≡ Some l = slice_get-map (λ (f : BuiltFile). f.0) files i
+      ∙ ap (option_map (λ f. f.0)) is in
       let stays = (file_keeps files k (Some d)).stays i (some_within (keys_of files) i l keys) in
       file_others files k (Some d) i lt (λ here.
-      let found = subst (λ (n : ℕ). slice_get (keys_of (with_file files k (Some d))) n ≡ Some k) (sym here) (file_found_at files k (Some d)) in
+      let found =
+      subst (λ (n : ℕ). slice_get (keys_of (with_file files k (Some d))) n ≡ Some k) (sym here)
+      (file_found_at files k (Some d)) in
       let same : l ≡ k = cc in
       other same)
       ∙ is
@@ -144,7 +173,8 @@ SamePaths a b = (a.path ≡ b.path) × (a.directory ≡ b.directory)
 same_paths : (a b : FileParts) → SamePaths a b ⊎ (SamePaths a b → ⊥)
 same_paths a b = by (bytes_eq a.path b.path) (nat_eq a.directory b.directory) refl refl
   where
-    by : (p d : Bool) → bytes_eq a.path b.path ≡ p → nat_eq a.directory b.directory ≡ d → SamePaths a b ⊎ (SamePaths a b → ⊥)
+    by : (p d : Bool) → bytes_eq a.path b.path ≡ p → nat_eq a.directory b.directory ≡ d
+        → SamePaths a b ⊎ (SamePaths a b → ⊥)
     by true true path directory = inl ((bytes_eq-Decides _ _).0 path, eqb-true a.directory b.directory directory)
     by true false path directory = inr (λ same. true≢false (sym (eq-eqb a.directory b.directory same.1) ∙ directory))
     by false d path directory = inr (λ same. true≢false (sym ((bytes_eq-Decides _ _).1 same.0) ∙ path))
@@ -154,7 +184,8 @@ abbrev pub HasParts : Sections → ℕ → List ℕ → FileParts → File → T
 HasParts sections version directory_ids parts f = file_parts version sections directory_ids f ≡ Ok parts
 
 -- what a built file has of a file of the source
-pub record IsKnown (version : ℕ) (line_strings : List (List ℕ)) (f : File) (source : Option (List ℕ)) (d : Details) : Type 0 where
+pub record IsKnown (version : ℕ) (line_strings : List (List ℕ)) (f : File) (source : Option (List ℕ)) (d : Details)
+    : Type 0 where
   pub timestamp : d.timestamp ≡ f.timestamp
   pub size : d.size ≡ f.size
   pub md5 : d.md5 ≡ f.md5
@@ -162,13 +193,15 @@ pub record IsKnown (version : ℕ) (line_strings : List (List ℕ)) (f : File) (
   pub source_made : IfSome source (IsMade version line_strings)
 
 -- a file has other paths
-pub record HasOthers (sections : Sections) (version : ℕ) (directory_ids : List ℕ) (parts : FileParts) (g : File) : Type 0 where
+pub record HasOthers (sections : Sections) (version : ℕ) (directory_ids : List ℕ) (parts : FileParts) (g : File)
+    : Type 0 where
   pub own : FileParts
   pub own_is : HasParts sections version directory_ids own g
   pub other : SamePaths own parts → ⊥
 
 -- an id is that of the paths of a file; and what is known is of the last of these files that has them
-pub record IsFileOf (sections : Sections) (version : ℕ) (line_strings : List (List ℕ)) (directory_ids : List ℕ) (files : List BuiltFile) (source : List File)
+pub record IsFileOf (sections : Sections) (version : ℕ) (line_strings : List (List ℕ)) (directory_ids : List ℕ)
+    (files : List BuiltFile) (source : List File)
     (f : File) (id : ℕ) : Type 0 where
   pub parts : FileParts
   pub parts_are : HasParts sections version directory_ids parts f
@@ -187,7 +220,8 @@ pub record IsFileOf (sections : Sections) (version : ℕ) (line_strings : List (
   pub split : source ≡ before ++ last ∷ later
   pub none_after : AllByRecursion (HasOthers sections version directory_ids parts) later
 
-known_longer : (version : ℕ) (old new : List (List ℕ)) (f : File) (source : Option (List ℕ)) (d : Details) → HasMade version old new
+known_longer : (version : ℕ) (old new : List (List ℕ)) (f : File) (source : Option (List ℕ)) (d : Details)
+    → HasMade version old new
     → IsKnown version old f source d → IsKnown version new f source d
 known_longer version old new f (Some text) d has so = record {
   timestamp = so.timestamp;
@@ -196,14 +230,22 @@ known_longer version old new f (Some text) d has so = record {
   source_is = so.source_is ∙ ap Some (sym (has.same text so.source_made));
   source_made = has.there text so.source_made;
 }
-known_longer version old new f None d has so = record { timestamp = so.timestamp; size = so.size; md5 = so.md5; source_is = so.source_is; source_made = tt }
+known_longer version old new f None d has so = record {
+  timestamp = so.timestamp;
+  size = so.size;
+  md5 = so.md5;
+  source_is = so.source_is;
+  source_made = tt;
+}
 
 source_known : (version : ℕ) (paths : List (List ℕ)) (source : Option (List ℕ))
-    → option_map (made_text version paths) source ≡ option_map (made_text version (sources_table version paths source)) source
+    → option_map (made_text version paths) source
+    ≡ option_map (made_text version (sources_table version paths source)) source
 source_known version paths (Some text) = ap Some (sym (is_same version paths text))
 source_known version paths None = refl
 
-source_there : (version : ℕ) (paths : List (List ℕ)) (source : Option (List ℕ)) → IfSome source (IsMade version (sources_table version paths source))
+source_there : (version : ℕ) (paths : List (List ℕ)) (source : Option (List ℕ))
+    → IfSome source (IsMade version (sources_table version paths source))
 source_there version paths (Some text) = is_made version paths text
 source_there version paths None = tt
 
@@ -215,13 +257,19 @@ module _ (sections : Sections) (tables : TablesAndTexts) (g : File) (added : Fil
   paths_after = made_table (version_of tables) tables.line_strings added.path
 
   abbrev texts_after : List (List ℕ)
-  texts_after = sources_table (version_of tables) (made_table (version_of tables) tables.line_strings added.path) added.source
+  texts_after =
+      sources_table (version_of tables) (made_table (version_of tables) tables.line_strings added.path) added.source
 
   abbrev key_of : FileKey
   key_of = (made_text (version_of tables) tables.line_strings added.path, added.directory)
 
   abbrev details_of : Details
-  details_of = record { timestamp = g.timestamp; size = g.size; md5 = g.md5; source = option_map (made_text (version_of tables) paths_after) added.source }
+  details_of = record {
+    timestamp = g.timestamp;
+    size = g.size;
+    md5 = g.md5;
+    source = option_map (made_text (version_of tables) paths_after) added.source;
+  }
 
   abbrev files_after_it : List BuiltFile
   files_after_it = with_file tables.program.files key_of (Some details_of)
@@ -234,7 +282,8 @@ module _ (sections : Sections) (tables : TablesAndTexts) (g : File) (added : Fil
   own_made : IsMade (version_of tables) texts_after added.path
   own_made = (sources_has _ _ _).there added.path (is_made (version_of tables) tables.line_strings added.path)
 
-  own_same : made_text (version_of tables) texts_after added.path ≡ made_text (version_of tables) tables.line_strings added.path
+  own_same : made_text (version_of tables) texts_after added.path
+      ≡ made_text (version_of tables) tables.line_strings added.path
   own_same =
       (sources_has _ _ _).same added.path (is_made (version_of tables) tables.line_strings added.path)
       ∙ is_same (version_of tables) tables.line_strings added.path
@@ -250,20 +299,24 @@ module _ (sections : Sections) (tables : TablesAndTexts) (g : File) (added : Fil
 
   -- the new file
   file_new : (source : List File)
-      → IsFileOf sections (version_of tables) texts_after tables.directory_ids files_after_it (source ++ g ∷ []) g (index_of_file tables.program.files key_of)
+      → IsFileOf sections (version_of tables) texts_after tables.directory_ids files_after_it (source ++ g ∷ []) g
+      (index_of_file tables.program.files key_of)
   file_new source =
       let to = λ (t : LineText). let k : FileKey = (t, added.directory) in k in
       record {
         parts = added;
         parts_are = added_are;
         made = own_made;
-        present = subst (λ t. has_file files_after_it (to t) ≡ true) (sym own_same) (new_any tables.program.files key_of details_of);
+        present =
+            subst (λ t. has_file files_after_it (to t) ≡ true) (sym own_same)
+            (new_any tables.program.files key_of details_of);
         index =
             subst (λ t. index_of_file tables.program.files key_of ≡ index_of_file files_after_it (to t)) (sym own_same)
             (sym (new_index tables.program.files key_of details_of));
         details = details_of;
         entry =
-            subst (λ t. slice_get files_after_it (index_of_file tables.program.files key_of) ≡ Some (to t, details_of)) (sym own_same)
+            subst (λ t. slice_get files_after_it (index_of_file tables.program.files key_of) ≡ Some (to t, details_of))
+            (sym own_same)
             (new_entry tables.program.files key_of details_of);
         last = g;
         last_parts = added;
@@ -282,33 +335,44 @@ module _ (sections : Sections) (tables : TablesAndTexts) (g : File) (added : Fil
       → IsFileOf sections (version_of tables) texts_after tables.directory_ids files_after_it (source ++ g ∷ []) f id
   file_old source f id so = elim (same_paths added so.parts) [ inl same ↦ taken same | inr other ↦ left other ]
     where
-      text_same : made_text (version_of tables) texts_after so.parts.path ≡ made_text (version_of tables) tables.line_strings so.parts.path
+      text_same : made_text (version_of tables) texts_after so.parts.path
+          ≡ made_text (version_of tables) tables.line_strings so.parts.path
       text_same = texts_stay.same so.parts.path so.made
 
-      present : has_file files_after_it (made_text (version_of tables) texts_after so.parts.path, so.parts.directory) ≡ true
+      present : has_file files_after_it (made_text (version_of tables) texts_after so.parts.path, so.parts.directory)
+          ≡ true
       present =
           subst (λ (t : LineText). has_file files_after_it (t, so.parts.directory) ≡ true) (sym text_same)
-          (old_any tables.program.files key_of details_of (made_text (version_of tables) tables.line_strings so.parts.path, so.parts.directory) so.present)
+          (old_any tables.program.files key_of details_of
+          (made_text (version_of tables) tables.line_strings so.parts.path, so.parts.directory) so.present)
 
-      index : id ≡ index_of_file files_after_it (made_text (version_of tables) texts_after so.parts.path, so.parts.directory)
+      index : id
+          ≡ index_of_file files_after_it (made_text (version_of tables) texts_after so.parts.path, so.parts.directory)
       index =
           subst (λ (t : LineText). id ≡ index_of_file files_after_it (t, so.parts.directory)) (sym text_same)
           (so.index
-          ∙ sym (old_index tables.program.files key_of details_of (made_text (version_of tables) tables.line_strings so.parts.path, so.parts.directory)
+          ∙ sym (old_index tables.program.files key_of details_of
+          (made_text (version_of tables) tables.line_strings so.parts.path, so.parts.directory)
           so.present))
 
       -- the added file has its paths
-      taken : SamePaths added so.parts → IsFileOf sections (version_of tables) texts_after tables.directory_ids files_after_it (source ++ g ∷ []) f id
+      taken : SamePaths added so.parts
+          → IsFileOf sections (version_of tables) texts_after tables.directory_ids files_after_it (source ++ g ∷ []) f
+          id
       taken same =
           let text : made_text (version_of tables) tables.line_strings added.path
-          ≡ made_text (version_of tables) tables.line_strings so.parts.path = ap (made_text (version_of tables) tables.line_strings) same.0 in
+          ≡ made_text (version_of tables) tables.line_strings so.parts.path = ap
+          (made_text (version_of tables) tables.line_strings) same.0 in
           let key : key_of ≡ (made_text (version_of tables) texts_after so.parts.path, so.parts.directory) =
           ap (λ (t : LineText). let k : FileKey = (t, added.directory) in k) (text ∙ sym text_same)
-          ∙ ap (λ (n : ℕ). let k : FileKey = (made_text (version_of tables) texts_after so.parts.path, n) in k) same.1 in
+          ∙ ap (λ (n : ℕ). let k : FileKey = (made_text (version_of tables) texts_after so.parts.path, n) in k)
+          same.1 in
           let old_key : key_of ≡ (made_text (version_of tables) tables.line_strings so.parts.path, so.parts.directory) =
           ap (λ (t : LineText). let k : FileKey = (t, added.directory) in k) text
-          ∙ ap (λ (n : ℕ). let k : FileKey = (made_text (version_of tables) tables.line_strings so.parts.path, n) in k) same.1 in
-          let at : index_of_file tables.program.files key_of ≡ id = ap (index_of_file tables.program.files) old_key ∙ sym so.index in
+          ∙ ap (λ (n : ℕ). let k : FileKey = (made_text (version_of tables) tables.line_strings so.parts.path, n) in k)
+          same.1 in
+          let at : index_of_file tables.program.files key_of ≡ id = ap (index_of_file tables.program.files) old_key
+          ∙ sym so.index in
           record {
             parts = so.parts;
             parts_are = so.parts_are;
@@ -317,9 +381,14 @@ module _ (sections : Sections) (tables : TablesAndTexts) (g : File) (added : Fil
             index = index;
             details = details_of;
             entry =
-                subst (λ (n : ℕ). slice_get files_after_it n ≡ Some ((made_text (version_of tables) texts_after so.parts.path, so.parts.directory), details_of))
+                subst (λ (n : ℕ).
+                slice_get files_after_it n
+                ≡ Some ((made_text (version_of tables) texts_after so.parts.path, so.parts.directory), details_of))
                 at
-                (subst (λ (k : FileKey). slice_get files_after_it (index_of_file tables.program.files key_of) ≡ Some (k, details_of)) key
+                (subst
+                (λ (k : FileKey). slice_get files_after_it (index_of_file tables.program.files key_of)
+                ≡ Some (k, details_of))
+                key
                 (new_entry tables.program.files key_of details_of));
             last = g;
             last_parts = added;
@@ -333,13 +402,19 @@ module _ (sections : Sections) (tables : TablesAndTexts) (g : File) (added : Fil
           }
 
       -- the added file has others
-      left : (SamePaths added so.parts → ⊥) → IsFileOf sections (version_of tables) texts_after tables.directory_ids files_after_it (source ++ g ∷ []) f id
+      left : (SamePaths added so.parts → ⊥)
+          → IsFileOf sections (version_of tables) texts_after tables.directory_ids files_after_it (source ++ g ∷ []) f
+          id
       left other =
-          let other_key : (let k : FileKey = (made_text (version_of tables) tables.line_strings so.parts.path, so.parts.directory) in k) ≢ key_of = λ is.
-          let text : made_text (version_of tables) texts_after so.parts.path ≡ made_text (version_of tables) texts_after added.path = text_same
+          let other_key : (let
+          k : FileKey = (made_text (version_of tables) tables.line_strings so.parts.path, so.parts.directory) in k)
+          ≢ key_of = λ is.
+          let text : made_text (version_of tables) texts_after so.parts.path
+          ≡ made_text (version_of tables) texts_after added.path = text_same
           ∙ ap (λ (k : FileKey). k.0) is ∙ sym own_same in
           other (
-            sym (made_differ (version_of tables) texts_after so.parts.path added.path (texts_stay.there so.parts.path so.made) own_made text),
+            sym (made_differ (version_of tables) texts_after so.parts.path added.path
+                (texts_stay.there so.parts.path so.made) own_made text),
             sym (ap (λ (k : FileKey). k.1) is),
           ) in
           record {
@@ -350,14 +425,18 @@ module _ (sections : Sections) (tables : TablesAndTexts) (g : File) (added : Fil
             index = index;
             details = so.details;
             entry =
-                subst (λ (t : LineText). slice_get files_after_it id ≡ Some ((t, so.parts.directory), so.details)) (sym text_same)
-                (other_entry tables.program.files key_of details_of (made_text (version_of tables) tables.line_strings so.parts.path, so.parts.directory)
+                subst (λ (t : LineText). slice_get files_after_it id ≡ Some ((t, so.parts.directory), so.details))
+                (sym text_same)
+                (other_entry tables.program.files key_of details_of
+                (made_text (version_of tables) tables.line_strings so.parts.path, so.parts.directory)
                 so.details id so.entry other_key);
             last = so.last;
             last_parts = so.last_parts;
             last_are = so.last_are;
             same = so.same;
-            known = known_longer (version_of tables) tables.line_strings texts_after so.last so.last_parts.source so.details texts_stay so.known;
+            known =
+                known_longer (version_of tables) tables.line_strings texts_after so.last so.last_parts.source so.details
+                texts_stay so.known;
             before = so.before;
             later = so.later ++ g ∷ [];
             split = ap (λ (l : List File). l ++ g ∷ []) so.split ∙ append_assoc so.before (so.last ∷ so.later) (g ∷ []);
@@ -372,9 +451,12 @@ module _ (sections : Sections) (tables : TablesAndTexts) (g : File) (added : Fil
 pub record AreFiles (sections : Sections) (h : Header) (tables : TablesAndTexts) (source : List File) : Type 0 where
   pub ids : List ℕ
   pub ids_are : tables.file_ids ≡ first_ids h.parameters.encoding.version ++ ids
-  pub each : OneByOne (IsFileOf sections (version_of tables) tables.line_strings tables.directory_ids tables.program.files source) source ids
+  pub each : OneByOne
+      (IsFileOf sections (version_of tables) tables.line_strings tables.directory_ids tables.program.files source)
+      source ids
 
-pub file_next : (sections : Sections) (h : Header) (tables next : TablesAndTexts) (g : File) (source : List File) → file_added sections tables g ≡ Ok next
+pub file_next : (sections : Sections) (h : Header) (tables next : TablesAndTexts) (g : File) (source : List File)
+    → file_added sections tables g ≡ Ok next
     → AreFiles sections h tables source → AreFiles sections h next (source ++ g ∷ [])
 file_next sections h tables next g source is so =
     let version = version_of tables in
@@ -383,8 +465,15 @@ file_next sections h tables next g source is so =
     let paths = made_table version tables.line_strings parts.path in
     let after = sources_table version paths parts.source in
     let k : FileKey = (made_text version tables.line_strings parts.path, parts.directory) in
-    let d : Details = record { timestamp = g.timestamp; size = g.size; md5 = g.md5; source = option_map (made_text version paths) parts.source } in
-    let R = IsFileOf sections version after tables.directory_ids (with_file tables.program.files k (Some d)) (source ++ g ∷ []) in
+    let d : Details = record {
+      timestamp = g.timestamp;
+      size = g.size;
+      md5 = g.md5;
+      source = option_map (made_text version paths) parts.source;
+    } in
+    let R =
+    IsFileOf sections version after tables.directory_ids (with_file tables.program.files k (Some d))
+    (source ++ g ∷ []) in
     subst (λ l. AreFiles sections h l (source ++ g ∷ [])) (same_ok _ _ t.2) (record {
       ids = so.ids ++ index_of_file tables.program.files k ∷ [];
       ids_are =
@@ -402,14 +491,16 @@ pub files_next : (sections : Sections) (h : Header) (done rest : List File) (tab
     → all_added (file_added sections) rest tables ≡ Ok last
     → AreFiles sections h tables done → AreFiles sections h last (done ++ rest)
 files_next sections h done [] tables last is so =
-    subst (AreFiles sections h last) (sym (append-nil done)) (subst (λ l. AreFiles sections h l done) (same_ok _ _ is) so)
+    subst (AreFiles sections h last) (sym (append-nil done))
+    (subst (λ l. AreFiles sections h l done) (same_ok _ _ is) so)
 files_next sections h done (g ∷ rest) tables last is so =
     let t = took _ _ _ is in
     subst (AreFiles sections h last) (append_assoc done (g ∷ []) rest)
     (files_next sections h (done ++ g ∷ []) rest t.0 last t.2 (file_next _ h _ _ g _ t.1 so))
 
 -- and those that a program defines
-pub files_defined : (sections : Sections) (h : Header) (first : TablesAndTexts) (past : List Ins) (tables : TablesAndTexts)
+pub files_defined : (sections : Sections) (h : Header) (first : TablesAndTexts) (past : List Ins)
+    (tables : TablesAndTexts)
     → tables_at sections first past ≡ Ok tables
     → AreFiles sections h first h.files → AreFiles sections h tables (defined_files h.files past)
 files_defined sections h first [] tables is so = subst (λ l. AreFiles sections h l h.files) (same_ok _ _ is) so
@@ -417,7 +508,8 @@ files_defined sections h first (i ∷ past) tables is so =
     let t = took _ _ _ is in
     one i _ t.2 (files_defined sections h first past t.0 t.1 so)
   where
-    one : (i : Ins) (before : TablesAndTexts) → tables_after_definition sections before i ≡ Ok tables → AreFiles sections h before (defined_files h.files past)
+    one : (i : Ins) (before : TablesAndTexts) → tables_after_definition sections before i ≡ Ok tables
+        → AreFiles sections h before (defined_files h.files past)
         → AreFiles sections h tables (defined_files h.files (i ∷ past))
     one (DefineFile f) before at q = file_next _ h _ _ f _ at q
     one i before at q = subst (λ l. AreFiles sections h l (defined_files h.files past)) (same_ok _ _ at) q

@@ -24,7 +24,8 @@ use Rattle.gimli_write.specs.declared.convert_error.ConvertError.{ConvertError}
 use Rattle.gimli_write.specs.convert.Conversion.{IsConverted}
 use Rattle.gimli_write.specs.convert.Outcome.{Outcome, outcome_of}
 use Rattle.gimli_write.specs.convert.SourceTables.{TablesAndTexts}
-use Rattle.gimli_write.specs.convert.Mapped.{CanBeFaithful, IsFaithful, IsReadAs, AreRowsMapped, HasPaths, AreFilesMapped, AreFilesReadAs, HasConstantAddresses}
+use Rattle.gimli_write.specs.convert.Mapped.{CanBeFaithful, IsFaithful, IsReadAs, AreRowsMapped, HasPaths}
+use Rattle.gimli_write.specs.convert.Mapped.{AreFilesMapped, AreFilesReadAs, HasConstantAddresses}
 use Rattle.gimli_write.specs.convert.Items.{Reading, ReadsItems}
 use Rattle.gimli_write.specs.convert.Preparation.{encoding_of, tables_of_header}
 use Rattle.gimli_write.specs.convert.Sources.{Source}
@@ -35,7 +36,8 @@ use Rattle.gimli_write.proofs.MappedEnds.{can_write, encoding_kept, files_same}
 use Rattle.gimli_write.proofs.MappedPrograms.{rows_mapped, addresses_fit, constants_set, rows_again}
 
 -- the parts of a conversion that was done
-record WasConverted (convert_address : ℕ → Option Address) (s : Source) (line_strings : List (List ℕ)) (c : Outcome) : Type 0 where
+record WasConverted (convert_address : ℕ → Option Address) (s : Source) (line_strings : List (List ℕ)) (c : Outcome)
+    : Type 0 where
   reading : Reading
   first : TablesAndTexts
   ready : tables_of_header s.sections s.header s.given line_strings ≡ Ok first
@@ -44,11 +46,13 @@ record WasConverted (convert_address : ℕ → Option Address) (s : Source) (lin
 
 was_converted : (convert_address : ℕ → Option Address) (s : Source) (line_strings : List (List ℕ)) (c : Outcome)
     → IsConverted convert_address s line_strings (Ok c) → WasConverted convert_address s line_strings c
-was_converted convert_address s line_strings c so = by (tables_of_header s.sections s.header s.given line_strings) refl so.1
+was_converted convert_address s line_strings c so =
+    by (tables_of_header s.sections s.header s.given line_strings) refl so.1
   where
     by : (r : Result TablesAndTexts ConvertError) → tables_of_header s.sections s.header s.given line_strings ≡ r
         → MatchResult r
-        (λ first. ReadsItems s.notation s.sections s.header first s.header.program so.0 × (outcome_of convert_address so.0 first.program ≡ Ok c))
+        (λ first. ReadsItems s.notation s.sections s.header first s.header.program so.0
+        × (outcome_of convert_address so.0 first.program ≡ Ok c))
         (λ e. (let o : Result Outcome ConvertError = Ok c in o) ≡ Err e)
         → WasConverted convert_address s line_strings c
     by (Ok first) ready m = record { reading = so.0; first = first; ready = ready; reads = m.0; is = m.1 }
@@ -80,41 +84,52 @@ module _ (convert_address : ℕ → Option Address) (s : Source) (line_strings :
   pub conversion_written : (strings : List (List ℕ)) → CanWrite c.program (texts_in strings c.line_strings)
   conversion_written =
       let w = was_converted convert_address s line_strings c so in
-      can_write s.notation s.sections s.header s.given line_strings w.first s.header.program w.reading convert_address c w.ready w.reads w.is
+      can_write s.notation s.sections s.header s.given line_strings w.first s.header.program w.reading convert_address c
+      w.ready w.reads w.is
 
   pub conversion_encoded : c.program.encoding ≡ encoding_of s.header s.given
   conversion_encoded =
       let w = was_converted convert_address s line_strings c so in
-      encoding_kept s.notation s.sections s.header s.given line_strings w.first s.header.program w.reading convert_address c w.ready w.reads w.is
+      encoding_kept s.notation s.sections s.header s.given line_strings w.first s.header.program w.reading
+      convert_address c w.ready w.reads w.is
 
   module _ (can : CanBeFaithful convert_address s) where
     mapped_rows : AreRowsMapped s.notation s.header s.header.program c
     mapped_rows =
         let w = was_converted _ s _ c so in
-        rows_mapped s.notation s.sections s.header s.given line_strings w.first s.header.program w.reading convert_address c w.ready w.reads can.itself can.wide
+        rows_mapped s.notation s.sections s.header s.given line_strings w.first s.header.program w.reading
+        convert_address c w.ready w.reads can.itself can.wide
         can.no_end_under_tombstone w.is
 
     conversion_fits : AddressesFit c.program.encoding.address_size 0 (0, 0) c.program.items
     conversion_fits =
         let w = was_converted convert_address s line_strings c so in
-        addresses_fit s.notation s.sections s.header s.given line_strings w.first s.header.program w.reading convert_address c w.ready w.reads can.itself
+        addresses_fit s.notation s.sections s.header s.given line_strings w.first s.header.program w.reading
+        convert_address c w.ready w.reads can.itself
         can.wide can.no_end_under_tombstone w.is
 
     conversion_constant : HasConstantAddresses c.program
     conversion_constant =
         let w = was_converted _ s _ c so in
-        constants_set s.notation s.sections s.header s.given line_strings w.first s.header.program w.reading convert_address c w.ready w.reads can.itself
+        constants_set s.notation s.sections s.header s.given line_strings w.first s.header.program w.reading
+        convert_address c w.ready w.reads can.itself
         can.wide can.no_end_under_tombstone w.is
 
     pub conversion_back : (rows back : List ReadRow) → Events s.notation s.header s.header.program (map row rows)
-        → (AddressesFit c.program.encoding.address_size 0 (0, 0) c.program.items → RowsMatch c.program.encoding.version [] c.program.items back)
+        → (AddressesFit c.program.encoding.address_size 0 (0, 0) c.program.items
+        → RowsMatch c.program.encoding.version [] c.program.items back)
         → OneByOne (IsReadAs s.header.parameters.encoding.version c.program.encoding.version c.file_ids) rows back
     conversion_back rows back events built =
         let mapped : AreRowsMapped s.notation s.header s.header.program c = mapped_rows in
         let same : mapped.rows
-        ≡ rows = rows_same mapped.rows rows (events_same s.notation s.header s.header.program (map row mapped.rows) (map row rows) mapped.events events) in
-        subst (λ (source : List ReadRow). OneByOne (IsReadAs s.header.parameters.encoding.version c.program.encoding.version c.file_ids) source back) same
-        (rows_again s.header.parameters.encoding.version c.program.encoding.version c.file_ids [] c.program.items mapped.rows back mapped.mapped
+        ≡ rows = rows_same mapped.rows rows
+        (events_same s.notation s.header s.header.program (map row mapped.rows) (map row rows) mapped.events events) in
+        subst
+        (λ (source : List ReadRow). OneByOne
+        (IsReadAs s.header.parameters.encoding.version c.program.encoding.version c.file_ids) source back)
+        same
+        (rows_again s.header.parameters.encoding.version c.program.encoding.version c.file_ids [] c.program.items
+        mapped.rows back mapped.mapped
         (built conversion_fits))
 
     pub conversion_faithful : (strings : List (List ℕ)) → IsFaithful s strings c
@@ -125,7 +140,8 @@ module _ (convert_address : ℕ → Option Address) (s : Source) (line_strings :
           source_files = defined_files s.header.files (past_at_end [] w.reads.list);
           at_end = record { list = w.reads.list; end = w.reads.end; decoding = w.reads.decoding; given = refl };
           files =
-              files_same s.notation s.sections s.header s.given line_strings w.first s.header.program w.reading convert_address c w.ready w.reads w.is strings;
+              files_same s.notation s.sections s.header s.given line_strings w.first s.header.program w.reading
+              convert_address c w.ready w.reads w.is strings;
           can_write = conversion_written strings;
           constants = conversion_constant;
           addresses = conversion_fits;
@@ -140,9 +156,11 @@ module _ (convert_address : ℕ → Option Address) (s : Source) (line_strings :
         let found = u.back.rows conversion_fits in
         (found.0, found.1, conversion_back rows found.0 events (λ fit. found.2))
 
-  pub files_back : (strings : List (List ℕ)) (files : List File) → FilesAtEnd s.notation true s.header s.header.program files
+  pub files_back : (strings : List (List ℕ)) (files : List File)
+      → FilesAtEnd s.notation true s.header s.header.program files
       → (let texts = texts_in strings (texts_after c.program (texts_in strings c.line_strings)).line_strings in
-      AreFilesReadAs s.sections s.header files c.file_ids (map (bytes_in texts) c.program.directories) (map (built_file c.program texts) c.program.files))
+      AreFilesReadAs s.sections s.header files c.file_ids (map (bytes_in texts) c.program.directories)
+      (map (built_file c.program texts) c.program.files))
   files_back strings files at_end =
       let w = was_converted convert_address s line_strings c so in
       let once =
@@ -153,7 +171,8 @@ module _ (convert_address : ℕ → Option Address) (s : Source) (line_strings :
       ∙ sym at_end.given in
       let mapped : AreFilesMapped s.sections s.header files strings c =
       subst (λ (files : List File). AreFilesMapped s.sections s.header files strings c) same
-      (files_same s.notation s.sections s.header s.given line_strings w.first s.header.program w.reading convert_address c w.ready w.reads w.is strings) in
+      (files_same s.notation s.sections s.header s.given line_strings w.first s.header.program w.reading convert_address
+      c w.ready w.reads w.is strings) in
       let can : CanWrite c.program (texts_in strings c.line_strings) = conversion_written strings in
       let before = texts_in strings c.line_strings in
       let after = (texts_after c.program before).line_strings in
@@ -164,12 +183,16 @@ module _ (convert_address : ℕ → Option Address) (s : Source) (line_strings :
             let m = found.2 in
             let built = built_file c.program (texts_in strings after) in
             let answer : FileAnswer = built m.built in
-            let path : bytes_in (texts_in strings after) m.built.0.0 ≡ bytes_in (texts_in strings c.line_strings) m.built.0.0 =
+            let path : bytes_in (texts_in strings after) m.built.0.0
+            ≡ bytes_in (texts_in strings c.line_strings) m.built.0.0 =
             bytes_longer strings c.line_strings after m.built.0.0 keeps
-            (element (λ f. IsWithin (texts_in strings c.line_strings) f.0.0) c.program.files found.0 m.built can.paths m.there) in
-            let directory : bytes_in (texts_in strings after) m.directory ≡ bytes_in (texts_in strings c.line_strings) m.directory =
+            (element (λ f. IsWithin (texts_in strings c.line_strings) f.0.0) c.program.files found.0 m.built can.paths
+            m.there) in
+            let directory : bytes_in (texts_in strings after) m.directory
+            ≡ bytes_in (texts_in strings c.line_strings) m.directory =
             bytes_longer strings c.line_strings after m.directory keeps
-            (element (IsWithin (texts_in strings c.line_strings)) c.program.directories m.built.0.1 m.directory can.directories m.directory_there) in (
+            (element (IsWithin (texts_in strings c.line_strings)) c.program.directories m.built.0.1 m.directory
+            can.directories m.directory_there) in (
               found.0,
               found.1,
               (
@@ -180,8 +203,15 @@ module _ (convert_address : ℕ → Option Address) (s : Source) (line_strings :
                   directory_there =
                       slice_get-map (bytes_in (texts_in strings after)) c.program.directories m.built.0.1
                       ∙ ap (option_map (bytes_in (texts_in strings after))) m.directory_there;
-                  has = subst (λ (path : List ℕ). HasPaths s.sections s.header path (bytes_in (texts_in strings after) m.directory) f) (sym path)
-                      (subst (λ (d : List ℕ). HasPaths s.sections s.header (bytes_in (texts_in strings c.line_strings) m.built.0.0) d f) (sym directory) m.has);
+                  has =
+                      subst
+                      (λ (path : List ℕ). HasPaths s.sections s.header path
+                      (bytes_in (texts_in strings after) m.directory) f)
+                      (sym path)
+                      (subst
+                      (λ (d : List ℕ). HasPaths s.sections s.header
+                      (bytes_in (texts_in strings c.line_strings) m.built.0.0) d f)
+                      (sym directory) m.has);
                 },
               ),
             );

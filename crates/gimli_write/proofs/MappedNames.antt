@@ -1,5 +1,6 @@
 -- The files of a conversion are those of its source.
-use Rattle.std.proofs.Common.{◌≡◌, ℕ, zero, suc, Bool, true, false, if◌then◌else◌, List, [], ◌∷◌, ◌++◌, refl, sym, ap, subst, ◌∙◌, arith}
+use Rattle.std.proofs.Common.{◌≡◌, ℕ, zero, suc, Bool, true, false, if◌then◌else◌, List, [], ◌∷◌, ◌++◌, refl, sym, ap}
+use Rattle.std.proofs.Common.{subst, ◌∙◌, arith}
 use Rattle.std.specs.Prelude.{nat_le, Option, Some, None, option_map, ok_or, slice_get, Result, Ok, IfSome}
 use Rattle.std.specs.List.{AllByRecursion}
 use Rattle.std.proofs.lemmas.List.Elements.{All-from_recursion}
@@ -16,12 +17,15 @@ use Rattle.gimli_write.specs.declared.convert_error.ConvertError.TheVariants.{In
 use Rattle.gimli_write.specs.convert.Texts.{if_there, source_text, source_path}
 use Rattle.gimli_write.specs.convert.SourceTables.{TablesAndTexts, version_of, FileParts}
 use Rattle.gimli_write.specs.convert.Outcome.{Outcome}
-use Rattle.gimli_write.specs.convert.Mapped.{IsFileId, IsDirectoryPath, HasPaths, IsLastWithPaths, IsMappedFile, AreFilesMapped}
+use Rattle.gimli_write.specs.convert.Mapped.{IsFileId, IsDirectoryPath, HasPaths, IsLastWithPaths, IsMappedFile}
+use Rattle.gimli_write.specs.convert.Mapped.{AreFilesMapped}
 use Rattle.gimli_write.proofs.ReadTexts.{text_read, text_there}
 use Rattle.gimli_write.proofs.MappedTables.{took, same_ok}
 use Rattle.gimli_write.proofs.MappedTexts.{IsMade, made_bytes}
-use Rattle.gimli_write.proofs.MappedDirectories.{source_text_of, source_path_of, IsDirectoryId, directory_there, one_path, AreDirectories}
-use Rattle.gimli_write.proofs.MappedFiles.{HasOthers, HasParts, IsFileOf, AreFiles, one_by_one_map, one_by_one_at, one_by_one_back}
+use Rattle.gimli_write.proofs.MappedDirectories.{source_text_of, source_path_of, IsDirectoryId, directory_there}
+use Rattle.gimli_write.proofs.MappedDirectories.{one_path, AreDirectories}
+use Rattle.gimli_write.proofs.MappedFiles.{HasOthers, HasParts, IsFileOf, AreFiles, one_by_one_map, one_by_one_at}
+use Rattle.gimli_write.proofs.MappedFiles.{one_by_one_back}
 
 -- ---- one text
 
@@ -32,7 +36,8 @@ same_read a b is = cc
 one_text : (sections : Sections) (v : Value) (a b : List ℕ) → IsText sections v a → IsText sections v b → a ≡ b
 one_text sections v a b x y = same_read a b (sym (text_there _ v a x) ∙ text_there _ v b y)
 
-one_directory : (sections : Sections) (o : Option Value) (a b : List ℕ) → IsDirectoryPath sections o a → IsDirectoryPath sections o b → a ≡ b
+one_directory : (sections : Sections) (o : Option Value) (a b : List ℕ) → IsDirectoryPath sections o a
+    → IsDirectoryPath sections o b → a ≡ b
 one_directory sections (Some v) a b x y = one_text _ v a b x y
 one_directory sections None a b x y = x ∙ sym y
 
@@ -48,7 +53,8 @@ record AreRead (sections : Sections) (directory_ids : List ℕ) (parts : FilePar
   directory : slice_get directory_ids f.directory_index ≡ Some parts.directory
   source : if_there (source_text sections) f.source ≡ Ok parts.source
 
-are_read : (sections : Sections) (version : ℕ) (directory_ids : List ℕ) (parts : FileParts) (f : File) → HasParts sections version directory_ids parts f
+are_read : (sections : Sections) (version : ℕ) (directory_ids : List ℕ) (parts : FileParts) (f : File)
+    → HasParts sections version directory_ids parts f
     → AreRead sections directory_ids parts f
 are_read sections version directory_ids parts f is =
     let a = took (source_path version sections f.path_name) _ parts is in
@@ -62,39 +68,52 @@ are_read sections version directory_ids parts f is =
     })
 
 -- a source that is known stands for the text of the source
-source_is_text : (sections : Sections) (version : ℕ) (texts : StringTables) (o : Option Value) (source : Option (List ℕ))
+source_is_text : (sections : Sections) (version : ℕ) (texts : StringTables) (o : Option Value)
+    (source : Option (List ℕ))
     → if_there (source_text sections) o ≡ Ok source → IfSome source (IsMade version texts.line_strings)
     → IsOptionalText sections o (option_map (bytes_in texts) (option_map (made_text version texts.line_strings) source))
 source_is_text sections version texts (Some v) (Some text) is made =
     let t = took _ _ _ is in
     let same : t.0 ≡ text = cc in
     subst (IsText sections v) (same ∙ sym (made_bytes _ _ _ made)) (text_read _ v _ (source_text_of _ v _ t.1))
-source_is_text sections version texts (Some v) None is made = let t = took (source_text sections v) _ None is in absurd cc
+source_is_text sections version texts (Some v) None is made =
+    let t = took (source_text sections v) _ None is in absurd cc
 source_is_text sections version texts None (Some text) is made = absurd cc
 source_is_text sections version texts None None is made = tt
 
 -- ---- a file that is mapped
 
-module _ (sections : Sections) (h : Header) (strings : List (List ℕ)) (tables : TablesAndTexts) (directories : AreDirectories sections h tables) where
+module _ (sections : Sections) (h : Header) (strings : List (List ℕ)) (tables : TablesAndTexts)
+    (directories : AreDirectories sections h tables) where
   -- the paths of a file by its parts
-  paths_of : (parts : FileParts) (f : File) (directory : List ℕ) → HasParts sections (version_of tables) tables.directory_ids parts f
-      → IsDirectoryId (version_of tables) tables.line_strings tables.program.directories directory parts.directory → HasPaths sections h parts.path directory f
+  paths_of : (parts : FileParts) (f : File) (directory : List ℕ)
+      → HasParts sections (version_of tables) tables.directory_ids parts f
+      → IsDirectoryId (version_of tables) tables.line_strings tables.program.directories directory parts.directory
+      → HasPaths sections h parts.path directory f
   paths_of parts f directory is at =
       let read = are_read _ _ _ _ f is in
       let own = directories.each f.directory_index parts.directory read.directory in
       let same : own.0 ≡ directory = one_path _ _ _ _ _ _ own.2 at in
-      record { own = read.path; of_directory = subst (IsDirectoryPath sections (directory_of h f.directory_index)) same own.1 }
+      record {
+        own = read.path;
+        of_directory = subst (IsDirectoryPath sections (directory_of h f.directory_index)) same own.1;
+      }
 
   -- so a file with these paths has these parts
-  parts_of : (parts own : FileParts) (g : File) (directory : List ℕ) → HasParts sections (version_of tables) tables.directory_ids own g
-      → IsDirectoryId (version_of tables) tables.line_strings tables.program.directories directory parts.directory → HasPaths sections h parts.path directory g
+  parts_of : (parts own : FileParts) (g : File) (directory : List ℕ)
+      → HasParts sections (version_of tables) tables.directory_ids own g
+      → IsDirectoryId (version_of tables) tables.line_strings tables.program.directories directory parts.directory
+      → HasPaths sections h parts.path directory g
       → (own.path ≡ parts.path) × (own.directory ≡ parts.directory)
   parts_of parts own g directory is at has =
       let read = are_read _ _ _ _ g is in
       let there = directories.each g.directory_index own.directory read.directory in
       let same : there.0 ≡ directory = one_directory _ _ _ _ there.1 has.of_directory in
-      let moved : IsDirectoryId (version_of tables) tables.line_strings tables.program.directories directory own.directory =
-      subst (λ path. IsDirectoryId (version_of tables) tables.line_strings tables.program.directories path own.directory) same there.2 in
+      let moved : IsDirectoryId (version_of tables) tables.line_strings tables.program.directories directory
+      own.directory =
+      subst
+      (λ path. IsDirectoryId (version_of tables) tables.line_strings tables.program.directories path own.directory) same
+      there.2 in
       (one_text _ _ _ _ read.path has.own, moved.index ∙ sym at.index)
 
   others_after : (parts : FileParts) (directory : List ℕ)
@@ -102,10 +121,13 @@ module _ (sections : Sections) (h : Header) (strings : List (List ℕ)) (tables 
       → (later : List File) → AllByRecursion (HasOthers sections (version_of tables) tables.directory_ids parts) later
       → AllByRecursion (λ g. HasPaths sections h parts.path directory g → ⊥) later
   others_after parts directory at [] all = tt
-  others_after parts directory at (g ∷ later) all =
-      (λ has. all.0.other (parts_of parts all.0.own g directory all.0.own_is at has), others_after parts directory at later all.1)
+  others_after parts directory at (g ∷ later) all = (
+    λ has. all.0.other (parts_of parts all.0.own g directory all.0.own_is at has),
+    others_after parts directory at later all.1,
+  )
 
-  file_mapped : (source : List File) (c : Outcome) (f : File) (id : ℕ) → c.program.directories ≡ tables.program.directories
+  file_mapped : (source : List File) (c : Outcome) (f : File) (id : ℕ)
+      → c.program.directories ≡ tables.program.directories
       → c.program.files ≡ tables.program.files → c.line_strings ≡ tables.line_strings
       → IsFileOf sections (version_of tables) tables.line_strings tables.directory_ids tables.program.files source f id
       → IsMappedFile sections h source strings c f id
@@ -116,19 +138,23 @@ module _ (sections : Sections) (h : Header) (strings : List (List ℕ)) (tables 
       let text = made_text version tables.line_strings so.parts.path in
       let directory = made_text version tables.line_strings d.0 in
       let path_bytes : so.parts.path
-      ≡ bytes_in (texts_in strings c.line_strings) text = sym (ap (λ (t : List (List ℕ)). bytes_in (texts_in strings t) text) texts_same
+      ≡ bytes_in (texts_in strings c.line_strings) text = sym
+      (ap (λ (t : List (List ℕ)). bytes_in (texts_in strings t) text) texts_same
       ∙ made_bytes version (texts_in strings tables.line_strings) so.parts.path so.made) in
       let directory_bytes : d.0
-      ≡ bytes_in (texts_in strings c.line_strings) directory = sym (ap (λ (t : List (List ℕ)). bytes_in (texts_in strings t) directory) texts_same
+      ≡ bytes_in (texts_in strings c.line_strings) directory = sym
+      (ap (λ (t : List (List ℕ)). bytes_in (texts_in strings t) directory) texts_same
       ∙ made_bytes version (texts_in strings tables.line_strings) d.0 d.2.made) in
       let to =
       λ (P : List ℕ → List ℕ → Type 0) (p : P so.parts.path d.0).
-      subst (λ (x : List ℕ). P x (bytes_in (texts_in strings c.line_strings) directory)) path_bytes (subst (P so.parts.path) directory_bytes p) in
+      subst (λ (x : List ℕ). P x (bytes_in (texts_in strings c.line_strings) directory)) path_bytes
+      (subst (P so.parts.path) directory_bytes p) in
       let last_read = are_read sections version tables.directory_ids so.last_parts so.last so.last_are in
       let at_last : IsDirectoryId version tables.line_strings tables.program.directories d.0 so.last_parts.directory =
       subst (IsDirectoryId version tables.line_strings tables.program.directories d.0) (sym so.same.1) d.2 in
       let last_has : HasPaths sections h so.parts.path d.0 so.last =
-      subst (λ (path : List ℕ). HasPaths sections h path d.0 so.last) so.same.0 (paths_of so.last_parts so.last d.0 so.last_are at_last) in
+      subst (λ (path : List ℕ). HasPaths sections h path d.0 so.last) so.same.0
+      (paths_of so.last_parts so.last d.0 so.last_are at_last) in
       let is_last : IsLastWithPaths sections h so.parts.path d.0 source so.last = record {
         before = so.before;
         later = so.later;
@@ -150,42 +176,58 @@ module _ (sections : Sections) (h : Header) (strings : List (List ℕ)) (tables 
         size = so.known.size;
         md5 = so.known.md5;
         source =
-            subst (λ (t : List (List ℕ)). IsOptionalText sections so.last.source (option_map (bytes_in (texts_in strings t)) so.details.source))
+            subst (λ (t : List (List ℕ)).
+            IsOptionalText sections so.last.source (option_map (bytes_in (texts_in strings t)) so.details.source))
             (sym texts_same)
-            (subst (λ (o : Option LineText). IsOptionalText sections so.last.source (option_map (bytes_in (texts_in strings tables.line_strings)) o))
+            (subst (λ (o : Option LineText).
+            IsOptionalText sections so.last.source (option_map (bytes_in (texts_in strings tables.line_strings)) o))
             (sym so.known.source_is)
-            (source_is_text sections version (texts_in strings tables.line_strings) so.last.source so.last_parts.source last_read.source so.known.source_made));
+            (source_is_text sections version (texts_in strings tables.line_strings) so.last.source so.last_parts.source
+            last_read.source so.known.source_made));
       }
 
 -- ---- file numbers
 
-module _ (version : ℕ) (R : File → ℕ → Type 0) (files : List File) (ids file_ids : List ℕ) (all : OneByOne R files ids) where
+module _ (version : ℕ) (R : File → ℕ → Type 0) (files : List File) (ids file_ids : List ℕ)
+    (all : OneByOne R files ids) where
   -- each number has an id
   each_number : (old : Bool) → nat_le version 4 ≡ old → file_ids ≡ (if old then 0 ∷ [] else []) ++ ids
-      → (n : ℕ) (f : File) → (if old then from_one None files n else slice_get files n) ≡ Some f → (id : ℕ) × IsFileId version file_ids n id × R f id
+      → (n : ℕ) (f : File) → (if old then from_one None files n else slice_get files n) ≡ Some f
+      → (id : ℕ) × IsFileId version file_ids n id × R f id
   each_number true is ids_are zero f at = absurd cc
   each_number true is ids_are (suc i) f at =
-      let found = one_by_one_at R _ _ i f all at in
-      (found.0, record { from_one = λ old zero. absurd (omega arith); there = ap (λ l. slice_get l (suc i)) ids_are ∙ found.1 }, found.2)
+      let found = one_by_one_at R _ _ i f all at in (
+        found.0,
+        record { from_one = λ old zero. absurd (omega arith); there = ap (λ l. slice_get l (suc i)) ids_are ∙ found.1 },
+        found.2,
+      )
   each_number false is ids_are n f at =
       let found = one_by_one_at R _ _ n f all at in (
         found.0,
-        record { from_one = λ old. absurd (true≢false (sym (le-leb version 4 old) ∙ is)); there = ap (λ l. slice_get l n) ids_are ∙ found.1 },
+        record {
+          from_one = λ old. absurd (true≢false (sym (le-leb version 4 old) ∙ is));
+          there = ap (λ l. slice_get l n) ids_are ∙ found.1;
+        },
         found.2,
       )
 
   -- and no other
   only_number : (old : Bool) → nat_le version 4 ≡ old → file_ids ≡ (if old then 0 ∷ [] else []) ++ ids
-      → (n id : ℕ) → IsFileId version file_ids n id → (f : File) × ((if old then from_one None files n else slice_get files n) ≡ Some f)
+      → (n id : ℕ) → IsFileId version file_ids n id
+      → (f : File) × ((if old then from_one None files n else slice_get files n) ≡ Some f)
   only_number true is ids_are zero id so = absurd (so.from_one (leb-true version 4 is) refl)
-  only_number true is ids_are (suc i) id so = one_by_one_back R _ _ i _ all (sym (ap (λ l. slice_get l (suc i)) ids_are) ∙ so.there)
-  only_number false is ids_are n id so = one_by_one_back R _ _ n _ all (sym (ap (λ l. slice_get l n) ids_are) ∙ so.there)
+  only_number true is ids_are (suc i) id so =
+      one_by_one_back R _ _ i _ all (sym (ap (λ l. slice_get l (suc i)) ids_are) ∙ so.there)
+  only_number false is ids_are n id so =
+      one_by_one_back R _ _ n _ all (sym (ap (λ l. slice_get l n) ids_are) ∙ so.there)
 
 -- ---- all files
 
-pub files_mapped : (sections : Sections) (h : Header) (strings : List (List ℕ)) (tables : TablesAndTexts) (source : List File) (c : Outcome)
+pub files_mapped : (sections : Sections) (h : Header) (strings : List (List ℕ)) (tables : TablesAndTexts)
+    (source : List File) (c : Outcome)
     → AreDirectories sections h tables → AreFiles sections h tables source
-    → c.program.directories ≡ tables.program.directories → c.program.files ≡ tables.program.files → c.file_ids ≡ tables.file_ids
+    → c.program.directories ≡ tables.program.directories → c.program.files ≡ tables.program.files
+    → c.file_ids ≡ tables.file_ids
     → c.line_strings ≡ tables.line_strings
     → AreFilesMapped sections h source strings c
 files_mapped sections h strings tables source c directories so directories_same files_same ids_same texts_same =
@@ -193,8 +235,13 @@ files_mapped sections h strings tables source c directories so directories_same 
     let all =
     one_by_one_map _
     _
-    (λ f id is. file_mapped sections h strings tables directories _ c f _ directories_same files_same texts_same is) _ _ so.each in
+    (λ f id is. file_mapped sections h strings tables directories _ c f _ directories_same files_same texts_same is) _ _
+    so.each in
     record {
-      each = each_number version (IsMappedFile sections h source strings c) source so.ids c.file_ids all _ refl (ids_same ∙ so.ids_are);
-      only = only_number version (IsMappedFile sections h source strings c) source so.ids c.file_ids all _ refl (ids_same ∙ so.ids_are);
+      each =
+          each_number version (IsMappedFile sections h source strings c) source so.ids c.file_ids all _ refl
+          (ids_same ∙ so.ids_are);
+      only =
+          only_number version (IsMappedFile sections h source strings c) source so.ids c.file_ids all _ refl
+          (ids_same ∙ so.ids_are);
     }

@@ -26,7 +26,8 @@ use Rattle.gimli_write.specs.convert.SourceTables.{TablesAndTexts}
 use Rattle.gimli_write.specs.convert.Preparation.{Handed, encoding_of, tables_of_header}
 use Rattle.gimli_write.specs.convert.Items.{Reading, ReadsItems}
 use Rattle.gimli_write.specs.convert.Outcome.{Outcome, outcome_of}
-use Rattle.gimli_write.specs.convert.Mapped.{MapsToItself, NoSequenceEndsUnderTombstone, NoneEndsUnderTombstone, RowsMapped, AreRowsMapped, IsReadAs}
+use Rattle.gimli_write.specs.convert.Mapped.{MapsToItself, NoSequenceEndsUnderTombstone, NoneEndsUnderTombstone}
+use Rattle.gimli_write.specs.convert.Mapped.{RowsMapped, AreRowsMapped, IsReadAs}
 use Rattle.gimli_write.specs.convert.Mapped.{SetsConstant, HasConstantAddresses}
 use Rattle.gimli_write.proofs.MappedAddresses.{follows_start}
 use Rattle.gimli_write.proofs.MappedEnds.{encoding_kept}
@@ -47,12 +48,15 @@ same_others source_version version base built source back mapped matches =
 
 -- ---- the whole
 
-module _ (notation : Notation) (sections : Sections) (h : Header) (given : Handed) (line_strings : List (List ℕ)) (first : TablesAndTexts) (bytes : List ℕ)
+module _ (notation : Notation) (sections : Sections) (h : Header) (given : Handed) (line_strings : List (List ℕ))
+    (first : TablesAndTexts) (bytes : List ℕ)
     (reading : Reading)
     (convert_address : ℕ → Option Address) (c : Outcome)
-    (ready : tables_of_header sections h given line_strings ≡ Ok first) (reads : ReadsItems notation sections h first bytes reading)
+    (ready : tables_of_header sections h given line_strings ≡ Ok first)
+    (reads : ReadsItems notation sections h first bytes reading)
     (itself : MapsToItself convert_address)
-    (wide : h.parameters.encoding.address_size ≤ (encoding_of h given).address_size) (no_end_under_tombstone : NoSequenceEndsUnderTombstone notation h bytes)
+    (wide : h.parameters.encoding.address_size ≤ (encoding_of h given).address_size)
+    (no_end_under_tombstone : NoSequenceEndsUnderTombstone notation h bytes)
     (is : outcome_of convert_address reading first.program ≡ Ok c) where
   first_ready : (strings : List (List ℕ)) → IsReady strings (encoding_of h given) first
   first_ready strings = prepared_ready strings sections h given line_strings first ready
@@ -62,9 +66,11 @@ module _ (notation : Notation) (sections : Sections) (h : Header) (given : Hande
       ap (λ p. p.0)
       (one_decoding notation h _ _ _ decoding ∙ sym (one_decoding notation h _ _ _ reads.decoding))
 
-  whole : Rest sections h.parameters first (encoding_of h given).address_size c [] reads.list reads.end 0 (0, 0) first.program
+  whole : Rest sections h.parameters first (encoding_of h given).address_size c [] reads.list reads.end 0 (0, 0)
+      first.program
   whole =
-      rest_mapped sections h.parameters first convert_address itself (encoding_of h given).address_size (pow_mono (omega (arith, wide))) c _ _
+      rest_mapped sections h.parameters first convert_address itself (encoding_of h given).address_size
+      (pow_mono (omega (arith, wide))) c _ _
       _ 0 _ _
       (follows_start _)
       (subst (NoneEndsUnderTombstone h.parameters []) (decodes_once _ _ no_end_under_tombstone.decoding)
@@ -79,14 +85,17 @@ module _ (notation : Notation) (sections : Sections) (h : Header) (given : Hande
   rows_mapped = record {
     rows = whole.rows;
     events = record { list = reads.list; end = reads.end; decoding = reads.decoding; given = sym whole.events };
-    mapped = subst (λ items. RowsMapped h.parameters.encoding.version c.file_ids 0 items whole.rows) (sym all_items) whole.mapped;
+    mapped =
+        subst (λ items. RowsMapped h.parameters.encoding.version c.file_ids 0 items whole.rows) (sym all_items)
+        whole.mapped;
   }
 
   pub addresses_fit : AddressesFit c.program.encoding.address_size 0 (0, 0) c.program.items
   addresses_fit =
       subst (λ (e : Encoding). AddressesFit e.address_size 0 (0, 0) c.program.items)
       (sym (encoding_kept notation sections h given line_strings first bytes reading convert_address c ready reads is))
-      (subst (λ (items : List BuiltItem). AddressesFit (encoding_of h given).address_size 0 (0, 0) items) (sym all_items) whole.fit)
+      (subst (λ (items : List BuiltItem). AddressesFit (encoding_of h given).address_size 0 (0, 0) items)
+      (sym all_items) whole.fit)
 
   pub constants_set : HasConstantAddresses c.program
   constants_set =
@@ -95,7 +104,8 @@ module _ (notation : Notation) (sections : Sections) (h : Header) (given : Hande
 -- ---- what is read back of it
 
 -- rows that are mapped to items, and rows that these items are read as, say the same
-pub rows_again : (source_version version : ℕ) (file_ids : List ℕ) (past items : List BuiltItem) (source back : List ReadRow)
+pub rows_again : (source_version version : ℕ) (file_ids : List ℕ) (past items : List BuiltItem)
+    (source back : List ReadRow)
     → RowsMapped source_version file_ids (base_of past) items source → RowsMatch version past items back
     → OneByOne (IsReadAs source_version version file_ids) source back
 rows_again source_version version file_ids past [] source back mapped matches = rw (mapped, matches) tt
@@ -113,7 +123,8 @@ rows_again source_version version file_ids past (Row built ∷ items) (s ∷ sou
   rows_again source_version version file_ids (Row built ∷ past) items source back mapped.1 matches.1,
 )
 rows_again source_version version file_ids past (End offset op_index ∷ items) [] back mapped matches = elim mapped [ ]
-rows_again source_version version file_ids past (End offset op_index ∷ items) (s ∷ source) [] mapped matches = elim matches [ ]
+rows_again source_version version file_ids past (End offset op_index ∷ items) (s ∷ source) [] mapped matches =
+    elim matches [ ]
 rows_again source_version version file_ids past (End offset op_index ∷ items) (s ∷ source) (b ∷ back) mapped matches = (
   record {
     address = matches.0.address ∙ sym mapped.0.address;

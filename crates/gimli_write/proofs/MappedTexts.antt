@@ -1,5 +1,6 @@
 -- Texts that a conversion makes: the same text is made the same, however many others were made since.
-use Rattle.std.proofs.Common.{◌≡◌, ℕ, zero, suc, ◌+◌, Bool, true, false, cond, not, ◌||◌, if◌then◌else◌, List, [], ◌∷◌, ◌++◌, length, refl, sym, ap, subst, ◌∙◌}
+use Rattle.std.proofs.Common.{◌≡◌, ℕ, zero, suc, ◌+◌, Bool, true, false, cond, not, ◌||◌, if◌then◌else◌, List, [], ◌∷◌}
+use Rattle.std.proofs.Common.{◌++◌, length, refl, sym, ap, subst, ◌∙◌}
 use Rattle.std.proofs.Common.{arith}
 use Rattle.std.specs.Prelude.{nat_le, Some, unwrap_or, slice_get, bytes_eq}
 use Rattle.std.specs.List.{list_any, position_or_len}
@@ -8,7 +9,8 @@ use Rattle.std.proofs.lemmas.List.Folds.{list_any-append}
 use Rattle.std.proofs.lemmas.Slice.Eq.{bytes_eq-Decides}
 use Rattle.gimli_bytes.specs.Texts.{with_text, index_of_text, StringTables, texts_in}
 use Rattle.gimli_bytes.proofs.TextLemmas.{with_text-found, with_text-there}
-use Rattle.gimli_build.specs.LineText.{LineText, Inline, InStrings, InLineStrings, line_text_eq, bytes_in, made_text, made_table}
+use Rattle.gimli_build.specs.LineText.{LineText, Inline, InStrings, InLineStrings, line_text_eq, bytes_in, made_text}
+use Rattle.gimli_build.specs.LineText.{made_table}
 use Rattle.gimli_build.specs.Tables.{FileKey, key_eq}
 
 -- ---- the first index that passes a test, in a list that grows at its end
@@ -22,12 +24,14 @@ module _ {A : Type 0} (p : A → Bool) where
   index_stays [] ys any = absurd cc
   index_stays (x ∷ xs) ys any = by (p x) (index_stays xs ys) any
     where
-      by : (b : Bool) → (list_any p xs ≡ true → position_or_len p (xs ++ ys) ≡ position_or_len p xs) → (b || list_any p xs) ≡ true
+      by : (b : Bool) → (list_any p xs ≡ true → position_or_len p (xs ++ ys) ≡ position_or_len p xs)
+          → (b || list_any p xs) ≡ true
           → cond (not b) (1 + position_or_len p (xs ++ ys)) 0 ≡ cond (not b) (1 + position_or_len p xs) 0
       by true rest any = refl
       by false rest any = ap (λ n. 1 + n) (rest any)
 
-  pub index_new : (xs : List A) (x : A) → p x ≡ true → list_any p xs ≡ false → position_or_len p (xs ++ x ∷ []) ≡ position_or_len p xs
+  pub index_new : (xs : List A) (x : A) → p x ≡ true → list_any p xs ≡ false
+      → position_or_len p (xs ++ x ∷ []) ≡ position_or_len p xs
   index_new [] x passes none = rw passes refl
   index_new (y ∷ xs) x passes none =
       let parts = or_parts (p y) (list_any p xs) none in
@@ -40,7 +44,8 @@ module _ {A : Type 0} (p : A → Bool) where
   any_new xs x passes = list_any-append p xs (x ∷ []) ∙ or_right (list_any p xs) _ (or_left _ false passes)
 
   -- another element was there before this one came
-  pub grown_index : (there : Bool) (xs : List A) (x : A) → list_any p xs ≡ true → position_or_len p (grown there xs x) ≡ position_or_len p xs
+  pub grown_index : (there : Bool) (xs : List A) (x : A) → list_any p xs ≡ true
+      → position_or_len p (grown there xs x) ≡ position_or_len p xs
   grown_index true xs x any = refl
   grown_index false xs x any = index_stays _ _ any
 
@@ -49,11 +54,13 @@ module _ {A : Type 0} (p : A → Bool) where
   grown_any false xs x any = any_stays _ _ any
 
   -- this one came, or was there
-  pub own_index : (there : Bool) (xs : List A) (x : A) → list_any p xs ≡ there → p x ≡ true → position_or_len p (grown there xs x) ≡ position_or_len p xs
+  pub own_index : (there : Bool) (xs : List A) (x : A) → list_any p xs ≡ there → p x ≡ true
+      → position_or_len p (grown there xs x) ≡ position_or_len p xs
   own_index true xs x is passes = refl
   own_index false xs x is passes = index_new _ x passes is
 
-  pub own_any : (there : Bool) (xs : List A) (x : A) → list_any p xs ≡ there → p x ≡ true → list_any p (grown there xs x) ≡ true
+  pub own_any : (there : Bool) (xs : List A) (x : A) → list_any p xs ≡ there → p x ≡ true
+      → list_any p (grown there xs x) ≡ true
   own_any true xs x is passes = is
   own_any false xs x is passes = any_new _ x passes
 
@@ -98,7 +105,8 @@ pub record HasMade (version : ℕ) (old new : List (List ℕ)) : Type 0 where
 pub has_itself : (version : ℕ) (line_strings : List (List ℕ)) → HasMade version line_strings line_strings
 has_itself version line_strings = record { there = λ text so. so; same = λ text so. refl }
 
-pub has_then : (version : ℕ) (old between new : List (List ℕ)) → HasMade version old between → HasMade version between new → HasMade version old new
+pub has_then : (version : ℕ) (old between new : List (List ℕ)) → HasMade version old between
+    → HasMade version between new → HasMade version old new
 has_then version old between new a b = record {
   there = λ text so. b.there text (a.there text so);
   same = λ text so. b.same text (a.there text so) ∙ a.same text so;
@@ -106,17 +114,23 @@ has_then version old between new a b = record {
 
 module _ (version : ℕ) (line_strings : List (List ℕ)) (text : List ℕ) where
   -- the table has it
-  made_any : (old : Bool) → old ≡ false → list_any (bytes_eq text) (if old then line_strings else with_text line_strings text) ≡ true
+  made_any : (old : Bool) → old ≡ false
+      → list_any (bytes_eq text) (if old then line_strings else with_text line_strings text) ≡ true
   made_any true is = absurd cc
-  made_any false is = own_any (bytes_eq text) (list_any (bytes_eq text) line_strings) line_strings text refl (same_bytes text)
+  made_any false is =
+      own_any (bytes_eq text) (list_any (bytes_eq text) line_strings) line_strings text refl (same_bytes text)
 
   pub is_made : IsMade version (made_table version line_strings text) text
   is_made = record { any = λ new. made_any _ new }
 
-  made_same : (old : Bool) → (if old then Inline text else InLineStrings (index_of_text (if old then line_strings else with_text line_strings text) text))
+  made_same : (old : Bool)
+      → (if old then Inline text
+      else InLineStrings (index_of_text (if old then line_strings else with_text line_strings text) text))
       ≡ (if old then Inline text else InLineStrings (index_of_text line_strings text))
   made_same true = refl
-  made_same false = ap InLineStrings (own_index (bytes_eq text) (list_any (bytes_eq text) line_strings) line_strings text refl (same_bytes text))
+  made_same false =
+      ap InLineStrings
+      (own_index (bytes_eq text) (list_any (bytes_eq text) line_strings) line_strings text refl (same_bytes text))
 
   -- at the index at which it was made
   pub is_same : made_text version (made_table version line_strings text) text ≡ made_text version line_strings text
@@ -129,7 +143,8 @@ module _ (version : ℕ) (line_strings : List (List ℕ)) (text : List ℕ) wher
   others_any other false any = grown_any (bytes_eq other) _ _ _ any
 
   others_same : (other : List ℕ) (old : Bool) → (old ≡ false → list_any (bytes_eq other) line_strings ≡ true)
-      → (if old then Inline other else InLineStrings (index_of_text (if old then line_strings else with_text line_strings text) other))
+      → (if old then Inline other
+      else InLineStrings (index_of_text (if old then line_strings else with_text line_strings text) other))
       ≡ (if old then Inline other else InLineStrings (index_of_text line_strings other))
   others_same other true any = refl
   others_same other false any = ap InLineStrings (grown_index (bytes_eq other) _ _ _ (any refl))
@@ -155,7 +170,9 @@ made_bytes version texts text so = by (nat_le version 4) so.any
         ap (λ o. unwrap_or o []) found
 
 -- so texts that are made the same are the same
-pub made_differ : (version : ℕ) (line_strings : List (List ℕ)) (a b : List ℕ) → IsMade version line_strings a → IsMade version line_strings b
+pub made_differ : (version : ℕ) (line_strings : List (List ℕ)) (a b : List ℕ) → IsMade version line_strings a
+    → IsMade version line_strings b
     → made_text version line_strings a ≡ made_text version line_strings b → a ≡ b
 made_differ version line_strings a b x y is =
-    sym (made_bytes _ (texts_in [] line_strings) a x) ∙ ap (bytes_in (texts_in [] line_strings)) is ∙ made_bytes _ (texts_in [] line_strings) b y
+    sym (made_bytes _ (texts_in [] line_strings) a x) ∙ ap (bytes_in (texts_in [] line_strings)) is
+    ∙ made_bytes _ (texts_in [] line_strings) b y

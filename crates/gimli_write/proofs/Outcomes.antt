@@ -1,5 +1,6 @@
 -- What a conversion reads, handed to the builder.
-use Rattle.std.proofs.Common.{◌≡◌, ◌⊎◌, ℕ, suc, ◌<◌, arith, false, true, Bool, if◌then◌else◌, List, refl, sym, ap, ◌∙◌, subst, inl, inr}
+use Rattle.std.proofs.Common.{◌≡◌, ◌⊎◌, ℕ, suc, ◌<◌, arith, false, true, Bool, if◌then◌else◌, List, refl, sym, ap, ◌∙◌}
+use Rattle.std.proofs.Common.{subst, inl, inr}
 use Rattle.std.specs.Prelude.{Option, Result, Ok, Err, MatchResult}
 use Rattle.std.specs.declared.vec.Vec.{Vec}
 use Rattle.std.specs.declared.alloc.Global.{Global}
@@ -16,14 +17,19 @@ use Rattle.gimli_write.specs.declared.convert.rows.ConvertLineRow.{ConvertLineRo
 use Rattle.gimli_write.specs.declared.convert.rows.ConvertLineRow.TheVariants.{SetAddress, Row, EndSequence}
 use Rattle.gimli_write.specs.convert.Texts.{◌>>=◌, IsRefusedBy}
 use Rattle.gimli_write.specs.convert.SourceTables.{TablesAndTexts}
-use Rattle.gimli_write.specs.convert.Items.{Reading, ends, stops, defines, offers, address_offered, reading_at, with_definition, after_definitions, ReadsItems}
+use Rattle.gimli_write.specs.convert.Items.{Reading, ends, stops, defines, offers, address_offered, reading_at}
+use Rattle.gimli_write.specs.convert.Items.{with_definition, after_definitions, ReadsItems}
 use Rattle.gimli_write.specs.convert.Preparation.{tables_of_header}
 use Rattle.gimli_write.specs.convert.Sources.{Source}
 use Rattle.gimli_write.specs.convert.SourceRun.{reading_left}
-use Rattle.gimli_write.specs.convert.Outcome.{Outcome, after_item, with_tables, outcome_at_end, outcome_of, ItemComesTo, ComesTo, without_items}
-use Rattle.gimli_write.specs.convert.Conversion.{Conversion, tables_of, version_of_source, after_held, unless_failed, still_to_read, AddsFiles, IsReadRefusal}
-use Rattle.gimli_write.specs.convert.Conversion.{Progress, reading_of, built_so_far, IsConverted, with_program, AnswersAs, outcome_with}
-use Rattle.gimli_write.specs.convert.Conversion.{RestComesTo, SourceComesTo, IsConvertRefusal, RestConvertsTo, IsRestRefusal}
+use Rattle.gimli_write.specs.convert.Outcome.{Outcome, after_item, with_tables, outcome_at_end, outcome_of, ItemComesTo}
+use Rattle.gimli_write.specs.convert.Outcome.{ComesTo, without_items}
+use Rattle.gimli_write.specs.convert.Conversion.{Conversion, tables_of, version_of_source, after_held, unless_failed}
+use Rattle.gimli_write.specs.convert.Conversion.{still_to_read, AddsFiles, IsReadRefusal}
+use Rattle.gimli_write.specs.convert.Conversion.{Progress, reading_of, built_so_far, IsConverted, with_program}
+use Rattle.gimli_write.specs.convert.Conversion.{AnswersAs, outcome_with}
+use Rattle.gimli_write.specs.convert.Conversion.{RestComesTo, SourceComesTo, IsConvertRefusal, RestConvertsTo}
+use Rattle.gimli_write.specs.convert.Conversion.{IsRestRefusal}
 
 -- how much a reading hands out
 abbrev pub offer_count : Reading → ℕ
@@ -41,7 +47,8 @@ counted_after (stops e) = refl
 counted_after (offers item tables rest) = refl
 
 -- a read leaves one item fewer
-pub one_fewer : (old rest : Reading) (item : ConvertLineRow) (tables : TablesAndTexts) → after_definitions old ≡ offers item tables rest
+pub one_fewer : (old rest : Reading) (item : ConvertLineRow) (tables : TablesAndTexts)
+    → after_definitions old ≡ offers item tables rest
     → offer_count rest < offer_count old
 one_fewer old rest item tables hands =
     let e : offer_count old ≡ suc (offer_count rest) = sym (counted_after old) ∙ ap offer_count hands in
@@ -49,12 +56,15 @@ one_fewer old rest item tables hands =
 
 module _ (m : ℕ → Option Address) where
   -- one at a point
-  pub definition_passed : (parameters : Parameters) (tables : TablesAndTexts) (past : List Ins) (i : Ins) (rest : Reading) (p : Built)
-      → outcome_of m (reading_at parameters tables past i (with_definition i rest)) p ≡ outcome_of m (reading_at parameters tables past i rest) p
+  pub definition_passed : (parameters : Parameters) (tables : TablesAndTexts) (past : List Ins) (i : Ins)
+      (rest : Reading) (p : Built)
+      → outcome_of m (reading_at parameters tables past i (with_definition i rest)) p
+      ≡ outcome_of m (reading_at parameters tables past i rest) p
   definition_passed parameters tables past (DefineFile f) rest p = by (overflows parameters past (DefineFile f))
     where
       by : (o : Bool)
-          → outcome_of m (if o then stops (Read AddressOverflow) else defines rest) p ≡ outcome_of m (if o then stops (Read AddressOverflow) else rest) p
+          → outcome_of m (if o then stops (Read AddressOverflow) else defines rest) p
+          ≡ outcome_of m (if o then stops (Read AddressOverflow) else rest) p
       by true = refl
       by false = refl
   definition_passed parameters tables past i rest p = refl
@@ -69,7 +79,12 @@ refused_then e f (inr p) = inr (f p)
 -- what is still to be read, by the program of its tables
 abbrev still_with : Conversion → List (List ℕ) → Built → Reading
 still_with c line_strings p =
-    let tables : TablesAndTexts = record { program = p; directory_ids = c.tables.directory_ids; file_ids = c.tables.file_ids; line_strings = line_strings } in
+    let tables : TablesAndTexts = record {
+      program = p;
+      directory_ids = c.tables.directory_ids;
+      file_ids = c.tables.file_ids;
+      line_strings = line_strings;
+    } in
     unless_failed c.failed (address_offered c.address tables
     (after_held (version_of_source c) tables c.held (reading_left c.sections c.source tables)))
 
@@ -82,13 +97,16 @@ same_left c d line_strings is items =
 -- ---- the tables that a reading finds
 
 -- they are those of the program after the read
-tables_are : (old new : Built) → AddsFiles old new → record old { directories = new.directories; files = new.files } ≡ new
+tables_are : (old new : Built) → AddsFiles old new
+    → record old { directories = new.directories; files = new.files } ≡ new
 tables_are old new adds =
-    ap (λ texts. let p : Built = record old { directories = texts; files = new.files } in p) (ap (λ p. p.directories) adds)
+    ap (λ texts. let p : Built = record old { directories = texts; files = new.files } in p)
+    (ap (λ p. p.directories) adds)
     ∙ sym adds
 
 module _ (map : ℕ → Option Address → Type 0) where
-  comes_after : (r : Reading) (p : Built) (outcome : Result Outcome ConvertError) → ComesTo map (after_definitions r) p outcome → ComesTo map r p outcome
+  comes_after : (r : Reading) (p : Built) (outcome : Result Outcome ConvertError)
+      → ComesTo map (after_definitions r) p outcome → ComesTo map r p outcome
   comes_after (defines rest) p outcome is = comes_after rest p outcome is
   comes_after (ends tables) p outcome is = is
   comes_after (stops e) p outcome is = is
@@ -97,18 +115,22 @@ module _ (map : ℕ → Option Address → Type 0) where
   -- ---- a map whose answers are those of a function
 
   module _ (g : ℕ → Option Address) (says : AnswersAs map g) where
-    item_as : (item : ConvertLineRow) (p : Built) (step : Result Built ConvertError) → ItemComesTo map item p step → step ≡ after_item g item p
+    item_as : (item : ConvertLineRow) (p : Built) (step : Result Built ConvertError) → ItemComesTo map item p step
+        → step ≡ after_item g item p
     item_as (SetAddress a) p step is = is.2 ∙ ap (λ r. after_item (λ _. r) (SetAddress a) p) (says a is.0 is.1)
     item_as (Row r) p step is = is
     item_as (EndSequence offset) p step is = is
 
-    then_as : (rest : Reading) (outcome : Result Outcome ConvertError) → ((next : Built) → ComesTo map rest next outcome → outcome_of g rest next ≡ outcome)
-        → (step : Result Built ConvertError) → MatchResult step (λ next. ComesTo map rest next outcome) (λ e. outcome ≡ Err e)
+    then_as : (rest : Reading) (outcome : Result Outcome ConvertError)
+        → ((next : Built) → ComesTo map rest next outcome → outcome_of g rest next ≡ outcome)
+        → (step : Result Built ConvertError)
+        → MatchResult step (λ next. ComesTo map rest next outcome) (λ e. outcome ≡ Err e)
         → (step >>= λ next. outcome_of g rest next) ≡ outcome
     then_as rest outcome later (Ok next) is = later next is
     then_as rest outcome later (Err e) is = sym is
 
-    comes_as : (r : Reading) (p : Built) (outcome : Result Outcome ConvertError) → ComesTo map r p outcome → outcome_of g r p ≡ outcome
+    comes_as : (r : Reading) (p : Built) (outcome : Result Outcome ConvertError) → ComesTo map r p outcome
+        → outcome_of g r p ≡ outcome
     comes_as (ends tables) p outcome is = sym is
     comes_as (stops e) p outcome is = sym is
     comes_as (defines rest) p outcome is = comes_as rest p outcome is
@@ -116,26 +138,34 @@ module _ (map : ℕ → Option Address → Type 0) where
         ap (λ step. step >>= λ next. outcome_of g rest next) (sym (item_as _ _ _ is.1))
         ∙ then_as rest _ (λ next so. comes_as rest next outcome so) is.0 is.2
 
-    comes_refused : (r : Reading) (p : Built) (e : ConvertError) → (e ≡ OutOfMemory) ⊎ ComesTo map r p (Err e) → IsRefusedBy (outcome_of g r p) e
+    comes_refused : (r : Reading) (p : Built) (e : ConvertError) → (e ≡ OutOfMemory) ⊎ ComesTo map r p (Err e)
+        → IsRefusedBy (outcome_of g r p) e
     comes_refused r p e (inl memory) = inl memory
     comes_refused r p e (inr is) = inr (comes_as r p _ is)
 
-  pub rest_converts : (old : Progress) (answer : Built × Vec ℕ Global) (new : List (List ℕ)) → RestComesTo map old (Ok (outcome_with answer new))
+  pub rest_converts : (old : Progress) (answer : Built × Vec ℕ Global) (new : List (List ℕ))
+      → RestComesTo map old (Ok (outcome_with answer new))
       → RestConvertsTo map old answer new
   rest_converts old answer new is = record {
     answers = is;
     as_function = λ g says. comes_as g says (reading_of old) (built_so_far old) (Ok (outcome_with answer new)) is;
   }
 
-  pub rest_refused : (old : Progress) (e : ConvertError) → (e ≡ OutOfMemory) ⊎ RestComesTo map old (Err e) → IsRestRefusal map old e
-  rest_refused old e is = record { answers = is; as_function = λ g says. comes_refused g says (reading_of old) (built_so_far old) e is }
+  pub rest_refused : (old : Progress) (e : ConvertError) → (e ≡ OutOfMemory) ⊎ RestComesTo map old (Err e)
+      → IsRestRefusal map old e
+  rest_refused old e is = record {
+    answers = is;
+    as_function = λ g says. comes_refused g says (reading_of old) (built_so_far old) e is;
+  }
 
   -- ---- reads that are handed on
 
   module _ (old mid : Conversion) (before after : List (List ℕ)) where
-    module _ (row : ConvertLineRow) (hands : after_definitions (still_to_read old before) ≡ offers row (tables_of mid after) (still_to_read mid after))
+    module _ (row : ConvertLineRow) (hands : after_definitions (still_to_read old before)
+        ≡ offers row (tables_of mid after) (still_to_read mid after))
         (adds : AddsFiles old.tables.program mid.tables.program) where
-      handed_first : (outcome : Result Outcome ConvertError) (step : Result Built ConvertError) → ItemComesTo map row mid.tables.program step
+      handed_first : (outcome : Result Outcome ConvertError) (step : Result Built ConvertError)
+          → ItemComesTo map row mid.tables.program step
           → MatchResult step (λ next. ComesTo map (still_to_read mid after) next outcome) (λ e. outcome ≡ Err e)
           → ComesTo map (still_to_read old before) old.tables.program outcome
       handed_first outcome step item rest =
@@ -143,17 +173,22 @@ module _ (map : ℕ → Option Address → Type 0) where
           (subst (λ r. ComesTo map r old.tables.program outcome) (sym hands)
           (step, subst (λ p. ItemComesTo map row p step) (sym (tables_are old.tables.program _ adds)) item, rest))
 
-      pub fed_next : (new : Conversion) (outcome : Result Outcome ConvertError) → ItemComesTo map row mid.tables.program (Ok new.tables.program)
-          → new ≡ with_program new.tables.program mid → without_items new.tables.program ≡ without_items mid.tables.program
-          → ComesTo map (still_to_read new after) new.tables.program outcome → ComesTo map (still_to_read old before) old.tables.program outcome
+      pub fed_next : (new : Conversion) (outcome : Result Outcome ConvertError)
+          → ItemComesTo map row mid.tables.program (Ok new.tables.program)
+          → new ≡ with_program new.tables.program mid
+          → without_items new.tables.program ≡ without_items mid.tables.program
+          → ComesTo map (still_to_read new after) new.tables.program outcome
+          → ComesTo map (still_to_read old before) old.tables.program outcome
       fed_next new outcome item kept items rest =
           handed_first outcome (Ok new.tables.program) item
           (subst (λ (r : Reading). ComesTo map r new.tables.program outcome) (same_left mid new after kept items) rest)
 
-      pub fed_fewer : (new : Conversion) → new ≡ with_program new.tables.program mid → without_items new.tables.program ≡ without_items mid.tables.program
+      pub fed_fewer : (new : Conversion) → new ≡ with_program new.tables.program mid
+          → without_items new.tables.program ≡ without_items mid.tables.program
           → offer_count (still_to_read new after) < offer_count (still_to_read old before)
       fed_fewer new kept items =
-          subst (λ (r : Reading). offer_count r < offer_count (still_to_read old before)) (sym (same_left mid new after kept items))
+          subst (λ (r : Reading). offer_count r < offer_count (still_to_read old before))
+          (sym (same_left mid new after kept items))
           (one_fewer (still_to_read old before) (still_to_read mid after) row (tables_of mid after) hands)
 
       pub feed_refused : (e : ConvertError) → (e ≡ OutOfMemory) ⊎ ItemComesTo map row mid.tables.program (Err e)
@@ -168,7 +203,8 @@ module _ (map : ℕ → Option Address → Type 0) where
         (subst (λ r. ComesTo map r old.tables.program (Err e)) (sym is) refl))
     read_refused e (inr memory) = inl memory.0
 
-    module _ (end : after_definitions (still_to_read old before) ≡ ends (tables_of mid after)) (adds : AddsFiles old.tables.program mid.tables.program) where
+    module _ (end : after_definitions (still_to_read old before) ≡ ends (tables_of mid after))
+        (adds : AddsFiles old.tables.program mid.tables.program) where
       last : (unended : Bool) → mid.tables.program.in_sequence ≡ unended
           → outcome_at_end (tables_of mid after) old.tables.program
           ≡ (if unended then Err MissingLineEndSequence
@@ -176,7 +212,11 @@ module _ (map : ℕ → Option Address → Type 0) where
       last unended is =
           ap (λ b.
           let r : Result Outcome ConvertError = if b then Err MissingLineEndSequence
-          else Ok (record { program = with_tables (tables_of mid after) old.tables.program; file_ids = mid.tables.file_ids; line_strings = after }) in
+          else Ok (record {
+            program = with_tables (tables_of mid after) old.tables.program;
+            file_ids = mid.tables.file_ids;
+            line_strings = after;
+          }) in
           r)
           (sym (ap (λ p. p.in_sequence) adds) ∙ is)
           ∙ ap (λ p.
@@ -185,13 +225,15 @@ module _ (map : ℕ → Option Address → Type 0) where
           r)
           (tables_are old.tables.program _ adds)
 
-      comes_last : (outcome : Result Outcome ConvertError) → outcome ≡ outcome_at_end (tables_of mid after) old.tables.program
+      comes_last : (outcome : Result Outcome ConvertError)
+          → outcome ≡ outcome_at_end (tables_of mid after) old.tables.program
           → ComesTo map (still_to_read old before) old.tables.program outcome
       comes_last outcome is =
           comes_after (still_to_read old before) old.tables.program outcome
           (subst (λ r. ComesTo map r old.tables.program outcome) (sym end) is)
 
-      pub left_open : mid.tables.program.in_sequence ≡ true → ComesTo map (still_to_read old before) old.tables.program (Err MissingLineEndSequence)
+      pub left_open : mid.tables.program.in_sequence ≡ true
+          → ComesTo map (still_to_read old before) old.tables.program (Err MissingLineEndSequence)
       left_open is = comes_last _ (sym (last _ is))
 
       pub converted_all : mid.tables.program.in_sequence ≡ false
@@ -202,17 +244,24 @@ module _ (map : ℕ → Option Address → Type 0) where
   -- ---- a whole conversion
 
   module _ (s : Source) (line_strings : List (List ℕ)) where
-    pub header_refused : (e : ConvertError) → IsRefusedBy (tables_of_header s.sections s.header s.given line_strings) e → IsConvertRefusal map s line_strings e
+    pub header_refused : (e : ConvertError) → IsRefusedBy (tables_of_header s.sections s.header s.given line_strings) e
+        → IsConvertRefusal map s line_strings e
     header_refused e (inl memory) = record { answers = inl memory; as_function = λ g says. inl memory }
-    header_refused e (inr is) = record { answers = inr (stops e, rw is refl); as_function = λ g says. inr (stops e, rw is refl) }
+    header_refused e (inr is) = record {
+      answers = inr (stops e, rw is refl);
+      as_function = λ g says. inr (stops e, rw is refl);
+    }
 
-    module _ (first : TablesAndTexts) (reading : Reading) (is : tables_of_header s.sections s.header s.given line_strings ≡ Ok first)
+    module _ (first : TablesAndTexts) (reading : Reading)
+        (is : tables_of_header s.sections s.header s.given line_strings ≡ Ok first)
         (reads : ReadsItems s.notation s.sections s.header first s.header.program reading) where
-      pub all_converted : (g : ℕ → Option Address) (outcome : Result Outcome ConvertError) → outcome_of g reading first.program ≡ outcome
+      pub all_converted : (g : ℕ → Option Address) (outcome : Result Outcome ConvertError)
+          → outcome_of g reading first.program ≡ outcome
           → IsConverted g s line_strings outcome
       all_converted g outcome comes = (reading, rw is (reads, comes))
 
-      pub all_comes : (outcome : Result Outcome ConvertError) → ComesTo map reading first.program outcome → SourceComesTo map s line_strings outcome
+      pub all_comes : (outcome : Result Outcome ConvertError) → ComesTo map reading first.program outcome
+          → SourceComesTo map s line_strings outcome
       all_comes outcome comes = (reading, rw is (reads, comes))
 
       refused_as : (g : ℕ → Option Address) (e : ConvertError) → IsRefusedBy (outcome_of g reading first.program) e
@@ -226,7 +275,8 @@ module _ (map : ℕ → Option Address → Type 0) where
       refused_by e (inr comes) = inr (all_comes _ comes)
 
       pub rows_refused : (e : ConvertError) → (e ≡ OutOfMemory) ⊎ ComesTo map reading first.program (Err e)
-          → ((g : ℕ → Option Address) → AnswersAs map g → IsRefusedBy (outcome_of g reading first.program) e) → IsConvertRefusal map s line_strings e
+          → ((g : ℕ → Option Address) → AnswersAs map g → IsRefusedBy (outcome_of g reading first.program) e)
+          → IsConvertRefusal map s line_strings e
       rows_refused e answers as_function = record {
         answers = refused_by e answers;
         as_function = λ g says. refused_as g e (as_function g says);

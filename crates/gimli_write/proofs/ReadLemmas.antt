@@ -8,7 +8,8 @@ use Rattle.gimli_write.proofs.KeptFiles.{files_self, files_then}
 use Rattle.gimli_write.proofs.Writable.{writable_then}
 
 -- nothing was added
-pub reads_none : (a b : Progress) → b.conversion.tables ≡ a.conversion.tables → b.line_strings ≡ a.line_strings → ReadsOn a b
+pub reads_none : (a b : Progress) → b.conversion.tables ≡ a.conversion.tables → b.line_strings ≡ a.line_strings
+    → ReadsOn a b
 reads_none a b tables texts = record {
   adds = rw tables refl;
   keeps = rw tables (files_self _);
@@ -25,5 +26,6 @@ reads_then {a = a} {b = b} {c = c} first second = record {
 }
 
 -- what else changes in the conversion says nothing of a read
-pub reads_kept : (a b c : Progress) → c.conversion.tables ≡ b.conversion.tables → c.line_strings ≡ b.line_strings → ReadsOn a b → ReadsOn a c
+pub reads_kept : (a b c : Progress) → c.conversion.tables ≡ b.conversion.tables → c.line_strings ≡ b.line_strings
+    → ReadsOn a b → ReadsOn a c
 reads_kept a b c tables texts reads = reads_then reads (reads_none b c tables texts)

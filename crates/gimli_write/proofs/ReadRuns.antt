@@ -21,13 +21,16 @@ use Rattle.gimli_write.specs.RoundTrip.{IsRunRefusal}
 -- ---- a run to its end
 
 -- rows after which nothing comes are all that the program gives
-pub run_ended : (notation : Notation) (h : Header) (events left : List EventWithFiles) (rows : List LineRow) → EventsWithFiles notation true h h.program events
+pub run_ended : (notation : Notation) (h : Header) (events left : List EventWithFiles) (rows : List LineRow)
+    → EventsWithFiles notation true h h.program events
     → events_of events ≡ map row rows ++ events_of left → left ≡ [] → Events notation h h.program (map row rows)
 run_ended notation h events left rows tells so_far none = record {
   list = tells.list;
   end = tells.end;
   decoding = tells.decoding;
-  given = sym (append-nil (map row rows)) ∙ ap (λ (l : List EventWithFiles). map row rows ++ events_of l) (sym none) ∙ sym so_far
+  given =
+      sym (append-nil (map row rows)) ∙ ap (λ (l : List EventWithFiles). map row rows ++ events_of l) (sym none)
+      ∙ sym so_far
       ∙ ap events_of tells.given ∙ given_without_files true h tells.list tells.end;
 }
 
@@ -38,9 +41,11 @@ pub is_memory : (e : Error) → (e ≡ OutOfMemory) ⊎ (e ≢ OutOfMemory)
 is_memory OutOfMemory = inl refl
 is_memory e = inr (λ is. absurd cc)
 
-first_fault : (notation : Notation) (h : Header) (events left rest : List EventWithFiles) (rows : List LineRow) (files : List File) (e : Error)
+first_fault : (notation : Notation) (h : Header) (events left rest : List EventWithFiles) (rows : List LineRow)
+    (files : List File) (e : Error)
     → EventsWithFiles notation true h h.program events
-    → events_of events ≡ map row rows ++ events_of left → left ≡ record { event = fault e; files = files } ∷ rest → HasFirstFault notation h e
+    → events_of events ≡ map row rows ++ events_of left → left ≡ record { event = fault e; files = files } ∷ rest
+    → HasFirstFault notation h e
 first_fault notation h events left rest rows files e tells so_far next = record {
   list = tells.list;
   end = tells.end;
@@ -52,7 +57,8 @@ first_fault notation h events left rest rows files e tells so_far next = record 
 }
 
 -- a refusal after rows is the first fault, or `OutOfMemory`, and has the name that conversions give it
-pub run_refused : (notation : Notation) (h : Header) (events : List EventWithFiles) (old new : RunState) (rows : List LineRow) (e : Error) (r : ConvertError)
+pub run_refused : (notation : Notation) (h : Header) (events : List EventWithFiles) (old new : RunState)
+    (rows : List LineRow) (e : Error) (r : ConvertError)
     → EventsWithFiles notation true h h.program events → events_of events ≡ map row rows ++ events_of (events_left old)
     → FaultIs live_events (with_reset_row old) new e
     → (e ≡ OutOfMemory → r ≡ NoMemory) → (e ≢ OutOfMemory → r ≡ Read e) → IsRunRefusal notation h r

@@ -1,5 +1,6 @@
 -- Texts that are read: each is the text that its value stands for.
-use Rattle.std.proofs.Common.{◌≡◌, ◌≢◌, ℕ, ◌+◌, ◌<◌, List, [], ◌∷◌, ◌++◌, length, map, take, get_or, ◌≤◌, Ok, Err, refl, sym, ap, ◌∙◌, subst}
+use Rattle.std.proofs.Common.{◌≡◌, ◌≢◌, ℕ, ◌+◌, ◌<◌, List, [], ◌∷◌, ◌++◌, length, map, take, get_or, ◌≤◌, Ok, Err, refl}
+use Rattle.std.proofs.Common.{sym, ap, ◌∙◌, subst}
 use Rattle.std.proofs.Common.{append_assoc, add-one, arith, inl, inr}
 use Rattle.std.specs.Prelude.{All}
 use Rattle.std.proofs.lemmas.Bool.{cases_lt, le-ltb, lt-ltb}
@@ -30,7 +31,8 @@ front_read bytes text (Ok x, rest) read is =
 front_read bytes text (Err e, rest) read is = absurd cc
 
 -- what is read at an offset is the text there
-text_from_read : (section : List ℕ) (offset : ℕ) (text : List ℕ) → text_from section offset ≡ Ok text → IsTextAt section offset text
+text_from_read : (section : List ℕ) (offset : ℕ) (text : List ℕ) → text_from section offset ≡ Ok text
+    → IsTextAt section offset text
 text_from_read section offset text is = elim (cases_lt (length section) offset) [
   | inl lt ↦ let refused = rw (lt-ltb (length section) offset lt, text_from, skip_at) at is in absurd cc
   | inr le ↦
@@ -40,9 +42,12 @@ text_from_read section offset text is = elim (cases_lt (length section) offset) 
 ]
 
 -- and a text that is there is read
-text_from_there : (section : List ℕ) (offset : ℕ) (text : List ℕ) → IsTextAt section offset text → text_from section offset ≡ Ok text
+text_from_there : (section : List ℕ) (offset : ℕ) (text : List ℕ) → IsTextAt section offset text
+    → text_from section offset ≡ Ok text
 text_from_there section offset text at =
-    let le : offset ≤ length section = omega (arith, length-drop offset section, ap length at.there, length-append text (0 ∷ at.rest)) in
+    let le : offset
+    ≤ length section = omega
+    (arith, length-drop offset section, ap length at.there, length-append text (0 ∷ at.rest)) in
     let only = reads_text.only (text ++ 0 ∷ []) text at.rest (recursion_from_All (λ b. b ≢ 0) _ at.no_zero, refl) in
     rw (le-ltb (length section) offset le, text_from, skip_at)
     (ap (λ bytes. (text_at bytes).0) (at.there ∙ sym (append_assoc text (0 ∷ []) at.rest)) ∙ ap (λ r. r.0) only)
@@ -65,7 +70,8 @@ text_not_refused s v e has refused = let both = sym (text_there s v _ has.1) ∙
 
 -- ---- one after the other
 
-pub one_by_one_push : {A B : Type 0} (Related : A → B → Type 0) (xs : List A) (ys : List B) (x : A) (y : B) → OneByOne Related xs ys → Related x y
+pub one_by_one_push : {A B : Type 0} (Related : A → B → Type 0) (xs : List A) (ys : List B) (x : A) (y : B)
+    → OneByOne Related xs ys → Related x y
     → OneByOne Related (xs ++ x ∷ []) (ys ++ y ∷ [])
 one_by_one_push Related [] [] x y all one = (one, tt)
 one_by_one_push Related (a ∷ xs) (b ∷ ys) x y all one = (all.0, one_by_one_push Related xs ys x y all.1 one)
@@ -73,10 +79,12 @@ one_by_one_push Related [] (b ∷ ys) x y all one = absurd all
 one_by_one_push Related (a ∷ xs) [] x y all one = absurd all
 
 -- the elements so far, and one more
-pub taken_more : {A : Type 0} (xs : List A) (i : ℕ) (x : A) → i < length xs → x ≡ get_or xs i x → take (i + 1) xs ≡ take i xs ++ x ∷ []
+pub taken_more : {A : Type 0} (xs : List A) (i : ℕ) (x : A) → i < length xs → x ≡ get_or xs i x
+    → take (i + 1) xs ≡ take i xs ++ x ∷ []
 taken_more xs i x lt is = ap (λ n. take n xs) (add-one i) ∙ take-suc xs i x lt ∙ ap (λ a. take i xs ++ a ∷ []) (sym is)
 
-pub one_by_one_more : {A B C D : Type 0} (Related : A → B → Type 0) (f : C → A) (g : D → B) (xs : List C) (ys : List D) (i : ℕ) (x : C) (y : D)
+pub one_by_one_more : {A B C D : Type 0} (Related : A → B → Type 0) (f : C → A) (g : D → B) (xs : List C) (ys : List D)
+    (i : ℕ) (x : C) (y : D)
     → i < length xs → x ≡ get_or xs i x → OneByOne Related (map f (take i xs)) (map g ys) → Related (f x) (g y)
     → OneByOne Related (map f (take (i + 1) xs)) (map g (ys ++ y ∷ []))
 one_by_one_more Related f g xs ys i x y lt is all one =
@@ -84,7 +92,8 @@ one_by_one_more Related f g xs ys i x y lt is all one =
     (one_by_one_push _ _ _ _ _ all one)
 
 -- what is true of all is true of one
-pub mapped_at : {A C : Type 0} (P : A → Type 0) (f : C → A) (xs : List C) (i : ℕ) (x : C) → i < length xs → x ≡ get_or xs i x → All P (map f xs) → P (f x)
+pub mapped_at : {A C : Type 0} (P : A → Type 0) (f : C → A) (xs : List C) (i : ℕ) (x : C) → i < length xs
+    → x ≡ get_or xs i x → All P (map f xs) → P (f x)
 mapped_at P f xs i x lt is all =
     let within : i < length (map f xs) = rw (length-map xs f) lt in
     let there = All-get_or P (map f xs) i (f x) within all in

@@ -1,5 +1,6 @@
 -- A unit that is read: it has one header, and no fault.
-use Rattle.std.proofs.Common.{◌≡◌, ◌≢◌, ℕ, ◌<◌, ◌^◌, Bool, List, [], ◌∷◌, length, drop, ◌+◌, refl, sym, ap, ◌∙◌, subst, inl, inr, arith}
+use Rattle.std.proofs.Common.{◌≡◌, ◌≢◌, ℕ, ◌<◌, ◌^◌, Bool, List, [], ◌∷◌, length, drop, ◌+◌, refl, sym, ap, ◌∙◌, subst}
+use Rattle.std.proofs.Common.{inl, inr, arith}
 use Rattle.std.specs.Prelude.{All, Result, Option, Some, None, IfOk, IfErr}
 use Rattle.std.proofs.lemmas.List.{length-drop, append-nil}
 use Rattle.std.proofs.lemmas.List.Elements.{All-nil, All-cons}
@@ -19,60 +20,72 @@ use Rattle.gimli_write.specs.inside.TextReading.{HasText, HasOptionalText, HasFi
 use Rattle.gimli_build.specs.LineText.{LineText, Inline, InStrings, InLineStrings}
 use Rattle.gimli_build.specs.Tables.{File}
 use Rattle.gimli_build.specs.Built.{Built}
-use Rattle.gimli_build.specs.ReadsBack.{IsDirectory, IsFile, IsOffsetHeld, ReadsBack, IsReadWell, ReadsBackAs, directories_from_zero}
+use Rattle.gimli_build.specs.ReadsBack.{IsDirectory, IsFile, IsOffsetHeld, ReadsBack, IsReadWell, ReadsBackAs}
+use Rattle.gimli_build.specs.ReadsBack.{directories_from_zero}
 use Rattle.gimli_write.specs.declared.convert_error.ConvertError.{ConvertError}
 use Rattle.gimli_write.specs.declared.convert_error.ConvertError.TheVariants.{OutOfMemory as NoMemory}
 use Rattle.gimli_write.specs.declared.read_back.RoundTrip.{RoundTrip}
-use Rattle.gimli_write.specs.RoundTrip.{answers, AreAnswers, AnswersProgram, IsRunRefusal, RefusesUnit, slice_notation, unit_entry_of, sections_of}
+use Rattle.gimli_write.specs.RoundTrip.{answers, AreAnswers, AnswersProgram, IsRunRefusal, RefusesUnit, slice_notation}
+use Rattle.gimli_write.specs.RoundTrip.{unit_entry_of, sections_of}
 use Rattle.gimli_write.specs.inside.RoundTrip.{BeginsUnit, CanRead, HasTexts, unit_entry_with}
 use Rattle.gimli_write.proofs.ReadRuns.{is_memory}
 
 -- ---- what a slice is read as
 
 -- the same notation, directory and bytes by another name
-pub same_unit : (limit size n : ℕ) (big other : Bool) (directory other_directory section other_section : List ℕ) (h : Header)
+pub same_unit : (limit size n : ℕ) (big other : Bool) (directory other_directory section other_section : List ℕ)
+    (h : Header)
     → other ≡ big → other_directory ≡ directory → other_section ≡ section
     → SpellsUnit (record { big = other; limit = limit }) (unit_entry_with size other_directory) (drop n other_section) h
     → BeginsUnit (record { big = big; limit = limit }) (unit_entry_with size directory) (drop n section) h
 same_unit limit size n big other directory other_directory section other_section h b d s spelled =
     subst (λ x. BeginsUnit (record { big = x; limit = limit }) (unit_entry_with size directory) (drop n section) h) b
     (subst (λ x. BeginsUnit (record { big = other; limit = limit }) (unit_entry_with size x) (drop n section) h) d
-    (subst (λ x. BeginsUnit (record { big = other; limit = limit }) (unit_entry_with size other_directory) (drop n x) h) s
+    (subst (λ x. BeginsUnit (record { big = other; limit = limit }) (unit_entry_with size other_directory) (drop n x) h)
+    s
     (record { spelled = spelled })))
 
 -- a fault where a unit begins
 pub record BeginsFault (notation : Notation) (unit_entry : UnitEntry) (bytes : List ℕ) (e : Error) : Type 0 where
   pub fault : HasHeaderFault notation unit_entry bytes e
 
-pub same_fault : (limit size n : ℕ) (big other : Bool) (directory other_directory section other_section : List ℕ) (e : Error)
+pub same_fault : (limit size n : ℕ) (big other : Bool) (directory other_directory section other_section : List ℕ)
+    (e : Error)
     → other ≡ big → other_directory ≡ directory → other_section ≡ section
-    → HasHeaderFault (record { big = other; limit = limit }) (unit_entry_with size other_directory) (drop n other_section) e
+    → HasHeaderFault (record { big = other; limit = limit }) (unit_entry_with size other_directory)
+    (drop n other_section) e
     → BeginsFault (record { big = big; limit = limit }) (unit_entry_with size directory) (drop n section) e
 same_fault limit size n big other directory other_directory section other_section e b d s fault =
     subst (λ x. BeginsFault (record { big = x; limit = limit }) (unit_entry_with size directory) (drop n section) e) b
     (subst (λ x. BeginsFault (record { big = other; limit = limit }) (unit_entry_with size x) (drop n section) e) d
-    (subst (λ x. BeginsFault (record { big = other; limit = limit }) (unit_entry_with size other_directory) (drop n x) e) s
+    (subst
+    (λ x. BeginsFault (record { big = other; limit = limit }) (unit_entry_with size other_directory) (drop n x) e) s
     (record { fault = fault })))
 
-pub same_sections : (strings other_strings line_strings other_line_strings : List ℕ) (s : Sections) → other_strings ≡ strings
+pub same_sections : (strings other_strings line_strings other_line_strings : List ℕ) (s : Sections)
+    → other_strings ≡ strings
     → other_line_strings ≡ line_strings
-    → record { strings = strings; line_strings = line_strings } ≡ s → record { strings = other_strings; line_strings = other_line_strings } ≡ s
+    → record { strings = strings; line_strings = line_strings } ≡ s
+    → record { strings = other_strings; line_strings = other_line_strings } ≡ s
 same_sections strings other_strings line_strings other_line_strings s a b is =
     ap (λ x. let t : Sections = record { strings = x; line_strings = other_line_strings } in t) a
     ∙ ap (λ x. let t : Sections = record { strings = strings; line_strings = x } in t) b ∙ is
 
-pub same_notation : (limit : ℕ) (big other : Bool) (n : Notation) → n ≡ record { big = other; limit = limit } → other ≡ big
+pub same_notation : (limit : ℕ) (big other : Bool) (n : Notation) → n ≡ record { big = other; limit = limit }
+    → other ≡ big
     → n ≡ record { big = big; limit = limit }
 same_notation limit big other n is b = is ∙ ap (λ x. let m : Notation = record { big = x; limit = limit } in m) b
 
 -- ---- one header
 
 module _ (notation : Notation) (unit_entry : UnitEntry) (bytes : List ℕ) where
-  pub same_header : (h k : Header) → BeginsUnit notation unit_entry bytes h → BeginsUnit notation unit_entry bytes k → h ≡ k
+  pub same_header : (h k : Header) → BeginsUnit notation unit_entry bytes h → BeginsUnit notation unit_entry bytes k
+      → h ≡ k
   same_header h k s t = one_header notation unit_entry _ h k s.spelled t.spelled
 
   -- the texts of the header that is read are there
-  pub texts_there : (sections : Sections) (k : Header) → CanRead notation unit_entry sections bytes → BeginsUnit notation unit_entry bytes k
+  pub texts_there : (sections : Sections) (k : Header) → CanRead notation unit_entry sections bytes
+      → BeginsUnit notation unit_entry bytes k
       → HasTexts sections k
   texts_there sections k can unit = subst (λ h. HasTexts sections h) (same_header _ k can.unit unit) can.texts
 
@@ -87,33 +100,39 @@ module _ (notation : Notation) (unit_entry : UnitEntry) (bytes : List ℕ) where
 
 -- ---- answers of the same by another name
 
-pub same_answers : (r : Result RoundTrip ConvertError) (n m : Notation) (s t : Sections) (h k : Header) → n ≡ m → s ≡ t → h ≡ k
+pub same_answers : (r : Result RoundTrip ConvertError) (n m : Notation) (s t : Sections) (h k : Header) → n ≡ m → s ≡ t
+    → h ≡ k
     → IfOk r (λ answer. AreAnswers n s h (answers answer)) → IfOk r (λ answer. AreAnswers m t k (answers answer))
 same_answers r n m s t h k a b d is =
     subst (λ x. IfOk r (λ answer. AreAnswers x t k (answers answer))) a
     (subst (λ x. IfOk r (λ answer. AreAnswers n x k (answers answer))) b
     (subst (λ x. IfOk r (λ answer. AreAnswers n s x (answers answer))) d is))
 
-pub same_refusal : (r : Result RoundTrip ConvertError) (n m : Notation) (h k : Header) → n ≡ m → h ≡ k → IfErr r (IsRunRefusal n h) → IfErr r (IsRunRefusal m k)
+pub same_refusal : (r : Result RoundTrip ConvertError) (n m : Notation) (h k : Header) → n ≡ m → h ≡ k
+    → IfErr r (IsRunRefusal n h) → IfErr r (IsRunRefusal m k)
 same_refusal r n m h k a d is =
     subst (λ x. IfErr r (IsRunRefusal x k)) a (subst (λ x. IfErr r (IsRunRefusal n x)) d is)
 
 -- ---- a program's unit
 
-one_by_one_all : {A B : Type 0} (Related : A → B → Type 0) (P : A → Type 0) → ((x : A) (y : B) → Related x y → P x) → (xs : List A) (ys : List B)
+one_by_one_all : {A B : Type 0} (Related : A → B → Type 0) (P : A → Type 0) → ((x : A) (y : B) → Related x y → P x)
+    → (xs : List A) (ys : List B)
     → OneByOne Related xs ys → All P xs
 one_by_one_all Related P gives [] [] all = All-nil P
-one_by_one_all Related P gives (x ∷ xs) (y ∷ ys) all = All-cons P x _ (gives x y all.0) (one_by_one_all Related P gives xs ys all.1)
+one_by_one_all Related P gives (x ∷ xs) (y ∷ ys) all =
+    All-cons P x _ (gives x y all.0) (one_by_one_all Related P gives xs ys all.1)
 one_by_one_all Related P gives [] (y ∷ ys) all = absurd all
 one_by_one_all Related P gives (x ∷ xs) [] all = absurd all
 
-optional_there : (s : Sections) (v : Option Value) (text : Option (List ℕ)) → IsOptionalText s v text → HasOptionalText s v
+optional_there : (s : Sections) (v : Option Value) (text : Option (List ℕ)) → IsOptionalText s v text
+    → HasOptionalText s v
 optional_there s (Some v) (Some text) is = (text, is)
 optional_there s None None is = tt
 optional_there s (Some v) None is = absurd is
 optional_there s None (Some text) is = absurd is
 
-file_texts_there : (s : Sections) (p : Built) (texts : StringTables) (read : ReadFile) (built : File) → IsFile s p texts read built → HasFileTexts s read
+file_texts_there : (s : Sections) (p : Built) (texts : StringTables) (read : ReadFile) (built : File)
+    → IsFile s p texts read built → HasFileTexts s read
 file_texts_there s p texts read built is = record {
   path = (_, is.path);
   source = optional_there s _ _ is.source;
@@ -123,7 +142,8 @@ file_texts_there s p texts read built is = record {
 abbrev pub AreShort : StringTables → Type 0
 AreShort texts = (byte_count texts.strings < 2 ^ 64) × (byte_count texts.line_strings < 2 ^ 64)
 
-module _ (big : Bool) (p : Built) (texts : StringTables) (section : List ℕ) (n : ℕ) (whole : ReadsBackAs big p texts (drop n section))
+module _ (big : Bool) (p : Built) (texts : StringTables) (section : List ℕ) (n : ℕ)
+    (whole : ReadsBackAs big p texts (drop n section))
     (fits : length section < 2 ^ 64) (held : AreShort texts) where
   read_well : IsReadWell (slice_notation big) (unit_entry_of p texts) (sections_of texts) big p texts (drop n section)
   read_well = record {
@@ -138,7 +158,8 @@ module _ (big : Bool) (p : Built) (texts : StringTables) (section : List ℕ) (n
   }
     where
       offset_held : (texts : List (List ℕ)) (i : ℕ) → byte_count texts < 2 ^ 64 → offset_of texts i < 2 ^ 64
-      offset_held texts i short = let le = sum_by-take-le (λ (t : List ℕ). length t + 1) texts i in omega (arith, le, short)
+      offset_held texts i short =
+          let le = sum_by-take-le (λ (t : List ℕ). length t + 1) texts i in omega (arith, le, short)
 
       text_held : (t : LineText) → IsOffsetHeld (2 ^ 64) texts t
       text_held (Inline text) = tt
@@ -152,11 +173,13 @@ module _ (big : Bool) (p : Built) (texts : StringTables) (section : List ℕ) (n
   read_back = whole _ _ _ read_well
 
   -- `OutOfMemory` before the unit is read
-  pub unread_refused : (e : ConvertError) → e ≡ NoMemory → RefusesUnit (slice_notation big) (unit_entry_of p texts) (drop n section) e
+  pub unread_refused : (e : ConvertError) → e ≡ NoMemory
+      → RefusesUnit (slice_notation big) (unit_entry_of p texts) (drop n section) e
   unread_refused e is = rw is (read_back.header, read_back.is_unit, tt)
 
 -- what is handed to the reading of a program's unit, by the names of the program
-module _ (big other : Bool) (p : Built) (texts : StringTables) (section other_section : List ℕ) (n size : ℕ) (directory : List ℕ) (s : Sections)
+module _ (big other : Bool) (p : Built) (texts : StringTables) (section other_section : List ℕ) (n size : ℕ)
+    (directory : List ℕ) (s : Sections)
     (order : other ≡ big) (there : other_section ≡ section) (sized : size ≡ p.encoding.address_size)
     (directed : Some directory ≡ (unit_entry_of p texts).directory) (written : s ≡ sections_of texts)
     (whole : ReadsBackAs big p texts (drop n section)) (fits : length section < 2 ^ 64) (held : AreShort texts) where
@@ -166,10 +189,12 @@ module _ (big other : Bool) (p : Built) (texts : StringTables) (section other_se
   is_unit_entry : unit_entry_with size directory ≡ unit_entry_of p texts
   is_unit_entry =
       ap (λ x. unit_entry_with x directory) sized
-      ∙ ap (λ x. let g : UnitEntry = record { address_size = p.encoding.address_size; directory = x; name = None } in g) directed
+      ∙ ap (λ x. let g : UnitEntry = record { address_size = p.encoding.address_size; directory = x; name = None } in g)
+      directed
 
   -- the unit by other names
-  moved : (P : Bool → UnitEntry → List ℕ → Sections → Type 0) → P big (unit_entry_of p texts) section (sections_of texts)
+  moved : (P : Bool → UnitEntry → List ℕ → Sections → Type 0)
+      → P big (unit_entry_of p texts) section (sections_of texts)
       → P other (unit_entry_with size directory) other_section s
   moved P is =
       subst (λ x. P x (unit_entry_with size directory) other_section s) (sym order)
@@ -189,7 +214,8 @@ module _ (big other : Bool) (p : Built) (texts : StringTables) (section other_se
     unit = begins;
     texts = record {
       directories =
-          one_by_one_all (IsDirectory (sections_of texts) texts) (HasText (sections_of texts)) (λ v t is. (_, is)) (directories_from_zero back.header)
+          one_by_one_all (IsDirectory (sections_of texts) texts) (HasText (sections_of texts)) (λ v t is. (_, is))
+          (directories_from_zero back.header)
           p.directories back.directories;
       files =
           one_by_one_all (IsFile (sections_of texts) p texts) (HasFileTexts (sections_of texts))
@@ -205,7 +231,9 @@ module _ (big other : Bool) (p : Built) (texts : StringTables) (section other_se
       → IfOk r (λ answer. AreAnswers (slice_notation other) s h (answers answer)))
       → IfOk r (AnswersProgram big p texts (drop n section))
   program_answered r is =
-      let answered = moved_back (λ b t. IfOk r (λ answer. AreAnswers (slice_notation b) t back.header (answers answer))) (is back.header begins_there) in
+      let answered =
+      moved_back (λ b t. IfOk r (λ answer. AreAnswers (slice_notation b) t back.header (answers answer)))
+      (is back.header begins_there) in
       IfOk-weaker r _ _ (λ answer a. record { header = back.header; is_unit = back.is_unit; answered = a }) answered
 
   pub program_refused : (r : Result RoundTrip ConvertError)
@@ -213,5 +241,6 @@ module _ (big other : Bool) (p : Built) (texts : StringTables) (section other_se
       → IfErr r (IsRunRefusal (slice_notation other) h))
       → IfErr r (RefusesUnit (slice_notation big) (unit_entry_of p texts) (drop n section))
   program_refused r is =
-      let refused = moved_back (λ b t. IfErr r (IsRunRefusal (slice_notation b) back.header)) (is back.header begins_there) in
+      let refused =
+      moved_back (λ b t. IfErr r (IsRunRefusal (slice_notation b) back.header)) (is back.header begins_there) in
       MatchResult-weaker r refused (λ _ u. u) (λ e f. (back.header, back.is_unit, f))

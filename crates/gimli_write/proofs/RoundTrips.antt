@@ -19,7 +19,8 @@ is_memory OutOfMemory = inl refl
 is_memory e = inr (λ is. absurd cc)
 
 -- a refusal of writing
-pub write_refused : (big : Bool) (wanted : ToWrite) (unit_entry : UnitEntry) (old new : List ℕ) (e : Error) (r : ConvertError)
+pub write_refused : (big : Bool) (wanted : ToWrite) (unit_entry : UnitEntry) (old new : List ℕ) (e : Error)
+    (r : ConvertError)
     → (e ≡ OutOfMemory) ⊎ (wanted.cause ≡ Some e) → (e ≡ OutOfMemory → r ≡ NoMemory) → (e ≢ OutOfMemory → r ≡ Write e)
     → IsRefusal big wanted unit_entry old new r
 write_refused big wanted unit_entry old new e r why named other = elim (is_memory e) [
@@ -28,27 +29,34 @@ write_refused big wanted unit_entry old new e r why named other = elim (is_memor
 ]
 
 -- what was appended is the unit that was wanted
-unit_written : (wanted : ToWrite) (old new : List ℕ) → wanted.cause ≡ None → Appends wanted.bytes old new → (unit : List ℕ) × WasWritten wanted old new unit
+unit_written : (wanted : ToWrite) (old new : List ℕ) → wanted.cause ≡ None → Appends wanted.bytes old new
+    → (unit : List ℕ) × WasWritten wanted old new unit
 unit_written wanted old new none there = by _ refl there
   where
-    by : (r : Result (List ℕ) Error) → wanted.bytes ≡ r → Appends r old new → (unit : List ℕ) × WasWritten wanted old new unit
+    by : (r : Result (List ℕ) Error) → wanted.bytes ≡ r → Appends r old new
+        → (unit : List ℕ) × WasWritten wanted old new unit
     by (Ok unit) is appended = (unit, record { no_cause = none; bytes = is; appended = appended })
     by (Err e) is appended = absurd appended
 
 -- a refusal of reading the unit that was appended
-unit_refused : (big : Bool) (wanted : ToWrite) (unit_entry : UnitEntry) (old new unit : List ℕ) (e : ConvertError) → WasWritten wanted old new unit
+unit_refused : (big : Bool) (wanted : ToWrite) (unit_entry : UnitEntry) (old new unit : List ℕ) (e : ConvertError)
+    → WasWritten wanted old new unit
     → RefusesUnit (slice_notation big) unit_entry unit e → IsRefusal big wanted unit_entry old new e
 unit_refused big wanted unit_entry old new unit NoMemory written r = tt
 unit_refused big wanted unit_entry old new unit (Read fault) written r = (unit, written, r)
 unit_refused big wanted unit_entry old new unit e written r = absurd r.2
 
 -- the same by the bytes after the offset
-pub unit_not_answered : (big other : Bool) (wanted : ToWrite) (unit_entry : UnitEntry) (old new : List ℕ) (n : ℕ) (r : Result RoundTrip ConvertError)
-    → other ≡ big → wanted.cause ≡ None → Appends wanted.bytes old new → n ≡ length old → IfErr r (RefusesUnit (slice_notation other) unit_entry (drop n new))
+pub unit_not_answered : (big other : Bool) (wanted : ToWrite) (unit_entry : UnitEntry) (old new : List ℕ) (n : ℕ)
+    (r : Result RoundTrip ConvertError)
+    → other ≡ big → wanted.cause ≡ None → Appends wanted.bytes old new → n ≡ length old
+    → IfErr r (RefusesUnit (slice_notation other) unit_entry (drop n new))
     → IfErr r (IsRefusal big wanted unit_entry old new)
 unit_not_answered big other wanted unit_entry old new n r order none there offset is =
     let written = unit_written _ _ _ none there in
-    let later = ap (λ xs. drop n xs) written.1.appended ∙ ap (λ i. drop i (old ++ written.0)) offset ∙ drop-append_seam old written.0 in
+    let later =
+    ap (λ xs. drop n xs) written.1.appended ∙ ap (λ i. drop i (old ++ written.0)) offset
+    ∙ drop-append_seam old written.0 in
     let refused =
     subst (λ x. IfErr r (RefusesUnit (slice_notation x) unit_entry written.0)) order
     (subst (λ xs. IfErr r (RefusesUnit (slice_notation other) unit_entry xs)) later is) in

@@ -1,5 +1,6 @@
 -- A step of a source: an instruction that was executed from its bytes does what it does when it is parsed.
-use Rattle.std.proofs.Common.{◌≡◌, ◌≢◌, ◌∙◌, ℕ, ◌<◌, Bool, true, false, if◌then◌else◌, List, length, refl, sym, ap, subst}
+use Rattle.std.proofs.Common.{◌≡◌, ◌≢◌, ◌∙◌, ℕ, ◌<◌, Bool, true, false, if◌then◌else◌, List, length, refl, sym, ap}
+use Rattle.std.proofs.Common.{subst}
 use Rattle.std.specs.Prelude.{Some, None, Result, Ok, Err, OnOk, IfErr, IfOk}
 use Rattle.gimli_core.specs.declared.error.Error.{Error}
 use Rattle.gimli_core.specs.declared.error.Error.TheVariants.{AddressOverflow}
@@ -23,7 +24,8 @@ use Rattle.gimli_write.specs.declared.convert.run.SourceStep.TheVariants.{More, 
 use Rattle.gimli_write.specs.convert.Items.{address_operand}
 use Rattle.gimli_write.specs.convert.SourceRun.{SourceRun, state_after}
 use Rattle.gimli_write.specs.inside.convert.SourceRun.{source_row, step_made, StepsSource}
-use Rattle.gimli_write.proofs.SourceSteps.{state, IsReady, address_state, executed_reading, executed_refusal, executed_shortens, is_shorter, made_is}
+use Rattle.gimli_write.proofs.SourceSteps.{state, IsReady, address_state, executed_reading, executed_refusal}
+use Rattle.gimli_write.proofs.SourceSteps.{executed_shortens, is_shorter, made_is}
 use Rattle.gimli_write.proofs.SourceSteps.{quiet_state, ready_at_refusal, row_state, spelled_as, with_unread}
 use Rattle.gimli_write.proofs.TablesAtEnd.{executed_last, executed_stop}
 
@@ -37,10 +39,13 @@ no_address (SetAddress a) told is other = absurd (other a is)
 no_address i told is other = refl
 
 -- an instruction that was taken and executed, or refused
-module _ {R Offset Endian : Type 0} (bytes : R → List ℕ) (number : Offset → ℕ) (s new : SourceRun) (u : Unread) (notation : u.notation ≡ s.unread.notation)
-    (i : Ins) (taken : TakesNext s.header s.unread u (Some i)) (answer : Result (SourceStep R Endian Offset) ConvertError) (header : new.header ≡ s.header)
+module _ {R Offset Endian : Type 0} (bytes : R → List ℕ) (number : Offset → ℕ) (s new : SourceRun) (u : Unread)
+    (notation : u.notation ≡ s.unread.notation)
+    (i : Ins) (taken : TakesNext s.header s.unread u (Some i))
+    (answer : Result (SourceStep R Endian Offset) ConvertError) (header : new.header ≡ s.header)
     (unread : new.unread ≡ u) where
-  pub steps_source : defines_file i ≡ false → OnOk answer (is_refused s.header.parameters i s.row ≡ false) → OnOk answer (new ≡ state_after i (with_unread s u))
+  pub steps_source : defines_file i ≡ false → OnOk answer (is_refused s.header.parameters i s.row ≡ false)
+      → OnOk answer (new ≡ state_after i (with_unread s u))
       → IfOk answer (λ step. step ≡ step_made (with_unread s u) i)
       → IfErr answer (λ e. (e ≡ Read AddressOverflow) × (is_refused s.header.parameters i s.row ≡ true))
       → StepsSource bytes number s new answer
@@ -60,7 +65,8 @@ module _ {R Offset Endian : Type 0} (bytes : R → List ℕ) (number : Offset �
 
 -- k is the header that was lent, r2 the registers after the instruction
 module _ (s : SourceRun) (k : Header) (lent : k ≡ s.header) (r2 : LineRow) (u : Unread) where
-  module _ (refused : Bool) (x : IsExecuted k.parameters (ins_at s.unread.notation k s.unread.bytes) u.bytes s.row r2 refused) where
+  module _ (refused : Bool)
+      (x : IsExecuted k.parameters (ins_at s.unread.notation k s.unread.bytes) u.bytes s.row r2 refused) where
     taken : TakesNext s.header s.unread u (Some x.instruction)
     taken =
         let f = (reads_instruction s.unread.notation k).found s.unread.bytes x.instruction u.bytes x.reading in
@@ -74,34 +80,46 @@ module _ (s : SourceRun) (k : Header) (lent : k ≡ s.header) (r2 : LineRow) (u 
 
   module _ (x : IsExecuted k.parameters (ins_at s.unread.notation k s.unread.bytes) u.bytes s.row r2 false) where
     address_step : (a : ℕ) → Address a ≡ told_of x.instruction → r2 ≡ step_of s.header.parameters (SetAddress a) s.row
-    address_step a told = subst (λ i. r2 ≡ step_of s.header.parameters i s.row) (told_address x.instruction a told) (steps false x)
+    address_step a told =
+        subst (λ i. r2 ≡ step_of s.header.parameters i s.row) (told_address x.instruction a told) (steps false x)
 
   pub refused_ready : (e : Error) → RefusesNext k s.unread u s.row r2 e → IsReady s.row → IsReady r2
   refused_ready e refused ready =
       let x = refused.1 in
-      ready_at_refusal x.instruction s.row r2 ready s.header.parameters _ x.defines (λ n. absurd (n refl)) (λ _. (fits true x, steps true x))
+      ready_at_refusal x.instruction s.row r2 ready s.header.parameters _ x.defines (λ n. absurd (n refl)) (λ _.
+      (fits true x, steps true x))
 
-module _ {R Offset Endian : Type 0} (bytes : R → List ℕ) (number : Offset → ℕ) (s : SourceRun) (k : Header) (lent : k ≡ s.header) (r2 : LineRow) (u : Unread)
+module _ {R Offset Endian : Type 0} (bytes : R → List ℕ) (number : Offset → ℕ) (s : SourceRun) (k : Header)
+    (lent : k ≡ s.header) (r2 : LineRow) (u : Unread)
     (notation : u.notation ≡ s.unread.notation) where
   module _ (x : IsExecuted k.parameters (ins_at s.unread.notation k s.unread.bytes) u.bytes s.row r2 false) where
-    pub quiet_steps : Quiet ≡ told_of x.instruction → StepsSource {Endian = Endian} bytes number s (state s.header r2 s.base s.pending u) (Ok More)
+    pub quiet_steps : Quiet ≡ told_of x.instruction
+        → StepsSource {Endian = Endian} bytes number s (state s.header r2 s.base s.pending u) (Ok More)
     quiet_steps told =
         let i = x.instruction in
         let address = no_address i _ told (λ a is. absurd cc) in
-        steps_source bytes number s (state s.header r2 s.base s.pending u) u notation i (taken s k lent r2 u false x) (Ok More) refl refl x.defines
+        steps_source bytes number s (state s.header r2 s.base s.pending u) u notation i (taken s k lent r2 u false x)
+        (Ok More) refl refl x.defines
         (fits s k lent r2 u false x)
-        (quiet_state i s.header s.header s.row r2 s.base s.pending u address x.defines (fits s k lent r2 u false x) (files_kept _ i x.defines)
+        (quiet_state i s.header s.header s.row r2 s.base s.pending u address x.defines (fits s k lent r2 u false x)
+        (files_kept _ i x.defines)
         (steps s k lent r2 u false x) (told_quiet i told))
         (rw (told_quiet i told) refl) tt
 
-    pub address_steps : (a : ℕ) → Address a ≡ told_of x.instruction → StepsSource {Endian = Endian} bytes number s (state s.header r2 a (Some a) u) (Ok More)
+    pub address_steps : (a : ℕ) → Address a ≡ told_of x.instruction
+        → StepsSource {Endian = Endian} bytes number s (state s.header r2 a (Some a) u) (Ok More)
     address_steps a told =
-        let taken_is = subst (λ (i : Ins). TakesNext s.header s.unread u (Some i)) (told_address x.instruction a told) (taken s k lent r2 u false x) in
-        steps_source bytes number s (state s.header r2 a (Some a) u) u notation (SetAddress a) taken_is (Ok More) refl refl refl refl
-        (address_state a s.header s.header s.row r2 s.base s.pending u refl (address_step s k lent r2 u x a told)) refl tt
+        let taken_is =
+        subst (λ (i : Ins). TakesNext s.header s.unread u (Some i)) (told_address x.instruction a told)
+        (taken s k lent r2 u false x) in
+        steps_source bytes number s (state s.header r2 a (Some a) u) u notation (SetAddress a) taken_is (Ok More) refl
+        refl refl refl
+        (address_state a s.header s.header s.row r2 s.base s.pending u refl (address_step s k lent r2 u x a told)) refl
+        tt
 
     -- a row was made, and the registers were reset after it
-    pub row_steps : IsReady s.row → Row ≡ told_of x.instruction → (j : Header) → j ≡ s.header → (r3 : LineRow) → r3 ≡ reset_row j.parameters r2
+    pub row_steps : IsReady s.row → Row ≡ told_of x.instruction → (j : Header) → j ≡ s.header → (r3 : LineRow)
+        → r3 ≡ reset_row j.parameters r2
         → (t : SourceRun) (given : SourceStep R Endian Offset)
         → given ≡ (if r2.tombstone then More else Made (source_row (state s.header r3 s.base s.pending u) r2))
         → t ≡ state s.header r3 (if r2.end_sequence then 0 else s.base) None u → StepsSource bytes number s t (Ok given)
@@ -114,17 +132,21 @@ module _ {R Offset Endian : Type 0} (bytes : R → List ℕ) (number : Offset �
         (ap (λ q. q.unread) t_is)
         x.defines (fits s k lent r2 u false x)
         (t_is
-        ∙ row_state i s.header s.header s.row r2 s.base s.pending u address x.defines (fits s k lent r2 u false x) kept (steps s k lent r2 u false x) loud
+        ∙ row_state i s.header s.header s.row r2 s.base s.pending u address x.defines (fits s k lent r2 u false x) kept
+        (steps s k lent r2 u false x) loud
         ready j same _ reset
         _ refl _ refl)
-        (made_is i s.header s.header s.row r2 s.base s.pending u address x.defines (fits s k lent r2 u false x) kept (steps s k lent r2 u false x) _
+        (made_is i s.header s.header s.row r2 s.base s.pending u address x.defines (fits s k lent r2 u false x) kept
+        (steps s k lent r2 u false x) _
         _ is loud refl)
         tt
 
   pub refused_steps : (e : Error) → RefusesNext k s.unread u s.row r2 e
-      → StepsSource {R = R} {Offset = Offset} {Endian = Endian} bytes number s (state s.header r2 s.base s.pending u) (Err (Read e))
+      → StepsSource {R = R} {Offset = Offset} {Endian = Endian} bytes number s (state s.header r2 s.base s.pending u)
+      (Err (Read e))
   refused_steps e refused =
       let x = refused.1 in
-      steps_source bytes number s (state s.header r2 s.base s.pending u) u notation x.instruction (taken s k lent r2 u true x) (Err (Read e)) refl refl
+      steps_source bytes number s (state s.header r2 s.base s.pending u) u notation x.instruction
+      (taken s k lent r2 u true x) (Err (Read e)) refl refl
       x.defines tt tt tt
       (ap Read refused.0, fits s k lent r2 u true x)

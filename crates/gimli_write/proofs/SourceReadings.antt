@@ -1,5 +1,6 @@
 -- What the machine reads of a source is what looking back says.
-use Rattle.std.proofs.Common.{◌≡◌, ℕ, ◌-◌, Bool, true, false, not, ◌&&◌, if◌then◌else◌, List, [], ◌∷◌, refl, sym, ap, ◌∙◌}
+use Rattle.std.proofs.Common.{◌≡◌, ℕ, ◌-◌, Bool, true, false, not, ◌&&◌, if◌then◌else◌, List, [], ◌∷◌, refl, sym, ap}
+use Rattle.std.proofs.Common.{◌∙◌}
 use Rattle.std.specs.Prelude.{Option, Result, Ok, Err}
 use Rattle.gimli_core.specs.Notation.{Notation}
 use Rattle.gimli_core.specs.declared.error.Error.{Error}
@@ -20,15 +21,24 @@ use Rattle.gimli_write.specs.declared.convert_error.ConvertError.TheVariants.{Re
 use Rattle.gimli_write.specs.declared.convert.run.SourceRow.{SourceRow}
 use Rattle.gimli_write.specs.convert.Texts.{◌>>=◌}
 use Rattle.gimli_write.specs.convert.SourceTables.{TablesAndTexts}
-use Rattle.gimli_write.specs.convert.Items.{Reading, stops, reading_with, base_at, pending_address, source_row, source_row_offered, reading_at}
-use Rattle.gimli_write.specs.convert.Items.{tables_after_definition, tables_at, reading_after, ReadsItems, with_definition}
-use Rattle.gimli_write.specs.convert.SourceRun.{SourceRun, start_of_source, row_made, base_after, pending_after, state_after, instruction_reading, reading_from}
+use Rattle.gimli_write.specs.convert.Items.{Reading, stops, reading_with, base_at, pending_address, source_row}
+use Rattle.gimli_write.specs.convert.Items.{source_row_offered, reading_at}
+use Rattle.gimli_write.specs.convert.Items.{tables_after_definition, tables_at, reading_after, ReadsItems}
+use Rattle.gimli_write.specs.convert.Items.{with_definition}
+use Rattle.gimli_write.specs.convert.SourceRun.{SourceRun, start_of_source, row_made, base_after, pending_after}
+use Rattle.gimli_write.specs.convert.SourceRun.{state_after, instruction_reading, reading_from}
 use Rattle.gimli_write.specs.convert.SourceRun.{reading_left}
 
 -- ---- the state after a past
 
 abbrev pub state_at : Header → List Ins → Unread → SourceRun
-state_at h past unread = record { header = h; row = registers_after h.parameters past; base = base_at past; pending = pending_address past; unread = unread }
+state_at h past unread = record {
+  header = h;
+  row = registers_after h.parameters past;
+  base = base_at past;
+  pending = pending_address past;
+  unread = unread;
+}
 
 base_is : (i : Ins) (past : List Ins) → base_after i (base_at past) ≡ base_at (i ∷ past)
 base_is EndSequence past = refl
@@ -40,36 +50,55 @@ pending_is (SetAddress a) past = refl
 pending_is EndSequence past = refl
 pending_is i past = refl
 
-state_is : (h : Header) (u : Unread) (past : List Ins) (i : Ins) → state_after i (state_at h past u) ≡ state_at h (i ∷ past) u
+state_is : (h : Header) (u : Unread) (past : List Ins) (i : Ins)
+    → state_after i (state_at h past u) ≡ state_at h (i ∷ past) u
 state_is h u past i =
     ap
     (λ b. let s : SourceRun =
-    record { header = h; row = registers_after h.parameters (i ∷ past); base = b; pending = pending_after i (pending_address past); unread = u } in
+    record {
+      header = h;
+      row = registers_after h.parameters (i ∷ past);
+      base = b;
+      pending = pending_after i (pending_address past);
+      unread = u;
+    } in
     s)
     (base_is i _)
     ∙ ap
     (λ p. let s : SourceRun =
-    record { header = h; row = registers_after h.parameters (i ∷ past); base = base_at (i ∷ past); pending = p; unread = u } in
+    record {
+      header = h;
+      row = registers_after h.parameters (i ∷ past);
+      base = base_at (i ∷ past);
+      pending = p;
+      unread = u;
+    } in
     s)
     (pending_is i past)
 
 -- ---- one point
 
-row_same : (h : Header) (u : Unread) (past : List Ins) (i : Ins) → makes_row i ≡ true → is_under_tombstone h.parameters past ≡ false
+row_same : (h : Header) (u : Unread) (past : List Ins) (i : Ins) → makes_row i ≡ true
+    → is_under_tombstone h.parameters past ≡ false
     → row_made (state_at h past u) i ≡ source_row h.parameters past i
 row_same h u past i loud seen =
-    ap (λ row. let r : SourceRow = record { set_address = pending_address past; address_offset = row.address - base_at past; row = row } in r)
+    ap (λ row.
+    let r : SourceRow =
+    record { set_address = pending_address past; address_offset = row.address - base_at past; row = row } in
+    r)
     (row_after h.parameters past i loud)
 
 module _ (give : SourceRow → Reading) (stop rest : Reading) where
   same_parts : (made over tombstone : Bool) (r d : SourceRow) → (made ≡ true → tombstone ≡ false → r ≡ d)
-      → (if over then stop else (if made && not tombstone then give r else rest)) ≡ (if over then stop else (if made && not tombstone then give d else rest))
+      → (if over then stop else (if made && not tombstone then give r else rest))
+      ≡ (if over then stop else (if made && not tombstone then give d else rest))
   same_parts made true tombstone r d same = refl
   same_parts true false true r d same = refl
   same_parts true false false r d same = ap give (same refl refl)
   same_parts false false tombstone r d same = refl
 
-  same_point : (made refused over is_tombstone tombstone : Bool) (r d : SourceRow) → refused ≡ over → is_tombstone ≡ tombstone
+  same_point : (made refused over is_tombstone tombstone : Bool) (r d : SourceRow) → refused ≡ over
+      → is_tombstone ≡ tombstone
       → (made ≡ true → tombstone ≡ false → r ≡ d)
       → (if refused then stop else (if made && not is_tombstone then give r else rest))
       ≡ (if over then stop else (if made && not tombstone then give d else rest))
@@ -78,8 +107,10 @@ module _ (give : SourceRow → Reading) (stop rest : Reading) where
 point_is : (h : Header) (u : Unread) (past : List Ins) (tables : TablesAndTexts) (i : Ins) (rest : Reading)
     → instruction_reading (state_at h past u) tables i rest ≡ reading_at h.parameters tables past i rest
 point_is h u past tables i rest =
-    same_point (λ (r : SourceRow). source_row_offered h.parameters.encoding.version tables r rest) (stops (Read AddressOverflow)) rest (makes_row i)
-    (is_refused h.parameters i (registers_after h.parameters past)) (overflows h.parameters past i) (registers_after h.parameters past).tombstone
+    same_point (λ (r : SourceRow). source_row_offered h.parameters.encoding.version tables r rest)
+    (stops (Read AddressOverflow)) rest (makes_row i)
+    (is_refused h.parameters i (registers_after h.parameters past)) (overflows h.parameters past i)
+    (registers_after h.parameters past).tombstone
     (is_under_tombstone h.parameters past)
     (row_made (state_at h past u) i) (source_row h.parameters past i)
     (refused_after h.parameters past i) (tombstone_after h.parameters past) (row_same h u past i)
@@ -88,7 +119,8 @@ point_is h u past tables i rest =
 
 module _ (sections : Sections) (h : Header) (first : TablesAndTexts) (u : Unread) where
   pub readings_are : (past list : List Ins) (end : Option Error)
-      → reading_from sections (state_at h past u) (tables_at sections first past) list end ≡ reading_after sections h.parameters first past list end
+      → reading_from sections (state_at h past u) (tables_at sections first past) list end
+      ≡ reading_after sections h.parameters first past list end
   readings_are past [] end = refl
   readings_are past (i ∷ list) end = by (readings_are (i ∷ past) list end) (tables_at sections first past) refl
     where
@@ -102,30 +134,41 @@ module _ (sections : Sections) (h : Header) (first : TablesAndTexts) (u : Unread
           let next : tables_at sections first (i ∷ past)
           ≡ tables_after_definition sections tables i = ap
           (λ (there : Result TablesAndTexts ConvertError). there >>= λ l. tables_after_definition sections l i) is in
-          let rest : reading_from sections (state_after i (state_at h past u)) (tables_after_definition sections tables i) list end
+          let rest : reading_from sections (state_after i (state_at h past u))
+          (tables_after_definition sections tables i) list end
           ≡ reading_after sections h.parameters first (i ∷ past) list end =
-          ap (λ (s : SourceRun). reading_from sections s (tables_after_definition sections tables i) list end) (state_is h u past i)
-          ∙ ap (λ (there : Result TablesAndTexts ConvertError). reading_from sections (state_at h (i ∷ past) u) there list end) (sym next)
+          ap (λ (s : SourceRun). reading_from sections s (tables_after_definition sections tables i) list end)
+          (state_is h u past i)
+          ∙ ap
+          (λ (there : Result TablesAndTexts ConvertError). reading_from sections (state_at h (i ∷ past) u) there list
+          end)
+          (sym next)
           ∙ others in
           ap
           (λ (there : Result TablesAndTexts ConvertError). reading_with there (λ l.
           instruction_reading (state_at h past u) l i
-          (with_definition i (reading_from sections (state_after i (state_at h past u)) (tables_after_definition sections l i) list end))))
+          (with_definition i (reading_from sections (state_after i (state_at h past u))
+          (tables_after_definition sections l i) list end))))
           is
           ∙ point_is h u past tables i
-          (with_definition i (reading_from sections (state_after i (state_at h past u)) (tables_after_definition sections tables i) list end))
+          (with_definition i (reading_from sections (state_after i (state_at h past u))
+          (tables_after_definition sections tables i) list end))
           ∙ ap (λ (r : Reading). reading_at h.parameters tables past i (with_definition i r)) rest
           ∙ ap
           (λ (there : Result TablesAndTexts ConvertError). reading_with there (λ l.
-          reading_at h.parameters l past i (with_definition i (reading_after sections h.parameters first (i ∷ past) list end))))
+          reading_at h.parameters l past i
+          (with_definition i (reading_after sections h.parameters first (i ∷ past) list end))))
           (sym is)
 
 -- what is left at the start of a program is what is read of it
 pub start_reads : (notation : Notation) (sections : Sections) (h : Header) (first : TablesAndTexts) (bytes : List ℕ)
-    → ReadsItems notation sections h first bytes (reading_left sections (start_of_source h (record { bytes = bytes; notation = notation })) first)
+    → ReadsItems notation sections h first bytes
+    (reading_left sections (start_of_source h (record { bytes = bytes; notation = notation })) first)
 start_reads notation sections h first bytes = record {
   list = (decoded_at notation h bytes).0;
   end = (decoded_at notation h bytes).1;
   decoding = is_decoded notation h bytes;
-  given = readings_are sections h first (record { bytes = bytes; notation = notation }) [] (decoded_at notation h bytes).0 (decoded_at notation h bytes).1;
+  given =
+      readings_are sections h first (record { bytes = bytes; notation = notation }) [] (decoded_at notation h bytes).0
+      (decoded_at notation h bytes).1;
 }

@@ -1,5 +1,6 @@
 -- What one instruction of a source does to what is still to be read.
-use Rattle.std.proofs.Common.{◌≡◌, ◌≢◌, ℕ, ◌<◌, ◌≤◌, ◌-◌, Bool, true, false, not, ◌&&◌, ◌||◌, if◌then◌else◌, List, [], ◌∷◌, ◌++◌, length, refl, sym, ap, ◌∙◌}
+use Rattle.std.proofs.Common.{◌≡◌, ◌≢◌, ℕ, ◌<◌, ◌≤◌, ◌-◌, Bool, true, false, not, ◌&&◌, ◌||◌, if◌then◌else◌, List, []}
+use Rattle.std.proofs.Common.{◌∷◌, ◌++◌, length, refl, sym, ap, ◌∙◌}
 use Rattle.std.proofs.Common.{subst, append_assoc, arith}
 use Rattle.std.specs.Prelude.{Option, Some, None, unwrap_or, Result, Ok, Err, OnOk, OnErr, IfOk, IfErr}
 use Rattle.std.proofs.lemmas.List.{length-append, append-nil}
@@ -12,7 +13,8 @@ use Rattle.gimli_line.specs.header.File.{File}
 use Rattle.gimli_line.specs.header.Parameters.{Parameters}
 use Rattle.gimli_line.specs.declared.run.row.LineRow.{LineRow}
 use Rattle.gimli_line.specs.declared.run.instruction.LineInstruction.{LineInstruction}
-use Rattle.gimli_line.specs.declared.run.instruction.LineInstruction.TheVariants.{Special, Copy, EndSequence, DefineFile, SetAddress}
+use Rattle.gimli_line.specs.declared.run.instruction.LineInstruction.TheVariants.{Special, Copy, EndSequence}
+use Rattle.gimli_line.specs.declared.run.instruction.LineInstruction.TheVariants.{DefineFile, SetAddress}
 use Rattle.gimli_line.specs.declared.header.file_entry.FileEntry.{FileEntry}
 use Rattle.gimli_line.specs.run.Instruction.{Ins, ins_seen, is_end, makes_row, defines_file, files_after}
 use Rattle.gimli_line.specs.run.InstructionGrammar.{SpellsInstruction, instruction_production}
@@ -28,8 +30,10 @@ use Rattle.gimli_write.specs.declared.convert.run.SourceRow.{SourceRow}
 use Rattle.gimli_write.specs.declared.convert.run.SourceStep.{SourceStep}
 use Rattle.gimli_write.specs.declared.convert.run.SourceStep.TheVariants.{More, Made}
 use Rattle.gimli_write.specs.convert.SourceTables.{TablesAndTexts, file_added}
-use Rattle.gimli_write.specs.convert.Items.{Reading, defines, with_definition, ends, stops, address_operand, source_row_offered, tables_after_definition}
-use Rattle.gimli_write.specs.convert.SourceRun.{SourceRun, row_made, base_after, pending_after, state_after, instruction_reading, reading_from, reading_upon}
+use Rattle.gimli_write.specs.convert.Items.{Reading, defines, with_definition, ends, stops, address_operand}
+use Rattle.gimli_write.specs.convert.Items.{source_row_offered, tables_after_definition}
+use Rattle.gimli_write.specs.convert.SourceRun.{SourceRun, row_made, base_after, pending_after, state_after}
+use Rattle.gimli_write.specs.convert.SourceRun.{instruction_reading, reading_from, reading_upon}
 use Rattle.gimli_write.specs.convert.SourceRun.{reading_left}
 use Rattle.gimli_write.specs.inside.convert.SourceRun.{step_reading, step_made, Shortens}
 
@@ -37,11 +41,14 @@ use Rattle.gimli_write.specs.inside.convert.SourceRun.{step_reading, step_made, 
 
 module _ (notation : Notation) (h : Header) (bytes : List ℕ) where
   pub decoded_none : bytes ≡ [] → decoded_at notation h bytes ≡ ([], None)
-  decoded_none e = sym (one_decoding notation h _ _ _ (record { front = []; rest = bytes; parts = refl; spelled = refl; ended = e }))
+  decoded_none e =
+      sym (one_decoding notation h _ _ _ (record { front = []; rest = bytes; parts = refl; spelled = refl; ended = e }))
 
-  pub decoded_fault : (e : Error) → bytes ≢ [] → (instruction_production notation h).Fault bytes e → decoded_at notation h bytes ≡ ([], Some e)
+  pub decoded_fault : (e : Error) → bytes ≢ [] → (instruction_production notation h).Fault bytes e
+      → decoded_at notation h bytes ≡ ([], Some e)
   decoded_fault e some f =
-      sym (one_decoding notation h _ _ _ (record { front = []; rest = bytes; parts = refl; spelled = refl; ended = (some, f) }))
+      sym (one_decoding notation h _ _ _
+      (record { front = []; rest = bytes; parts = refl; spelled = refl; ended = (some, f) }))
 
   pub decoded_some : (i : Ins) (front rest : List ℕ) → bytes ≡ front ++ rest → SpellsInstruction notation h front i
       → decoded_at notation h bytes ≡ (i ∷ (decoded_at notation h rest).0, (decoded_at notation h rest).1)
@@ -56,11 +63,18 @@ module _ (notation : Notation) (h : Header) (bytes : List ℕ) where
       }))
 
   -- an instruction has a byte
-  pub is_shorter : (i : Ins) (front rest : List ℕ) → bytes ≡ front ++ rest → SpellsInstruction notation h front i → length rest < length bytes
+  pub is_shorter : (i : Ins) (front rest : List ℕ) → bytes ≡ front ++ rest → SpellsInstruction notation h front i
+      → length rest < length bytes
   is_shorter i front rest parts s =
       let some : length (i ∷ []) ≤ length front =
       instructions_bounded notation h front (i ∷ []) None
-      (record { front = front; rest = []; parts = sym (append-nil front); spelled = (front, [], sym (append-nil front), s, refl); ended = refl }) in
+      (record {
+        front = front;
+        rest = [];
+        parts = sym (append-nil front);
+        spelled = (front, [], sym (append-nil front), s, refl);
+        ended = refl;
+      }) in
       omega (arith, length-append front rest, ap length parts)
 
 -- ---- readings
@@ -71,7 +85,8 @@ if_true b x y e = ap (λ c. if c then x else y) e
 if_false : {A : Type 0} (b : Bool) (x y : A) → b ≡ false → (if b then x else y) ≡ y
 if_false b x y e = ap (λ c. if c then x else y) e
 
-pub no_file : (sections : Sections) (tables : TablesAndTexts) (i : Ins) → defines_file i ≡ false → tables_after_definition sections tables i ≡ Ok tables
+pub no_file : (sections : Sections) (tables : TablesAndTexts) (i : Ins) → defines_file i ≡ false
+    → tables_after_definition sections tables i ≡ Ok tables
 no_file sections tables (DefineFile f) e = absurd cc
 no_file sections tables i e = refl
 
@@ -80,8 +95,10 @@ no_definition (DefineFile f) rest e = absurd cc
 no_definition i rest e = refl
 
 -- bytes that are unread count by their instructions alone
-same_reading : (sections : Sections) (u v : Unread) (s : SourceRun) (there : Result TablesAndTexts ConvertError) (list : List Ins) (end : Option Error)
-    → reading_from sections (record s { unread = u }) there list end ≡ reading_from sections (record s { unread = v }) there list end
+same_reading : (sections : Sections) (u v : Unread) (s : SourceRun) (there : Result TablesAndTexts ConvertError)
+    (list : List Ins) (end : Option Error)
+    → reading_from sections (record s { unread = u }) there list end
+    ≡ reading_from sections (record s { unread = v }) there list end
 same_reading sections u v s there [] end = refl
 same_reading sections u v s (Err e) (i ∷ list) end = refl
 same_reading sections u v s (Ok tables) (i ∷ list) end =
@@ -90,23 +107,29 @@ same_reading sections u v s (Ok tables) (i ∷ list) end =
 
 module _ (sections : Sections) (tables : TablesAndTexts) (s : SourceRun) where
   pub none_left : s.unread.bytes ≡ [] → reading_left sections s tables ≡ ends tables
-  none_left e = ap (λ c. reading_from sections s (Ok tables) c.0 c.1) (decoded_none s.unread.notation s.header s.unread.bytes e)
+  none_left e =
+      ap (λ c. reading_from sections s (Ok tables) c.0 c.1) (decoded_none s.unread.notation s.header s.unread.bytes e)
 
-  pub at_fault : (e : Error) → s.unread.bytes ≢ [] → (instruction_production s.unread.notation s.header).Fault s.unread.bytes e
+  pub at_fault : (e : Error) → s.unread.bytes ≢ []
+      → (instruction_production s.unread.notation s.header).Fault s.unread.bytes e
       → reading_left sections s tables ≡ stops (Read e)
   at_fault e some f =
-      ap (λ c. reading_from sections s (Ok tables) c.0 c.1) (decoded_fault s.unread.notation s.header s.unread.bytes e some f)
+      ap (λ c. reading_from sections s (Ok tables) c.0 c.1)
+      (decoded_fault s.unread.notation s.header s.unread.bytes e some f)
 
-  module _ (u : Unread) (notation : u.notation ≡ s.unread.notation) (i : Ins) (front : List ℕ) (parts : s.unread.bytes ≡ front ++ u.bytes)
+  module _ (u : Unread) (notation : u.notation ≡ s.unread.notation) (i : Ins) (front : List ℕ)
+      (parts : s.unread.bytes ≡ front ++ u.bytes)
       (spelled : SpellsInstruction s.unread.notation s.header front i) where
     -- an instruction stands first
     pub first_is : reading_left sections s tables
         ≡ instruction_reading s tables i
-        (with_definition i (reading_upon sections (record (state_after i s) { unread = u }) (tables_after_definition sections tables i)))
+        (with_definition i (reading_upon sections (record (state_after i s) { unread = u })
+        (tables_after_definition sections tables i)))
     first_is =
         let there = tables_after_definition sections tables i in
         let c = decoded_at s.unread.notation s.header u.bytes in
-        let rest : reading_from sections (state_after i s) there c.0 c.1 ≡ reading_upon sections (record (state_after i s) { unread = u }) there =
+        let rest : reading_from sections (state_after i s) there c.0 c.1
+        ≡ reading_upon sections (record (state_after i s) { unread = u }) there =
         same_reading sections s.unread u (state_after i s) there c.0 c.1
         ∙ ap
         (λ n. reading_from sections (record (state_after i s) { unread = u }) there (decoded_at n s.header u.bytes).0
@@ -123,9 +146,12 @@ module _ (sections : Sections) (tables : TablesAndTexts) (s : SourceRun) where
     rest = with_definition i (reading_upon sections next (tables_after_definition sections tables i))
 
     abbrev quiet_or_row : Reading
-    quiet_or_row = if makes_row i && not s.row.tombstone then source_row_offered s.header.parameters.encoding.version tables (row_made s i) rest else rest
+    quiet_or_row =
+        if makes_row i && not s.row.tombstone
+        then source_row_offered s.header.parameters.encoding.version tables (row_made s i) rest else rest
 
-    pub after_refusal : is_refused s.header.parameters i s.row ≡ true → reading_left sections s tables ≡ stops (Read AddressOverflow)
+    pub after_refusal : is_refused s.header.parameters i s.row ≡ true
+        → reading_left sections s tables ≡ stops (Read AddressOverflow)
     after_refusal large = first_is ∙ if_true _ _ _ large
 
     module _ (fits : is_refused s.header.parameters i s.row ≡ false) (file : defines_file i ≡ false) where
@@ -137,21 +163,26 @@ module _ (sections : Sections) (tables : TablesAndTexts) (s : SourceRun) where
           no_definition i _ file
           ∙ ap (reading_upon sections next) (no_file _ _ i file)
 
-      pub after_quiet : (makes_row i && not s.row.tombstone) ≡ false → reading_left sections s tables ≡ reading_left sections next tables
+      pub after_quiet : (makes_row i && not s.row.tombstone) ≡ false
+          → reading_left sections s tables ≡ reading_left sections next tables
       after_quiet quiet =
           done ∙ if_false _ _ _ quiet
           ∙ later
 
       pub after_row : (makes_row i && not s.row.tombstone) ≡ true
-          → reading_left sections s tables ≡ source_row_offered s.header.parameters.encoding.version tables (row_made s i) (reading_left sections next tables)
+          → reading_left sections s tables
+          ≡ source_row_offered s.header.parameters.encoding.version tables (row_made s i)
+          (reading_left sections next tables)
       after_row loud =
           done ∙ if_true _ _ _ loud
           ∙ ap (source_row_offered s.header.parameters.encoding.version tables (row_made s i)) later
 
   -- a file is defined
-  pub after_file : (u : Unread) → u.notation ≡ s.unread.notation → (f : File) (front : List ℕ) → s.unread.bytes ≡ front ++ u.bytes
+  pub after_file : (u : Unread) → u.notation ≡ s.unread.notation → (f : File) (front : List ℕ)
+      → s.unread.bytes ≡ front ++ u.bytes
       → SpellsInstruction s.unread.notation s.header front (DefineFile f)
-      → reading_left sections s tables ≡ defines (reading_upon sections (record s { unread = u }) (file_added sections tables f))
+      → reading_left sections s tables
+      ≡ defines (reading_upon sections (record s { unread = u }) (file_added sections tables f))
   after_file u notation f front parts spelled = first_is u notation (DefineFile f) front parts spelled
 
 -- ---- the state of a run, by its parts
@@ -160,21 +191,25 @@ abbrev pub state : Header → LineRow → ℕ → Option ℕ → Unread → Sour
 state h r b p u = record { header = h; row = r; base = b; pending = p; unread = u }
 
 -- what an instruction does to registers that a run relies on
-ends_row : (p : Parameters) (i : Ins) (r : LineRow) → r.end_sequence ≡ false → makes_row i ≡ true → (step_of p i r).end_sequence ≡ is_end i
+ends_row : (p : Parameters) (i : Ins) (r : LineRow) → r.end_sequence ≡ false → makes_row i ≡ true
+    → (step_of p i r).end_sequence ≡ is_end i
 ends_row p (Special o) r e loud = e
 ends_row p Copy r e loud = e
 ends_row p EndSequence r e loud = refl
 ends_row p i r e loud = absurd cc
 
-keeps_tombstone : (p : Parameters) (i : Ins) (r : LineRow) → address_operand i ≡ None → (step_of p i r).tombstone ≡ r.tombstone
+keeps_tombstone : (p : Parameters) (i : Ins) (r : LineRow) → address_operand i ≡ None
+    → (step_of p i r).tombstone ≡ r.tombstone
 keeps_tombstone p (SetAddress a) r e = absurd cc
 keeps_tombstone p i r e = refl
 
-keeps_end : (p : Parameters) (i : Ins) (r : LineRow) → makes_row i ≡ false → (step_of p i r).end_sequence ≡ r.end_sequence
+keeps_end : (p : Parameters) (i : Ins) (r : LineRow) → makes_row i ≡ false
+    → (step_of p i r).end_sequence ≡ r.end_sequence
 keeps_end p EndSequence r e = absurd cc
 keeps_end p i r e = refl
 
-refusal_keeps_end : (p : Parameters) (i : Ins) (r : LineRow) → is_refused p i r ≡ true → (step_of p i r).end_sequence ≡ r.end_sequence
+refusal_keeps_end : (p : Parameters) (i : Ins) (r : LineRow) → is_refused p i r ≡ true
+    → (step_of p i r).end_sequence ≡ r.end_sequence
 refusal_keeps_end p EndSequence r e = absurd cc
 refusal_keeps_end p i r e = refl
 
@@ -186,11 +221,13 @@ files_same : (i : Ins) (files : List File) → defines_file i ≡ false → file
 files_same (DefineFile f) files e = absurd cc
 files_same i files e = refl
 
-header_same : (i : Ins) (h h2 : Header) → defines_file i ≡ false → h2 ≡ record h { files = files_after true i h.files } → h2 ≡ h
+header_same : (i : Ins) (h h2 : Header) → defines_file i ≡ false → h2 ≡ record h { files = files_after true i h.files }
+    → h2 ≡ h
 header_same i h h2 file is = is ∙ ap (λ files. let k : Header = record h { files = files } in k) (files_same i _ file)
 
 -- a refusal of an instruction that defines no file
-pub is_overflow : (i : Ins) (e : Error) → (e ≢ AddressOverflow → defines_file i ≡ true) → defines_file i ≡ false → e ≡ AddressOverflow
+pub is_overflow : (i : Ins) (e : Error) → (e ≢ AddressOverflow → defines_file i ≡ true) → defines_file i ≡ false
+    → e ≡ AddressOverflow
 is_overflow i AddressOverflow memory file = refl
 is_overflow i e memory file = absurd (false≢true (sym file ∙ memory (λ is. absurd cc)))
 
@@ -199,7 +236,8 @@ abbrev pub IsReady : LineRow → Type 0
 IsReady r = r.end_sequence ≡ false
 
 module _ (i : Ins) (old new : LineRow) (ready : IsReady old) where
-  pub ready_at_refusal : (p : Parameters) (e : Error) → defines_file i ≡ false → (e ≢ AddressOverflow → defines_file i ≡ true)
+  pub ready_at_refusal : (p : Parameters) (e : Error) → defines_file i ≡ false
+      → (e ≢ AddressOverflow → defines_file i ≡ true)
       → (e ≡ AddressOverflow → (is_refused p i old ≡ true) × (new ≡ step_of p i old)) → IsReady new
   ready_at_refusal p e file memory over =
       let o = over (is_overflow i e memory file) in
@@ -212,21 +250,26 @@ module _ (i : Ins) (old new : LineRow) (ready : IsReady old) where
 
 module _ {R Endian Offset : Type 0} where
   shown : (tombstone : Bool) (d : SourceRow)
-      → ◌≡◌ {A = SourceStep R Endian Offset} (if tombstone then More else Made d) (if not tombstone then Made d else More)
+      → ◌≡◌ {A = SourceStep R Endian Offset} (if tombstone then More else Made d)
+      (if not tombstone then Made d else More)
   shown true d = refl
   shown false d = refl
 
   same_or_other : (made tombstone other : Bool) (r d : SourceRow) → made ≡ true → tombstone ≡ other → r ≡ d
-      → ◌≡◌ {A = SourceStep R Endian Offset} (if tombstone then More else Made r) (if made && not other then Made d else More)
+      → ◌≡◌ {A = SourceStep R Endian Offset} (if tombstone then More else Made r)
+      (if made && not other then Made d else More)
   same_or_other made tombstone other r d loud same row_is = rw (loud, same, row_is) (shown _ d)
 
-module _ (i : Ins) (h h2 : Header) (r r2 : LineRow) (b : ℕ) (p : Option ℕ) (u : Unread) (address : address_operand i ≡ None) (file : defines_file i ≡ false)
-    (fits : is_refused h.parameters i r ≡ false) (files : h2 ≡ record h { files = files_after true i h.files }) (step : r2 ≡ step_of h.parameters i r) where
+module _ (i : Ins) (h h2 : Header) (r r2 : LineRow) (b : ℕ) (p : Option ℕ) (u : Unread)
+    (address : address_operand i ≡ None) (file : defines_file i ≡ false)
+    (fits : is_refused h.parameters i r ≡ false) (files : h2 ≡ record h { files = files_after true i h.files })
+    (step : r2 ≡ step_of h.parameters i r) where
   pub header_kept : h2 ≡ h
   header_kept = header_same i h _ file files
 
   next_is : (made : Bool) → makes_row i ≡ made
-      → next_registers h.parameters i r ≡ (if made then reset_row h.parameters (step_of h.parameters i r) else step_of h.parameters i r)
+      → next_registers h.parameters i r
+      ≡ (if made then reset_row h.parameters (step_of h.parameters i r) else step_of h.parameters i r)
   next_is made is =
       let goes : (is_refused h.parameters i r || makes_row i) ≡ made = ap (λ c. c || makes_row i) fits ∙ is in
       ap (λ c. if c then reset_row h.parameters (step_of h.parameters i r) else step_of h.parameters i r) goes
@@ -243,13 +286,17 @@ module _ (i : Ins) (h h2 : Header) (r r2 : LineRow) (b : ℕ) (p : Option ℕ) (
       ∙ ap (λ o. state h (next_registers h.parameters i r) (base_after i b) o u) (sym pends)
 
   -- where it makes one
-  pub row_state : makes_row i ≡ true → r.end_sequence ≡ false → (k : Header) → k ≡ h2 → (r3 : LineRow) → r3 ≡ reset_row k.parameters r2
-      → (last : Bool) → last ≡ r2.end_sequence → (n : ℕ) → n ≡ (if last then 0 else b) → state h2 r3 n None u ≡ state_after i (state h r b p u)
+  pub row_state : makes_row i ≡ true → r.end_sequence ≡ false → (k : Header) → k ≡ h2 → (r3 : LineRow)
+      → r3 ≡ reset_row k.parameters r2
+      → (last : Bool) → last ≡ r2.end_sequence → (n : ℕ) → n ≡ (if last then 0 else b)
+      → state h2 r3 n None u ≡ state_after i (state h r b p u)
   row_state loud ready k lent r3 reset last ended n counts =
       let registers : r3 ≡ next_registers h.parameters i r =
-      reset ∙ ap (λ x. reset_row x.parameters r2) (lent ∙ header_kept) ∙ ap (reset_row h.parameters) step ∙ sym (next_is _ loud) in
+      reset ∙ ap (λ x. reset_row x.parameters r2) (lent ∙ header_kept) ∙ ap (reset_row h.parameters) step
+      ∙ sym (next_is _ loud) in
       let last_is : last ≡ is_end i = ended ∙ ap (λ x. x.end_sequence) step ∙ ends_row h.parameters i r ready loud in
-      let of_row : base_after i b ≡ (if is_end i then 0 else b) = ap (λ o. if is_end i then 0 else unwrap_or o b) address in
+      let of_row : base_after i b
+      ≡ (if is_end i then 0 else b) = ap (λ o. if is_end i then 0 else unwrap_or o b) address in
       let base : n ≡ base_after i b = counts ∙ ap (λ x. if x then 0 else b) last_is ∙ sym of_row in
       let pends : pending_after i p ≡ None = rw loud refl in
       ap (λ x. state x r3 n None u) header_kept
@@ -258,7 +305,8 @@ module _ (i : Ins) (h h2 : Header) (r r2 : LineRow) (b : ℕ) (p : Option ℕ) (
       ∙ ap (λ o. state h (next_registers h.parameters i r) (base_after i b) o u) (sym pends)
 
   pub made_is : {R Endian Offset : Type 0} (given : SourceStep R Endian Offset) (offset : ℕ)
-      → given ≡ (if r2.tombstone then More else Made (record { set_address = p; address_offset = offset; row = r2 })) → makes_row i ≡ true
+      → given ≡ (if r2.tombstone then More else Made (record { set_address = p; address_offset = offset; row = r2 }))
+      → makes_row i ≡ true
       → offset ≡ r2.address - b
       → given ≡ step_made (state h r b p u) i
   made_is given offset is loud counts =
@@ -266,7 +314,8 @@ module _ (i : Ins) (h h2 : Header) (r r2 : LineRow) (b : ℕ) (p : Option ℕ) (
       let x : SourceRow = record { set_address = p; address_offset = offset; row = r2 } in
       let offset_is : x ≡ record { set_address = p; address_offset = r2.address - b; row = r2 } =
       ap (λ o. let y : SourceRow = record { set_address = p; address_offset = o; row = r2 } in y) counts in
-      let row_is : record { set_address = p; address_offset = r2.address - b; row = r2 } ≡ row_made (state h r b p u) i =
+      let row_is : record { set_address = p; address_offset = r2.address - b; row = r2 }
+      ≡ row_made (state h r b p u) i =
       ap (λ w. let y : SourceRow = record { set_address = p; address_offset = w.address - b; row = w } in y) step in
       is ∙ same_or_other _ _ _ x _ loud same (offset_is ∙ row_is)
 
@@ -274,8 +323,10 @@ module _ (i : Ins) (h h2 : Header) (r r2 : LineRow) (b : ℕ) (p : Option ℕ) (
 
 module _ (p : Parameters) (a : ℕ) (old new : LineRow) where
   pub address_done : (r : Result Bool Error) → OnOk r (new ≡ step_of p (SetAddress a) old)
-      → IfErr r (λ e. e ≡ AddressOverflow → (is_refused p (SetAddress a) old ≡ true) × (new ≡ step_of p (SetAddress a) old))
-      → IfErr r (λ e. e ≢ AddressOverflow → (e ≡ OutOfMemory) × (true ≡ true) × (defines_file (SetAddress a) ≡ true) × (new ≡ old))
+      → IfErr r (λ e.
+      e ≡ AddressOverflow → (is_refused p (SetAddress a) old ≡ true) × (new ≡ step_of p (SetAddress a) old))
+      → IfErr r (λ e.
+      e ≢ AddressOverflow → (e ≡ OutOfMemory) × (true ≡ true) × (defines_file (SetAddress a) ≡ true) × (new ≡ old))
       → new ≡ step_of p (SetAddress a) old
   address_done (Ok m) step over memory = step
   address_done (Err e) step over memory = (over (is_overflow (SetAddress a) e (λ n. (memory n).2) refl)).1
@@ -283,12 +334,14 @@ module _ (p : Parameters) (a : ℕ) (old new : LineRow) where
   pub address_ready : IsReady old → new ≡ step_of p (SetAddress a) old → IsReady new
   address_ready ready step = ap (λ r. r.end_sequence) step ∙ ready
 
-pub address_header : (a : ℕ) (h h2 : Header) (r : Result Bool Error) → OnOk r (h2 ≡ record h { files = files_after true (SetAddress a) h.files })
+pub address_header : (a : ℕ) (h h2 : Header) (r : Result Bool Error)
+    → OnOk r (h2 ≡ record h { files = files_after true (SetAddress a) h.files })
     → OnErr r (h2 ≡ h) → h2 ≡ h
 address_header a h h2 (Ok m) files kept = files
 address_header a h h2 (Err e) files kept = kept
 
-pub address_state : (a : ℕ) (h h2 : Header) (r r2 : LineRow) (b : ℕ) (p : Option ℕ) (u : Unread) → h2 ≡ h → r2 ≡ step_of h.parameters (SetAddress a) r
+pub address_state : (a : ℕ) (h h2 : Header) (r r2 : LineRow) (b : ℕ) (p : Option ℕ) (u : Unread) → h2 ≡ h
+    → r2 ≡ step_of h.parameters (SetAddress a) r
     → state h2 r2 a (Some a) u ≡ state_after (SetAddress a) (state h r b p u)
 address_state a h h2 r r2 b p u header step =
     ap (λ k. state k r2 a (Some a) u) header ∙ ap (λ x. state h x a (Some a) u) step
@@ -299,7 +352,8 @@ abbrev pub with_unread : SourceRun → Unread → SourceRun
 with_unread s u = record s { unread = u }
 
 -- a spelling by the header that was lent
-pub spelled_as : (notation : Notation) (h k : Header) (front : List ℕ) (i j : Ins) → k ≡ h → i ≡ j → SpellsInstruction notation k front i
+pub spelled_as : (notation : Notation) (h k : Header) (front : List ℕ) (i j : Ins) → k ≡ h → i ≡ j
+    → SpellsInstruction notation k front i
     → SpellsInstruction notation h front j
 spelled_as notation h k front i j same is s =
     subst (λ x. SpellsInstruction notation x front j) same (subst (λ y. SpellsInstruction notation k front y) is s)
@@ -318,32 +372,40 @@ module _ {R Endian Offset : Type 0} (s old new : SourceRun) (i : Ins) where
 
 module _ {R Offset : Type 0} (Endian : Type 0) (bytes : R → List ℕ) (number : Offset → ℕ) (s : SourceRun) (u : Unread)
     (notation : u.notation ≡ s.unread.notation)
-    (i : Ins) (front : List ℕ) (parts : s.unread.bytes ≡ front ++ u.bytes) (spelled : SpellsInstruction s.unread.notation s.header front i) where
-  made_reading : is_refused s.header.parameters i s.row ≡ false → defines_file i ≡ false → (sections : Sections) (tables : TablesAndTexts)
+    (i : Ins) (front : List ℕ) (parts : s.unread.bytes ≡ front ++ u.bytes)
+    (spelled : SpellsInstruction s.unread.notation s.header front i) where
+  made_reading : is_refused s.header.parameters i s.row ≡ false → defines_file i ≡ false
+      → (sections : Sections) (tables : TablesAndTexts)
       → reading_left sections s tables
-      ≡ step_reading {Endian = Endian} bytes number sections tables (step_made (with_unread s u) i) (state_after i (with_unread s u))
+      ≡ step_reading {Endian = Endian} bytes number sections tables (step_made (with_unread s u) i)
+      (state_after i (with_unread s u))
   made_reading fits file sections tables = by _ refl
     where
       by : (b : Bool) → (makes_row i && not s.row.tombstone) ≡ b
           → reading_left sections s tables
-          ≡ step_reading {Endian = Endian} bytes number sections tables (step_made (with_unread s u) i) (state_after i (with_unread s u))
+          ≡ step_reading {Endian = Endian} bytes number sections tables (step_made (with_unread s u) i)
+          (state_after i (with_unread s u))
       by true e =
           after_row sections tables s u notation i front parts spelled fits file e
           ∙ ap
-          (λ c. step_reading {Endian = Endian} bytes number sections tables (if c then Made (row_made (with_unread s u) i) else More)
+          (λ c. step_reading {Endian = Endian} bytes number sections tables
+          (if c then Made (row_made (with_unread s u) i) else More)
           (state_after i (with_unread s u)))
           (sym e)
       by false e =
           after_quiet sections tables s u notation i front parts spelled fits file e
           ∙ ap
-          (λ c. step_reading {Endian = Endian} bytes number sections tables (if c then Made (row_made (with_unread s u) i) else More)
+          (λ c. step_reading {Endian = Endian} bytes number sections tables
+          (if c then Made (row_made (with_unread s u) i) else More)
           (state_after i (with_unread s u)))
           (sym e)
 
   pub executed_reading : (t : SourceRun) (r : Result (SourceStep R Endian Offset) ConvertError) → defines_file i ≡ false
       → OnOk r (is_refused s.header.parameters i s.row ≡ false)
       → OnOk r (t ≡ state_after i (with_unread s u)) → IfOk r (λ step. step ≡ step_made (with_unread s u) i)
-      → IfOk r (λ step. (sections : Sections) (tables : TablesAndTexts) → reading_left sections s tables ≡ step_reading bytes number sections tables step t)
+      → IfOk r (λ step.
+      (sections : Sections) (tables : TablesAndTexts)
+      → reading_left sections s tables ≡ step_reading bytes number sections tables step t)
   executed_reading t (Ok step) file fits next made = λ sections tables. rw (made, next) (made_reading fits file _ _)
   executed_reading t (Err e) file fits next made = tt
 
@@ -351,10 +413,12 @@ module _ {R Offset : Type 0} (Endian : Type 0) (bytes : R → List ℕ) (number 
       → IfErr r (λ e. (e ≡ Read AddressOverflow) × (is_refused s.header.parameters i s.row ≡ true))
       → IfErr r (λ e. (sections : Sections) (tables : TablesAndTexts) → reading_left sections s tables ≡ stops e)
   executed_refusal (Ok step) over = tt
-  executed_refusal (Err e) over = λ sections tables. after_refusal sections tables s u notation i front parts spelled over.1 ∙ ap stops (sym over.0)
+  executed_refusal (Err e) over =
+      λ sections tables. after_refusal sections tables s u notation i front parts spelled over.1 ∙ ap stops (sym over.0)
 
 -- an instruction that isn't a definition defines no file
-pub other_kind : {R Offset Endian : Type 0} (bytes : R → List ℕ) (number : Offset → ℕ) (x : LineInstruction R Offset Endian)
+pub other_kind : {R Offset Endian : Type 0} (bytes : R → List ℕ) (number : Offset → ℕ)
+    (x : LineInstruction R Offset Endian)
     → ((f : FileEntry R Offset Endian) → x ≢ DefineFile f) → defines_file (ins_seen bytes number x) ≡ false
 other_kind bytes number (DefineFile f) other = absurd (other f refl)
 other_kind bytes number x other = refl

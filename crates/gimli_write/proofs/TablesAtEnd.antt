@@ -1,5 +1,6 @@
 -- What one instruction of a source does to the tables that the source leaves.
-use Rattle.std.proofs.Common.{◌≡◌, ◌≢◌, ℕ, Bool, true, false, not, ◌&&◌, ◌||◌, if◌then◌else◌, List, [], ◌∷◌, ◌++◌, refl, sym, ap, ◌∙◌}
+use Rattle.std.proofs.Common.{◌≡◌, ◌≢◌, ℕ, Bool, true, false, not, ◌&&◌, ◌||◌, if◌then◌else◌, List, [], ◌∷◌, ◌++◌, refl}
+use Rattle.std.proofs.Common.{sym, ap, ◌∙◌}
 use Rattle.std.specs.Prelude.{Option, Some, Result, Ok, Err, OnOk, IfOk, IfErr}
 use Rattle.gimli_core.specs.Notation.{Notation}
 use Rattle.gimli_core.specs.declared.error.Error.{Error}
@@ -20,23 +21,28 @@ use Rattle.gimli_write.specs.convert.SourceTables.{TablesAndTexts, file_added}
 use Rattle.gimli_write.specs.convert.Items.{tables_after_definition}
 use Rattle.gimli_write.specs.convert.SourceRun.{SourceRun, row_made, state_after}
 use Rattle.gimli_write.specs.inside.convert.SourceRun.{step_made}
-use Rattle.gimli_write.specs.convert.TablesAtEnd.{lacks_file, refuses, unless_refused, tables_after, tables_at_end, tables_after_row}
+use Rattle.gimli_write.specs.convert.TablesAtEnd.{lacks_file, refuses, unless_refused, tables_after, tables_at_end}
+use Rattle.gimli_write.specs.convert.TablesAtEnd.{tables_after_row}
 use Rattle.gimli_write.specs.inside.convert.TablesAtEnd.{step_tables}
 use Rattle.gimli_write.proofs.SourceSteps.{decoded_none, decoded_some, decoded_fault, no_file, with_unread}
 
 -- bytes that are unread count by their instructions alone
 same_lists : (sections : Sections) (u v : Unread) (s : SourceRun) (tables : TablesAndTexts) (list : List Ins)
-    → tables_after sections (record s { unread = u }) tables list ≡ tables_after sections (record s { unread = v }) tables list
+    → tables_after sections (record s { unread = u }) tables list
+    ≡ tables_after sections (record s { unread = v }) tables list
 same_lists sections u v s tables [] = refl
 same_lists sections u v s tables (i ∷ list) =
     ap (λ rest. if refuses s tables i then tables else rest)
     (by (λ next. same_lists sections u v (state_after i s) next list) (tables_after_definition sections tables i))
   where
     by : ((next : TablesAndTexts)
-        → tables_after sections (record (state_after i s) { unread = u }) next list ≡ tables_after sections (record (state_after i s) { unread = v }) next list)
+        → tables_after sections (record (state_after i s) { unread = u }) next list
+        ≡ tables_after sections (record (state_after i s) { unread = v }) next list)
         → (there : Result TablesAndTexts ConvertError)
-        → unless_refused tables there (λ next. tables_after sections (record (state_after i s) { unread = u }) next list)
-        ≡ unless_refused tables there (λ next. tables_after sections (record (state_after i s) { unread = v }) next list)
+        → unless_refused tables there (λ next.
+        tables_after sections (record (state_after i s) { unread = u }) next list)
+        ≡ unless_refused tables there (λ next.
+        tables_after sections (record (state_after i s) { unread = v }) next list)
     by same (Ok next) = same next
     by same (Err e) = refl
 
@@ -44,26 +50,32 @@ module _ (sections : Sections) (tables : TablesAndTexts) (s : SourceRun) where
   pub none_last : s.unread.bytes ≡ [] → tables_at_end sections s tables ≡ tables
   none_last e = ap (λ c. tables_after sections s tables c.0) (decoded_none s.unread.notation s.header s.unread.bytes e)
 
-  pub fault_last : (e : Error) → s.unread.bytes ≢ [] → (instruction_production s.unread.notation s.header).Fault s.unread.bytes e
+  pub fault_last : (e : Error) → s.unread.bytes ≢ []
+      → (instruction_production s.unread.notation s.header).Fault s.unread.bytes e
       → tables_at_end sections s tables ≡ tables
   fault_last e some f =
       ap (λ c. tables_after sections s tables c.0) (decoded_fault s.unread.notation s.header s.unread.bytes e some f)
 
-  module _ (u : Unread) (notation : u.notation ≡ s.unread.notation) (i : Ins) (front : List ℕ) (parts : s.unread.bytes ≡ front ++ u.bytes)
+  module _ (u : Unread) (notation : u.notation ≡ s.unread.notation) (i : Ins) (front : List ℕ)
+      (parts : s.unread.bytes ≡ front ++ u.bytes)
       (spelled : SpellsInstruction s.unread.notation s.header front i) where
     abbrev next : SourceRun
     next = record (state_after i s) { unread = u }
 
     -- an instruction stands first
     first_last : tables_at_end sections s tables
-        ≡ (if refuses s tables i then tables else unless_refused tables (tables_after_definition sections tables i) (λ more. tables_at_end sections next more))
+        ≡ (if refuses s tables i then tables
+        else unless_refused tables (tables_after_definition sections tables i) (λ more.
+        tables_at_end sections next more))
     first_last =
         ap (λ (d : List Ins × Option Error). tables_after sections s tables d.0)
         (decoded_some s.unread.notation s.header s.unread.bytes i front u.bytes parts spelled)
-        ∙ ap (λ (rest : TablesAndTexts). if refuses s tables i then tables else rest) (by (tables_after_definition sections tables i))
+        ∙ ap (λ (rest : TablesAndTexts). if refuses s tables i then tables else rest)
+        (by (tables_after_definition sections tables i))
       where
         by : (there : Result TablesAndTexts ConvertError)
-            → unless_refused tables there (λ more. tables_after sections (state_after i s) more (decoded_at s.unread.notation s.header u.bytes).0)
+            → unless_refused tables there (λ more.
+            tables_after sections (state_after i s) more (decoded_at s.unread.notation s.header u.bytes).0)
             ≡ unless_refused tables there (λ more. tables_at_end sections next more)
         by (Ok more) =
             same_lists sections s.unread u (state_after i s) more (decoded_at s.unread.notation s.header u.bytes).0
@@ -73,14 +85,21 @@ module _ (sections : Sections) (tables : TablesAndTexts) (s : SourceRun) where
     pub refusal_last : is_refused s.header.parameters i s.row ≡ true → tables_at_end sections s tables ≡ tables
     refusal_last large =
         first_last
-        ∙ ap (λ b. if b || (makes_row i && not s.row.tombstone && lacks_file s.header.parameters.encoding.version tables (row_made s i)) then tables
-        else unless_refused tables (tables_after_definition sections tables i) (λ more. tables_at_end sections next more)) large
+        ∙ ap (λ b.
+        if b
+        || (makes_row i && not s.row.tombstone && lacks_file s.header.parameters.encoding.version tables (row_made s i))
+        then tables
+        else unless_refused tables (tables_after_definition sections tables i) (λ more.
+        tables_at_end sections next more))
+        large
 
     module _ (fits : is_refused s.header.parameters i s.row ≡ false) (file : defines_file i ≡ false) where
       -- it is done, and its row is handed out if it gives one
       done_last : (shown : Bool) → (makes_row i && not s.row.tombstone) ≡ shown
           → tables_at_end sections s tables
-          ≡ (if shown then tables_after_row s.header.parameters.encoding.version tables (Some (row_made s i)) (tables_at_end sections next tables)
+          ≡ (if shown
+          then tables_after_row s.header.parameters.encoding.version tables (Some (row_made s i))
+          (tables_at_end sections next tables)
           else tables_at_end sections next tables)
       done_last shown is =
           first_last
@@ -89,64 +108,84 @@ module _ (sections : Sections) (tables : TablesAndTexts) (s : SourceRun) where
           else unless_refused tables there (λ more. tables_at_end sections next more))
           (no_file _ _ i file)
           ∙ ap
-          (λ b. if b || (makes_row i && not s.row.tombstone && lacks_file s.header.parameters.encoding.version tables (row_made s i)) then tables
+          (λ b. if b
+          || (makes_row i && not s.row.tombstone
+          && lacks_file s.header.parameters.encoding.version tables (row_made s i))
+          then tables
           else tables_at_end sections next tables)
           fits
           ∙ by (makes_row i) (not s.row.tombstone) shown is
         where
           by : (makes not_under_tombstone given : Bool) → (makes && not_under_tombstone) ≡ given
-              → (if makes && not_under_tombstone && lacks_file s.header.parameters.encoding.version tables (row_made s i) then tables
+              → (if makes && not_under_tombstone
+              && lacks_file s.header.parameters.encoding.version tables (row_made s i)
+              then tables
               else tables_at_end sections next tables)
-              ≡ (if given then tables_after_row s.header.parameters.encoding.version tables (Some (row_made s i)) (tables_at_end sections next tables)
+              ≡ (if given
+              then tables_after_row s.header.parameters.encoding.version tables (Some (row_made s i))
+              (tables_at_end sections next tables)
               else tables_at_end sections next tables)
           by true true given e = rw (← e) refl
           by true false given e = rw (← e) refl
           by false not_under_tombstone given e = rw (← e) refl
 
-      pub quiet_last : (makes_row i && not s.row.tombstone) ≡ false → tables_at_end sections s tables ≡ tables_at_end sections next tables
+      pub quiet_last : (makes_row i && not s.row.tombstone) ≡ false
+          → tables_at_end sections s tables ≡ tables_at_end sections next tables
       quiet_last quiet = done_last _ quiet
 
       pub row_last : (makes_row i && not s.row.tombstone) ≡ true
           → tables_at_end sections s tables
-          ≡ tables_after_row s.header.parameters.encoding.version tables (Some (row_made s i)) (tables_at_end sections next tables)
+          ≡ tables_after_row s.header.parameters.encoding.version tables (Some (row_made s i))
+          (tables_at_end sections next tables)
       row_last loud = done_last _ loud
 
   -- a file is defined
-  pub file_last : (u : Unread) → u.notation ≡ s.unread.notation → (f : File) (front : List ℕ) → s.unread.bytes ≡ front ++ u.bytes
+  pub file_last : (u : Unread) → u.notation ≡ s.unread.notation → (f : File) (front : List ℕ)
+      → s.unread.bytes ≡ front ++ u.bytes
       → SpellsInstruction s.unread.notation s.header front (DefineFile f)
-      → tables_at_end sections s tables ≡ unless_refused tables (file_added sections tables f) (λ more. tables_at_end sections (record s { unread = u }) more)
+      → tables_at_end sections s tables
+      ≡ unless_refused tables (file_added sections tables f) (λ more.
+      tables_at_end sections (record s { unread = u }) more)
   file_last u notation f front parts spelled = first_last u notation (DefineFile f) front parts spelled
 
 -- ---- what is done of an instruction that sets no address and defines no file
 
 module _ {R Offset : Type 0} (Endian : Type 0) (bytes : R → List ℕ) (number : Offset → ℕ) (s : SourceRun) (u : Unread)
     (notation : u.notation ≡ s.unread.notation)
-    (i : Ins) (front : List ℕ) (parts : s.unread.bytes ≡ front ++ u.bytes) (spelled : SpellsInstruction s.unread.notation s.header front i) where
-  made_last : is_refused s.header.parameters i s.row ≡ false → defines_file i ≡ false → (sections : Sections) (tables : TablesAndTexts)
+    (i : Ins) (front : List ℕ) (parts : s.unread.bytes ≡ front ++ u.bytes)
+    (spelled : SpellsInstruction s.unread.notation s.header front i) where
+  made_last : is_refused s.header.parameters i s.row ≡ false → defines_file i ≡ false
+      → (sections : Sections) (tables : TablesAndTexts)
       → tables_at_end sections s tables
-      ≡ step_tables {Endian = Endian} bytes number sections tables (step_made (with_unread s u) i) (state_after i (with_unread s u))
+      ≡ step_tables {Endian = Endian} bytes number sections tables (step_made (with_unread s u) i)
+      (state_after i (with_unread s u))
   made_last fits file sections tables = by (makes_row i && not s.row.tombstone) refl
     where
       by : (b : Bool) → (makes_row i && not s.row.tombstone) ≡ b
           → tables_at_end sections s tables
-          ≡ step_tables {Endian = Endian} bytes number sections tables (step_made (with_unread s u) i) (state_after i (with_unread s u))
+          ≡ step_tables {Endian = Endian} bytes number sections tables (step_made (with_unread s u) i)
+          (state_after i (with_unread s u))
       by true e =
           row_last sections tables s u notation i front parts spelled fits file e
           ∙ ap
-          (λ c. step_tables {Endian = Endian} bytes number sections tables (if c then Made (row_made (with_unread s u) i) else More)
+          (λ c. step_tables {Endian = Endian} bytes number sections tables
+          (if c then Made (row_made (with_unread s u) i) else More)
           (state_after i (with_unread s u)))
           (sym e)
       by false e =
           quiet_last sections tables s u notation i front parts spelled fits file e
           ∙ ap
-          (λ c. step_tables {Endian = Endian} bytes number sections tables (if c then Made (row_made (with_unread s u) i) else More)
+          (λ c. step_tables {Endian = Endian} bytes number sections tables
+          (if c then Made (row_made (with_unread s u) i) else More)
           (state_after i (with_unread s u)))
           (sym e)
 
   pub executed_last : (t : SourceRun) (r : Result (SourceStep R Endian Offset) ConvertError) → defines_file i ≡ false
       → OnOk r (is_refused s.header.parameters i s.row ≡ false)
       → OnOk r (t ≡ state_after i (with_unread s u)) → IfOk r (λ step. step ≡ step_made (with_unread s u) i)
-      → IfOk r (λ step. (sections : Sections) (tables : TablesAndTexts) → tables_at_end sections s tables ≡ step_tables bytes number sections tables step t)
+      → IfOk r (λ step.
+      (sections : Sections) (tables : TablesAndTexts)
+      → tables_at_end sections s tables ≡ step_tables bytes number sections tables step t)
   executed_last t (Ok step) file fits next made = λ sections tables. rw (made, next) (made_last fits file _ _)
   executed_last t (Err e) file fits next made = tt
 

@@ -4,7 +4,8 @@ use Rattle.std.specs.Prelude.{Option, Some, None, Result, Ok, Err}
 use Rattle.gimli_core.specs.declared.common.Format.TheVariants.{Dwarf32}
 use Rattle.gimli_bytes.specs.declared.address.Address.{Address}
 use Rattle.gimli_bytes.specs.declared.address.Address.TheVariants.{Constant}
-use Rattle.gimli_line.specs.declared.run.instruction.LineInstruction.TheVariants.{Copy, AdvancePc, AdvanceLine, SetFile, FixedAddPc, EndSequence, SetAddress}
+use Rattle.gimli_line.specs.declared.run.instruction.LineInstruction.TheVariants.{Copy, AdvancePc, AdvanceLine, SetFile}
+use Rattle.gimli_line.specs.declared.run.instruction.LineInstruction.TheVariants.{FixedAddPc, EndSequence, SetAddress}
 use Rattle.gimli_line.specs.header.Parameters.{Parameters}
 use Rattle.gimli_line.specs.run.Instruction.{Ins}
 use Rattle.gimli_build.specs.Built.{empty_built}
@@ -14,7 +15,11 @@ use Rattle.gimli_build.specs.declared.built.row.LineRow.{LineRow}
 use Rattle.gimli_build.specs.declared.built.items.BuiltItem.{BuiltItem}
 use Rattle.gimli_build.specs.declared.built.items.BuiltItem.TheVariants as item
 use Rattle.gimli_write.specs.declared.convert_error.ConvertError.{ConvertError}
-use Rattle.gimli_write.specs.declared.convert_error.ConvertError.TheVariants.{InvalidFileIndex, InvalidAddress, MissingLineEndSequence}
+use Rattle.gimli_write.specs.declared.convert_error.ConvertError.TheVariants.{
+  InvalidFileIndex,
+  InvalidAddress,
+  MissingLineEndSequence,
+}
 use Rattle.gimli_write.specs.declared.convert_error.ConvertError.TheVariants.{UnsupportedLineInstruction}
 use Rattle.gimli_write.specs.convert.SourceTables.{TablesAndTexts}
 use Rattle.gimli_write.specs.convert.Mapped.{NoneEndsUnderTombstone}
@@ -47,7 +52,8 @@ tables length = record {
 }
 
 abbrev read : ℕ → List Ins → Reading
-read length list = reading_after (record { strings = []; line_strings = [] }) (source length) (tables length) [] list None
+read length list =
+    reading_after (record { strings = []; line_strings = [] }) (source length) (tables length) [] list None
 
 -- what is built, where addresses are mapped so
 abbrev items_of : (ℕ → Option Address) → ℕ → List Ins → Result (List BuiltItem) ConvertError
@@ -75,27 +81,39 @@ a_row offset line = record {
 }
 
 -- an address and then an end
-address_and_end : items_of itself 1 (SetAddress 16 ∷ EndSequence ∷ []) ≡ Ok (item.SetAddress (Constant 16) ∷ item.End 0 0 ∷ [])
+address_and_end : items_of itself 1 (SetAddress 16 ∷ EndSequence ∷ [])
+    ≡ Ok (item.SetAddress (Constant 16) ∷ item.End 0 0 ∷ [])
 address_and_end = refl
 
 -- an address in mid-sequence: what was advanced before it counts for nothing
-mid_sequence : items_of itself 1 (SetAddress 16 ∷ Copy ∷ AdvancePc 4 ∷ SetAddress 32 ∷ Copy ∷ AdvancePc 4 ∷ EndSequence ∷ [])
-    ≡ Ok (item.SetAddress (Constant 16) ∷ item.Row (a_row 0 1) ∷ item.SetAddress (Constant 32) ∷ item.Row (a_row 0 1) ∷ item.End 4 0 ∷ [])
+mid_sequence : items_of itself 1
+    (SetAddress 16 ∷ Copy ∷ AdvancePc 4 ∷ SetAddress 32 ∷ Copy ∷ AdvancePc 4 ∷ EndSequence ∷ [])
+    ≡ Ok (item.SetAddress (Constant 16) ∷ item.Row (a_row 0 1) ∷ item.SetAddress (Constant 32) ∷ item.Row (a_row 0 1)
+    ∷ item.End 4 0 ∷ [])
 mid_sequence = refl
 
 -- an address that goes back is a tombstone for a row, up to one that doesn't; its sequence ends seen
 row_under_tombstone : items_of itself 1
-    (SetAddress 16 ∷ Copy ∷ SetAddress 8 ∷ AdvanceLine (pos 1) ∷ Copy ∷ SetAddress 32 ∷ AdvanceLine (pos 1) ∷ Copy ∷ EndSequence ∷ [])
-    ≡ Ok (item.SetAddress (Constant 16) ∷ item.Row (a_row 0 1) ∷ item.SetAddress (Constant 32) ∷ item.Row (a_row 0 3) ∷ item.End 0 0 ∷ [])
+    (SetAddress 16 ∷ Copy ∷ SetAddress 8 ∷ AdvanceLine (pos 1) ∷ Copy ∷ SetAddress 32 ∷ AdvanceLine (pos 1) ∷ Copy
+    ∷ EndSequence ∷ [])
+    ≡ Ok (item.SetAddress (Constant 16) ∷ item.Row (a_row 0 1) ∷ item.SetAddress (Constant 32) ∷ item.Row (a_row 0 3)
+    ∷ item.End 0 0 ∷ [])
 row_under_tombstone = refl
 
 row_under_tombstone_seen : NoneEndsUnderTombstone (source 1) []
-    (SetAddress 16 ∷ Copy ∷ SetAddress 8 ∷ AdvanceLine (pos 1) ∷ Copy ∷ SetAddress 32 ∷ AdvanceLine (pos 1) ∷ Copy ∷ EndSequence ∷ [])
+    (SetAddress 16 ∷ Copy ∷ SetAddress 8 ∷ AdvanceLine (pos 1) ∷ Copy ∷ SetAddress 32 ∷ AdvanceLine (pos 1) ∷ Copy
+    ∷ EndSequence ∷ [])
 row_under_tombstone_seen = (
   λ e h. absurd cc,
   (
     λ e h. absurd cc,
-    (λ e h. absurd cc, (λ e h. absurd cc, (λ e h. absurd cc, (λ e h. absurd cc, (λ e h. absurd cc, (λ e h. absurd cc, (λ e h. absurd cc, tt))))))),
+    (
+      λ e h. absurd cc,
+      (
+        λ e h. absurd cc,
+        (λ e h. absurd cc, (λ e h. absurd cc, (λ e h. absurd cc, (λ e h. absurd cc, (λ e h. absurd cc, tt))))),
+      ),
+    ),
   ),
 )
 
@@ -104,10 +122,13 @@ all_under_tombstone : items_of itself 1 (SetAddress 4294967294 ∷ Copy ∷ EndS
 all_under_tombstone = refl
 
 -- one that gave a row and ends under a tombstone stays open
-ends_under_tombstone : items_of itself 1 (SetAddress 16 ∷ Copy ∷ SetAddress 4294967295 ∷ EndSequence ∷ []) ≡ Err MissingLineEndSequence
+ends_under_tombstone : items_of itself 1 (SetAddress 16 ∷ Copy ∷ SetAddress 4294967295 ∷ EndSequence ∷ [])
+    ≡ Err MissingLineEndSequence
 ends_under_tombstone = refl
 
-unseen_end_under_tombstone : NoneEndsUnderTombstone (source 1) [] (SetAddress 16 ∷ Copy ∷ SetAddress 4294967295 ∷ EndSequence ∷ []) → ⊥
+unseen_end_under_tombstone : NoneEndsUnderTombstone (source 1) []
+    (SetAddress 16 ∷ Copy ∷ SetAddress 4294967295 ∷ EndSequence ∷ [])
+    → ⊥
 unseen_end_under_tombstone seen = let open_sequence = seen.1.1.1.0 refl refl in absurd cc
 
 -- ---- refusals

@@ -33,8 +33,10 @@ module _ (strings old new : List (List ℕ)) (kept : KeepsTexts old new) where
   }
 
 -- with a file whose texts are there
-written_with_file : (p : Built) (texts : StringTables) (path : LineText) (directory : ℕ) (d : Details) → IsWithin texts path
-    → IfSome d.source (IsWithin texts) → IfSome d.source HasNoZero → CanWrite p texts → CanWrite (after_file (path, directory) (Some d) p) texts
+written_with_file : (p : Built) (texts : StringTables) (path : LineText) (directory : ℕ) (d : Details)
+    → IsWithin texts path
+    → IfSome d.source (IsWithin texts) → IfSome d.source HasNoZero → CanWrite p texts
+    → CanWrite (after_file (path, directory) (Some d) p) texts
 written_with_file p texts path directory d within source ends can = record {
   program = can.program;
   directories = can.directories;
@@ -46,7 +48,8 @@ written_with_file p texts path directory d within source ends can = record {
 
 -- what is so of a source that was made is so of its text
 module _ {A : Type 0} (text : A → LineText) where
-  source_so : (P : LineText → Type 0) (made : Option A) → IfSome made (λ a. P (text a)) → IfSome (option_map text made) P
+  source_so : (P : LineText → Type 0) (made : Option A) → IfSome made (λ a. P (text a))
+      → IfSome (option_map text made) P
   source_so P (Some a) so = so
   source_so P None so = tt
 
@@ -57,22 +60,27 @@ module _ {A : Type 0} (text : A → LineText) where
   source_within strings line_strings None so = tt
 
   -- with a file whose path was made, and then its source
-  pub written_with_parts : (p : Built) (strings old between new : List (List ℕ)) (path : A) (source : Option A) (directory : ℕ) (timestamp size : ℕ)
+  pub written_with_parts : (p : Built) (strings old between new : List (List ℕ)) (path : A) (source : Option A)
+      (directory : ℕ) (timestamp size : ℕ)
       (md5 : List ℕ)
       → KeepsTexts old between → KeepsTexts between new
       → ((strings : List (List ℕ)) → IsWithin (texts_in strings between) (text path))
-      → IfSome source (λ a. (strings : List (List ℕ)) → IsWithin (texts_in strings new) (text a)) → IfSome source (λ a. HasNoZero (text a))
+      → IfSome source (λ a. (strings : List (List ℕ)) → IsWithin (texts_in strings new) (text a))
+      → IfSome source (λ a. HasNoZero (text a))
       → CanWrite p (texts_in strings old)
-      → CanWrite (after_file (text path, directory) (Some (record { timestamp = timestamp; size = size; md5 = md5; source = option_map text source })) p)
+      → CanWrite (after_file (text path, directory)
+      (Some (record { timestamp = timestamp; size = size; md5 = md5; source = option_map text source })) p)
       (texts_in strings new)
-  written_with_parts p strings old between new path source directory timestamp size md5 first second within source_there ends can =
+  written_with_parts p strings old between new path source directory timestamp size md5 first second within source_there
+      ends can =
       written_with_file p _ _ _ _
       (within_kept strings between new second _ (within strings))
       (source_within _ _ _ source_there)
       (source_so HasNoZero source ends)
       (written_later strings old new (kept_then _ _ _ first second) p can)
 
-pub writable_then : {a b c : SourceTables} {first second third : List (List ℕ)} → StaysWritable a first b second → StaysWritable b second c third
+pub writable_then : {a b c : SourceTables} {first second third : List (List ℕ)} → StaysWritable a first b second
+    → StaysWritable b second c third
     → StaysWritable a first c third
 writable_then before after = record { still = λ strings can. after.still strings (before.still strings can) }
 
@@ -84,7 +92,8 @@ record WrittenTables (p : Built) (texts : StringTables) : Type 0 where
   directories : All (IsWithin texts) p.directories
   paths : All (λ (f : BuiltFile). IsWithin texts f.0.0) p.files
   sources : All (λ (f : BuiltFile). IfSome f.1.source (IsWithin texts)) p.files
-  sources_end : 5 ≤ p.encoding.version → p.file_has_source ≡ true → All (λ (f : BuiltFile). IfSome f.1.source HasNoZero) p.files
+  sources_end : 5 ≤ p.encoding.version → p.file_has_source ≡ true
+      → All (λ (f : BuiltFile). IfSome f.1.source HasNoZero) p.files
 
 tables_written : (p : Built) (texts : StringTables) → CanWrite p texts → WrittenTables (without_items p) texts
 tables_written p texts can = record {
@@ -104,7 +113,8 @@ written_tables p texts has = record {
   sources_end = has.sources_end;
 }
 
-pub writable_with_items : (old new : SourceTables) (line_strings : List (List ℕ)) → without_items new.program ≡ without_items old.program
+pub writable_with_items : (old new : SourceTables) (line_strings : List (List ℕ))
+    → without_items new.program ≡ without_items old.program
     → StaysWritable old line_strings new line_strings
 writable_with_items old new line_strings same = record {
   still = λ strings can.

@@ -1,5 +1,6 @@
 -- Collecting the changes of places.
-use Rattle.std.proofs.Common.{◌≡◌, ◌⊎◌, ℕ, Bool, true, false, cond, List, Option, Some, None, refl, sym, ap, ◌∙◌, inl, inr}
+use Rattle.std.proofs.Common.{◌≡◌, ◌⊎◌, ℕ, Bool, true, false, cond, List, Option, Some, None, refl, sym, ap, ◌∙◌, inl}
+use Rattle.std.proofs.Common.{inr}
 use Rattle.std.specs.Prelude.{is_some, nat_eq, ◌∷◌, [], ◌||◌}
 use Rattle.std.specs.List.{list_any}
 use Rattle.std.specs.BTreeMap.{BTreeMap, get, is_at}
@@ -26,7 +27,8 @@ one_place p q is =
     let parts = then_equal (nat_cmp p.path q.path) (nat_cmp p.line q.line) is in
     let path : p.path ≡ q.path = eqb-true p.path q.path (sym (unsigned_tied p.path q.path) ∙ parts.0) in
     let line : p.line ≡ q.line = eqb-true p.line q.line (sym (unsigned_tied p.line q.line) ∙ parts.1) in
-    ap (λ (n : ℕ). let r : Place = record { path = n; line = p.line } in r) path ∙ ap (λ (n : ℕ). let r : Place = record { path = q.path; line = n } in r) line
+    ap (λ (n : ℕ). let r : Place = record { path = n; line = p.line } in r) path
+    ∙ ap (λ (n : ℕ). let r : Place = record { path = q.path; line = n } in r) line
 
 then_same : (a b : Ordering) → is_eq a ≡ true → is_eq b ≡ true → is_eq (ordering_then a b) ≡ true
 then_same Less b is same = absurd cc
@@ -47,7 +49,9 @@ module _ (old new : List (Place × ℕ)) where
   -- the change of a place was kept, where it has one
   abbrev pub Kept : Place → BTreeMap Place Change → BTreeMap Place Change → Type 0
   Kept place before after =
-      (other : Place) → get place_order after other ≡ with_change (change place) (is_at (place_order place) other) (get place_order before other)
+      (other : Place)
+      → get place_order after other
+      ≡ with_change (change place) (is_at (place_order place) other) (get place_order before other)
 
   -- what stands for another place after that
   stands : (place other : Place) (test : Bool) (before after : Option Change) → is_at (place_order place) other ≡ test
@@ -55,39 +59,48 @@ module _ (old new : List (Place × ℕ)) where
       → (after ≡ before) ⊎ ((place ≡ other) × (after ≡ change other))
   stands place other false before after is same = at_change (change place) same
     where
-      at_change : (c : Option Change) → after ≡ with_change c false before → (after ≡ before) ⊎ ((place ≡ other) × (after ≡ change other))
+      at_change : (c : Option Change) → after ≡ with_change c false before
+          → (after ≡ before) ⊎ ((place ≡ other) × (after ≡ change other))
       at_change None same = inl same
       at_change (Some c) same = inl same
   stands place other true before after is same = at_change (change place) refl same
     where
-      at_change : (c : Option Change) → change place ≡ c → after ≡ with_change c true before → (after ≡ before) ⊎ ((place ≡ other) × (after ≡ change other))
+      at_change : (c : Option Change) → change place ≡ c → after ≡ with_change c true before
+          → (after ≡ before) ⊎ ((place ≡ other) × (after ≡ change other))
       at_change None own same = inl same
       at_change (Some c) own same =
           let one = one_place place other is in
           inr (one, same ∙ sym own ∙ ap change one)
 
-  pub part_on : (place : Place) (before after : BTreeMap Place Change) → Kept place before after → IsPart old new before → IsPart old new after
+  pub part_on : (place : Place) (before after : BTreeMap Place Change) → Kept place before after → IsPart old new before
+      → IsPart old new after
   part_on place before after kept part other =
-      elim (stands place other (is_at (place_order place) other) (get place_order before other) (get place_order after other) refl (kept other)) [
+      elim (stands place other (is_at (place_order place) other) (get place_order before other)
+      (get place_order after other) refl (kept other)) [
         | inl same ↦ elim (part other) [ inl none ↦ inl (same ∙ none) | inr whole ↦ inr (same ∙ whole) ]
         | inr one ↦ inr one.1
       ]
 
-  pub keeps_on : (place : Place) (before after : BTreeMap Place Change) → Kept place before after → Keeps old new before after
+  pub keeps_on : (place : Place) (before after : BTreeMap Place Change) → Kept place before after
+      → Keeps old new before after
   keeps_on place before after kept other whole =
-      elim (stands place other (is_at (place_order place) other) (get place_order before other) (get place_order after other) refl (kept other)) [
+      elim (stands place other (is_at (place_order place) other) (get place_order before other)
+      (get place_order after other) refl (kept other)) [
         | inl same ↦ same ∙ whole
         | inr one ↦ one.1
       ]
 
   -- a place whose change was kept has it
-  pub has_own : (place other : Place) (before after : BTreeMap Place Change) → Kept place before after → IsPart old new before
+  pub has_own : (place other : Place) (before after : BTreeMap Place Change) → Kept place before after
+      → IsPart old new before
       → is_at (place_order place) other ≡ true → get place_order after other ≡ change other
   has_own place other before after kept part is =
       let one = one_place place other is in
-      at_change (change place) refl (kept other ∙ ap (λ (t : Bool). with_change (change place) t (get place_order before other)) is)
+      at_change (change place) refl
+      (kept other ∙ ap (λ (t : Bool). with_change (change place) t (get place_order before other)) is)
     where
-      at_change : (c : Option Change) → change place ≡ c → get place_order after other ≡ with_change c true (get place_order before other)
+      at_change : (c : Option Change) → change place ≡ c
+          → get place_order after other ≡ with_change c true (get place_order before other)
           → get place_order after other ≡ change other
       at_change (Some c) own same = same ∙ sym own ∙ ap change (one_place place other is)
       at_change None own same = elim (part other) [
@@ -100,12 +113,14 @@ module _ (old new : List (Place × ℕ)) where
   IsDone source left changes = (other : Place) → is_some (bytes_at source other) ≡ true
       → list_any (eq_by_cmp place_order other) left ≡ false → get place_order changes other ≡ change other
 
-  pub done_on : (source : List (Place × ℕ)) (place : Place) (left : List Place) (before after : BTreeMap Place Change) → Kept place before after
+  pub done_on : (source : List (Place × ℕ)) (place : Place) (left : List Place) (before after : BTreeMap Place Change)
+      → Kept place before after
       → IsPart old new before → IsDone source (place ∷ left) before → IsDone source left after
   done_on source place left before after kept part done other there gone =
       at_test (is_at (place_order other) place) refl
     where
       at_test : (test : Bool) → is_at (place_order other) place ≡ test → get place_order after other ≡ change other
       at_test true is =
-          has_own place other before after kept part (ap (λ (p : Place). is_at (place_order p) other) (sym (one_place other place is)) ∙ place_self other)
+          has_own place other before after kept part
+          (ap (λ (p : Place). is_at (place_order p) other) (sym (one_place other place is)) ∙ place_self other)
       at_test false is = keeps_on place before after kept other (done other there (rw is gone))

@@ -1,14 +1,17 @@
 -- The bytes of an instruction, as they are passed over.
-use Rattle.std.proofs.Common.{◌≡◌, ◌≢◌, ℕ, zero, suc, ◌+◌, ◌-◌, ◌<◌, ◌≤◌, Bool, true, false, if◌then◌else◌, List, [], ◌∷◌, ◌++◌, length, take, drop, Option}
+use Rattle.std.proofs.Common.{◌≡◌, ◌≢◌, ℕ, zero, suc, ◌+◌, ◌-◌, ◌<◌, ◌≤◌, Bool, true, false, if◌then◌else◌, List, []}
+use Rattle.std.proofs.Common.{◌∷◌, ◌++◌, length, take, drop, Option}
 use Rattle.std.proofs.Common.{Some, None}
 use Rattle.std.proofs.Common.{Ok, Err, refl, sym, ap, subst, ◌∙◌, append_assoc, arith, inl, inr}
 use Rattle.std.specs.Prelude.{nat_eq, nat_le, nat_lt, slice_index, ℤ}
 use Rattle.std.specs.List.{AllByRecursion}
 use Rattle.std.proofs.lemmas.Bool.{cases_lt, le-ltb, lt-ltb}
-use Rattle.std.proofs.lemmas.List.{length-append, drop_at, append_cancel_right, length-drop, length-take-le, take-append-drop}
+use Rattle.std.proofs.lemmas.List.{length-append, drop_at, append_cancel_right, length-drop, length-take-le}
+use Rattle.std.proofs.lemmas.List.{take-append-drop}
 use Rattle.gimli_core.specs.Notation.{Notation}
 use Rattle.gimli_core.specs.Production.{times, unsigned}
-use Rattle.gimli_core.specs.Reading.{Read, ◌>>=◌, byte_at, number_at, offset_of, signed_at, skip_at, split_at, times_at, unsigned_at, with_rest, within_at}
+use Rattle.gimli_core.specs.Reading.{Read, ◌>>=◌, byte_at, number_at, offset_of, signed_at, skip_at, split_at, times_at}
+use Rattle.gimli_core.specs.Reading.{unsigned_at, with_rest, within_at}
 use Rattle.gimli_core.specs.declared.error.Error.{Error}
 use Rattle.gimli_core.specs.declared.error.Error.TheVariants.{UnsupportedOffset}
 use Rattle.gimli_core.proofs.Padded.{split_ok}
@@ -39,7 +42,8 @@ use Rattle.gimli_line.specs.run.Instruction.{Ins}
 use Rattle.gimli_line.specs.run.InstructionGrammar.{Operand, none, uleb, sleb, half, address, file, standard_opcodes}
 use Rattle.gimli_line.specs.header.FormReading.{offset_at}
 use Rattle.gimli_line.specs.run.InstructionGrammar.{SpellsInstruction, extended_opcodes}
-use Rattle.gimli_line.specs.run.InstructionReading.{bytes_at, operand_at, unknown_at, standard_at, extended_at, extended_operands_at, ins_at}
+use Rattle.gimli_line.specs.run.InstructionReading.{bytes_at, operand_at, unknown_at, standard_at, extended_at}
+use Rattle.gimli_line.specs.run.InstructionReading.{extended_operands_at, ins_at}
 use Rattle.gimli_line.proofs.InstructionLaws.{reads_bytes_of, reads_instruction}
 use Rattle.lines_counts.specs.Pieces.{opcode_size, opened_size}
 use Rattle.lines_counts.specs.declared.sizes.InstructionBytes.{InstructionBytes}
@@ -68,26 +72,31 @@ record Extended (bytes after : List ℕ) : Type 0 where
 module _ (notation : Notation) (h : Header) where
   -- what an operand reads is passed over by its instruction
   abbrev Passes : Operand → Type 0
-  Passes operand = (bytes : List ℕ) (i : Ins) (after : List ℕ) → operand_at notation h operand bytes ≡ (Ok i, after) → operands_at i bytes ≡ (Ok tt, after)
+  Passes operand =
+      (bytes : List ℕ) (i : Ins) (after : List ℕ) → operand_at notation h operand bytes ≡ (Ok i, after)
+      → operands_at i bytes ≡ (Ok tt, after)
 
   passes_none : (i : Ins) → ((bytes : List ℕ) → operands_at i bytes ≡ (Ok tt, bytes)) → Passes (none i)
   passes_none i is bytes j after e =
       let p = ok_parts i j bytes after e in
       rw (← p.0, is bytes, p.1) refl
 
-  passes_uleb : (make : ℕ → Ins) → ((n : ℕ) (bytes : List ℕ) → operands_at (make n) bytes ≡ passed (unsigned_at bytes)) → Passes (uleb make)
+  passes_uleb : (make : ℕ → Ins) → ((n : ℕ) (bytes : List ℕ) → operands_at (make n) bytes ≡ passed (unsigned_at bytes))
+      → Passes (uleb make)
   passes_uleb make is bytes j after e =
       let a = bind_ok (unsigned_at bytes) (λ n rest. (let r : Read Ins = (Ok (make n), rest) in r)) j after e in
       let p = ok_parts (make a.0) j a.1 after a.3 in
       rw (← p.0, is a.0 bytes, a.2, p.1) refl
 
-  passes_sleb : (make : ℤ → Ins) → ((z : ℤ) (bytes : List ℕ) → operands_at (make z) bytes ≡ passed (signed_at bytes)) → Passes (sleb make)
+  passes_sleb : (make : ℤ → Ins) → ((z : ℤ) (bytes : List ℕ) → operands_at (make z) bytes ≡ passed (signed_at bytes))
+      → Passes (sleb make)
   passes_sleb make is bytes j after e =
       let a = bind_ok (signed_at bytes) (λ z rest. (let r : Read Ins = (Ok (make z), rest) in r)) j after e in
       let p = ok_parts (make a.0) j a.1 after a.3 in
       rw (← p.0, is a.0 bytes, a.2, p.1) refl
 
-  number_passed : (big : Bool) (size : ℕ) (bytes : List ℕ) (n : ℕ) (rest : List ℕ) → number_at big size bytes ≡ (Ok n, rest)
+  number_passed : (big : Bool) (size : ℕ) (bytes : List ℕ) (n : ℕ) (rest : List ℕ)
+      → number_at big size bytes ≡ (Ok n, rest)
       → skip_at size bytes ≡ (Ok tt, rest)
   number_passed big size bytes n rest e = elim (cases_lt (length bytes) size) [
     | inl lt ↦ let p = ap (λ (r : Read ℕ). r.0) (rw (lt-ltb (length bytes) size lt) at e) in absurd cc
@@ -96,9 +105,12 @@ module _ (notation : Notation) (h : Header) where
         rw (le-ltb (length bytes) size le, p) refl
   ]
 
-  passes_half : (make : ℕ → Ins) → ((n : ℕ) (bytes : List ℕ) → operands_at (make n) bytes ≡ skip_at 2 bytes) → Passes (half make)
+  passes_half : (make : ℕ → Ins) → ((n : ℕ) (bytes : List ℕ) → operands_at (make n) bytes ≡ skip_at 2 bytes)
+      → Passes (half make)
   passes_half make is bytes j after e =
-      let a = bind_ok (number_at notation.big 2 bytes) (λ n rest. (let r : Read Ins = (Ok (make n), rest) in r)) j after e in
+      let a =
+      bind_ok (number_at notation.big 2 bytes) (λ n rest. (let r : Read Ins = (Ok (make n), rest) in r)) j after
+      e in
       let p = ok_parts (make a.0) j a.1 after a.3 in
       rw (← p.0, is a.0 bytes, number_passed notation.big 2 bytes a.0 a.1 a.2, p.1) refl
 
@@ -114,47 +126,65 @@ module _ (notation : Notation) (h : Header) where
       (and_then (passes_none ConstAddPc (λ bytes. refl))
       (and_then (passes_half FixedAddPc (λ n bytes. refl))
       (and_then (passes_none SetPrologueEnd (λ bytes. refl))
-      (and_then (passes_none SetEpilogueBegin (λ bytes. refl)) (and_then (passes_uleb SetIsa (λ n bytes. refl)) tt)))))))))))
+      (and_then (passes_none SetEpilogueBegin (λ bytes. refl))
+      (and_then (passes_uleb SetIsa (λ n bytes. refl)) tt)))))))))))
 
-  among_passes : (n : ℕ) (rows : List (ℕ × Operand)) → AllByRecursion (λ (row : ℕ × Operand). Passes row.1) rows → (operand : Operand)
+  among_passes : (n : ℕ) (rows : List (ℕ × Operand)) → AllByRecursion (λ (row : ℕ × Operand). Passes row.1) rows
+      → (operand : Operand)
       → among n rows ≡ Some operand → Passes operand
   among_passes n [] all operand is = absurd cc
   among_passes n (row ∷ rows) all operand is = at_test (nat_eq n row.0) (among_passes n rows all.1 operand) is
     where
-      at_test : (test : Bool) → (among n rows ≡ Some operand → Passes operand) → (if test then Some row.1 else among n rows) ≡ Some operand → Passes operand
+      at_test : (test : Bool) → (among n rows ≡ Some operand → Passes operand)
+          → (if test then Some row.1 else among n rows) ≡ Some operand → Passes operand
       at_test true later is = let same : row.1 ≡ operand = cc in subst Passes same all.0
       at_test false later is = later is
 
-  unknown_passes : (opcode count : ℕ) (bytes : List ℕ) (i : Ins) (after : List ℕ) → unknown_at notation h opcode count bytes ≡ (Ok i, after)
+  unknown_passes : (opcode count : ℕ) (bytes : List ℕ) (i : Ins) (after : List ℕ)
+      → unknown_at notation h opcode count bytes ≡ (Ok i, after)
       → operands_at i bytes ≡ (Ok tt, after)
   unfolding unknown_at
-  unknown_passes opcode zero bytes i after e = passes_none (UnknownStandard0 (record { 0 = opcode })) (λ bytes. refl) bytes i after e
-  unknown_passes opcode (suc zero) bytes i after e = passes_uleb (UnknownStandard1 (record { 0 = opcode })) (λ n bytes. refl) bytes i after e
+  unknown_passes opcode zero bytes i after e =
+      passes_none (UnknownStandard0 (record { 0 = opcode })) (λ bytes. refl) bytes i after e
+  unknown_passes opcode (suc zero) bytes i after e =
+      passes_uleb (UnknownStandard1 (record { 0 = opcode })) (λ n bytes. refl) bytes i after e
   unknown_passes opcode (suc (suc more)) bytes i after e =
       let read = times_at (suc (suc more)) unsigned_at in
       let a =
-      bind_ok (bytes_at read bytes) (λ operands rest. (let r : Read Ins = (Ok (UnknownStandardN (record { 0 = opcode }) operands), rest) in r)) i after e in
+      bind_ok (bytes_at read bytes)
+      (λ operands rest. (let r : Read Ins = (Ok (UnknownStandardN (record { 0 = opcode }) operands), rest) in r)) i
+      after e in
       let p = ok_parts (UnknownStandardN (record { 0 = opcode }) a.0) i a.1 after a.3 in
       let f =
-      (reads_bytes_of (times (suc (suc more)) unsigned) read (reads_times (suc (suc more)) unsigned unsigned_at reads_unsigned)).found bytes a.0 a.1 a.2 in
-      let over : operands_at (UnknownStandardN (record { 0 = opcode }) f.0) (f.0 ++ a.1) ≡ (Ok tt, a.1) = skipped_front f.0 a.1 in
+      (reads_bytes_of (times (suc (suc more)) unsigned) read
+      (reads_times (suc (suc more)) unsigned unsigned_at reads_unsigned)).found
+      bytes a.0 a.1 a.2 in
+      let over : operands_at (UnknownStandardN (record { 0 = opcode }) f.0) (f.0 ++ a.1)
+      ≡ (Ok tt, a.1) = skipped_front f.0 a.1 in
       let own : operands_at (UnknownStandardN (record { 0 = opcode }) a.0) (f.0 ++ a.1) ≡ (Ok tt, a.1) =
-      subst (λ (xs : List ℕ). operands_at (UnknownStandardN (record { 0 = opcode }) xs) (f.0 ++ a.1) ≡ (Ok tt, a.1)) (sym f.2.0) over in
+      subst (λ (xs : List ℕ). operands_at (UnknownStandardN (record { 0 = opcode }) xs) (f.0 ++ a.1) ≡ (Ok tt, a.1))
+      (sym f.2.0) over in
       let whole : operands_at (UnknownStandardN (record { 0 = opcode }) a.0) bytes ≡ (Ok tt, a.1) =
-      subst (λ (xs : List ℕ). operands_at (UnknownStandardN (record { 0 = opcode }) a.0) xs ≡ (Ok tt, a.1)) (sym f.1) own in
+      subst (λ (xs : List ℕ). operands_at (UnknownStandardN (record { 0 = opcode }) a.0) xs ≡ (Ok tt, a.1)) (sym f.1)
+      own in
       subst (λ (j : Ins). operands_at j bytes ≡ (Ok tt, after)) p.0
-      (subst (λ (xs : List ℕ). operands_at (UnknownStandardN (record { 0 = opcode }) a.0) bytes ≡ (Ok tt, xs)) p.1 whole)
+      (subst (λ (xs : List ℕ). operands_at (UnknownStandardN (record { 0 = opcode }) a.0) bytes ≡ (Ok tt, xs)) p.1
+      whole)
 
   -- the operands of a standard opcode
-  pub standard_passed : (opcode : ℕ) (bytes : List ℕ) (i : Ins) (after : List ℕ) → standard_at notation h opcode bytes ≡ (Ok i, after)
+  pub standard_passed : (opcode : ℕ) (bytes : List ℕ) (i : Ins) (after : List ℕ)
+      → standard_at notation h opcode bytes ≡ (Ok i, after)
       → operands_at i bytes ≡ (Ok tt, after)
   unfolding standard_at
   standard_passed opcode bytes i after e = at_operand (among opcode standard_opcodes) refl e
     where
       at_operand : (found : Option Operand) → among opcode standard_opcodes ≡ found
           → ◌≡◌ {A = Read Ins}
-          (elim found
-          [ Some operand ↦ operand_at notation h operand bytes | None ↦ unknown_at notation h opcode (slice_index h.operand_counts (opcode - 1)) bytes ])
+          (elim found [
+            | Some operand ↦
+                operand_at notation h operand bytes
+            | None ↦ unknown_at notation h opcode (slice_index h.operand_counts (opcode - 1)) bytes
+          ])
           (Ok i, after)
           → operands_at i bytes ≡ (Ok tt, after)
       at_operand (Some operand) is e = among_passes opcode standard_opcodes standard_passes operand is bytes i after e
@@ -162,14 +192,17 @@ module _ (notation : Notation) (h : Header) where
 
   -- ---- what stands after the zero byte of an extended instruction
 
-  offset_same : (limit n size : ℕ) (rest left : List ℕ) → ◌≡◌ {A = Read ℕ} (offset_of limit n, rest) (Ok size, left) → (n ≡ size) × (rest ≡ left)
+  offset_same : (limit n size : ℕ) (rest left : List ℕ) → ◌≡◌ {A = Read ℕ} (offset_of limit n, rest) (Ok size, left)
+      → (n ≡ size) × (rest ≡ left)
   offset_same limit n size rest left e = at_test (nat_le limit n) e
     where
-      at_test : (test : Bool) → ◌≡◌ {A = Read ℕ} (if test then Err UnsupportedOffset else Ok n, rest) (Ok size, left) → (n ≡ size) × (rest ≡ left)
+      at_test : (test : Bool) → ◌≡◌ {A = Read ℕ} (if test then Err UnsupportedOffset else Ok n, rest) (Ok size, left)
+          → (n ≡ size) × (rest ≡ left)
       at_test true e = let p = ap (λ (r : Read ℕ). r.0) e in absurd cc
       at_test false e = ok_parts n size rest left e
 
-  within_same : {A : Type 0} (inside : List ℕ) (read : List ℕ → Read A) (bytes : List ℕ) (x : A × List ℕ) (rest : List ℕ)
+  within_same : {A : Type 0} (inside : List ℕ) (read : List ℕ → Read A) (bytes : List ℕ) (x : A × List ℕ)
+      (rest : List ℕ)
       → within_at inside read bytes ≡ (Ok x, rest) → bytes ≡ rest
   within_same {A} inside read bytes x rest e = ap (λ (r : Read (A × List ℕ)). r.1) e
 
@@ -178,19 +211,25 @@ module _ (notation : Notation) (h : Header) where
   byte_within [] bytes x rest e = let p = ap (λ (r : Read (ℕ × List ℕ)). r.0) e in absurd cc
   byte_within (b ∷ inside) bytes x rest e = (b, inside, refl)
 
-  operands_same : (opcode : ℕ) (operands bytes : List ℕ) (i : Ins) (after : List ℕ) → extended_operands_at notation h opcode operands bytes ≡ (Ok i, after)
+  operands_same : (opcode : ℕ) (operands bytes : List ℕ) (i : Ins) (after : List ℕ)
+      → extended_operands_at notation h opcode operands bytes ≡ (Ok i, after)
       → bytes ≡ after
   unfolding extended_operands_at
-  operands_same opcode operands bytes i after e = at_operand (among opcode (extended_opcodes h.parameters.encoding.version)) e
+  operands_same opcode operands bytes i after e =
+      at_operand (among opcode (extended_opcodes h.parameters.encoding.version)) e
     where
       at_operand : (found : Option Operand)
           → ◌≡◌ {A = Read Ins} (elim found [
-            | Some operand ↦ within_at operands (operand_at notation h operand) bytes >>= (λ read rest. (let r : Read Ins = (Ok read.0, rest) in r))
+            | Some operand ↦
+                within_at operands (operand_at notation h operand) bytes
+                >>= (λ read rest. (let r : Read Ins = (Ok read.0, rest) in r))
             | None ↦ (Ok (UnknownExtended (record { 0 = opcode }) operands), bytes)
           ]) (Ok i, after)
           → bytes ≡ after
       at_operand (Some operand) e =
-          let a = bind_ok (within_at operands (operand_at notation h operand) bytes) (λ read rest. (let r : Read Ins = (Ok read.0, rest) in r)) i after e in
+          let a =
+          bind_ok (within_at operands (operand_at notation h operand) bytes)
+          (λ read rest. (let r : Read Ins = (Ok read.0, rest) in r)) i after e in
           let p = ok_parts a.0.0 i a.1 after a.3 in
           within_same operands (operand_at notation h operand) bytes a.0 a.1 a.2 ∙ p.1
       at_operand None e = (ok_parts (UnknownExtended (record { 0 = opcode }) operands) i bytes after e).1
@@ -204,11 +243,14 @@ module _ (notation : Notation) (h : Header) where
   abbrev after_size : ℕ → List ℕ → Read Ins
   after_size size rest = split_at size rest >>= after_inside
 
-  extended_parts : (bytes : List ℕ) (i : Ins) (after : List ℕ) → extended_at notation h bytes ≡ (Ok i, after) → Extended bytes after
+  extended_parts : (bytes : List ℕ) (i : Ins) (after : List ℕ) → extended_at notation h bytes ≡ (Ok i, after)
+      → Extended bytes after
   unfolding extended_at
   extended_parts bytes i after e =
       let a = bind_ok (offset_at notation.limit unsigned_at bytes) after_size i after e in
-      let b = bind_ok (unsigned_at bytes) (λ n rest. (let r : Read ℕ = (offset_of notation.limit n, rest) in r)) a.0 a.1 a.2 in
+      let b =
+      bind_ok (unsigned_at bytes) (λ n rest. (let r : Read ℕ = (offset_of notation.limit n, rest) in r)) a.0 a.1
+      a.2 in
       let p = offset_same notation.limit b.0 a.0 b.1 a.1 b.3 in
       let c = bind_ok (split_at a.0 a.1) after_inside i after a.3 in
       let q = split_ok a.0 a.1 c.0 c.1 (sym c.2) in
@@ -216,10 +258,12 @@ module _ (notation : Notation) (h : Header) where
       let first = byte_within c.0 c.1 d.0 d.1 d.2 in
       let last = within_same c.0 byte_at c.1 d.0 d.1 d.2 ∙ operands_same d.0.0 d.0.1 d.1 i after d.3 in
       let number : unsigned_at bytes ≡ (Ok a.0, a.1) =
-      b.2 ∙ ap (λ (n : ℕ). let r : Read ℕ = (Ok n, b.1) in r) p.0 ∙ ap (λ (xs : List ℕ). let r : Read ℕ = (Ok a.0, xs) in r) p.1 in
+      b.2 ∙ ap (λ (n : ℕ). let r : Read ℕ = (Ok n, b.1) in r) p.0
+      ∙ ap (λ (xs : List ℕ). let r : Read ℕ = (Ok a.0, xs) in r) p.1 in
       at_size a.0 a.1 number q.0 (sym q.1 ∙ first.2) (sym last ∙ q.2)
     where
-      at_size : (size : ℕ) (left : List ℕ) → unsigned_at bytes ≡ (Ok size, left) → size ≤ length left → {first : ℕ} {others : List ℕ}
+      at_size : (size : ℕ) (left : List ℕ) → unsigned_at bytes ≡ (Ok size, left) → size ≤ length left
+          → {first : ℕ} {others : List ℕ}
           → take size left ≡ first ∷ others
           → after ≡ drop size left → Extended bytes after
       at_size zero left read enough first rest = absurd cc
@@ -233,24 +277,28 @@ module _ (notation : Notation) (h : Header) where
   own_read tail after x =
       let f = reads_unsigned.found (tail ++ after) (suc x.size) (x.opcode ∷ x.left) x.read in
       let mine : List ℕ = take (suc x.size) (x.opcode ∷ x.left) in
-      let split : mine ++ after ≡ x.opcode ∷ x.left = ap (λ (xs : List ℕ). mine ++ xs) x.rest ∙ take-append-drop (suc x.size) (x.opcode ∷ x.left) in
+      let split : mine ++ after ≡ x.opcode ∷ x.left = ap (λ (xs : List ℕ). mine ++ xs) x.rest
+      ∙ take-append-drop (suc x.size) (x.opcode ∷ x.left) in
       let whole : tail ++ after ≡ (f.0 ++ mine) ++ after =
       f.1 ∙ ap (λ (xs : List ℕ). f.0 ++ xs) (sym split) ∙ sym (append_assoc f.0 mine after) in
       let own : tail ≡ f.0 ++ mine = append_cancel_right tail (f.0 ++ mine) after whole in
       let many : length mine ≡ suc x.size = length-take-le (suc x.size) (x.opcode ∷ x.left) (omega (arith, x.enough)) in
-      let only : unsigned_at tail ≡ (Ok (suc x.size), mine) = ap unsigned_at own ∙ reads_unsigned.only f.0 (suc x.size) mine f.2 in
+      let only : unsigned_at tail ≡ (Ok (suc x.size), mine) = ap unsigned_at own
+      ∙ reads_unsigned.only f.0 (suc x.size) mine f.2 in
       (f.0, omega (arith, ap length own, length-append f.0 mine, many), ap (λ (r : Read ℕ). length r.1) only ∙ many)
 
   -- ---- an instruction
 
-  one_passed : (b : ℕ) (r : Read (List ℕ)) → passed (r >>= λ xs left. (let s : Read (List ℕ) = (Ok (b ∷ xs), left) in s)) ≡ passed r
+  one_passed : (b : ℕ) (r : Read (List ℕ))
+      → passed (r >>= λ xs left. (let s : Read (List ℕ) = (Ok (b ∷ xs), left) in s)) ≡ passed r
   one_passed b (Ok xs, left) = refl
   one_passed b (Err e, left) = refl
 
   bytes_passed : (n : ℕ) (bytes : List ℕ) → n ≤ length bytes → bytes_after n bytes ≡ (Ok tt, drop n bytes)
   bytes_passed zero bytes le = refl
   bytes_passed (suc n) [] le = absurd (omega (arith, le))
-  bytes_passed (suc n) (b ∷ bytes) le = one_passed b (times_at n byte_at bytes) ∙ bytes_passed n bytes (omega (arith, le))
+  bytes_passed (suc n) (b ∷ bytes) le =
+      one_passed b (times_at n byte_at bytes) ∙ bytes_passed n bytes (omega (arith, le))
 
   abbrev sizes : ℕ → ℕ → List ℕ → Read InstructionBytes
   sizes opcode operands after = (Ok (record { opcode = opcode; operands = operands }), after)
@@ -264,36 +312,45 @@ module _ (notation : Notation) (h : Header) where
       rw is (same_sizes (omega arith) (omega (arith, length-append tail after)) refl)
 
   sized_extended : (x : ℕ) (tail after : List ℕ) (i : Ins) → Extended (tail ++ after) after
-      → sized i (x ∷ (tail ++ after)) (opened_at true (tail ++ after)) ≡ sizes (opened_size true tail) (suc (length tail) - opened_size true tail) after
+      → sized i (x ∷ (tail ++ after)) (opened_at true (tail ++ after))
+      ≡ sizes (opened_size true tail) (suc (length tail) - opened_size true tail) after
   sized_extended x tail after i parts =
       let own = own_read tail after parts in
       let opened_is : opened_at true (tail ++ after) ≡ (Ok (Some (suc parts.size)), parts.left) =
       ap
-      (λ (r : Read ℕ). r >>= (λ size rest. byte_at rest >>= (λ opcode rest. (let s : Read (Option ℕ) = (Ok (Some size), rest) in s))))
+      (λ (r : Read ℕ). r
+      >>= (λ size rest. byte_at rest >>= (λ opcode rest. (let s : Read (Option ℕ) = (Ok (Some size), rest) in s))))
       parts.read in
       let one_less : suc parts.size - 1 ≡ parts.size = omega arith in
       let passed_on : bytes_after (suc parts.size - 1) parts.left ≡ (Ok tt, drop parts.size parts.left) =
       ap (λ (n : ℕ). bytes_after n parts.left) one_less ∙ bytes_passed parts.size parts.left parts.enough in
       let all : List ℕ = x ∷ (tail ++ after) in
-      let after_size : length after ≡ length parts.left - parts.size = ap length parts.rest ∙ length-drop parts.size parts.left in
+      let after_size : length after ≡ length parts.left - parts.size = ap length parts.rest
+      ∙ length-drop parts.size parts.left in
       ap (sized i all) opened_is
       ∙ ap
-      (λ (r : Read (Unit {0})). r >>= (λ u rest. sizes (length all - length parts.left) (length parts.left - length rest) rest))
+      (λ (r : Read (Unit {0})). r
+      >>= (λ u rest. sizes (length all - length parts.left) (length parts.left - length rest) rest))
       passed_on
       ∙ same_sizes (omega (arith, length-append tail after, own.1, own.2, after_size, parts.enough))
-      (omega (arith, length-append tail after, own.1, own.2, after_size, ap length (sym parts.rest), parts.enough)) (sym parts.rest)
+      (omega (arith, length-append tail after, own.1, own.2, after_size, ap length (sym parts.rest), parts.enough))
+      (sym parts.rest)
 
   opened : (x : ℕ) (tail after : List ℕ) (i : Ins) → ins_at notation h (x ∷ (tail ++ after)) ≡ (Ok i, after)
-      → size_at i (x ∷ (tail ++ after)) ≡ sizes (opcode_size (x ∷ tail)) (length (x ∷ tail) - opcode_size (x ∷ tail)) after
+      → size_at i (x ∷ (tail ++ after))
+      ≡ sizes (opcode_size (x ∷ tail)) (length (x ∷ tail) - opcode_size (x ∷ tail)) after
   unfolding ins_at
   opened x tail after i e = at_zero (nat_eq x 0) e
     where
       at_base : (test : Bool)
-          → (if test then (let r : Read Ins = (Ok (Special x), tail ++ after) in r) else standard_at notation h x (tail ++ after)) ≡ (Ok i, after)
+          → (if test then (let r : Read Ins = (Ok (Special x), tail ++ after) in r)
+          else standard_at notation h x (tail ++ after))
+          ≡ (Ok i, after)
           → operands_at i (tail ++ after) ≡ (Ok tt, after)
       at_base true e =
           let p = ok_parts (Special x) i (tail ++ after) after e in
-          subst (λ (j : Ins). operands_at j (tail ++ after) ≡ (Ok tt, after)) p.0 (ap (λ (xs : List ℕ). let r : Read (Unit {0}) = (Ok tt, xs) in r) p.1)
+          subst (λ (j : Ins). operands_at j (tail ++ after) ≡ (Ok tt, after)) p.0
+          (ap (λ (xs : List ℕ). let r : Read (Unit {0}) = (Ok tt, xs) in r) p.1)
       at_base false e = standard_passed x (tail ++ after) i after e
 
       at_zero : (test : Bool)
@@ -301,7 +358,8 @@ module _ (notation : Notation) (h : Header) where
           else (if nat_le h.parameters.opcode_base x then (let r : Read Ins = (Ok (Special x), tail ++ after) in r)
           else standard_at notation h x (tail ++ after)))
           ≡ (Ok i, after)
-          → sized i (x ∷ (tail ++ after)) (opened_at test (tail ++ after)) ≡ sizes (opened_size test tail) (suc (length tail) - opened_size test tail) after
+          → sized i (x ∷ (tail ++ after)) (opened_at test (tail ++ after))
+          ≡ sizes (opened_size test tail) (suc (length tail) - opened_size test tail) after
       at_zero true e = sized_extended x tail after i (extended_parts (tail ++ after) i after e)
       at_zero false e = sized_plain x tail after i (at_base (nat_le h.parameters.opcode_base x) e)
 
@@ -311,11 +369,13 @@ module _ (notation : Notation) (h : Header) where
   size_is front after i s =
       let e = (reads_instruction notation h).only front i after s in
       let whole : front ≡ s.0 ∷ s.2 = s.3 ∙ ap (λ (xs : List ℕ). xs ++ s.2) s.4 in
-      subst (λ (xs : List ℕ). size_at i (xs ++ after) ≡ sizes (opcode_size xs) (length xs - opcode_size xs) after) (sym whole)
+      subst (λ (xs : List ℕ). size_at i (xs ++ after) ≡ sizes (opcode_size xs) (length xs - opcode_size xs) after)
+      (sym whole)
       (opened s.0 s.2 after i (subst (λ (xs : List ℕ). ins_at notation h (xs ++ after) ≡ (Ok i, after)) whole e))
 
   -- an instruction has no fewer bytes than those that say which it is
-  pub opcode_within : (front : List ℕ) (i : Ins) → SpellsInstruction notation h front i → opcode_size front ≤ length front
+  pub opcode_within : (front : List ℕ) (i : Ins) → SpellsInstruction notation h front i
+      → opcode_size front ≤ length front
   unfolding ins_at
   opcode_within front i s =
       let e = (reads_instruction notation h).only front i [] s in
@@ -323,7 +383,8 @@ module _ (notation : Notation) (h : Header) where
       subst (λ (xs : List ℕ). opcode_size xs ≤ length xs) (sym whole)
       (within s.0 s.2 i (subst (λ (xs : List ℕ). ins_at notation h (xs ++ []) ≡ (Ok i, [])) whole e))
     where
-      within : (x : ℕ) (tail : List ℕ) (i : Ins) → ins_at notation h (x ∷ (tail ++ [])) ≡ (Ok i, []) → opened_size (nat_eq x 0) tail ≤ suc (length tail)
+      within : (x : ℕ) (tail : List ℕ) (i : Ins) → ins_at notation h (x ∷ (tail ++ [])) ≡ (Ok i, [])
+          → opened_size (nat_eq x 0) tail ≤ suc (length tail)
       within x tail i e = at_zero (nat_eq x 0) e
         where
           at_zero : (test : Bool)

@@ -13,10 +13,12 @@ pub at_no_index : (byte : ℕ) (bytes : List ℕ) → IsWithout byte bytes → H
 at_no_index byte [] without i l e = omega (arith, l)
 at_no_index byte (b ∷ bytes) without zero l e = without [] bytes (ap (λ x. x ∷ bytes) e)
 at_no_index byte (b ∷ bytes) without (suc i) l e =
-    at_no_index byte bytes (λ before after q. without (b ∷ before) after (ap (λ rest. b ∷ rest) q)) i (omega (arith, l)) e
+    at_no_index byte bytes (λ before after q. without (b ∷ before) after (ap (λ rest. b ∷ rest) q)) i (omega (arith, l))
+    e
 
 -- the parts at one byte are the same
-same_at : (line name word : List ℕ) (p : Parts line name word) (other end : List ℕ) (q : Parts line other end) → p.byte ≡ q.byte
+same_at : (line name word : List ℕ) (p : Parts line name word) (other end : List ℕ) (q : Parts line other end)
+    → p.byte ≡ q.byte
     → (name ≡ other) × (word ≡ end)
 same_at line name word p other end q same =
     same_parts p.byte name word other end
@@ -24,7 +26,8 @@ same_at line name word p other end q same =
     (at_no_index p.byte word p.last)
     (subst (λ b. HasNo b end) (sym same) (at_no_index q.byte end q.last))
 
-pub parts_same : (line name word : List ℕ) (p : Parts line name word) (other end : List ℕ) (q : Parts line other end) → (name ≡ other) × (word ≡ end)
+pub parts_same : (line name word : List ℕ) (p : Parts line name word) (other end : List ℕ) (q : Parts line other end)
+    → (name ≡ other) × (word ≡ end)
 parts_same line name word p other end q =
     ⊎_elim
     (λ tab. ⊎_elim

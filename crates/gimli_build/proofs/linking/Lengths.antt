@@ -6,7 +6,8 @@ use Rattle.gimli_bytes.specs.declared.error.Error.{Error}
 use Rattle.gimli_bytes.proofs.PieceLemmas.{length-put_over}
 use Rattle.gimli_bytes.proofs.CallsRelocated.{overwrite_parts}
 
-pub patched_length : (wanted : Result (List ℕ) Error) (old new : List ℕ) (at : ℕ) → patch wanted old at ≡ Ok new → length new ≡ length old
+pub patched_length : (wanted : Result (List ℕ) Error) (old new : List ℕ) (at : ℕ) → patch wanted old at ≡ Ok new
+    → length new ≡ length old
 patched_length (Ok bytes) old new at h =
     let over = overwrite_parts _ _ _ _ h in
     ap length over.new_is ∙ length-put_over _ _ _ over.fits

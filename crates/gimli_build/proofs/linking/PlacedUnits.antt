@@ -1,5 +1,6 @@
 -- A unit once a linker has placed its symbols and sections.
-use Rattle.std.proofs.Common.{arith, ◌≡◌, ℕ, ◌+◌, Bool, List, [], ◌∷◌, ◌++◌, map, if◌then◌else◌, Ok, Err, refl, sym, ap, ◌∙◌}
+use Rattle.std.proofs.Common.{arith, ◌≡◌, ℕ, ◌+◌, Bool, List, [], ◌∷◌, ◌++◌, map, if◌then◌else◌, Ok, Err, refl, sym, ap}
+use Rattle.std.proofs.Common.{◌∙◌}
 use Rattle.std.specs.Prelude.{Result, All}
 use Rattle.std.proofs.lemmas.List.Elements.{All-head, All-tail, All-nil, All-cons}
 use Rattle.gimli_core.specs.Numbers.{word_size}
@@ -37,16 +38,21 @@ use Rattle.gimli_build.proofs.linking.SameBytes.{IsAlike, whole-alike}
 
 -- a hand that writes addresses as numbers
 abbrev WritesNumbers : Hand → Type 0
-WritesNumbers hand = (big : Bool) (address : Address) (size : ℕ) → hand.address big address size ≡ address_bytes big address size
+WritesNumbers hand =
+    (big : Bool) (address : Address) (size : ℕ) → hand.address big address size ≡ address_bytes big address size
 
-module _ (at : Placement) (hand : Hand) (numbers : WritesNumbers hand) (big : Bool) (encoding : Encoding) (e : LineEncoding) where
+module _ (at : Placement) (hand : Hand) (numbers : WritesNumbers hand) (big : Bool) (encoding : Encoding)
+    (e : LineEncoding) where
   items_placed : (previous : LineRow) (items : List BuiltItem) → All (AddressFits at encoding.address_size) items
-      → items_bytes (placed at) big encoding e previous items ≡ items_bytes hand big encoding e previous (map (placed_item at) items)
+      → items_bytes (placed at) big encoding e previous items
+      ≡ items_bytes hand big encoding e previous (map (placed_item at) items)
   items_placed previous [] fit = refl
   items_placed previous (SetAddress a ∷ items) fit =
       let size = encoding.address_size in
       let next = next_previous encoding.version e.default_is_stmt previous (SetAddress a) in
-      let address = placed-address at _ a _ (All-head (AddressFits at size) _ _ fit) ∙ sym (numbers big (address_placed at a) size) in
+      let address =
+      placed-address at _ a _ (All-head (AddressFits at size) _ _ fit)
+      ∙ sym (numbers big (address_placed at a) size) in
       let first : set_address_bytes (placed at) big a size ≡ set_address_bytes hand big (address_placed at a) size =
       ap (result_map (λ operand. 0 ∷ uleb (size + 1) ++ DW_LNE_set_address ∷ operand)) address in
       ap (λ r. result_append r (items_bytes (placed at) big encoding e next items)) first
@@ -67,12 +73,14 @@ all_from P Q f [] all = All-nil Q
 all_from P Q f (x ∷ xs) all = All-cons Q x _ (f x (All-head P x _ all)) (all_from P Q f xs (All-tail P x _ all))
 
 module _ (at : Placement) (big : Bool) (p : Built) (texts : StringTables) where
-  text_counted : (t : LineText) → OffsetFits at p.encoding.format texts t → IsAlike (placed at) (counted at) big p texts t
+  text_counted : (t : LineText) → OffsetFits at p.encoding.format texts t
+      → IsAlike (placed at) (counted at) big p texts t
   text_counted (Inline text) fits = refl
   text_counted (InStrings i) fits = placed-word _ _ _ fits
   text_counted (InLineStrings i) fits = placed-word _ _ _ fits
 
-  text_plain : TextsBeginAtZero at → (t : LineText) → OffsetFits at p.encoding.format texts t → IsAlike (placed at) plain big p texts t
+  text_plain : TextsBeginAtZero at → (t : LineText) → OffsetFits at p.encoding.format texts t
+      → IsAlike (placed at) plain big p texts t
   text_plain zero (Inline text) fits = refl
   text_plain zero (InStrings i) fits =
       let n = offset_of texts.strings i in
@@ -89,19 +97,29 @@ unit_alike : (h k : Hand) (big : Bool) (unit : Encoding) (p q : Built) (texts : 
     → whole_bytes h big p (texts_after p texts) ≡ whole_bytes k big q (texts_after q texts)
     → unit_bytes h big unit p texts ≡ unit_bytes k big unit q texts
 unit_alike h k big unit p q texts encoding same =
-    let odd : is_incompatible unit p.encoding ≡ is_incompatible unit q.encoding = ap (is_incompatible unit) (sym encoding) in
+    let odd : is_incompatible unit p.encoding
+    ≡ is_incompatible unit q.encoding = ap (is_incompatible unit) (sym encoding) in
     ap (λ b.
-    let r : Result (List ℕ) Error = if b then Err IncompatibleLineProgramEncoding else whole_bytes h big p (texts_after p texts) in r) odd
+    let r : Result (List ℕ) Error = if b then Err IncompatibleLineProgramEncoding
+    else whole_bytes h big p (texts_after p texts) in
+    r)
+    odd
     ∙ ap (λ w.
-    let r : Result (List ℕ) Error = if is_incompatible unit q.encoding then Err IncompatibleLineProgramEncoding else w in r) same
+    let r : Result (List ℕ) Error = if is_incompatible unit q.encoding then Err IncompatibleLineProgramEncoding
+    else w in
+    r)
+    same
 
-module _ (at : Placement) (big : Bool) (unit : Encoding) (p : Built) (texts : StringTables) (fit : SumsFit at p (texts_after p texts)) where
-  program_placed : (hand : Hand) → WritesNumbers hand → program_bytes (placed at) big p ≡ program_bytes hand big (placed_program at p)
+module _ (at : Placement) (big : Bool) (unit : Encoding) (p : Built) (texts : StringTables)
+    (fit : SumsFit at p (texts_after p texts)) where
+  program_placed : (hand : Hand) → WritesNumbers hand
+      → program_bytes (placed at) big p ≡ program_bytes hand big (placed_program at p)
   program_placed hand numbers =
       items_placed at hand numbers big p.encoding p.line_encoding _ _ fit.addresses
 
   placed_by : (hand : Hand) → WritesNumbers hand
-      → ((t : LineText) → OffsetFits at p.encoding.format (texts_after p texts) t → IsAlike (placed at) hand big p (texts_after p texts) t)
+      → ((t : LineText) → OffsetFits at p.encoding.format (texts_after p texts) t
+      → IsAlike (placed at) hand big p (texts_after p texts) t)
       → unit_bytes (placed at) big unit p texts ≡ unit_bytes hand big unit (placed_program at p) texts
   placed_by hand numbers alike =
       unit_alike (placed at) hand _ unit p (placed_program at p) texts refl
@@ -111,23 +129,28 @@ module _ (at : Placement) (big : Bool) (unit : Encoding) (p : Built) (texts : St
       (λ t fits. alike t.1 fits) _ (fit.offsets new))
       (program_placed hand numbers))
 
-  pub placed-counted : unit_bytes (placed at) big unit p texts ≡ unit_bytes (counted at) big unit (placed_program at p) texts
+  pub placed-counted : unit_bytes (placed at) big unit p texts
+      ≡ unit_bytes (counted at) big unit (placed_program at p) texts
   placed-counted = placed_by (counted at) (λ big address size. refl) (text_counted at big p (texts_after p texts))
 
-  pub placed-plain : TextsBeginAtZero at → unit_bytes (placed at) big unit p texts ≡ unit_bytes plain big unit (placed_program at p) texts
+  pub placed-plain : TextsBeginAtZero at
+      → unit_bytes (placed at) big unit p texts ≡ unit_bytes plain big unit (placed_program at p) texts
   placed-plain zero = placed_by plain (λ big address size. refl) (text_plain at big p (texts_after p texts) zero)
 
 -- ---- the program with its symbols replaced
 
-built_placed : (at : Placement) (e : LineEncoding) (position : ℕ × ℕ) (items : List BuiltItem) → AreBuilt e position items
+built_placed : (at : Placement) (e : LineEncoding) (position : ℕ × ℕ) (items : List BuiltItem)
+    → AreBuilt e position items
     → AreBuilt e position (map (placed_item at) items)
 built_placed at e position [] built = tt
-built_placed at e position (SetAddress a ∷ items) built = (tt, built_placed at e (position_after (SetAddress a)) items built.1)
+built_placed at e position (SetAddress a ∷ items) built =
+    (tt, built_placed at e (position_after (SetAddress a)) items built.1)
 built_placed at e position (Row r ∷ items) built = (built.0, built_placed at e (position_after (Row r)) items built.1)
 built_placed at e position (End offset op_index ∷ items) built =
     (built.0, built_placed at e (position_after (End offset op_index)) items built.1)
 
-fit_placed : (at : Placement) (version : ℕ) (items : List BuiltItem) → AreFit version items → AreFit version (map (placed_item at) items)
+fit_placed : (at : Placement) (version : ℕ) (items : List BuiltItem) → AreFit version items
+    → AreFit version (map (placed_item at) items)
 fit_placed at version [] fit = tt
 fit_placed at version (SetAddress a ∷ items) fit = (tt, fit_placed at version items fit.1)
 fit_placed at version (Row r ∷ items) fit = (fit.0, fit_placed at version items fit.1)
@@ -149,7 +172,8 @@ is-built at p built = record {
   files_fit = built.files_fit;
 }
 
-pub can-write : (at : Placement) (p : Built) (texts : StringTables) → CanWrite p texts → CanWrite (placed_program at p) texts
+pub can-write : (at : Placement) (p : Built) (texts : StringTables) → CanWrite p texts
+    → CanWrite (placed_program at p) texts
 can-write at p texts can = record {
   program = can.program;
   directories = can.directories;

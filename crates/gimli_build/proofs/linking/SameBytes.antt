@@ -1,5 +1,6 @@
 -- What two hands write alike.
-use Rattle.std.proofs.Common.{◌≡◌, ℕ, ◌≤◌, Bool, true, false, List, [], ◌∷◌, ◌++◌, length, if◌then◌else◌, Ok, Err, refl, ap, ◌∙◌}
+use Rattle.std.proofs.Common.{◌≡◌, ℕ, ◌≤◌, Bool, true, false, List, [], ◌∷◌, ◌++◌, length, if◌then◌else◌, Ok, Err, refl}
+use Rattle.std.proofs.Common.{ap, ◌∙◌}
 use Rattle.std.specs.Prelude.{Result, All, nat_eq, nat_le}
 use Rattle.std.proofs.lemmas.Bool.{leb-false}
 use Rattle.std.proofs.lemmas.List.Elements.{All-head, All-tail}
@@ -14,8 +15,10 @@ use Rattle.gimli_build.specs.LineText.{LineText}
 use Rattle.gimli_build.specs.Tables.{File}
 use Rattle.gimli_build.specs.Built.{Built}
 use Rattle.gimli_build.specs.Version4Tables.{directories_bytes, files_bytes}
-use Rattle.gimli_build.specs.Version5Tables.{text_form, first_form, path_texts, sources, formats_bytes, directory_formats, file_formats, detail_bytes}
-use Rattle.gimli_build.specs.Version5Tables.{text_bytes, text_in_form, directory_table_bytes, source_bytes, file_entry_bytes}
+use Rattle.gimli_build.specs.Version5Tables.{text_form, first_form, path_texts, sources, formats_bytes}
+use Rattle.gimli_build.specs.Version5Tables.{directory_formats, file_formats, detail_bytes}
+use Rattle.gimli_build.specs.Version5Tables.{text_bytes, text_in_form, directory_table_bytes, source_bytes}
+use Rattle.gimli_build.specs.Version5Tables.{file_entry_bytes}
 use Rattle.gimli_build.specs.Version5Tables.{file_table_bytes}
 use Rattle.gimli_build.specs.Cause.{emitted_texts}
 use Rattle.gimli_build.specs.Unit.{line_encoding_bytes, opcode_bytes, opening_bytes, escape_bytes}
@@ -25,7 +28,8 @@ use Rattle.gimli_build.proofs.reading.ReadyTexts.{source_of}
 use Rattle.gimli_build.proofs.reading.EmittedTexts.{IsOfFile, AreOfTables, of-tables}
 
 -- part by part
-concat_alike : {A : Type 0} (P : A → Type 0) (f g : A → Result (List ℕ) Error) → ((x : A) → P x → f x ≡ g x) → (xs : List A) → All P xs
+concat_alike : {A : Type 0} (P : A → Type 0) (f g : A → Result (List ℕ) Error) → ((x : A) → P x → f x ≡ g x)
+    → (xs : List A) → All P xs
     → result_concat f xs ≡ result_concat g xs
 concat_alike P f g same [] all = refl
 concat_alike P f g same (x ∷ xs) all =
@@ -46,7 +50,8 @@ module _ (h k : Hand) (big : Bool) (p : Built) (texts : StringTables) where
   form_alike : (form : ℕ) (t : LineText) → IsAlike t
       → text_in_form h big p.encoding.format texts form t ≡ text_in_form k big p.encoding.format texts form t
   form_alike form t same =
-      ap (λ r. let s : Result (List ℕ) Error = if nat_eq (text_form t) form then r else Err LineStringFormMismatch in s) same
+      ap (λ r. let s : Result (List ℕ) Error = if nat_eq (text_form t) form then r else Err LineStringFormMismatch in s)
+      same
 
   directories_alike : All IsAlike p.directories
       → directory_table_bytes h big p.encoding.format texts p ≡ directory_table_bytes k big p.encoding.format texts p
@@ -68,7 +73,8 @@ module _ (h k : Hand) (big : Bool) (p : Built) (texts : StringTables) where
       let form = first_form (path_texts p.files) in
       ap (λ r. result_append r (result_append (Ok (detail_bytes p f)) (source_bytes h big p.encoding.format texts p f)))
       (form_alike _ _ all.path)
-      ∙ ap (λ r. result_append (text_in_form k big p.encoding.format texts form f.0.0) (result_append (Ok (detail_bytes p f)) r))
+      ∙ ap (λ r.
+      result_append (text_in_form k big p.encoding.format texts form f.0.0) (result_append (Ok (detail_bytes p f)) r))
       (source_alike f all.source)
 
   files_alike : All (IsOfFile IsAlike p texts) p.files
@@ -78,7 +84,8 @@ module _ (h k : Hand) (big : Bool) (p : Built) (texts : StringTables) where
       (concat_alike _ _ _
       file_alike _ all)
 
-  tables_alike : (5 ≤ p.encoding.version → All (λ t. IsAlike t.1) (emitted_texts p texts)) → tables_bytes h big p texts ≡ tables_bytes k big p texts
+  tables_alike : (5 ≤ p.encoding.version → All (λ t. IsAlike t.1) (emitted_texts p texts))
+      → tables_bytes h big p texts ≡ tables_bytes k big p texts
   tables_alike all = by _ refl
     where
       old : Result (List ℕ) Error
@@ -86,11 +93,13 @@ module _ (h k : Hand) (big : Bool) (p : Built) (texts : StringTables) where
 
       new : Hand → Result (List ℕ) Error
       new hand =
-          result_append (directory_table_bytes hand big p.encoding.format texts p) (file_table_bytes hand big p.encoding.format texts p)
+          result_append (directory_table_bytes hand big p.encoding.format texts p)
+          (file_table_bytes hand big p.encoding.format texts p)
 
       new_alike : AreOfTables IsAlike p texts → new h ≡ new k
       new_alike parts =
-          ap (λ r. result_append r (file_table_bytes h big p.encoding.format texts p)) (directories_alike parts.directories)
+          ap (λ r. result_append r (file_table_bytes h big p.encoding.format texts p))
+          (directories_alike parts.directories)
           ∙ ap (λ r. result_append (directory_table_bytes k big p.encoding.format texts p) r) (files_alike parts.files)
 
       by : (b : Bool) → nat_le p.encoding.version 4 ≡ b
@@ -104,11 +113,16 @@ module _ (h k : Hand) (big : Bool) (p : Built) (texts : StringTables) where
       → whole_bytes h big p texts ≡ whole_bytes k big (record p { items = items }) texts
   whole-alike items all same =
       let size : ℕ → Result (List ℕ) Error = λ n. format_word big p.encoding.format n in
-      let whole : ℕ → Result (List ℕ) Error = λ n. result_append (Ok (escape_bytes big p.encoding.format)) (length_word big p.encoding.format n) in
+      let whole : ℕ → Result (List ℕ) Error = λ n.
+      result_append (Ok (escape_bytes big p.encoding.format)) (length_word big p.encoding.format n) in
       let header : header_bytes h big p texts ≡ header_bytes k big p texts =
       ap (λ r.
-      after_length size (result_append (line_encoding_bytes p.encoding.version p.line_encoding) (result_append (Ok opcode_bytes) r)))
+      after_length size
+      (result_append (line_encoding_bytes p.encoding.version p.line_encoding) (result_append (Ok opcode_bytes) r)))
       (tables_alike all) in
-      ap (λ r. after_length whole (result_append (opening_bytes big p.encoding) (result_append r (program_bytes h big p)))) header
-      ∙ ap (λ r. after_length whole (result_append (opening_bytes big p.encoding) (result_append (header_bytes k big p texts) r)))
+      ap
+      (λ r. after_length whole (result_append (opening_bytes big p.encoding) (result_append r (program_bytes h big p))))
+      header
+      ∙ ap (λ r.
+      after_length whole (result_append (opening_bytes big p.encoding) (result_append (header_bytes k big p texts) r)))
       same

@@ -13,7 +13,8 @@ itself a = Some (Constant a)
 
 pub write-requires : goal.write-requires
 write-requires g c =
-    let source : Source = source_of g.R.Reader.bytes c.args.no_texts c.args.no_texts c.args.from_program None None None in
+    let source : Source =
+    source_of g.R.Reader.bytes c.args.no_texts c.args.no_texts c.args.from_program None None None in
     let done : DoneConversion = record {
       convert_address = itself;
       source = source;

@@ -15,6 +15,7 @@ loop-note-preserved c =
     (notes_more c.args.layout c.loop-note.rest.now (note_of c.in-Some.note) (sym c.in-Some.ensures.note))
     ∙ ap (λ b.
     id (cond b (Some (note_of c.in-Some.note))
-    (find is_build_id (notes c.args.layout (drop (note_size c.args.layout c.loop-note.rest.now) c.loop-note.rest.now)))))
+    (find is_build_id
+    (notes c.args.layout (drop (note_size c.args.layout c.loop-note.rest.now) c.loop-note.rest.now)))))
     (sym c.is_build_id.ensures ∙ c.if-is_build_id.false)
     ∙ ap (build_id_in c.args.layout) (sym c.in-Some.ensures.rest)

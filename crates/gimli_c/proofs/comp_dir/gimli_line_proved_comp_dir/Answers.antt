@@ -10,7 +10,8 @@ use Rattle.gimli_c.proofs.comp_dir.gimli_line_proved_comp_dir.Goals as goal
 pub returns-in_default-directory_of-clause-none : goal.returns-in_default-directory_of-clause-none
 returns-in_default-directory_of-clause-none c = λ _.
     tells (sections_of (λ s. s.slice.now) (λ s. is_big s.endian) (2 ^ 64) c.sections_in-sections.result)
-    (sections_handed c.args.info.now c.args.abbreviations.now c.args.line_strings.now c.args.strings.now c.args.string_offsets.now c.args.big)
+    (sections_handed c.args.info.now c.args.abbreviations.now c.args.line_strings.now c.args.strings.now
+    c.args.string_offsets.now c.args.big)
     (λ line. option_map (λ s. s.slice.now) (directory_for c.in-Ok.compilations line)) c.args.offset None
     c.sections_in-sections.ensures c.in-Ok.ensures.ok
     (ap (option_map (λ s. s.slice.now)) (sym c.directory_of.ensures ∙ c.in_default-directory_of.is))
@@ -19,10 +20,13 @@ pub returns-clause-found : goal.returns-clause-found
 returns-clause-found c = λ ok. (
   c.slice-bytes.result.now,
   tells (sections_of (λ s. s.slice.now) (λ s. is_big s.endian) (2 ^ 64) c.sections_in-sections.result)
-      (sections_handed c.args.info.now c.args.abbreviations.now c.args.line_strings.now c.args.strings.now c.args.string_offsets.now c.args.big)
-      (λ line. option_map (λ s. s.slice.now) (directory_for c.in-Ok.compilations line)) c.args.offset (Some c.slice-bytes.result.now)
+      (sections_handed c.args.info.now c.args.abbreviations.now c.args.line_strings.now c.args.strings.now
+      c.args.string_offsets.now c.args.big)
+      (λ line. option_map (λ s. s.slice.now) (directory_for c.in-Ok.compilations line)) c.args.offset
+      (Some c.slice-bytes.result.now)
       c.sections_in-sections.ensures c.in-Ok.ensures.ok
-      (ap (option_map (λ s. s.slice.now)) (sym c.directory_of.ensures ∙ c.in-Some.is) ∙ ap (λ bytes. Some bytes) (sym c.slice-bytes.ensures)),
+      (ap (option_map (λ s. s.slice.now)) (sym c.directory_of.ensures ∙ c.in-Some.is)
+      ∙ ap (λ bytes. Some bytes) (sym c.slice-bytes.ensures)),
   c.put_bytes.ensures.put ok,
   refl,
 )
@@ -31,10 +35,13 @@ pub returns-clause-larger : goal.returns-clause-larger
 returns-clause-larger c = λ no_room. (
   c.slice-bytes.result.now,
   tells (sections_of (λ s. s.slice.now) (λ s. is_big s.endian) (2 ^ 64) c.sections_in-sections.result)
-      (sections_handed c.args.info.now c.args.abbreviations.now c.args.line_strings.now c.args.strings.now c.args.string_offsets.now c.args.big)
-      (λ line. option_map (λ s. s.slice.now) (directory_for c.in-Ok.compilations line)) c.args.offset (Some c.slice-bytes.result.now)
+      (sections_handed c.args.info.now c.args.abbreviations.now c.args.line_strings.now c.args.strings.now
+      c.args.string_offsets.now c.args.big)
+      (λ line. option_map (λ s. s.slice.now) (directory_for c.in-Ok.compilations line)) c.args.offset
+      (Some c.slice-bytes.result.now)
       c.sections_in-sections.ensures c.in-Ok.ensures.ok
-      (ap (option_map (λ s. s.slice.now)) (sym c.directory_of.ensures ∙ c.in-Some.is) ∙ ap (λ bytes. Some bytes) (sym c.slice-bytes.ensures)),
+      (ap (option_map (λ s. s.slice.now)) (sym c.directory_of.ensures ∙ c.in-Some.is)
+      ∙ ap (λ bytes. Some bytes) (sym c.slice-bytes.ensures)),
   c.put_bytes.ensures.larger no_room,
   refl,
 )

@@ -6,7 +6,8 @@ use Rattle.gimli_c.specs.Causes.{HasRowsFault}
 use Rattle.gimli_c.specs.Handed.{items_handed}
 use Rattle.gimli_c.proofs.items.add_rows.Given as goal
 
--- what is there and what is still to come are all items; a row that is still to come is refused as one of all, and one of all is still to come
+-- what is there and what is still to come are all items; a row that is still to come is refused as
+-- one of all, and one of all is still to come
 abbrev pub invariant-loop-row : goal.invariant-loop-row
 invariant-loop-row l =
     let version = l.fn.program.encoding.version in
@@ -15,10 +16,17 @@ invariant-loop-row l =
       items : l.program.items ++ items_handed version l.ids l.symbols l.sequence l.base (drop l.row-index l.rows)
           ≡ l.fn.program.items ++ items_handed version l.ids l.symbols 0 None l.rows;
       few : l.sequence ≤ l.row-index;
-      start : previous_position l.fn.program.items ≡ (0, 0) → l.base ≡ None → previous_position l.program.items ≡ (0, 0);
-      faults : (s : ℕ) → HasRowsFault l.fn.program.line_encoding version (length l.ids) l.base (previous_position l.program.items) (drop l.row-index l.rows) s
-          → HasRowsFault l.fn.program.line_encoding version (length l.ids) None (previous_position l.fn.program.items) l.rows s;
-      well : (s : ℕ) → previous_position l.fn.program.items ≡ (0, 0) → HasRowsFault l.fn.program.line_encoding version (length l.ids) None (0, 0) l.rows s
-          → HasRowsFault l.fn.program.line_encoding version (length l.ids) l.base (previous_position l.program.items) (drop l.row-index l.rows) s;
-      others : l.program ≡ record l.fn.program { items = l.program.items; row = l.program.row; in_sequence = l.program.in_sequence };
+      start : previous_position l.fn.program.items ≡ (0, 0) → l.base ≡ None
+          → previous_position l.program.items ≡ (0, 0);
+      faults : (s : ℕ)
+          → HasRowsFault l.fn.program.line_encoding version (length l.ids) l.base (previous_position l.program.items)
+          (drop l.row-index l.rows) s
+          → HasRowsFault l.fn.program.line_encoding version (length l.ids) None (previous_position l.fn.program.items)
+          l.rows s;
+      well : (s : ℕ) → previous_position l.fn.program.items ≡ (0, 0)
+          → HasRowsFault l.fn.program.line_encoding version (length l.ids) None (0, 0) l.rows s
+          → HasRowsFault l.fn.program.line_encoding version (length l.ids) l.base (previous_position l.program.items)
+          (drop l.row-index l.rows) s;
+      others : l.program
+          ≡ record l.fn.program { items = l.program.items; row = l.program.row; in_sequence = l.program.in_sequence };
     }

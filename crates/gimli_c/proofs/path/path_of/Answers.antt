@@ -13,13 +13,16 @@ returns-in-None-clause-err c = λ other.
     let start = c.rows-rows.result in
     let h = c.header-header.result.now.meaning in
     let l =
-    looked_up start c.run_to_file.new.rows h c.args.number c.header-header.ensures.header.fixed c.header-header.ensures.files c.run_to_file.ensures.fixed
+    looked_up start c.run_to_file.new.rows h c.args.number c.header-header.ensures.header.fixed
+    c.header-header.ensures.files c.run_to_file.ensures.fixed
     c.in-Ok-run_to_file.ensures.file in
     inl (
       refl,
       record {
         header = complete start;
-        unit = has_complete _ _ _ start c.in-Ok.ensures.unit c.in-Ok.ensures.notation c.rows-rows.ensures.files (ap (λ a. a.fixed) c.rows-rows.ensures.start);
+        unit =
+            has_complete _ _ _ start c.in-Ok.ensures.unit c.in-Ok.ensures.notation c.rows-rows.ensures.files
+            (ap (λ a. a.fixed) c.rows-rows.ensures.start);
         none = sym (file_is start c.run_to_file.new.rows h c.args.number l) ∙ sym c.in-None.ensures.file;
       },
     )
@@ -29,17 +32,23 @@ returns-clause-ok c =
     let start = c.rows-rows.result in
     let h = c.header-header.result.now.meaning in
     let l =
-    looked_up start c.run_to_file.new.rows h c.args.number c.header-header.ensures.header.fixed c.header-header.ensures.files c.run_to_file.ensures.fixed
+    looked_up start c.run_to_file.new.rows h c.args.number c.header-header.ensures.header.fixed
+    c.header-header.ensures.files c.run_to_file.ensures.fixed
     c.in-Ok-run_to_file.ensures.file in
     let seen = file_seen (λ s. s.slice.now) (λ n. n) c.in-Some.entry.now in
     ok_more c.path_in_header.result (λ path is. record {
       header = complete start;
       file = seen;
       is = record {
-        unit = has_complete _ _ _ start c.in-Ok.ensures.unit c.in-Ok.ensures.notation c.rows-rows.ensures.files (ap (λ a. a.fixed) c.rows-rows.ensures.start);
+        unit =
+            has_complete _ _ _ start c.in-Ok.ensures.unit c.in-Ok.ensures.notation c.rows-rows.ensures.files
+            (ap (λ a. a.fixed) c.rows-rows.ensures.start);
         is_file = sym (file_is start c.run_to_file.new.rows h c.args.number l) ∙ sym c.in-Some.ensures.file;
       };
-      is_path = sym (same_path (strings (λ s. s.slice.now) c.args.texts) start c.run_to_file.new.rows h c.args.number c.args.comp_dir.now seen l) ∙ is;
+      is_path =
+          sym (same_path (strings (λ s. s.slice.now) c.args.texts) start c.run_to_file.new.rows h c.args.number
+          c.args.comp_dir.now seen l)
+          ∙ is;
     }) c.path_in_header.ensures.ok
 
 pub returns-clause-err : goal.returns-clause-err
@@ -47,7 +56,8 @@ returns-clause-err c =
     let start = c.rows-rows.result in
     let h = c.header-header.result.now.meaning in
     let l =
-    looked_up start c.run_to_file.new.rows h c.args.number c.header-header.ensures.header.fixed c.header-header.ensures.files c.run_to_file.ensures.fixed
+    looked_up start c.run_to_file.new.rows h c.args.number c.header-header.ensures.header.fixed
+    c.header-header.ensures.files c.run_to_file.ensures.fixed
     c.in-Ok-run_to_file.ensures.file in
     let seen = file_seen (λ s. s.slice.now) (λ n. n) c.in-Some.entry.now in
     err_more c.path_in_header.result (λ status is other. let told = is other in inr (inl (
@@ -56,10 +66,15 @@ returns-clause-err c =
         header = complete start;
         file = seen;
         is = record {
-          unit = has_complete _ _ _ start c.in-Ok.ensures.unit c.in-Ok.ensures.notation c.rows-rows.ensures.files (ap (λ a. a.fixed) c.rows-rows.ensures.start);
+          unit =
+              has_complete _ _ _ start c.in-Ok.ensures.unit c.in-Ok.ensures.notation c.rows-rows.ensures.files
+              (ap (λ a. a.fixed) c.rows-rows.ensures.start);
           is_file = sym (file_is start c.run_to_file.new.rows h c.args.number l) ∙ sym c.in-Some.ensures.file;
         };
         error = told.1.0;
-        is_error = sym (same_path (strings (λ s. s.slice.now) c.args.texts) start c.run_to_file.new.rows h c.args.number c.args.comp_dir.now seen l) ∙ told.1.1;
+        is_error =
+            sym (same_path (strings (λ s. s.slice.now) c.args.texts) start c.run_to_file.new.rows h c.args.number
+            c.args.comp_dir.now seen l)
+            ∙ told.1.1;
       },
     ))) c.path_in_header.ensures.err

@@ -11,12 +11,14 @@ loop-slot-init c = sym (written_none c.args.room.now)
 
 pub returns-then-slot-room : goal.returns-then-slot-room
 returns-then-slot-room c =
-    c.loop-slot.invariant ∙ written_take c.loop-slot.slot (map relocation_seen c.args.relocations.now) c.args.room.now (inr (omega arith))
+    c.loop-slot.invariant
+    ∙ written_take c.loop-slot.slot (map relocation_seen c.args.relocations.now) c.args.room.now (inr (omega arith))
 
 pub loop-slot-preserved : goal.loop-slot-preserved
 loop-slot-preserved c =
     let xs = c.args.relocations.now in
     ap (λ (x : GimliRelocation). set c.loop-slot.room c.loop-slot.slot x) c.relocation_seen.ensures
     ∙ copied_next (map relocation_seen xs) c.args.room.now c.loop-slot.room c.loop-slot.slot _
-    (slice_get-map relocation_seen xs c.loop-slot.slot ∙ ap (option_map relocation_seen) (slice_get-get_or xs c.loop-slot.slot _ (omega arith)))
+    (slice_get-map relocation_seen xs c.loop-slot.slot
+    ∙ ap (option_map relocation_seen) (slice_get-get_or xs c.loop-slot.slot _ (omega arith)))
     c.loop-slot.invariant

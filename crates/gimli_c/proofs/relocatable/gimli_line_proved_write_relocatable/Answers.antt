@@ -21,8 +21,14 @@ returns-then-passes-clause-room c = λ _.
       is_unit = c.in-Ok-relocatable_of.ensures.unit;
       inside = c.in-Ok-relocatable_of.ensures.inside;
       passes =
-          subst (λ (n : ℕ). (length c.args.unit.now < n) ⊎ (length c.args.relocations.now < length c.in-Ok-relocatable_of.section.relocations)) bytes
-          (subst (λ (n : ℕ). (length c.args.unit.now < length c.slice-bytes.result.now) ⊎ (length c.args.relocations.now < n)) places more);
+          subst
+          (λ (n : ℕ). (length c.args.unit.now < n)
+          ⊎ (length c.args.relocations.now < length c.in-Ok-relocatable_of.section.relocations))
+          bytes
+          (subst
+          (λ (n : ℕ). (length c.args.unit.now < length c.slice-bytes.result.now)
+          ⊎ (length c.args.relocations.now < n))
+          places more);
       size_is = bytes;
       count_is = places;
     }
@@ -45,7 +51,8 @@ returns-clause-ok c = λ _.
       few = subst (λ (n : ℕ). n ≤ length c.args.relocations.now) places fits.1;
       relocations_are =
           c.copy_relocations.ensures
-          ∙ ap (λ (xs : List Relocation). slots_with (map relocation_seen xs) c.args.relocations.now) c.relocations-places.ensures;
+          ∙ ap (λ (xs : List Relocation). slots_with (map relocation_seen xs) c.args.relocations.now)
+          c.relocations-places.ensures;
       count_is = places;
       numbers_are =
           c.copy_numbers.ensures

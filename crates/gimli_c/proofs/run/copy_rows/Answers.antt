@@ -25,13 +25,16 @@ returns-then-is_memory-clause-begun g c = stopped _ _ _ _ _ _ c.rows.invariant.w
 pub overflow_add-count : goal.overflow_add-count
 overflow_add-count g c =
     let next = rw c.in-Ok-Some.field-0-is at c.in-Ok-Some.ensures.row in
-    let fits : c.rows.count + 1 < 2 ^ 64 = counted _ _ _ _ _ _ _ c.in-Ok-Some.row c.rows.invariant.way next c.requires in
+    let fits : c.rows.count + 1
+    < 2 ^ 64 = counted _ _ _ _ _ _ _ c.in-Ok-Some.row c.rows.invariant.way next c.requires in
     omega (arith, fits)
 
 pub rows-preserved : goal.rows-preserved
 rows-preserved g c =
     let next = rw c.in-Ok-Some.field-0-is at c.in-Ok-Some.ensures.row in
     record {
-      way = one_more _ _ _ _ _ _ _ _ c.in-Ok-Some.row c.rows.invariant.way next c.put_row.ensures.skipped c.put_row.ensures.put;
+      way =
+          one_more _ _ _ _ _ _ _ _ c.in-Ok-Some.row c.rows.invariant.way next c.put_row.ensures.skipped
+          c.put_row.ensures.put;
       files = c.in-Ok-Some.ensures.files ∙ c.rows.invariant.files;
     }

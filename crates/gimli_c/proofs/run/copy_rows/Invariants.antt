@@ -6,7 +6,8 @@ use Rattle.gimli_c.proofs.run.copy_rows.Given as goal
 
 abbrev pub invariant-rows : goal.invariant-rows
 invariant-rows g l = record {
-  way : IsOnTheWay (events_of (events_left l.initial.rows)) (events_of (events_left l.rows)) l.skip l.count l.initial.room l.room;
+  way : IsOnTheWay (events_of (events_left l.initial.rows)) (events_of (events_left l.rows)) l.skip l.count
+      l.initial.room l.room;
   files : files_at_end l.rows ≡ files_at_end l.initial.rows;
 }
 

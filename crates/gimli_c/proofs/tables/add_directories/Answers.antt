@@ -15,12 +15,15 @@ loop-name-preserved c =
       within = first_of (search rules, grind (arith, common_steps));
       directories = first_of (search rules, grind (arith, common_steps));
       ids = first_of (search rules, grind (arith, common_steps));
-      well = all_more (well c.args.program.now.encoding.version) c.args.names.now c.loop-name.name-index _ c.loop-name-test.true c.loop-name.invariant.well
+      well =
+          all_more (well c.args.program.now.encoding.version) c.args.names.now c.loop-name.name-index _
+          c.loop-name-test.true c.loop-name.invariant.well
           (rw c.version-version.ensures at c.in_ok-text.ensures.well);
       others = first_of (search rules, grind (arith, common_steps));
     }
 
 pub returns-clause-well : goal.returns-clause-well
 returns-clause-well c =
-    let all : List GimliName → Type 0 = All (λ n. HasNone (HasTextFault c.args.program.now.encoding.version c.args.texts.now n)) in
+    let all : List GimliName
+    → Type 0 = All (λ n. HasNone (HasTextFault c.args.program.now.encoding.version c.args.texts.now n)) in
     subst all (take_all c.loop-name.name-index c.args.names.now c.loop-name-test.false) c.loop-name.invariant.well

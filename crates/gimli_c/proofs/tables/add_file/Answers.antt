@@ -11,9 +11,11 @@ pub returns-in-Ok-clause-can : goal.returns-in-Ok-clause-can
 returns-in-Ok-clause-can c =
     let path = line_text c.in_ok-path.path in
     subst (λ (p : Built). CanWrite p no_texts) (sym c.in-Ok.ensures.ok)
-    (file_can c.args.program.now (path, c.in-Some.directory) _ c.requires.can (text_is_inline path _ c.in_ok-path.ensures.ok c.in_ok-path.ensures.no_zero) refl)
+    (file_can c.args.program.now (path, c.in-Some.directory) _ c.requires.can
+    (text_is_inline path _ c.in_ok-path.ensures.ok c.in_ok-path.ensures.no_zero) refl)
 
 pub returns-in-Ok-clause-well : goal.returns-in-Ok-clause-well
 returns-in-Ok-clause-well c =
-    file_is_well c.args.program.now.encoding.version c.args.texts.now c.args.ids.now _ c.args.file.now (rw c.version.ensures at c.in_ok-path.ensures.well)
+    file_is_well c.args.program.now.encoding.version c.args.texts.now c.args.ids.now _ c.args.file.now
+    (rw c.version.ensures at c.in_ok-path.ensures.well)
     (sym c.in-Some.ensures)

@@ -10,7 +10,8 @@ use Rattle.gimli_c.proofs.tables.add_files.Goals as goal
 
 pub loop-file-preserved : goal.loop-file-preserved
 loop-file-preserved c =
-    let well : GimliFileName → Type 0 = λ f. HasNone (HasFileFault c.args.program.now.encoding.version c.args.texts.now (length c.args.ids.now) f) in
+    let well : GimliFileName → Type 0 = λ f.
+    HasNone (HasFileFault c.args.program.now.encoding.version c.args.texts.now (length c.args.ids.now) f) in
     let same : c.loop-file.program.encoding.version
     ≡ c.args.program.now.encoding.version = ap (λ (p : Built). p.encoding.version) c.loop-file.invariant.others in
     record {
@@ -24,5 +25,7 @@ loop-file-preserved c =
 
 pub returns-clause-well : goal.returns-clause-well
 returns-clause-well c =
-    let all : List GimliFileName → Type 0 = All (λ f. HasNone (HasFileFault c.args.program.now.encoding.version c.args.texts.now (length c.args.ids.now) f)) in
+    let all : List GimliFileName
+    → Type 0 = All (λ f.
+    HasNone (HasFileFault c.args.program.now.encoding.version c.args.texts.now (length c.args.ids.now) f)) in
     subst all (take_all c.loop-file.file-index c.args.files.now c.loop-file-test.false) c.loop-file.invariant.well

@@ -14,7 +14,9 @@ invariant-loop-file l =
     record {
       can : CanWrite l.program no_texts;
       files : files_handed l.texts l.ids l.program.files left ≡ files_handed l.texts l.ids l.fn.program.files l.files;
-      ids : l.file_ids.items ++ ids_of_files l.texts l.ids l.program.files left ≡ ids_of_files l.texts l.ids l.fn.program.files l.files;
-      well : All (λ f. HasNone (HasFileFault l.fn.program.encoding.version l.texts (length l.ids) f)) (take l.file-index l.files);
+      ids : l.file_ids.items ++ ids_of_files l.texts l.ids l.program.files left
+          ≡ ids_of_files l.texts l.ids l.fn.program.files l.files;
+      well : All (λ f. HasNone (HasFileFault l.fn.program.encoding.version l.texts (length l.ids) f))
+          (take l.file-index l.files);
       others : l.program ≡ record l.fn.program { files = l.program.files };
     }

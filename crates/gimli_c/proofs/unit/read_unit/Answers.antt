@@ -14,7 +14,9 @@ returns-clause-ok g c =
     let header_is = c.header-header.ensures in
     let encoding = c.encoding-encoding.ensures.encoding ∙ ap (λ p. p.meaning.parameters.encoding) header_is in
     let copied = c.in_ok-run.ensures.ok in
-    let files = c.file_names.ensures.files ∙ c.header.ensures.files ∙ c.in_ok-run_on.ensures.files ∙ c.in_ok-run.ensures.files in
+    let files =
+    c.file_names.ensures.files ∙ c.header.ensures.files ∙ c.in_ok-run_on.ensures.files
+    ∙ c.in_ok-run.ensures.files in
     let directories = c.include_directories.ensures.directories ∙ ap (λ p. p.meaning.directories) header_is in
     record {
       events = events_of (events_left c.rows-rows.result);

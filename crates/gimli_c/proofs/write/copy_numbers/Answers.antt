@@ -12,7 +12,8 @@ loop-slot-init c = sym (written_none c.args.room.now)
 
 pub returns-then-slot-room : goal.returns-then-slot-room
 returns-then-slot-room c =
-    c.loop-slot.invariant ∙ written_take c.loop-slot.slot (numbers_of c.args.version c.args.files.now) c.args.room.now (inr (omega arith))
+    c.loop-slot.invariant
+    ∙ written_take c.loop-slot.slot (numbers_of c.args.version c.args.files.now) c.args.room.now (inr (omega arith))
 
 pub loop-slot-preserved : goal.loop-slot-preserved
 loop-slot-preserved c =
@@ -20,7 +21,8 @@ loop-slot-preserved c =
     let number = file_number c.args.version in
     let file = c.index-files-slot.result in
     let there : slice_get xs c.loop-slot.slot ≡ Some file =
-    slice_get-get_or xs c.loop-slot.slot file (omega arith) ∙ ap (λ (x : ℕ). let o : Option ℕ = Some x in o) (sym c.index-files-slot.is) in
+    slice_get-get_or xs c.loop-slot.slot file (omega arith)
+    ∙ ap (λ (x : ℕ). let o : Option ℕ = Some x in o) (sym c.index-files-slot.is) in
     ap (λ (x : ℕ). set c.loop-slot.room c.loop-slot.slot x) c.raw.ensures
     ∙ copied_next (numbers_of c.args.version xs) c.args.room.now c.loop-slot.room c.loop-slot.slot (number file)
     (slice_get-map number xs c.loop-slot.slot ∙ ap (option_map number) there)

@@ -19,7 +19,10 @@ returns-then-bytes-unit-clause-room c = λ _.
       program = c.in-Ok.made.0;
       built = (c.in-Ok.ensures.ok c.args.big).built;
       bytes = c.in-Ok-section_of.section.bytes;
-      is_unit = record { unit = appended _ _ c.in-Ok-section_of.ensures.unit; reads_back = c.in-Ok-section_of.ensures.reads_back };
+      is_unit = record {
+        unit = appended _ _ c.in-Ok-section_of.ensures.unit;
+        reads_back = c.in-Ok-section_of.ensures.reads_back;
+      };
       passes = omega (arith, c.if-bytes-unit.true, same);
       size_is = same;
     }
@@ -31,7 +34,10 @@ returns-clause-ok c = λ _.
       program = c.in-Ok.made.0;
       built = (c.in-Ok.ensures.ok c.args.big).built;
       bytes = c.in-Ok-section_of.section.bytes;
-      is_unit = record { unit = appended _ _ c.in-Ok-section_of.ensures.unit; reads_back = c.in-Ok-section_of.ensures.reads_back };
+      is_unit = record {
+        unit = appended _ _ c.in-Ok-section_of.ensures.unit;
+        reads_back = c.in-Ok-section_of.ensures.reads_back;
+      };
       fits = omega (arith, c.if-bytes-unit.false, same);
       written_is = c.copy_bytes.ensures ∙ ap (λ (xs : List ℕ). slots_with xs c.args.unit.now) c.slice-bytes.ensures;
       size_is = same;
@@ -60,8 +66,10 @@ returns-in-Err-section_of-clause-cause c = λ _ _ s.
 
 pub returns-then-bytes-unit-clause-refused : goal.returns-then-bytes-unit-clause-refused
 returns-then-bytes-unit-clause-refused c = λ s cause.
-    absurd (no_cause _ c.in-Ok.made.0 s (c.in-Ok.ensures.well c.args.big) (c.in-Ok.ensures.ok c.args.big).built c.in-Ok-section_of.ensures.no_cause cause)
+    absurd (no_cause _ c.in-Ok.made.0 s (c.in-Ok.ensures.well c.args.big) (c.in-Ok.ensures.ok c.args.big).built
+    c.in-Ok-section_of.ensures.no_cause cause)
 
 pub returns-clause-refused : goal.returns-clause-refused
 returns-clause-refused c = λ s cause.
-    absurd (no_cause _ c.in-Ok.made.0 s (c.in-Ok.ensures.well c.args.big) (c.in-Ok.ensures.ok c.args.big).built c.in-Ok-section_of.ensures.no_cause cause)
+    absurd (no_cause _ c.in-Ok.made.0 s (c.in-Ok.ensures.well c.args.big) (c.in-Ok.ensures.ok c.args.big).built
+    c.in-Ok-section_of.ensures.no_cause cause)

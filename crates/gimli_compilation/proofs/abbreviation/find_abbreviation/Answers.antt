@@ -13,7 +13,9 @@ returns-in_err-next_declaration-clause-read g c =
 
 pub returns-in-None-clause-read : goal.returns-in-None-clause-read
 returns-in-None-clause-read g c =
-    let found = rw c.in-None.is at c.in_ok-next_declaration.ensures in sym (search_last _ _ _ _ found.read refl) ∙ c.loop-found.invariant
+    let found =
+    rw c.in-None.is at c.in_ok-next_declaration.ensures in sym (search_last _ _ _ _ found.read refl)
+    ∙ c.loop-found.invariant
 
 pub returns-then-found-code-clause-read : goal.returns-then-found-code-clause-read
 returns-then-found-code-clause-read g c =
@@ -24,7 +26,8 @@ returns-then-found-code-clause-read g c =
     sym (rw some at (search_last _ _ _ _ found.read last)) ∙ c.loop-found.invariant
 
 pub loop-found-smaller : goal.loop-found-smaller
-loop-found-smaller g c = let found = rw c.in-Some.is at c.in_ok-next_declaration.ensures in declaration_smaller _ _ _ found.read
+loop-found-smaller g c =
+    let found = rw c.in-Some.is at c.in_ok-next_declaration.ensures in declaration_smaller _ _ _ found.read
 
 pub loop-found-preserved : goal.loop-found-preserved
 loop-found-preserved g c =

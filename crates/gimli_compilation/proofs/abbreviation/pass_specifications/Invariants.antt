@@ -3,7 +3,8 @@ use Rattle.gimli_compilation.specs.inside.AbbreviationReading.{specifications_pa
 use Rattle.gimli_compilation.proofs.abbreviation.pass_specifications.Given as goal
 
 abbrev pub invariant-loop-specification : goal.invariant-loop-specification
-invariant-loop-specification g l = specifications_passed (g.R.Reader.bytes l.input) ≡ specifications_passed (g.R.Reader.bytes l.initial.input)
+invariant-loop-specification g l =
+    specifications_passed (g.R.Reader.bytes l.input) ≡ specifications_passed (g.R.Reader.bytes l.initial.input)
 
 abbrev pub decreases-loop-specification : goal.decreases-loop-specification
 decreases-loop-specification g l = length (g.R.Reader.bytes l.input)

@@ -5,15 +5,22 @@ use Rattle.gimli_compilation.proofs.AttributeRuns.{seen_with, attributes_go_on, 
 use Rattle.gimli_compilation.proofs.attributes.parse_attributes.Goals as goal
 
 pub loop-specification-init : goal.loop-specification-init
-loop-specification-init g c = record { so_far = rw c.none-attributes.ensures refl; closed = c.requires.closed; order = refl }
+loop-specification-init g c = record {
+  so_far = rw c.none-attributes.ensures refl;
+  closed = c.requires.closed;
+  order = refl;
+}
 
 pub returns-in_err-specification : goal.returns-in_err-specification
-returns-in_err-specification g c = absurd (never_refused _ _ _ c.loop-specification.invariant.closed c.in_err-specification.ensures.read)
+returns-in_err-specification g c =
+    absurd (never_refused _ _ _ c.loop-specification.invariant.closed c.in_err-specification.ensures.read)
 
 pub returns-then-is_end : goal.returns-then-is_end
 returns-then-is_end g c =
     record {
-      read = attributes_done _ _ _ _ _ _ _ _ c.in_ok-specification.ensures.read (sym c.is_end.ensures ∙ c.if-is_end.true) c.loop-specification.invariant.so_far;
+      read =
+          attributes_done _ _ _ _ _ _ _ _ c.in_ok-specification.ensures.read (sym c.is_end.ensures ∙ c.if-is_end.true)
+          c.loop-specification.invariant.so_far;
     }
 
 pub returns-in_err-value : goal.returns-in_err-value
@@ -22,7 +29,8 @@ returns-in_err-value g c =
     let read = rw c.loop-specification.invariant.order at c.in_err-value.ensures.read in
     record {
       read =
-          rw (p.1, p.2) (attributes_refused _ _ _ _ _ c.loop-specification.invariant.closed c.in_ok-specification.ensures.read
+          rw (p.1, p.2)
+          (attributes_refused _ _ _ _ _ c.loop-specification.invariant.closed c.in_ok-specification.ensures.read
           (sym c.is_end.ensures ∙ c.if-is_end.false) _ _ _ _ _ read c.loop-specification.invariant.so_far);
     }
 
@@ -32,7 +40,8 @@ loop-specification-preserved g c =
     let read = rw c.loop-specification.invariant.order at c.in_ok-value.ensures.read in
     record {
       so_far =
-          rw (c.update.ensures, seen_with) (attributes_go_on _ _ _ _ _ c.loop-specification.invariant.closed c.in_ok-specification.ensures.read on _ _ _ _ _
+          rw (c.update.ensures, seen_with) (attributes_go_on _ _ _ _ _ c.loop-specification.invariant.closed
+          c.in_ok-specification.ensures.read on _ _ _ _ _
           read c.loop-specification.invariant.so_far);
       closed = still_listed _ _ _ c.loop-specification.invariant.closed c.in_ok-specification.ensures.read on;
       order = c.parse_form.ensures.order ∙ c.loop-specification.invariant.order;

@@ -10,9 +10,11 @@ abbrev pub invariant-loop-specification : goal.invariant-loop-specification
 invariant-loop-specification g l =
     let notation : Notation = record { big = g.R.Reader.big l.initial.input; limit = g.R.Offset.ReaderOffset.limit } in
     record {
-      so_far : attributes_at notation l.encoding (attributes_seen g.R.Reader.bytes l.attributes) (listed (g.R.Reader.bytes l.specifications))
+      so_far : attributes_at notation l.encoding (attributes_seen g.R.Reader.bytes l.attributes)
+          (listed (g.R.Reader.bytes l.specifications))
           (g.R.Reader.bytes l.input)
-          ≡ attributes_at notation l.encoding no_attributes (listed (g.R.Reader.bytes l.initial.specifications)) (g.R.Reader.bytes l.initial.input);
+          ≡ attributes_at notation l.encoding no_attributes (listed (g.R.Reader.bytes l.initial.specifications))
+          (g.R.Reader.bytes l.initial.input);
       closed : IsListed (g.R.Reader.bytes l.specifications);
       order : g.R.Reader.big l.input ≡ g.R.Reader.big l.initial.input;
     }

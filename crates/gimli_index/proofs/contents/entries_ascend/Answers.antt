@@ -17,8 +17,10 @@ loop-index-preserved c =
       | inr here ↦
           let same : j ≡ index = omega arith in
           elim (cases_lt i (index - 1)) [
-            | inl lower ↦ omega (arith, c.loop-index.invariant i (index - 1) lower (omega arith), risen, ap addresses same)
-            | inr beside ↦ let also : i ≡ index - 1 = omega arith in omega (arith, risen, ap addresses same, ap addresses also)
+            | inl lower ↦
+                omega (arith, c.loop-index.invariant i (index - 1) lower (omega arith), risen, ap addresses same)
+            | inr beside ↦
+                let also : i ≡ index - 1 = omega arith in omega (arith, risen, ap addresses same, ap addresses also)
           ]
     ]
 

@@ -17,13 +17,17 @@ returns-then-line-asked-clause-line c =
     let line = c.from-line.result in
     let line_is : line ≡ place.line = c.from-line.ensures in
     λ l a from. elim c.then-line-asked.branch [
-      | then-line-asked-via-then-line-asked w ↦ of_other_line path a place l (λ e. omega (arith, e, line_is, from, w.if-line-asked.true))
+      | then-line-asked-via-then-line-asked w ↦
+          of_other_line path a place l (λ e. omega (arith, e, line_is, from, w.if-line-asked.true))
       | then-line-asked-via-else-line-asked+then-not-is_of_line w ↦ elim (cases_order l line) [
-        | inl same ↦ ap (λ n. is_of_line (nat_eq 1) n (place_row path a place)) same ∙ sym (w.is_of_line.ensures a) ∙ w.if-not-is_of_line.true
+        | inl same ↦
+            ap (λ n. is_of_line (nat_eq 1) n (place_row path a place)) same ∙ sym (w.is_of_line.ensures a)
+            ∙ w.if-not-is_of_line.true
         | inr (inl less) ↦ of_other_line path a place l (λ e. omega (arith, e, line_is, less))
         | inr (inr more) ↦ of_other_line path a place l (λ e. omega (arith, e, line_is, more))
       ]
     ]
 
 pub returns-clause-line : goal.returns-clause-line
-returns-clause-line c = (omega (arith, c.if-line-asked.false), λ a. sym (c.is_of_line.ensures a) ∙ c.if-not-is_of_line.false)
+returns-clause-line c =
+    (omega (arith, c.if-line-asked.false), λ a. sym (c.is_of_line.ensures a) ∙ c.if-not-is_of_line.false)

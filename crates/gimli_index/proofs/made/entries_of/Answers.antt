@@ -15,7 +15,8 @@ use Rattle.gimli_index.proofs.made.entries_of.Goals as goal
 pub take_ranges-requires-clause-entered : goal.take_ranges-requires-clause-entered
 take_ranges-requires-clause-entered g c =
     let t = texts_of g.R.Reader.bytes c.args.origin.now.strings.now c.args.origin.now.compilations.now in
-    rw (c.in_ok-entries.ensures, c.ranges-ranges.ensures) (none_entered t c.args.origin.now.lookup.now c.args.table.now c.requires)
+    rw (c.in_ok-entries.ensures, c.ranges-ranges.ensures)
+    (none_entered t c.args.origin.now.lookup.now c.args.table.now c.requires)
 
 pub returns-then-are_in_turn-clause-entered : goal.returns-then-are_in_turn-clause-entered
 returns-then-are_in_turn-clause-entered g c =
@@ -24,14 +25,19 @@ returns-then-are_in_turn-clause-entered g c =
     let limit = c.args.origin.now.limit in
     let turns : List Turn = c.in_ok-turns.turns.items in
     let down : never_go_down (rows_of_turns turns) ≡ true =
-    ap (λ (ts : List Turn). never_go_down (rows_of_turns ts)) (sym c.deref-2.ensures.value) ∙ sym c.are_in_turn.ensures ∙ c.if-are_in_turn.true in
+    ap (λ (ts : List Turn). never_go_down (rows_of_turns ts)) (sym c.deref-2.ensures.value) ∙ sym c.are_in_turn.ensures
+    ∙ c.if-are_in_turn.true in
     let start = subst (λ (es : List Entry). Walked t units limit c.args.table.now es [] 0) (sym c.in_ok-entries.ensures)
     (none_walked t units c.args.table.now c.requires) in
     let lent = c.deref-then-are_in_turn.ensures.value in
-    let walked = subst (λ (ts : List Turn). never_go_down (rows_of_turns ts) ≡ true → Walked t units limit c.take_turns.new.table c.take_turns.new.entries.items
+    let walked =
+    subst (λ (ts : List Turn).
+    never_go_down (rows_of_turns ts) ≡ true
+    → Walked t units limit c.take_turns.new.table c.take_turns.new.entries.items
     (flat_map (starts_of_turn t) (map (turn_rows units some_unit) ts)) (end_after 0 (rows_of_turns ts))) lent
     (c.in_ok-take_turns.ensures.walked some_unit start) in
-    all_entered t units turns c.in_ok-turns.ensures.turns down c.take_turns.new.table c.take_turns.new.entries.items (end_after 0 (rows_of_turns turns))
+    all_entered t units turns c.in_ok-turns.ensures.turns down c.take_turns.new.table c.take_turns.new.entries.items
+    (end_after 0 (rows_of_turns turns))
     (walked down)
 
 pub returns-then-are_in_turn-clause-lines : goal.returns-then-are_in_turn-clause-lines
@@ -41,14 +47,19 @@ returns-then-are_in_turn-clause-lines g c =
     let limit = c.args.origin.now.limit in
     let turns : List Turn = c.in_ok-turns.turns.items in
     let down : never_go_down (rows_of_turns turns) ≡ true =
-    ap (λ (ts : List Turn). never_go_down (rows_of_turns ts)) (sym c.deref-2.ensures.value) ∙ sym c.are_in_turn.ensures ∙ c.if-are_in_turn.true in
+    ap (λ (ts : List Turn). never_go_down (rows_of_turns ts)) (sym c.deref-2.ensures.value) ∙ sym c.are_in_turn.ensures
+    ∙ c.if-are_in_turn.true in
     let start = subst (λ (es : List Entry). Walked t units limit c.args.table.now es [] 0) (sym c.in_ok-entries.ensures)
     (none_walked t units c.args.table.now c.requires) in
     let lent = c.deref-then-are_in_turn.ensures.value in
-    let walked = subst (λ (ts : List Turn). never_go_down (rows_of_turns ts) ≡ true → Walked t units limit c.take_turns.new.table c.take_turns.new.entries.items
+    let walked =
+    subst (λ (ts : List Turn).
+    never_go_down (rows_of_turns ts) ≡ true
+    → Walked t units limit c.take_turns.new.table c.take_turns.new.entries.items
     (flat_map (starts_of_turn t) (map (turn_rows units some_unit) ts)) (end_after 0 (rows_of_turns ts))) lent
     (c.in_ok-take_turns.ensures.walked some_unit start) in
-    all_lines t units turns c.in_ok-turns.ensures.turns c.in_ok-turns.ensures.order c.take_turns.new.table c.take_turns.new.entries.items
+    all_lines t units turns c.in_ok-turns.ensures.turns c.in_ok-turns.ensures.order c.take_turns.new.table
+    c.take_turns.new.entries.items
     (end_after 0 (rows_of_turns turns)) (walked down)
 
 pub returns-clause-lines : goal.returns-clause-lines

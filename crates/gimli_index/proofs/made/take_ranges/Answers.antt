@@ -24,13 +24,15 @@ ranges-2-preserved g c =
     let limit = c.args.origin.now.limit in
     let so_far : Entered t units limit old before (Some range.start) =
     subst (λ (o : Option ℕ). Entered t units limit old before o) said.start c.ranges-2.invariant.entered in
-    let found : AreFoundIn units range = subst (λ (us : List KeptUnit). AreFoundIn us range) c.ranges-2.invariant.units said.found in
+    let found : AreFoundIn units range =
+    subst (λ (us : List KeptUnit). AreFoundIn us range) c.ranges-2.invariant.units said.found in
     let is_pushed : IsPushed new.sources before after entry =
     subst (λ (ss : List Source). IsPushed ss before after entry) c.sources.ensures c.in_ok-push.ensures.pushed in
     record {
       units = said.units ∙ c.ranges-2.invariant.units;
       entered = subst (λ (o : Option ℕ). Entered t units limit new after o) (sym said.left)
-          (pushed t units new before after range place (still_entered t units old new before (Some range.start) so_far placed.keeps placed.are) said.end found
+          (pushed t units new before after range place
+          (still_entered t units old new before (Some range.start) so_far placed.keeps placed.are) said.end found
           placed.inside placed.place placed.column is_pushed);
     }
 
@@ -39,7 +41,8 @@ place_of-requires-clause-found g c =
     let units = c.args.origin.now.lookup.now in
     let range = c.in-Some.range in
     let said = c.in-Some.ensures in
-    let found : AreFoundIn units range = subst (λ (us : List KeptUnit). AreFoundIn us range) c.ranges-2.invariant.units said.found in
+    let found : AreFoundIn units range =
+    subst (λ (us : List KeptUnit). AreFoundIn us range) c.ranges-2.invariant.units said.found in
     rows_found units range said.end found
 
 pub place_of-requires-clause-unit : goal.place_of-requires-clause-unit
@@ -47,5 +50,6 @@ place_of-requires-clause-unit g c =
     let units = c.args.origin.now.lookup.now in
     let range = c.in-Some.range in
     let said = c.in-Some.ensures in
-    let found : AreFoundIn units range = subst (λ (us : List KeptUnit). AreFoundIn us range) c.ranges-2.invariant.units said.found in
+    let found : AreFoundIn units range =
+    subst (λ (us : List KeptUnit). AreFoundIn us range) c.ranges-2.invariant.units said.found in
     unit_within units range said.end found

@@ -7,7 +7,8 @@ use Rattle.gimli_index.proofs.made.take_ranges.Given as goal
 abbrev pub invariant-ranges-2 : goal.invariant-ranges-2
 invariant-ranges-2 g l = record {
   units : l.ranges.units ≡ l.origin.lookup.now;
-  entered : Entered (texts_of g.R.Reader.bytes l.origin.strings.now l.origin.compilations.now) l.origin.lookup.now l.origin.limit l.table l.entries.items
+  entered : Entered (texts_of g.R.Reader.bytes l.origin.strings.now l.origin.compilations.now) l.origin.lookup.now
+      l.origin.limit l.table l.entries.items
       l.ranges.from;
 }
 

@@ -26,11 +26,13 @@ loop-index-preserved g c =
     let is_read : IsPushed new.sources before after read =
     subst (λ (ss : List Source). IsPushed ss before after read) c.sources.ensures c.in_ok-push.ensures.pushed in
     let is_pushed : IsPushed new.sources before after entry =
-    subst (λ (n : ℕ). let e : Entry = record { address = n; place = place } in IsPushed new.sources before after e) c.address.ensures is_read in
+    subst (λ (n : ℕ). let e : Entry = record { address = n; place = place } in IsPushed new.sources before after e)
+    c.address.ensures is_read in
     record {
       are = placed.are;
       walked = λ d said end walked order.
-          row_walked t units old new before after (rows_of turn.rows) c.loop-index.index row (turn_rows units d turn).unit said end place c.row-row.ensures
+          row_walked t units old new before after (rows_of turn.rows) c.loop-index.index row
+          (turn_rows units d turn).unit said end place c.row-row.ensures
           (c.loop-index.invariant.walked d said end walked order)
           order placed.keeps placed.are placed.inside placed.column
           (placed.place ∙ turn_place t units d turn row row c.requires.turn) is_pushed;
@@ -43,8 +45,10 @@ returns-clause-walked g c =
     let limit = c.args.origin.now.limit in
     let rows = rows_of c.args.turn.rows in
     let all : c.loop-index.index ≡ c.count_of_code-index-end.result = omega arith in
-    let code_is : take c.loop-index.index rows ≡ code_of rows = ap (λ (n : ℕ). take n rows) all ∙ c.count_of_code-index-end.ensures.code in
+    let code_is : take c.loop-index.index rows ≡ code_of rows = ap (λ (n : ℕ). take n rows) all
+    ∙ c.count_of_code-index-end.ensures.code in
     λ d said end walked order.
     subst (λ (rs : List LineRow).
-    Walked t units limit c.loop-index.table c.loop-index.entries.items (said ++ map (row_start t (turn_rows units d c.args.turn).unit) rs) (end_after end rs))
+    Walked t units limit c.loop-index.table c.loop-index.entries.items
+    (said ++ map (row_start t (turn_rows units d c.args.turn).unit) rs) (end_after end rs))
     code_is (c.loop-index.invariant.walked d said end walked order)

@@ -16,8 +16,10 @@ invariant-loop-index g l =
     let rows = rows_of l.turn.rows in
     record {
       are : AreSources t units limit l.table;
-      walked : (d : KeptUnit) (said : List Start) (end : ℕ) → Walked t units limit l.initial.table l.initial.entries.items said end
+      walked : (d : KeptUnit) (said : List Start) (end : ℕ)
+          → Walked t units limit l.initial.table l.initial.entries.items said end
           → never_go_below end rows ≡ true
-          → Walked t units limit l.table l.entries.items (said ++ map (row_start t (turn_rows units d l.turn).unit) (take l.index rows))
+          → Walked t units limit l.table l.entries.items
+          (said ++ map (row_start t (turn_rows units d l.turn).unit) (take l.index rows))
           (end_after end (take l.index rows));
     }

@@ -18,6 +18,7 @@ returns-clause-walked g c =
     let entry : Entry = record { address = c.in-Some.last; place = None } in
     on_ok c.push.result (IsPushed c.sources.result.now before after entry) _ c.push.ensures.pushed
     (λ pushed d said end walked order.
-    turn_walked t units table before after (turn_rows units d turn) said end c.in-Some.last _ (sym c.range.ensures ∙ c.in-Some.is)
+    turn_walked t units table before after (turn_rows units d turn) said end c.in-Some.last _
+    (sym c.range.ensures ∙ c.in-Some.is)
     (c.in_ok-take_rows.ensures.walked d said end walked order) order
     (subst (λ (ss : List Source). IsPushed ss before after entry) c.sources.ensures pushed))

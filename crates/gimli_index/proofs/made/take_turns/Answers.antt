@@ -17,8 +17,12 @@ loop-turn-preserved g c =
     record {
       are = said.are;
       walked = λ d start down.
-          turns_walked t units d c.loop-turn.table c.take_turn.new.table c.loop-turn.entries.items c.take_turn.new.entries.items turns
-          k c.turn-item.result (here_at turns k c.turn-item.result c.loop-turn-test.true ∙ ap (λ (x : Turn). Some x) (sym c.turn-item.is)) down
+          turns_walked t units d c.loop-turn.table c.take_turn.new.table c.loop-turn.entries.items
+          c.take_turn.new.entries.items turns
+          k c.turn-item.result
+          (here_at turns k c.turn-item.result c.loop-turn-test.true
+          ∙ ap (λ (x : Turn). Some x) (sym c.turn-item.is))
+          down
           (c.loop-turn.invariant.walked d start down) (said.walked d);
     }
 
@@ -30,6 +34,7 @@ returns-clause-walked g c =
     let turns = c.args.turns.now in
     λ d start down.
     subst (λ (ts : List Turn).
-    Walked t units limit c.loop-turn.table c.loop-turn.entries.items (flat_map (starts_of_turn t) (map (turn_rows units d) ts))
+    Walked t units limit c.loop-turn.table c.loop-turn.entries.items
+    (flat_map (starts_of_turn t) (map (turn_rows units d) ts))
     (end_after 0 (rows_of_turns ts)))
     (take_all c.loop-turn.turn-index turns c.loop-turn-test.false) (c.loop-turn.invariant.walked d start down)

@@ -14,7 +14,9 @@ invariant-loop-turn g l =
     let limit = l.origin.limit in
     record {
       are : AreSources t units limit l.table;
-      walked : (d : KeptUnit) → Walked t units limit l.initial.table l.initial.entries.items [] 0 → never_go_down (rows_of_turns l.turns) ≡ true
-          → Walked t units limit l.table l.entries.items (flat_map (starts_of_turn t) (map (turn_rows units d) (take l.turn-index l.turns)))
+      walked : (d : KeptUnit) → Walked t units limit l.initial.table l.initial.entries.items [] 0
+          → never_go_down (rows_of_turns l.turns) ≡ true
+          → Walked t units limit l.table l.entries.items
+          (flat_map (starts_of_turn t) (map (turn_rows units d) (take l.turn-index l.turns)))
           (end_after 0 (rows_of_turns (take l.turn-index l.turns)));
     }

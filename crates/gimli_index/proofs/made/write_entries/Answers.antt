@@ -20,16 +20,20 @@ returns-clause-bytes g c =
     } in
     let old = c.args.out.now.items in
     let new = c.write.new.out.items in
-    with_ok c.write.result (IsWritten parts old new) (IsAppended given c.args.origin.now.limit old new) c.write.ensures.written
+    with_ok c.write.result (IsWritten parts old new) (IsAppended given c.args.origin.now.limit old new)
+    c.write.ensures.written
     (λ written.
     let contents = contents_of parts written.order in
     record {
       contents = contents;
-      within = within given c.entries_of.new.table c.in_ok-entries.entries.items contents c.in_ok-entries.ensures.entered c.in_ok-entries.ensures.lines
+      within =
+          within given c.entries_of.new.table c.in_ok-entries.entries.items contents c.in_ok-entries.ensures.entered
+          c.in_ok-entries.ensures.lines
           c.sources.ensures c.as_slice.ensures.value c.paths.ensures;
       bytes = written.bytes;
       are =
-          contents_are given c.entries_of.new.table c.in_ok-entries.entries.items contents c.in_ok-entries.ensures.entered c.in_ok-entries.ensures.lines
+          contents_are given c.entries_of.new.table c.in_ok-entries.entries.items contents
+          c.in_ok-entries.ensures.entered c.in_ok-entries.ensures.lines
           c.sources.ensures
           c.as_slice.ensures.value c.paths.ensures written.fits written.ordered refl refl;
     })
@@ -48,6 +52,7 @@ returns-clause-err g c =
     } in
     let contents = contents_of parts [] in
     on_fault c.write.result (IsMakeFault contents) (IsIndexFault given c.args.origin.now.limit) (λ e fault.
-    contents_fault given c.entries_of.new.table c.in_ok-entries.entries.items contents c.in_ok-entries.ensures.entered c.in_ok-entries.ensures.lines
+    contents_fault given c.entries_of.new.table c.in_ok-entries.entries.items contents c.in_ok-entries.ensures.entered
+    c.in_ok-entries.ensures.lines
     c.sources.ensures
     c.as_slice.ensures.value c.paths.ensures e refl fault) c.write.ensures.err

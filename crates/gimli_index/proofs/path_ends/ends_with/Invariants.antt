@@ -7,7 +7,8 @@ use Rattle.gimli_index.proofs.path_ends.ends_with.Given as goal
 
 abbrev pub invariant-components : goal.invariant-components
 invariant-components l =
-    starts_with bytes_eq (components_left l.own) (components_left l.asked) ≡ starts_with bytes_eq (components l.path) (components l.end)
+    starts_with bytes_eq (components_left l.own) (components_left l.asked)
+    ≡ starts_with bytes_eq (components l.path) (components l.end)
 
 abbrev pub decreases-components : goal.decreases-components
 decreases-components l = length (components_left l.asked)

@@ -6,7 +6,8 @@ use Rattle.gimli_index.proofs.path_ends.last_component.Goals as goal
 pub returns-then-is_separator-clause-last : goal.returns-then-is_separator-clause-last
 returns-then-is_separator-clause-last c =
     λ before.
-    parted c.args.text.now c.loop-first.first c.loop-first-test.true c.loop-first.invariant.within (sym c.is_separator.ensures ∙ c.if-is_separator.true)
+    parted c.args.text.now c.loop-first.first c.loop-first-test.true c.loop-first.invariant.within
+    (sym c.is_separator.ensures ∙ c.if-is_separator.true)
     c.loop-first.invariant.none before
 
 pub returns-clause-last : goal.returns-clause-last

@@ -13,7 +13,12 @@ loop-unit-preserved g c =
     let k : ℕ = c.loop-unit.unit in
     let said = c.in_ok-push_turns.ensures in
     let within : k < length units =
-    omega (arith, c.loop-unit-test.true, ap (λ (us : List ListedUnit). length us) c.units-unit-end.ensures, length-map units (λ (u : KeptUnit). u.unit)) in
+    omega (
+      arith,
+      c.loop-unit-test.true,
+      ap (λ (us : List ListedUnit). length us) c.units-unit-end.ensures,
+      length-map units (λ (u : KeptUnit). u.unit),
+    ) in
     record {
       each = said.each c.loop-unit.invariant.each;
       all = λ d.
@@ -41,5 +46,10 @@ pub returns-clause-all : goal.returns-clause-all
 returns-clause-all g c =
     let units : List KeptUnit = c.args.lookup.now in
     let past : length units ≤ c.loop-unit.unit =
-    omega (arith, c.loop-unit-test.false, ap (λ (us : List ListedUnit). length us) c.units-unit-end.ensures, length-map units (λ (u : KeptUnit). u.unit)) in
+    omega (
+      arith,
+      c.loop-unit-test.false,
+      ap (λ (us : List ListedUnit). length us) c.units-unit-end.ensures,
+      length-map units (λ (u : KeptUnit). u.unit),
+    ) in
     λ d. c.loop-unit.invariant.all d ∙ ap rows_of_units (take_all c.loop-unit.unit units past)

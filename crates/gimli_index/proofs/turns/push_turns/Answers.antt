@@ -1,4 +1,5 @@
-use Rattle.std.proofs.Common.{◌≡◌, ◌∙◌, ◌++◌, ◌∷◌, [], ℕ, List, ◌≤◌, None, Some, ap, arith, length, map, refl, subst, sym, Vec, Global}
+use Rattle.std.proofs.Common.{◌≡◌, ◌∙◌, ◌++◌, ◌∷◌, [], ℕ, List, ◌≤◌, None, Some, ap, arith, length, map, refl, subst}
+use Rattle.std.proofs.Common.{sym, Vec, Global}
 use Rattle.std.specs.Prelude.{slice_get, slice_index_or, All}
 use Rattle.std.specs.Option.{option_map}
 use Rattle.std.proofs.lemmas.List.{length-map, take_all}
@@ -22,11 +23,15 @@ loop-index-preserved g c =
     elim c.match-sequence.branch [
       | in-Some+in_ok-push w ↦
           let turn : Turn = record { key = w.key_of.result; unit = c.args.unit; rows = w.in-Some.rows } in
-          let there : (d : KeptUnit) → slice_get (slice_index_or units c.args.unit d).sequences k ≡ Some (rows_of turn.rows) =
+          let there : (d : KeptUnit)
+          → slice_get (slice_index_or units c.args.unit d).sequences k ≡ Some (rows_of turn.rows) =
           λ d. sym (c.sequence.ensures d) ∙ ap (option_map rows_of) w.in-Some.is in
-          let longer : new ≡ old ++ turn ∷ [] = ap (λ (v : Vec Turn Global). v.items) w.turns-is ∙ w.in_ok-push.ensures.items in
+          let longer : new ≡ old ++ turn ∷ [] = ap (λ (v : Vec Turn Global). v.items) w.turns-is
+          ∙ w.in_ok-push.ensures.items in
           record {
-            all = more_turns units c.args.unit k turn refl there c.args.turns.now.items old new longer c.loop-index.invariant.all;
+            all =
+                more_turns units c.args.unit k turn refl there c.args.turns.now.items old new longer
+                c.loop-index.invariant.all;
             each = λ before.
                 subst (All (IsTurn units)) (sym longer)
                 (All-push (IsTurn units) old turn (c.loop-index.invariant.each before)
@@ -35,8 +40,11 @@ loop-index-preserved g c =
       | in_default w ↦
           let known = get_inside units c.args.unit c.requires in
           let sequences : List (List LineRow) = (slice_index_or units c.args.unit known.0).sequences in
-          let none : slice_get sequences k ≡ None = sym (c.sequence.ensures known.0) ∙ ap (option_map rows_of) w.in_default.is in
-          let some = get_inside sequences k (omega (arith, c.loop-index-test.true, c.sequence_count-index-end.ensures known.0)) in
+          let none : slice_get sequences k ≡ None = sym (c.sequence.ensures known.0)
+          ∙ ap (option_map rows_of) w.in_default.is in
+          let some =
+          get_inside sequences k
+          (omega (arith, c.loop-index-test.true, c.sequence_count-index-end.ensures known.0)) in
           let bad : Some some.0 ≡ None = sym some.1 ∙ none in
           absurd cc
     ]
@@ -54,4 +62,5 @@ returns-clause-all g c =
       length-map u.sequences (λ (rows : List LineRow). let s : UnitRows = record { unit = u.unit; rows = rows } in s),
     ) in
     c.loop-index.invariant.all d
-    ∙ ap (λ (xs : List UnitRows). map (turn_rows units d) c.args.turns.now.items ++ xs) (take_all c.loop-index.index (rows_in u) past)
+    ∙ ap (λ (xs : List UnitRows). map (turn_rows units d) c.args.turns.now.items ++ xs)
+    (take_all c.loop-index.index (rows_in u) past)

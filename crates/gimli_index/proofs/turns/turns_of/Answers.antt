@@ -21,4 +21,5 @@ returns-clause-turns g c =
 
 pub returns-clause-order : goal.returns-clause-order
 returns-clause-order g c =
-    IsNonDecreasingBy-from_sort_by_key (λ (turn : Turn). turn.key) _ c.in_ok-sort_by_key.ensures.sorted (λ a r q k. search rules)
+    IsNonDecreasingBy-from_sort_by_key (λ (turn : Turn). turn.key) _ c.in_ok-sort_by_key.ensures.sorted (λ a r q k.
+    search rules)

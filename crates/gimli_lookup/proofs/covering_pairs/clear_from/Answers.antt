@@ -8,7 +8,8 @@ pub loop-a-preserved : goal.loop-a-preserved
 loop-a-preserved c =
     let i = c.loop-a.a-index in
     let lt : i < length c.args.addresses.now = omega arith in
-    clear_next c.args.addresses.now i c.args.from c.loop-a.clear c.nearer-clear.result lt c.loop-a.invariant c.nearer-clear.ensures.found
+    clear_next c.args.addresses.now i c.args.from c.loop-a.clear c.nearer-clear.result lt c.loop-a.invariant
+    c.nearer-clear.ensures.found
     c.nearer-clear.ensures.asked
 
 pub returns : goal.returns

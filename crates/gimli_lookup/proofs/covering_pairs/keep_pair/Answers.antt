@@ -9,7 +9,8 @@ use Rattle.gimli_lookup.proofs.covering_pairs.keep_pair.Goals as goal
 pub returns-then-not-is_wanted-clause-ok : goal.returns-then-not-is_wanted-clause-ok
 returns-then-not-is_wanted-clause-ok c =
     pair_let_go c.args.addresses.now c.args.pairs.now.items c.args.pair
-    (subst (λ (ps : List CoveringRows). list_any (λ a. is_covered a c.args.pair && is_none (first_covering a ps)) c.args.addresses.now ≡ false)
+    (subst (λ (ps : List CoveringRows).
+    list_any (λ a. is_covered a c.args.pair && is_none (first_covering a ps)) c.args.addresses.now ≡ false)
     c.as_slice.ensures.value (sym c.if-not-is_wanted.ensures))
 
 pub returns-clause-ok : goal.returns-clause-ok

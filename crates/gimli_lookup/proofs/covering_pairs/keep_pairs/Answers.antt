@@ -11,5 +11,6 @@ loop-pair-preserved c =
     let found = c.args.found.now in
     let i = c.loop-pair.pair-index in
     let lt : i < length found = omega arith in
-    kept_next c.args.addresses.now c.args.pairs.now.items found i c.loop-pair.pairs.items _ c.keep_pair.new.pairs.items lt
+    kept_next c.args.addresses.now c.args.pairs.now.items found i c.loop-pair.pairs.items _ c.keep_pair.new.pairs.items
+    lt
     (get_or_default found i _ _ lt) c.loop-pair.invariant c.in_ok-keep_pair.ensures.ok

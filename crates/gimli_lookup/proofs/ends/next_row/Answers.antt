@@ -19,29 +19,36 @@ loop-index-preserved c =
           subst
           (λ (end : Option ℕ). record {
             above : IfSome end (λ end. a < end);
-            clear : (k : ℕ) (r : LineRow) → k < c.loop-index.index + 1 → slice_get rows k ≡ Some r → IsClear a end r.address;
+            clear : (k : ℕ) (r : LineRow) → k < c.loop-index.index + 1 → slice_get rows k ≡ Some r
+                → IsClear a end r.address;
           })
           (sym w.end-is)
           (record {
             above = near.above a i.above w.if-a-address.true;
-            clear = more_rows a rows c.loop-index.index c.loop-index.end w.nearer-end.result row c.row.ensures i.clear near.first
+            clear =
+                more_rows a rows c.loop-index.index c.loop-index.end w.nearer-end.result row c.row.ensures i.clear
+                near.first
                 (inr (λ b is. omega (arith, near.second b is, c.address-address.ensures)));
           })
       | else-a-address w ↦
           subst
           (λ (end : Option ℕ). record {
             above : IfSome end (λ end. a < end);
-            clear : (k : ℕ) (r : LineRow) → k < c.loop-index.index + 1 → slice_get rows k ≡ Some r → IsClear a end r.address;
+            clear : (k : ℕ) (r : LineRow) → k < c.loop-index.index + 1 → slice_get rows k ≡ Some r
+                → IsClear a end r.address;
           })
           (sym w.end-is)
           (record {
             above = i.above;
             clear =
-                more_rows a rows c.loop-index.index c.loop-index.end c.loop-index.end row c.row.ensures i.clear (λ b is. is)
+                more_rows a rows c.loop-index.index c.loop-index.end c.loop-index.end row c.row.ensures i.clear (λ b is.
+                is)
                 (inl (omega (arith, w.if-a-address.false, c.address-address.ensures)));
           })
     ]
 
 pub returns-clause-clear : goal.returns-clause-clear
 returns-clause-clear c =
-    λ k r is. c.loop-index.invariant.clear k r (omega (arith, slice_get_within c.args.rows.now k r is, c.loop-index-test.false, c.len-index-end.ensures)) is
+    λ k r is.
+    c.loop-index.invariant.clear k r
+    (omega (arith, slice_get_within c.args.rows.now k r is, c.loop-index-test.false, c.len-index-end.ensures)) is

@@ -10,10 +10,12 @@ use Rattle.gimli_lookup.proofs.NearerEnds.{rows_nearer, is_listed, listed_within
 use Rattle.gimli_lookup.proofs.ends.next_unordered.Goals as goal
 
 -- an index of the list is one of a sequence
-inside : (indexes : List ℕ) (sequences : List (List LineRow)) (j d : ℕ) → indexes ≡ indexes_out_of_order 0 sequences → j < length indexes
+inside : (indexes : List ℕ) (sequences : List (List LineRow)) (j d : ℕ) → indexes ≡ indexes_out_of_order 0 sequences
+    → j < length indexes
     → slice_index_or indexes j d < length sequences
 inside indexes sequences j d is lt =
-    let listed : j < length (indexes_out_of_order 0 sequences) = omega (arith, lt, ap (λ (is : List ℕ). length is) is) in
+    let listed : j
+    < length (indexes_out_of_order 0 sequences) = omega (arith, lt, ap (λ (is : List ℕ). length is) is) in
     omega (arith, listed_within 0 sequences j d listed, ap (λ (is : List ℕ). slice_index_or is j d) is)
 
 pub offset_bounds-sequences-index : goal.offset_bounds-sequences-index
@@ -23,7 +25,8 @@ offset_bounds-sequences-index c =
     first_of (search rules, grind (arith, common_steps))
 
 pub bounds-sequences-index : goal.bounds-sequences-index
-bounds-sequences-index c = inside c.args.indexes.now c.args.sequences.now c.loop-index.index-index 0 c.requires c.loop-index-test.true
+bounds-sequences-index c =
+    inside c.args.indexes.now c.args.sequences.now c.loop-index.index-index 0 c.requires c.loop-index-test.true
 
 pub loop-index-preserved : goal.loop-index-preserved
 loop-index-preserved c =
@@ -36,23 +39,28 @@ loop-index-preserved c =
       above = near.above a i.above c.next_row.ensures.above;
       clear = λ j d e lt. elim (cases_lt j c.loop-index.index-index) [
         | inl earlier ↦
-            rows_nearer a (slice_index_or sequences (slice_index_or indexes j d) e) c.loop-index.end c.nearer-end.result near.first (i.clear j d e earlier)
+            rows_nearer a (slice_index_or sequences (slice_index_or indexes j d) e) c.loop-index.end c.nearer-end.result
+            near.first (i.clear j d e earlier)
         | inr later ↦
             let same : c.loop-index.index-index ≡ j = omega arith in
             let within = inside indexes sequences c.loop-index.index-index 0 c.requires c.loop-index-test.true in
             let rows = c.index-sequences-index.result in
             let there : rows ≡ slice_index_or sequences (slice_index_or indexes j d) e =
-            c.index-sequences-index.is ∙ get_or_default sequences (slice_index_or indexes c.loop-index.index-index 0) rows e within
-            ∙ ap (λ (n : ℕ). slice_index_or sequences n e) (get_or_default indexes c.loop-index.index-index 0 d c.loop-index-test.true)
+            c.index-sequences-index.is
+            ∙ get_or_default sequences (slice_index_or indexes c.loop-index.index-index 0) rows e within
+            ∙ ap (λ (n : ℕ). slice_index_or sequences n e)
+            (get_or_default indexes c.loop-index.index-index 0 d c.loop-index-test.true)
             ∙ ap (λ (n : ℕ). slice_index_or sequences (slice_index_or indexes n d) e) same in
-            subst (AreRowsClear a c.nearer-end.result) there (rows_nearer a rows c.next_row.result c.nearer-end.result near.second c.next_row.ensures.clear)
+            subst (AreRowsClear a c.nearer-end.result) there
+            (rows_nearer a rows c.next_row.result c.nearer-end.result near.second c.next_row.ensures.clear)
       ];
     }
 
 pub returns-clause-clear : goal.returns-clause-clear
 returns-clause-clear c = λ i e lt down.
     let listed = is_listed 0 c.args.sequences.now i e lt down in
-    let place : listed.place < length c.args.indexes.now = omega (arith, listed.within, ap (λ (is : List ℕ). length is) c.requires) in
+    let place : listed.place
+    < length c.args.indexes.now = omega (arith, listed.within, ap (λ (is : List ℕ). length is) c.requires) in
     let there : slice_index_or c.args.indexes.now listed.place 0
     ≡ i = omega (arith, ap (λ (is : List ℕ). slice_index_or is listed.place 0) c.requires, listed.is 0) in
     subst (λ (n : ℕ). AreRowsClear c.args.a c.loop-index.end (slice_index_or c.args.sequences.now n e)) there

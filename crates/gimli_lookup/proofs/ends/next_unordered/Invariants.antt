@@ -7,5 +7,6 @@ use Rattle.gimli_lookup.proofs.ends.next_unordered.Given as goal
 abbrev pub invariant-loop-index : goal.invariant-loop-index
 invariant-loop-index l = record {
   above : IfSome l.end (λ end. l.a < end);
-  clear : (j : ℕ) (d : ℕ) (e : List LineRow) → j < l.index-index → AreRowsClear l.a l.end (slice_index_or l.sequences (slice_index_or l.indexes j d) e);
+  clear : (j : ℕ) (d : ℕ) (e : List LineRow) → j < l.index-index
+      → AreRowsClear l.a l.end (slice_index_or l.sequences (slice_index_or l.indexes j d) e);
 }

@@ -9,10 +9,12 @@ module _ {R : Type 0} where
 
   joined : (x y : StringSections R) → y.debug_line_str ≡ x.debug_line_str → y.debug_str ≡ x.debug_str → y ≡ x
   joined x y line_strings strings =
-      let same : rebuilt y.debug_line_str y.debug_str ≡ rebuilt x.debug_line_str x.debug_str = rw (line_strings, strings) refl in same
+      let same : rebuilt y.debug_line_str y.debug_str
+      ≡ rebuilt x.debug_line_str x.debug_str = rw (line_strings, strings) refl in same
 
 pub returns : goal.returns
 returns g c = λ same x. (
   ((same x.debug_line_str).0, (same x.debug_str).0),
-  λ y clones. joined x y ((same x.debug_line_str).1 y.debug_line_str clones.0) ((same x.debug_str).1 y.debug_str clones.1),
+  λ y clones.
+      joined x y ((same x.debug_line_str).1 y.debug_line_str clones.0) ((same x.debug_str).1 y.debug_str clones.1),
 )

@@ -1,4 +1,5 @@
-use Rattle.gimli_lookup.proofs.StringLaws.{string_found, string_only, out_of_bounds, no_byte_there, unterminated, no_end_there}
+use Rattle.gimli_lookup.proofs.StringLaws.{string_found, string_only, out_of_bounds, no_byte_there, unterminated}
+use Rattle.gimli_lookup.proofs.StringLaws.{no_end_there}
 use Rattle.gimli_lookup.proofs.laws.strings_are_spelled.Goals as goal
 
 pub returns : goal.returns

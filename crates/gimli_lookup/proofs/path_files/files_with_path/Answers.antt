@@ -11,5 +11,6 @@ returns-clause-ok g c =
     let last = c.last_index-last.result in
     let files = c.in_ok-files.files.items in
     rw c.in_ok-append_with_path.ensures.ok
-    (all_below test (last + 1) (files ++ (if test last then last ∷ [] else [])) (more_below test last files c.in_ok-files.ensures.ok)
+    (all_below test (last + 1) (files ++ (if test last then last ∷ [] else []))
+    (more_below test last files c.in_ok-files.ensures.ok)
     (λ i from. no_path_past paths c.args.path.now i (omega (arith, c.last_index-last.ensures))))

@@ -23,6 +23,8 @@ returns-in_default-e g c =
     let file = file_seen g.R.Reader.bytes g.R.Offset.ReaderOffset.number c.in-Some.entry.now in
     let told = c.in-Err.ensures.err c.in_default-e.not-OutOfMemory in
     record {
-      ok = sym (path_at paths path c.args.file file (Err c.in-Err.e) c.in-Some.ensures.file (ap (λ (p : Paths). file_path p file) (sym c.new.ensures) ∙ told));
+      ok =
+          sym (path_at paths path c.args.file file (Err c.in-Err.e) c.in-Some.ensures.file
+          (ap (λ (p : Paths). file_path p file) (sym c.new.ensures) ∙ told));
       err = tt;
     }

@@ -15,6 +15,7 @@ loop-rows-preserved c =
     let inside : i < length all = omega arith in
     c.saturating_add-count.ensures
     ∙ ap (λ (n : ℕ). min (n + c.len.result) most) c.loop-rows.invariant
-    ∙ ap (λ (n : ℕ). min (min before most + n) most) (c.len.ensures ∙ ap (λ (r : List LineRow). length r) c.rows-item.is)
+    ∙ ap (λ (n : ℕ). min (min before most + n) most)
+    (c.len.ensures ∙ ap (λ (r : List LineRow). length r) c.rows-item.is)
     ∙ saturated before (length (get_or all i rows)) most
     ∙ ap (λ (n : ℕ). min n most) (sym (sum_by_more (λ (r : List LineRow). length r) all i rows inside))

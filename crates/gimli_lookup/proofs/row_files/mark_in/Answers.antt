@@ -16,7 +16,9 @@ loop-index-preserved c =
     let row = c.row-row.result in
     let inside : i < length rows = omega arith in
     let before = has_file (take i rows) in
-    marked_too before (λ n. c.file_index.result == n) (has_file (take (i + 1) rows)) c.args.marks.now c.loop-index.marks c.mark.new.marks
-    (λ n. ap (λ (k : ℕ). before n || (k == n)) c.file_index.ensures ∙ sym (list_any_more (λ (r : LineRow). r.file == n) rows i row inside
+    marked_too before (λ n. c.file_index.result == n) (has_file (take (i + 1) rows)) c.args.marks.now c.loop-index.marks
+    c.mark.new.marks
+    (λ n. ap (λ (k : ℕ). before n || (k == n)) c.file_index.ensures
+    ∙ sym (list_any_more (λ (r : LineRow). r.file == n) rows i row inside
     ∙ ap (λ (r : LineRow). before n || (r.file == n)) (get_or_from_slice_get rows i row row c.row-row.ensures)))
     c.loop-index.invariant c.mark.ensures

@@ -15,7 +15,8 @@ loop-rows-preserved c =
     let rows = c.rows-item.result in
     let inside : i < length all = omega arith in
     let before = have_file (take i all) in
-    marked_too before (has_file rows) (have_file (take (i + 1) all)) c.args.marks.now c.loop-rows.marks c.mark_in.new.marks
+    marked_too before (has_file rows) (have_file (take (i + 1) all)) c.args.marks.now c.loop-rows.marks
+    c.mark_in.new.marks
     (λ n. ap (λ (r : List LineRow). before n || has_file r n) c.rows-item.is
     ∙ sym (list_any_more (λ (r : List LineRow). has_file r n) all i rows inside))
     c.loop-rows.invariant c.mark_in.ensures

@@ -31,7 +31,8 @@ returns-in_err-row-clause-err g c =
             i.at_end i.files c.next_row.follows.holds-at-none.0.run.appends memory.1,
       )
       | inr next ↦
-          inl (first_fault program.notation program.meaning (events_left first) (events_left c.rows.rows) i.passed.0 c.rows-rows.ensures.events i.passed.1
+          inl (first_fault program.notation program.meaning (events_left first) (events_left c.rows.rows) i.passed.0
+          c.rows-rows.ensures.events i.passed.1
           new.files (events_left new) c.in_err-row.field-0.0 next.0)
     ])
 
@@ -44,7 +45,9 @@ returns-in-None-clause-ok g c =
       sequences = i.2.sequences;
       are = record {
         rows = i.0;
-        given = run_ended program.notation program.meaning (events_left c.rows-rows.result) (events_left c.rows.rows) i.0 c.rows-rows.ensures.events i.1 next.0;
+        given =
+            run_ended program.notation program.meaning (events_left c.rows-rows.result) (events_left c.rows.rows) i.0
+            c.rows-rows.ensures.events i.1 next.0;
         cut = i.2.cut;
       };
       first = c.pair.ensures c.args.a i.2.sequences i.2.cut.unended i.2.known;
@@ -60,7 +63,8 @@ rows-preserved g c =
     record {
       passed = (
         i.passed.0 ++ c.in-Some.row.now ∷ [],
-        run_goes program.notation program.meaning (events_left c.rows-rows.result) (events_left c.rows.rows) i.passed.0 c.rows-rows.ensures.events i.passed.1
+        run_goes program.notation program.meaning (events_left c.rows-rows.result) (events_left c.rows.rows) i.passed.0
+            c.rows-rows.ensures.events i.passed.1
             c.in-Some.row.now _ (events_left new) next.0,
         c.after-search.ensures i.passed.0 i.passed.2,
       );

@@ -9,7 +9,8 @@ use Rattle.gimli_lookup.proofs.run.find_in_run.Given as goal
 
 abbrev pub invariant-rows : goal.invariant-rows
 invariant-rows g l = record {
-  passed : (passed : List LineRow) × (events_of (events_left l.initial.rows) ≡ map row passed ++ events_of (events_left l.rows))
+  passed : (passed : List LineRow)
+      × (events_of (events_left l.initial.rows) ≡ map row passed ++ events_of (events_left l.rows))
       × HasPassed l.a passed l.search;
   at_end : files_at_end l.rows ≡ files_at_end l.initial.rows;
   files : length l.initial.rows.files ≤ length l.rows.files;

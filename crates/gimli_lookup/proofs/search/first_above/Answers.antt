@@ -14,12 +14,20 @@ loop-low-preserved-then-address-a c =
     record {
       low = omega arith;
       high = i.high;
-      before = λ k d lt. omega (arith, rises rows k middle d c.requires.order (omega arith) inside, c.address.ensures.address d);
+      before =
+          λ k d lt.
+          omega (arith, rises rows k middle d c.requires.order (omega arith) inside, c.address.ensures.address d);
       after = i.after;
       count = omega (arith, c.address.ensures.counted, i.count);
       grows = omega (arith, c.address.ensures.counted, i.grows);
       at_least = λ lt. omega (arith, c.address.ensures.counted, i.grows);
-      at_most = omega (arith, c.address.ensures.counted, i.at_most, halved (high - (middle + 1)) (high - low) (omega arith) (omega arith));
+      at_most =
+          omega (
+            arith,
+            c.address.ensures.counted,
+            i.at_most,
+            halved (high - (middle + 1)) (high - low) (omega arith) (omega arith),
+          );
     }
 
 pub loop-low-preserved : goal.loop-low-preserved
@@ -38,5 +46,7 @@ loop-low-preserved c =
       count = omega (arith, c.address.ensures.counted, i.count);
       grows = omega (arith, c.address.ensures.counted, i.grows);
       at_least = λ lt. omega (arith, c.address.ensures.counted, i.grows);
-      at_most = omega (arith, c.address.ensures.counted, i.at_most, halved (middle - low) (high - low) (omega arith) (omega arith));
+      at_most =
+          omega
+          (arith, c.address.ensures.counted, i.at_most, halved (middle - low) (high - low) (omega arith) (omega arith));
     }

@@ -28,7 +28,9 @@ halves-preserved-then-indexes-sequence g c =
     record {
       some = before;
       within = i.within;
-      first = at_read units (λ (v : ListedUnit). v.first ≤ c.args.sequence) middle u (omega (arith, before, i.within)) c.index-units-middle.is from;
+      first =
+          at_read units (λ (v : ListedUnit). v.first ≤ c.args.sequence) middle u (omega (arith, before, i.within))
+          c.index-units-middle.is from;
       end = i.end;
     }
 
@@ -50,9 +52,11 @@ halves-preserved g c =
             arith,
             goes_on_at 0 units r.0 k d r.1 (omega (arith, is, within)),
             ap (λ (n : ℕ). (slice_index_or units n d).first) is,
-            at_read units (λ (v : ListedUnit). c.args.sequence < v.first) middle u within c.index-units-middle.is above d,
+            at_read units (λ (v : ListedUnit). c.args.sequence < v.first) middle u within c.index-units-middle.is above
+                d,
           );
     }
 
 pub returns-clause-end : goal.returns-clause-end
-returns-clause-end g c = λ d. c.halves.invariant.end c.halves.low d (omega (arith, c.halves.invariant.some, c.halves-test.false))
+returns-clause-end g c =
+    λ d. c.halves.invariant.end c.halves.low d (omega (arith, c.halves.invariant.some, c.halves-test.false))

@@ -17,4 +17,5 @@ loop-unit-preserved g c =
 pub returns-clause-ok : goal.returns-clause-ok
 returns-clause-ok g c =
     c.loop-unit.invariant
-    ∙ ap (λ (us : List ListedUnit). map without_header us) (take_all c.loop-unit.unit-index c.args.units.now (omega (arith, c.loop-unit-test.false)))
+    ∙ ap (λ (us : List ListedUnit). map without_header us)
+    (take_all c.loop-unit.unit-index c.args.units.now (omega (arith, c.loop-unit-test.false)))

@@ -9,7 +9,9 @@ use Rattle.gimli_lookup.proofs.SectionSearches.{none_searched, one_searched, all
 use Rattle.gimli_lookup.proofs.section_search.find_in_section.Goals as goal
 
 pub units-init : goal.units-init
-units-init g c = rw (c.new-units.ensures.items, c.new-pairs.ensures.items) (none_searched c.args.lowest c.args.addresses.now c.units-walk.result)
+units-init g c =
+    rw (c.new-units.ensures.items, c.new-pairs.ensures.items)
+    (none_searched c.args.lowest c.args.addresses.now c.units-walk.result)
 
 pub units-preserved : goal.units-preserved
 units-preserved g c =
@@ -25,19 +27,28 @@ units-preserved g c =
     let unit = c.in_ok-unit.unit in
     let size : c.len.result ≡ length c.units.units.items = search rules in
     rw c.in_ok-push.ensures.ok
-    (one_searched c.units-walk.result.section c.units-walk.result.entry c.args.lowest c.args.addresses.now c.units-walk.result.offsets c.units.units.items
+    (one_searched c.units-walk.result.section c.units-walk.result.entry c.args.lowest c.args.addresses.now
+    c.units-walk.result.offsets c.units.units.items
     c.units.pairs.items c.search.new.pairs.items
     c.units.walk c.next.new.self o c.in-Some.next.program unit c.units.invariant given c.in_ok-unit.ensures.offset
-    (subst (λ (n : ℕ). IsSearched c.args.lowest n c.args.addresses.now c.in-Some.next.program unit c.units.pairs.items c.search.new.pairs.items)
+    (subst (λ (n : ℕ).
+    IsSearched c.args.lowest n c.args.addresses.now c.in-Some.next.program unit c.units.pairs.items
+    c.search.new.pairs.items)
     size c.in_ok-unit.ensures.searched))
 
 pub returns-clause-ok : goal.returns-clause-ok
 returns-clause-ok g c =
     let none = rw c.in_default.is at c.in_ok-next.ensures.next in
     let walk = c.units-walk in
-    let offsets = subst (λ (s : Unread). AreUnits s.notation 0 s.bytes walk.result.offsets) (sym walk.ensures.section) walk.ensures.offsets in
-    let rows = subst (λ (ps : List CoveringRows). c.in_ok-rows.rows.items ≡ map (λ a. first_covering a ps) c.args.addresses.now) c.deref.ensures.value
+    let offsets =
+    subst (λ (s : Unread). AreUnits s.notation 0 s.bytes walk.result.offsets) (sym walk.ensures.section)
+    walk.ensures.offsets in
+    let rows =
+    subst
+    (λ (ps : List CoveringRows). c.in_ok-rows.rows.items ≡ map (λ a. first_covering a ps) c.args.addresses.now)
+    c.deref.ensures.value
     c.in_ok-rows.ensures.ok in
     rw (walk.ensures.section, walk.ensures.entry) at
-    (all_searched walk.result.section walk.result.entry c.args.lowest c.args.addresses.now walk.result.offsets c.units.units.items
+    (all_searched walk.result.section walk.result.entry c.args.lowest c.args.addresses.now walk.result.offsets
+    c.units.units.items
     c.units.pairs.items c.units.walk c.in_ok-rows.rows.items c.units.invariant none.0 offsets rows)

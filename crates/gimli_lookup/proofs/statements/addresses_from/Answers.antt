@@ -7,7 +7,8 @@ use Rattle.gimli_lookup.proofs.StatementRuns.{no_line, first_line, no_files}
 use Rattle.gimli_lookup.proofs.statements.addresses_from.Goals as goal
 
 pub returns-in_default-clause-ok : goal.returns-in_default-clause-ok
-returns-in_default-clause-ok c = no_line (is_among c.args.files.now) c.args.sequences.now c.args.asked c.in_default.ensures
+returns-in_default-clause-ok c =
+    no_line (is_among c.args.files.now) c.args.sequences.now c.args.asked c.in_default.ensures
 
 pub returns-clause-ok : goal.returns-clause-ok
 returns-clause-ok c =

@@ -15,7 +15,9 @@ loop-index-preserved c =
     let inside : i < length rows = omega arith in
     let before = λ (line : ℕ). has_statement is_file line (take i rows) in
     let here = λ (line : ℕ). is_statement is_file line row in
-    first_with_same (λ line. before line || here line) (λ line. has_statement is_file line (take (i + 1) rows)) c.args.asked c.lesser-first.result
-    (λ line. sym (ap (λ r. before line || is_statement is_file line r) (get_or_from_slice_get rows i row row c.row.ensures))
+    first_with_same (λ line. before line || here line) (λ line. has_statement is_file line (take (i + 1) rows))
+    c.args.asked c.lesser-first.result
+    (λ line. sym
+    (ap (λ r. before line || is_statement is_file line r) (get_or_from_slice_get rows i row row c.row.ensures))
     ∙ sym (list_any_more (is_statement is_file line) rows i row inside))
     (c.lesser-first.ensures before here c.args.asked c.loop-index.invariant c.statement_line.ensures)

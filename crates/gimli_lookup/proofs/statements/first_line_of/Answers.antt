@@ -14,6 +14,8 @@ loop-rows-preserved c =
     let inside : i < length all = omega arith in
     let before = λ (line : ℕ). have_statement is_file line (take i all) in
     let here = λ (line : ℕ). has_statement is_file line rows in
-    first_with_same (λ line. before line || here line) (λ line. have_statement is_file line (take (i + 1) all)) c.args.asked c.lesser-first.result
-    (λ line. ap (λ r. before line || has_statement is_file line r) c.rows-item.is ∙ sym (list_any_more (has_statement is_file line) all i rows inside))
+    first_with_same (λ line. before line || here line) (λ line. have_statement is_file line (take (i + 1) all))
+    c.args.asked c.lesser-first.result
+    (λ line. ap (λ r. before line || has_statement is_file line r) c.rows-item.is
+    ∙ sym (list_any_more (has_statement is_file line) all i rows inside))
     (c.lesser-first.ensures before here c.args.asked c.loop-rows.invariant c.first_line_in.ensures)

@@ -8,5 +8,10 @@ pub returns : goal.returns
 returns c = λ t.
     let rows = c.args.sequences.now in
     let i = c.loop-rows.invariant in
-    omega
-    (arith, i.count, i.fits, ap (λ (xs : List (List LineRow)). sum_by length xs) (take_all c.loop-rows.rows-index rows (omega (arith, c.loop-rows-test.false))))
+    omega (
+      arith,
+      i.count,
+      i.fits,
+      ap (λ (xs : List (List LineRow)). sum_by length xs)
+          (take_all c.loop-rows.rows-index rows (omega (arith, c.loop-rows-test.false))),
+    )

@@ -11,9 +11,11 @@ returns-in-Some-clause-is c =
     let end = c.next_unordered-end.result in
     let near = c.nearer.ensures in
     aside_found a sequences (Some c.in-Some.pair) c.nearer.result
-    (λ i d lt down. rows_nearer a (slice_index_or sequences i d) end c.nearer.result near.first (c.next_unordered-end.ensures.clear i d lt down))
+    (λ i d lt down. rows_nearer a (slice_index_or sequences i d) end c.nearer.result near.first
+    (c.next_unordered-end.ensures.clear i d lt down))
     (λ b before. omega (arith, near.second b before, c.address.ensures)) c.in-Some.ensures.found
 
 pub returns-in-None-clause-is : goal.returns-in-None-clause-is
 returns-in-None-clause-is c =
-    aside_found c.args.a c.args.sequences.now None c.next_unordered-end.result c.next_unordered-end.ensures.clear (λ b before. tt) c.in-None.ensures.found
+    aside_found c.args.a c.args.sequences.now None c.next_unordered-end.result c.next_unordered-end.ensures.clear
+    (λ b before. tt) c.in-None.ensures.found

@@ -1,7 +1,8 @@
 use Rattle.std.proofs.Common.{◌+◌, ◌<◌, ℕ, List, length, drop, subst, arith}
 use Rattle.std.specs.Prelude.{slice_index_or}
 use Rattle.std.proofs.lemmas.List.{drop_more, drop_all}
-use Rattle.gimli_lookup.proofs.Unordered.{Scanned, next_within, next_fits, none_before_end, first_unordered, more_at_most, scan_more, none_scanned}
+use Rattle.gimli_lookup.proofs.Unordered.{Scanned, next_within, next_fits, none_before_end, first_unordered}
+use Rattle.gimli_lookup.proofs.Unordered.{more_at_most, scan_more, none_scanned}
 use Rattle.gimli_lookup.proofs.Unordered.{end_at_least}
 use Rattle.gimli_lookup.proofs.step_table.find_unordered.Goals as goal
 
@@ -13,8 +14,10 @@ returns-then-end-index-clause-found c =
     let index = slice_index_or indexes l.index-index 0 in
     let within : l.index-index < length indexes = omega arith in
     let scanned =
-    subst (λ (left : List ℕ). Scanned c.args.a sequences left c.args.probes.now l.probes) (drop_more indexes l.index-index 0 within) l.invariant in
-    none_before_end c.args.a sequences index (drop (l.index-index + 1) indexes) c.args.probes.now l.probes scanned c.args.end c.if-end-index.true
+    subst (λ (left : List ℕ). Scanned c.args.a sequences left c.args.probes.now l.probes)
+    (drop_more indexes l.index-index 0 within) l.invariant in
+    none_before_end c.args.a sequences index (drop (l.index-index + 1) indexes) c.args.probes.now l.probes scanned
+    c.args.end c.if-end-index.true
 
 pub returns-then-end-index-clause-at_least : goal.returns-then-end-index-clause-at_least
 returns-then-end-index-clause-at_least c = λ is_all some.
@@ -24,8 +27,10 @@ returns-then-end-index-clause-at_least c = λ is_all some.
     let index = slice_index_or indexes l.index-index 0 in
     let within : l.index-index < length indexes = omega arith in
     let scanned =
-    subst (λ (left : List ℕ). Scanned c.args.a sequences left c.args.probes.now l.probes) (drop_more indexes l.index-index 0 within) l.invariant in
-    let inside = next_within c.args.a sequences index (drop (l.index-index + 1) indexes) c.args.probes.now l.probes scanned in
+    subst (λ (left : List ℕ). Scanned c.args.a sequences left c.args.probes.now l.probes)
+    (drop_more indexes l.index-index 0 within) l.invariant in
+    let inside =
+    next_within c.args.a sequences index (drop (l.index-index + 1) indexes) c.args.probes.now l.probes scanned in
     absurd (omega (arith, inside, is_all, c.if-end-index.true))
 
 pub find_by_scan-requires : goal.find_by_scan-requires
@@ -36,10 +41,12 @@ find_by_scan-requires c =
     let index = slice_index_or indexes l.index-index 0 in
     let within : l.index-index < length indexes = omega arith in
     let scanned =
-    subst (λ (left : List ℕ). Scanned c.args.a sequences left c.args.probes.now l.probes) (drop_more indexes l.index-index 0 within) l.invariant in
+    subst (λ (left : List ℕ). Scanned c.args.a sequences left c.args.probes.now l.probes)
+    (drop_more indexes l.index-index 0 within) l.invariant in
     record {
       count =
-          next_fits c.args.a sequences index (drop (l.index-index + 1) indexes) c.args.probes.now l.probes scanned c.index-sequences-index.result
+          next_fits c.args.a sequences index (drop (l.index-index + 1) indexes) c.args.probes.now l.probes scanned
+          c.index-sequences-index.result
           c.index-sequences-index.is c.requires.count;
     }
 
@@ -51,8 +58,10 @@ returns-in-Some-clause-found c =
     let index = slice_index_or indexes l.index-index 0 in
     let within : l.index-index < length indexes = omega arith in
     let scanned =
-    subst (λ (left : List ℕ). Scanned c.args.a sequences left c.args.probes.now l.probes) (drop_more indexes l.index-index 0 within) l.invariant in
-    first_unordered c.args.a sequences index (drop (l.index-index + 1) indexes) c.args.probes.now l.probes scanned c.args.end c.index-sequences-index.result
+    subst (λ (left : List ℕ). Scanned c.args.a sequences left c.args.probes.now l.probes)
+    (drop_more indexes l.index-index 0 within) l.invariant in
+    first_unordered c.args.a sequences index (drop (l.index-index + 1) indexes) c.args.probes.now l.probes scanned
+    c.args.end c.index-sequences-index.result
     c.in-Some.row c.in-Some.next c.if-end-index.false c.index-sequences-index.is c.in-Some.ensures.pair
 
 pub returns-in-Some-clause-at_most : goal.returns-in-Some-clause-at_most
@@ -63,10 +72,13 @@ returns-in-Some-clause-at_most c =
     let index = slice_index_or indexes l.index-index 0 in
     let within : l.index-index < length indexes = omega arith in
     let scanned =
-    subst (λ (left : List ℕ). Scanned c.args.a sequences left c.args.probes.now l.probes) (drop_more indexes l.index-index 0 within) l.invariant in
-    more_at_most c.args.a sequences index (drop (l.index-index + 1) indexes) c.args.probes.now l.probes scanned c.index-sequences-index.result
+    subst (λ (left : List ℕ). Scanned c.args.a sequences left c.args.probes.now l.probes)
+    (drop_more indexes l.index-index 0 within) l.invariant in
+    more_at_most c.args.a sequences index (drop (l.index-index + 1) indexes) c.args.probes.now l.probes scanned
+    c.index-sequences-index.result
     c.index-sequences-index.is
-    c.find_by_scan.new.probes c.find_by_scan.ensures.grows c.find_by_scan.ensures.at_least c.find_by_scan.ensures.at_most
+    c.find_by_scan.new.probes c.find_by_scan.ensures.grows c.find_by_scan.ensures.at_least
+    c.find_by_scan.ensures.at_most
 
 pub loop-index-preserved : goal.loop-index-preserved
 loop-index-preserved c =
@@ -76,10 +88,13 @@ loop-index-preserved c =
     let index = slice_index_or indexes l.index-index 0 in
     let within : l.index-index < length indexes = omega arith in
     let scanned =
-    subst (λ (left : List ℕ). Scanned c.args.a sequences left c.args.probes.now l.probes) (drop_more indexes l.index-index 0 within) l.invariant in
-    scan_more c.args.a sequences index (drop (l.index-index + 1) indexes) c.args.probes.now l.probes scanned c.index-sequences-index.result
+    subst (λ (left : List ℕ). Scanned c.args.a sequences left c.args.probes.now l.probes)
+    (drop_more indexes l.index-index 0 within) l.invariant in
+    scan_more c.args.a sequences index (drop (l.index-index + 1) indexes) c.args.probes.now l.probes scanned
+    c.index-sequences-index.result
     c.index-sequences-index.is
-    c.find_by_scan.new.probes c.find_by_scan.ensures.grows c.find_by_scan.ensures.at_least c.find_by_scan.ensures.at_most c.in_default.ensures.pair
+    c.find_by_scan.new.probes c.find_by_scan.ensures.grows c.find_by_scan.ensures.at_least
+    c.find_by_scan.ensures.at_most c.in_default.ensures.pair
 
 pub returns-clause-found : goal.returns-clause-found
 returns-clause-found c =

@@ -4,7 +4,9 @@ use Rattle.gimli_lookup.proofs.StepLists.{none_before, last_before}
 use Rattle.gimli_lookup.proofs.step_table.last_of_steps.Goals as goal
 
 pub returns-then-count-eq0 : goal.returns-then-count-eq0
-returns-then-count-eq0 c = sym (none_before c.args.a c.args.steps.now (λ k d le lt. c.requires.after k d (omega (arith, c.if-count-eq0.true)) lt))
+returns-then-count-eq0 c =
+    sym (none_before c.args.a c.args.steps.now (λ k d le lt.
+    c.requires.after k d (omega (arith, c.if-count-eq0.true)) lt))
 
 pub returns : goal.returns
 returns c =
@@ -15,6 +17,7 @@ returns c =
     let some : 0 < count = omega arith in
     let within : index < length steps = omega (arith, there.index) in
     let s = get_or steps index (record { from = 0; sequence = None }) in
-    sym (last_before c.args.a steps index s within (get_or_default steps index s (record { from = 0; sequence = None }) within)
+    sym (last_before c.args.a steps index s within
+    (get_or_default steps index s (record { from = 0; sequence = None }) within)
     (there.before index (record { from = 0; sequence = None }) (omega arith))
     (λ k d le lt. there.after k d (omega arith) lt))

@@ -13,12 +13,20 @@ loop-low-preserved-then-address_of_step-a c =
     record {
       low = omega arith;
       high = i.high;
-      before = λ k d lt. omega (arith, c.requires.order k middle d (omega arith) inside, c.address_of_step.ensures.address d);
+      before =
+          λ k d lt.
+          omega (arith, c.requires.order k middle d (omega arith) inside, c.address_of_step.ensures.address d);
       after = i.after;
       count = omega (arith, c.address_of_step.ensures.counted, i.count);
       grows = omega (arith, c.address_of_step.ensures.counted, i.grows);
       at_least = λ lt. omega (arith, c.address_of_step.ensures.counted, i.grows);
-      at_most = omega (arith, c.address_of_step.ensures.counted, i.at_most, halved (high - (middle + 1)) (high - low) (omega arith) (omega arith));
+      at_most =
+          omega (
+            arith,
+            c.address_of_step.ensures.counted,
+            i.at_most,
+            halved (high - (middle + 1)) (high - low) (omega arith) (omega arith),
+          );
     }
 
 pub loop-low-preserved : goal.loop-low-preserved
@@ -37,5 +45,11 @@ loop-low-preserved c =
       count = omega (arith, c.address_of_step.ensures.counted, i.count);
       grows = omega (arith, c.address_of_step.ensures.counted, i.grows);
       at_least = λ lt. omega (arith, c.address_of_step.ensures.counted, i.grows);
-      at_most = omega (arith, c.address_of_step.ensures.counted, i.at_most, halved (middle - low) (high - low) (omega arith) (omega arith));
+      at_most =
+          omega (
+            arith,
+            c.address_of_step.ensures.counted,
+            i.at_most,
+            halved (middle - low) (high - low) (omega arith) (omega arith),
+          );
     }

@@ -17,12 +17,15 @@ returns-clause-ok t c =
     let right = c.in_ok-right.right.items in
     let size : middle ≡ length (take middle sequences) = sym (length-take-le middle sequences (omega arith)) in
     let of_right : AreStepsOf (first + middle) (drop middle sequences) right =
-    subst (λ (xs : List (List LineRow)). AreStepsOf (first + middle) xs right) (take_rest sequences middle) c.in_ok-right.ensures.ok in
+    subst (λ (xs : List (List LineRow)). AreStepsOf (first + middle) xs right) (take_rest sequences middle)
+    c.in_ok-right.ensures.ok in
     let of_right_part : AreStepsOf (first + length (take middle sequences)) (drop middle sequences) right =
     subst (λ (n : ℕ). AreStepsOf (first + n) (drop middle sequences) right) size of_right in
-    IfOk-weaker c.join.result (λ (steps : Vec Step Global). AreJoined left right steps.items) (λ (steps : Vec Step Global).
+    IfOk-weaker c.join.result (λ (steps : Vec Step Global). AreJoined left right steps.items)
+    (λ (steps : Vec Step Global).
     AreStepsOf first sequences steps.items)
     (λ (steps : Vec Step Global) (joined : AreJoined left right steps.items).
     subst (λ (xs : List (List LineRow)). AreStepsOf first xs steps.items) (take-append-drop middle sequences)
-    (joined_steps first (take middle sequences) (drop middle sequences) left right steps.items c.in_ok-left.ensures.ok of_right_part joined))
+    (joined_steps first (take middle sequences) (drop middle sequences) left right steps.items c.in_ok-left.ensures.ok
+    of_right_part joined))
     c.join.ensures.ok

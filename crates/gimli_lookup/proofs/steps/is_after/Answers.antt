@@ -13,7 +13,8 @@ returns-in-Some-Some c = λ t i j d i_within j_within.
     omega (
       arith,
       leb-true last.from first.from t,
-      ap (λ (s : Step). s.from) (get_or_from_slice_get left (length left - 1) last d (sym c.in-Some-Some.ensures.value)),
+      ap (λ (s : Step). s.from)
+          (get_or_from_slice_get left (length left - 1) last d (sym c.in-Some-Some.ensures.value)),
       ap (λ (s : Step). s.from) (get_or_from_slice_get right 0 first d (sym c.in-Some-Some.ensures'.value)),
       c.requires.left_order i (length left - 1) d (omega arith) (omega arith),
       c.requires.right_order 0 j d (omega arith) j_within,

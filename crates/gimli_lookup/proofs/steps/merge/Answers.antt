@@ -13,13 +13,25 @@ loop-preserved c = elim c.if-is_left_next.branch [
       let lt : l.next_left < length left = w.if-is_left_next.ensures.left refl in
       let s = get_or left l.next_left (record { from = 0; sequence = None }) in
       let walked =
-      walk_left left c.args.right.now l.merged.items l.next_left l.next_right l.by_left l.by_right l.from l.invariant.walked s c.requires.left_order
+      walk_left left c.args.right.now l.merged.items l.next_left l.next_right l.by_left l.by_right l.from
+      l.invariant.walked s c.requires.left_order
       c.requires.right_order lt
       (get_or_default left l.next_left s (record { from = 0; sequence = None }) lt)
       (λ r d. let first = w.if-is_left_next.ensures.left_first refl r d in
-      let same = ap (λ (t : Step). t.from) (get_or_default left l.next_left d (record { from = 0; sequence = None }) lt) in omega arith) in
+      let same = ap (λ (t : Step).
+      t.from) (get_or_default left l.next_left d (record { from = 0; sequence = None }) lt) in omega arith) in
       record {
-        walked = rw (c.in_ok-push_step.ensures.ok, c.or.ensures, w.next_left-is, w.next_right-is, w.by_left-is, w.by_right-is, w.from-is) walked;
+        walked =
+            rw (
+              c.in_ok-push_step.ensures.ok,
+              c.or.ensures,
+              w.next_left-is,
+              w.next_right-is,
+              w.by_left-is,
+              w.by_right-is,
+              w.from-is,
+            )
+            walked;
         count = omega (arith, w.next_left-is, w.next_right-is, l.invariant.count);
       }
   | else-is_left_next w ↦
@@ -28,13 +40,25 @@ loop-preserved c = elim c.if-is_left_next.branch [
       let lt : l.next_right < length right = w.if-is_left_next.ensures.right refl in
       let s = get_or right l.next_right (record { from = 0; sequence = None }) in
       let walked =
-      walk_right c.args.left.now right l.merged.items l.next_left l.next_right l.by_left l.by_right l.from l.invariant.walked s c.requires.left_order
+      walk_right c.args.left.now right l.merged.items l.next_left l.next_right l.by_left l.by_right l.from
+      l.invariant.walked s c.requires.left_order
       c.requires.right_order lt
       (get_or_default right l.next_right s (record { from = 0; sequence = None }) lt)
       (λ r d. let first = w.if-is_left_next.ensures.right_first refl r d in
-      let same = ap (λ (t : Step). t.from) (get_or_default right l.next_right d (record { from = 0; sequence = None }) lt) in omega arith) in
+      let same = ap (λ (t : Step).
+      t.from) (get_or_default right l.next_right d (record { from = 0; sequence = None }) lt) in omega arith) in
       record {
-        walked = rw (c.in_ok-push_step.ensures.ok, c.or.ensures, w.next_left-is, w.next_right-is, w.by_left-is, w.by_right-is, w.from-is) walked;
+        walked =
+            rw (
+              c.in_ok-push_step.ensures.ok,
+              c.or.ensures,
+              w.next_left-is,
+              w.next_right-is,
+              w.by_left-is,
+              w.by_right-is,
+              w.from-is,
+            )
+            walked;
         count = omega (arith, w.next_left-is, w.next_right-is, l.invariant.count);
       }
 ]

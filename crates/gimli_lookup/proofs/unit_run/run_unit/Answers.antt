@@ -15,11 +15,16 @@ returns-clause-kept g c =
     let old = c.rows-run.result in
     let new = c.take_rows.new.run in
     let fault = c.in_ok-fault.fault in
-    let taken = subst (λ (from : SequenceCut). AreTaken old new fault from c.take_rows.new.cut) c.new-cut.ensures c.in_ok-fault.ensures.ok in
-    subst (λ (kept : List (List LineRow)). IsKept c.args.program.notation c.args.lowest c.args.program.meaning (header_of new) fault kept)
+    let taken =
+    subst (λ (from : SequenceCut). AreTaken old new fault from c.take_rows.new.cut) c.new-cut.ensures
+    c.in_ok-fault.ensures.ok in
+    subst (λ (kept : List (List LineRow)).
+    IsKept c.args.program.notation c.args.lowest c.args.program.meaning (header_of new) fault kept)
     (sym c.into_parts.ensures)
-    (is_kept c.args.lowest c.args.program.meaning (source_of g.R.Reader.big g.R.Offset.ReaderOffset.number c.args.program)
+    (is_kept c.args.lowest c.args.program.meaning
+    (source_of g.R.Reader.big g.R.Offset.ReaderOffset.number c.args.program)
     old new fault c.take_rows.new.cut c.rows-run.ensures.start c.rows-run.ensures.made c.rows-run.ensures.files taken)
 
 pub returns-clause-run : goal.returns-clause-run
-returns-clause-run g c = subst (λ (a : RunState). KeepsRun a c.take_rows.new.run) c.rows-run.ensures.start c.in_ok-fault.ensures.ok.keeps.run
+returns-clause-run g c =
+    subst (λ (a : RunState). KeepsRun a c.take_rows.new.run) c.rows-run.ensures.start c.in_ok-fault.ensures.ok.keeps.run

@@ -10,6 +10,7 @@ returns c x y =
     let writes = c.equal_errors_are_same-2.ensures in
     let same =
     or (one reads) (or (one writes) (or none (or none (or none (or none (or none (or none (or none (or none (or none
-    (or none (or none (or none (or none (or none (or none (or none (or none (or none (or none (or none (or none (or none (end _)))))))))))))))))))))))) in
+    (or none (or none (or none (or none (or none
+    (or none (or none (or none (or none (or none (or none (or none (or none (end _)))))))))))))))))))))))) in
     let parts = same (as_values x) (as_values y) in
     (λ e. values_one enum x y (parts.0 e), λ e. parts.1 (ap as_values e))

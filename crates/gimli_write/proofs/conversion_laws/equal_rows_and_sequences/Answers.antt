@@ -28,5 +28,6 @@ the_end x y =
 pub returns-clause-sequence : goal.returns-clause-sequence
 returns-clause-sequence c a b =
     whole (both (starts _ _) (both (the_end _ _) (slice_eq-Decides row-Decides _ _ _ refl)))
-    (λ p. let same : sequence_with a.start a.rows.items a.end ≡ sequence_with b.start b.rows.items b.end = rw (p.0, p.1.0, p.1.1) refl in same)
+    (λ p. let same : sequence_with a.start a.rows.items a.end
+    ≡ sequence_with b.start b.rows.items b.end = rw (p.0, p.1.0, p.1.1) refl in same)
     (λ e. (ap (λ s. s.start) e, (ap (λ s. s.end) e, ap (λ s. s.rows) e)))

@@ -18,6 +18,7 @@ loop-file-preserved g c =
     let i = c.loop-file.file-index in
     let lt : i < length c.args.files.now = omega arith in
     rw c.in_ok-push.ensures.items
-    (one_by_one_more (IsFileAnswer c.args.sections.now) seen file_answer c.args.files.now c.loop-file.answers.items i c.file-item.result
+    (one_by_one_more (IsFileAnswer c.args.sections.now) seen file_answer c.args.files.now c.loop-file.answers.items i
+    c.file-item.result
     c.in_ok-read_file.field-0
     lt c.file-item.is c.loop-file.invariant c.in_ok-read_file.ensures.ok)

@@ -10,7 +10,8 @@ pub texts-requires : goal.texts-requires
 texts-requires g c =
     let seen = value_seen g.R.Reader.bytes g.R.Offset.ReaderOffset.number in
     All-same (HasText c.args.sections.now) _ _
-    (ap (map seen) c.as_slice.ensures.value ∙ c.in_ok-directory_values.ensures.ok ∙ ap (λ h. directories_from_zero h.meaning) c.header.ensures)
+    (ap (map seen) c.as_slice.ensures.value ∙ c.in_ok-directory_values.ensures.ok
+    ∙ ap (λ h. directories_from_zero h.meaning) c.header.ensures)
     c.requires.directories
 
 pub read_files-requires : goal.read_files-requires

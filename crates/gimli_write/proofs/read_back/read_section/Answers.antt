@@ -1,7 +1,8 @@
 use Rattle.std.proofs.Common.{◌∙◌, drop}
 use Rattle.gimli_write.specs.RoundTrip.{slice_notation}
 use Rattle.gimli_write.specs.inside.RoundTrip.{unit_entry_with}
-use Rattle.gimli_write.proofs.ReadUnits.{same_unit, same_fault, same_sections, same_notation, same_header, texts_there, header_refused, same_answers}
+use Rattle.gimli_write.proofs.ReadUnits.{same_unit, same_fault, same_sections, same_notation, same_header, texts_there}
+use Rattle.gimli_write.proofs.ReadUnits.{header_refused, same_answers}
 use Rattle.gimli_write.proofs.ReadUnits.{same_refusal}
 use Rattle.gimli_write.proofs.read_back.read_section.Goals as goal
 
@@ -15,7 +16,8 @@ read_program-requires g c =
     same_unit _ _ _ _ _ _ _ _ _ h c.new-section.ensures.order
     c.new-directory.ensures.bytes c.new-section.ensures.bytes c.in-Ok.ensures.unit in
     let is =
-    same_sections _ _ _ _ _ (c.new.ensures.bytes ∙ c.as_slice.ensures.value) (c.new-2.ensures.bytes ∙ c.as_slice-2.ensures.value)
+    same_sections _ _ _ _ _ (c.new.ensures.bytes ∙ c.as_slice.ensures.value)
+    (c.new-2.ensures.bytes ∙ c.as_slice-2.ensures.value)
     c.sections.view_is in
     rw is (texts_there (slice_notation big) unit_entry bytes _ h c.requires.unit unit)
 
@@ -29,7 +31,8 @@ returns-in-Ok-clause-ok g c h begins =
     same_unit _ _ _ _ _ _ _ _ _ k c.new-section.ensures.order
     c.new-directory.ensures.bytes c.new-section.ensures.bytes c.in-Ok.ensures.unit in
     let is =
-    same_sections _ _ _ _ _ (c.new.ensures.bytes ∙ c.as_slice.ensures.value) (c.new-2.ensures.bytes ∙ c.as_slice-2.ensures.value)
+    same_sections _ _ _ _ _ (c.new.ensures.bytes ∙ c.as_slice.ensures.value)
+    (c.new-2.ensures.bytes ∙ c.as_slice-2.ensures.value)
     c.sections.view_is in
     let n = same_notation _ _ _ _ c.in-Ok.ensures.notation c.new-section.ensures.order in
     same_answers _ _ _ _ _ k h n is

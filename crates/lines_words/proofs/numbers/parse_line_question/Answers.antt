@@ -20,16 +20,26 @@ returns-in_err-name-clause-only c = λ name address t. absurd (c.in_err-name.ens
 
 pub returns-then-is_empty-clause-only : goal.returns-then-is_empty-clause-only
 returns-then-is_empty-clause-only c = λ name address t.
-    let k = parts_same c.args.line.now c.in_ok-name.name.now c.in_ok-name.word.now c.in_ok-name.ensures name t.word t.parts in
+    let k =
+    parts_same c.args.line.now c.in_ok-name.name.now c.in_ok-name.word.now c.in_ok-name.ensures name t.word
+    t.parts in
     let none : length c.in_ok-name.name.now ≡ 0 = search rules in
     t.some (sym k.0 ∙ nil_from_length c.in_ok-name.name.now none)
 
 pub returns-in_err-address-clause-only : goal.returns-in_err-address-clause-only
 returns-in_err-address-clause-only c = λ name address t.
-    let k = parts_same c.args.line.now c.in_ok-name.name.now c.in_ok-name.word.now c.in_ok-name.ensures name t.word t.parts in
-    absurd (none_some address (c.in_err-address.ensures.only address (subst (λ d. NamesAddress d address) (sym k.1) t.address_named)))
+    let k =
+    parts_same c.args.line.now c.in_ok-name.name.now c.in_ok-name.word.now c.in_ok-name.ensures name t.word
+    t.parts in
+    absurd (none_some address
+    (c.in_err-address.ensures.only address (subst (λ d. NamesAddress d address) (sym k.1) t.address_named)))
 
 pub returns-clause-only : goal.returns-clause-only
 returns-clause-only c = λ name address t.
-    let k = parts_same c.args.line.now c.in_ok-name.name.now c.in_ok-name.word.now c.in_ok-name.ensures name t.word t.parts in
-    (k.0, some_same c.in_ok-address.address address (c.in_ok-address.ensures.only address (subst (λ d. NamesAddress d address) (sym k.1) t.address_named)))
+    let k =
+    parts_same c.args.line.now c.in_ok-name.name.now c.in_ok-name.word.now c.in_ok-name.ensures name t.word
+    t.parts in (
+      k.0,
+      some_same c.in_ok-address.address address
+          (c.in_ok-address.ensures.only address (subst (λ d. NamesAddress d address) (sym k.1) t.address_named)),
+    )

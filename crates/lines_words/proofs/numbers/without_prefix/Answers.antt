@@ -1,11 +1,13 @@
-use Rattle.std.proofs.Common.{rules, arith, ◌≡◌, ◌≢◌, ℕ, List, Some, None, Option, MatchOption, is_none, [], ◌∷◌, drop, Bor, sym, ap, ◌∙◌, ⊎_elim, inr}
+use Rattle.std.proofs.Common.{rules, arith, ◌≡◌, ◌≢◌, ℕ, List, Some, None, Option, MatchOption, is_none, [], ◌∷◌, drop}
+use Rattle.std.proofs.Common.{Bor, sym, ap, ◌∙◌, ⊎_elim, inr}
 use mathlib.Core.Bool.{true≢false}
 use Rattle.std.proofs.lemmas.Str.Pattern.{strip_prefix_char}
 use Rattle.lines_words.specs.Words.{HasPrefix}
 use Rattle.lines_words.proofs.numbers.without_prefix.Goals as goal
 
 -- a word after its first byte
-after_first : (word rest digits : List ℕ) (r : Option (Bor (List ℕ))) → word ≡ 48 ∷ rest → ((after : List ℕ) → rest ≢ 120 ∷ after)
+after_first : (word rest digits : List ℕ) (r : Option (Bor (List ℕ))) → word ≡ 48 ∷ rest
+    → ((after : List ℕ) → rest ≢ 120 ∷ after)
     → MatchOption r ((after : List ℕ) → rest ≢ 88 ∷ after) (λ x. rest ≡ 88 ∷ x.now)
     → MatchOption r ((digits : List ℕ) → HasPrefix word digits → ⊥) (λ digits. HasPrefix word digits.now)
 after_first word rest digits None e small capital =
@@ -20,15 +22,19 @@ no_first word (Some x) e none = absurd (true≢false (sym (ap is_none e)))
 
 pub returns-in_err-rest : goal.returns-in_err-rest
 returns-in_err-rest c =
-    let none : (rest : List ℕ) → c.args.word.now ≢ 48 ∷ rest = strip_prefix_char 48 c.args.word.now None c.in_err-rest.ensures.cases (omega arith) in
+    let none : (rest : List ℕ)
+    → c.args.word.now
+    ≢ 48 ∷ rest = strip_prefix_char 48 c.args.word.now None c.in_err-rest.ensures.cases (omega arith) in
     record { cases = no_first c.args.word.now c.from_residual.result (search rules) none }
 
 pub returns-in-None : goal.returns-in-None
 returns-in-None c =
     let rest = c.in_ok-rest.rest in
-    let whole : c.args.word.now ≡ 48 ∷ rest.now = strip_prefix_char 48 c.args.word.now (Some rest) c.in_ok-rest.ensures.cases (omega arith) in
+    let whole : c.args.word.now
+    ≡ 48 ∷ rest.now = strip_prefix_char 48 c.args.word.now (Some rest) c.in_ok-rest.ensures.cases (omega arith) in
     record {
       cases = after_first c.args.word.now rest.now [] c.strip_prefix-in-None.result whole
           (strip_prefix_char 120 rest.now None c.in-None.ensures.cases (omega arith))
-          (strip_prefix_char 88 rest.now c.strip_prefix-in-None.result c.strip_prefix-in-None.ensures.cases (omega arith));
+          (strip_prefix_char 88 rest.now c.strip_prefix-in-None.result c.strip_prefix-in-None.ensures.cases
+          (omega arith));
     }

@@ -21,5 +21,7 @@ returns-then-is_all_blank c = (
 pub returns-in-None : goal.returns-in-None
 returns-in-None c = (
   λ t. absurd (true≢false (sym t)),
-  λ e. absurd (strip_prefix_is Decides-eqb c.args.expected.now c.args.got.now None c.in-None.ensures.cases e.gap e.parts),
+  λ e.
+      absurd
+      (strip_prefix_is Decides-eqb c.args.expected.now c.args.got.now None c.in-None.ensures.cases e.gap e.parts),
 )

@@ -13,20 +13,24 @@ use Rattle.elf_sections.proofs.relocating.Relocator.apply_all.Goals.{then-reloca
 
 pub returns-in_err-apply_section : goal.returns-in_err-apply_section
 returns-in_err-apply_section c =
-    let step : List ℕ → SectionHeader → Result (List ℕ) ElfError = section_applied (file_of c.args.self.now.elf) c.args.self.now.place in
+    let step : List ℕ → SectionHeader
+    → Result (List ℕ) ElfError = section_applied (file_of c.args.self.now.elf) c.args.self.now.place in
     let q : SectionHeader → Bool = relocates c.args.index in
     let table = c.args.self.now.elf.table in
     let f : ℕ → SectionHeader = header_of table.layout table.entry_size table.entries.now in
     let p = err_from_is_err_and c.from_residual.result c.from_residual.ensures.1 in
     rw (p.1, p.2) (sym (c.loop-other.invariant
     ∙ kept_passes step q f table.count c.loop-other.other c.loop-other.bytes c.header-header.result
-    (subst (λ (end : ℕ). c.loop-other.other < end) c.len-other-end.ensures c.loop-other-test.true) c.header-header.ensures
+    (subst (λ (end : ℕ). c.loop-other.other < end) c.len-other-end.ensures c.loop-other-test.true)
+    c.header-header.ensures
     (sym c.relocates.ensures ∙ c.if-relocates.true)
-    ∙ ap (λ (r : Result (List ℕ) ElfError). r >>= λ s. kept_from step q f table.count (c.loop-other.other + 1) s) (sym c.in_err-apply_section.ensures)))
+    ∙ ap (λ (r : Result (List ℕ) ElfError). r >>= λ s. kept_from step q f table.count (c.loop-other.other + 1) s)
+    (sym c.in_err-apply_section.ensures)))
 
 pub loop-other-preserved : goal.loop-other-preserved
 loop-other-preserved c =
-    let step : List ℕ → SectionHeader → Result (List ℕ) ElfError = section_applied (file_of c.args.self.now.elf) c.args.self.now.place in
+    let step : List ℕ → SectionHeader
+    → Result (List ℕ) ElfError = section_applied (file_of c.args.self.now.elf) c.args.self.now.place in
     let q : SectionHeader → Bool = relocates c.args.index in
     let table = c.args.self.now.elf.table in
     let f : ℕ → SectionHeader = header_of table.layout table.entry_size table.entries.now in
@@ -34,12 +38,15 @@ loop-other-preserved c =
     = subst (λ (end : ℕ). c.loop-other.other < end) c.len-other-end.ensures c.loop-other-test.true in
     elim c.if-relocates.branch [
       | then-relocates+in_ok-apply_section w ↦ c.loop-other.invariant
-          ∙ kept_passes step q f table.count c.loop-other.other c.loop-other.bytes c.header-header.result within c.header-header.ensures
+          ∙ kept_passes step q f table.count c.loop-other.other c.loop-other.bytes c.header-header.result within
+          c.header-header.ensures
           (sym c.relocates.ensures ∙ w.if-relocates.true)
-          ∙ ap (λ (r : Result (List ℕ) ElfError). r >>= λ s. kept_from step q f table.count (c.loop-other.other + 1) s) (sym w.in_ok-apply_section.ensures)
+          ∙ ap (λ (r : Result (List ℕ) ElfError). r >>= λ s. kept_from step q f table.count (c.loop-other.other + 1) s)
+          (sym w.in_ok-apply_section.ensures)
           ∙ ap (kept_from step q f table.count (c.loop-other.other + 1)) (sym w.bytes-is)
       | else-relocates w ↦ c.loop-other.invariant
-          ∙ kept_fails step q f table.count c.loop-other.other c.loop-other.bytes c.header-header.result within c.header-header.ensures
+          ∙ kept_fails step q f table.count c.loop-other.other c.loop-other.bytes c.header-header.result within
+          c.header-header.ensures
           (sym c.relocates.ensures ∙ w.if-relocates.false)
           ∙ ap (kept_from step q f table.count (c.loop-other.other + 1)) (sym w.bytes-is)
     ]

@@ -12,7 +12,9 @@ use Rattle.elf_sections.proofs.relocating.Relocator.apply_entries.Goals as goal
 pub returns-in_err-apply : goal.returns-in_err-apply
 returns-in_err-apply c =
     let step : List ℕ → List ℕ → Result (List ℕ) ElfError
-    = entry_applied (file_of c.args.self.now.elf) c.args.self.now.place c.args.form (entries c.args.symbols.now.size c.args.symbols.now.bytes.now) in
+    =
+    entry_applied (file_of c.args.self.now.elf) c.args.self.now.place c.args.form
+    (entries c.args.symbols.now.size c.args.symbols.now.bytes.now) in
     let f : ℕ → List ℕ = λ index. drop (index * c.args.all.now.size) c.args.all.now.bytes.now in
     let n : ℕ = length c.args.all.now.bytes.now / c.args.all.now.size in
     let p = err_from_is_err_and c.from_residual.result c.from_residual.ensures.1 in
@@ -20,20 +22,26 @@ returns-in_err-apply c =
     ∙ steps_next step f n c.loop-index.index c.loop-index.bytes c.at.result.now
     (subst (λ (end : ℕ). c.loop-index.index < end) c.count-index-end.ensures c.loop-index-test.true) c.at.ensures.value
     ∙ ap (λ (r : Result (List ℕ) ElfError). r >>= λ s. steps_from step f n (c.loop-index.index + 1) s)
-    (ap (λ (entry : Relocation). applied (file_of c.args.self.now.elf) c.args.self.now.place (entries c.args.symbols.now.size c.args.symbols.now.bytes.now)
+    (ap (λ (entry : Relocation).
+    applied (file_of c.args.self.now.elf) c.args.self.now.place
+    (entries c.args.symbols.now.size c.args.symbols.now.bytes.now)
     c.loop-index.bytes entry) (sym c.parse-entry.ensures)
     ∙ sym c.in_err-apply.ensures)))
 
 pub loop-index-preserved : goal.loop-index-preserved
 loop-index-preserved c =
     let step : List ℕ → List ℕ → Result (List ℕ) ElfError
-    = entry_applied (file_of c.args.self.now.elf) c.args.self.now.place c.args.form (entries c.args.symbols.now.size c.args.symbols.now.bytes.now) in
+    =
+    entry_applied (file_of c.args.self.now.elf) c.args.self.now.place c.args.form
+    (entries c.args.symbols.now.size c.args.symbols.now.bytes.now) in
     let f : ℕ → List ℕ = λ index. drop (index * c.args.all.now.size) c.args.all.now.bytes.now in
     let n : ℕ = length c.args.all.now.bytes.now / c.args.all.now.size in
     c.loop-index.invariant
     ∙ steps_next step f n c.loop-index.index c.loop-index.bytes c.at.result.now
     (subst (λ (end : ℕ). c.loop-index.index < end) c.count-index-end.ensures c.loop-index-test.true) c.at.ensures.value
     ∙ ap (λ (r : Result (List ℕ) ElfError). r >>= λ s. steps_from step f n (c.loop-index.index + 1) s)
-    (ap (λ (entry : Relocation). applied (file_of c.args.self.now.elf) c.args.self.now.place (entries c.args.symbols.now.size c.args.symbols.now.bytes.now)
+    (ap (λ (entry : Relocation).
+    applied (file_of c.args.self.now.elf) c.args.self.now.place
+    (entries c.args.symbols.now.size c.args.symbols.now.bytes.now)
     c.loop-index.bytes entry) (sym c.parse-entry.ensures)
     ∙ sym c.in_ok-apply.ensures)

@@ -11,4 +11,5 @@ abbrev pub invariant-loop-index : goal.invariant-loop-index
 invariant-loop-index l =
     let step = entry_applied (file_of l.self.elf) l.self.place l.form (entries l.symbols.size l.symbols.bytes.now) in
     steps step l.initial.bytes (entries l.all.size l.all.bytes.now)
-    ≡ steps_from step (λ index. drop (index * l.all.size) l.all.bytes.now) (length l.all.bytes.now / l.all.size) l.index l.bytes
+    ≡ steps_from step (λ index. drop (index * l.all.size) l.all.bytes.now) (length l.all.bytes.now / l.all.size) l.index
+    l.bytes

@@ -8,4 +8,5 @@ use Rattle.elf_sections.proofs.section_table.SectionTable.code_ends.Given as goa
 abbrev pub invariant-loop-index : goal.invariant-loop-index
 invariant-loop-index l =
     map code_end_of (table_of l.self).headers
-    ≡ l.ends.items ++ map code_end_of (values (header_of l.self.layout l.self.entry_size l.self.entries.now) l.self.count l.index)
+    ≡ l.ends.items
+    ++ map code_end_of (values (header_of l.self.layout l.self.entry_size l.self.entries.now) l.self.count l.index)

@@ -5,31 +5,39 @@ use Rattle.elf_sections.specs.Table.{is_name_at}
 use Rattle.elf_sections.specs.declared.section_header.SectionHeader.{SectionHeader}
 use Rattle.elf_sections.proofs.Headers.{header_of, values_all, first_found, first_passed, first_left, first_end}
 use Rattle.elf_sections.proofs.section_table.SectionTable.find.Goals as goal
-use Rattle.elf_sections.proofs.section_table.SectionTable.find.Goals.{else-is_active-via-then-is_active+else-is_name_at, else-is_active-via-else-is_active}
+use Rattle.elf_sections.proofs.section_table.SectionTable.find.Goals.{
+  else-is_active-via-then-is_active+else-is_name_at,
+  else-is_active-via-else-is_active,
+}
 
 pub loop-index-init : goal.loop-index-init
 loop-index-init c =
     ap (λ headers. find (λ header. is_name_at c.args.names.now header.name c.args.name.now) (filter is_active headers))
-    (values_all (header_of c.args.self.now.layout c.args.self.now.entry_size c.args.self.now.entries.now) c.args.self.now.count)
+    (values_all (header_of c.args.self.now.layout c.args.self.now.entry_size c.args.self.now.entries.now)
+    c.args.self.now.count)
 
 pub returns-then-is_name_at : goal.returns-then-is_name_at
 returns-then-is_name_at c =
     sym (c.loop-index.invariant
     ∙ first_found (λ header. is_name_at c.args.names.now header.name c.args.name.now) is_active
-    (header_of c.args.self.now.layout c.args.self.now.entry_size c.args.self.now.entries.now) c.args.self.now.count c.loop-index.index
+    (header_of c.args.self.now.layout c.args.self.now.entry_size c.args.self.now.entries.now) c.args.self.now.count
+    c.loop-index.index
     c.header-header.result c.loop-index-test.true c.header-header.ensures
     (sym c.is_active.ensures ∙ c.if-is_active.true) (sym c.is_name_at.ensures ∙ c.if-is_name_at.true))
 
 pub loop-index-preserved : goal.loop-index-preserved
 loop-index-preserved c =
     let named : SectionHeader → Bool = λ header. is_name_at c.args.names.now header.name c.args.name.now in
-    let f : ℕ → SectionHeader = header_of c.args.self.now.layout c.args.self.now.entry_size c.args.self.now.entries.now in
+    let f : ℕ
+    → SectionHeader = header_of c.args.self.now.layout c.args.self.now.entry_size c.args.self.now.entries.now in
     elim c.else-is_active.branch [
       | else-is_active-via-then-is_active+else-is_name_at w ↦ c.loop-index.invariant
-          ∙ first_passed named is_active f c.args.self.now.count c.loop-index.index c.header-header.result c.loop-index-test.true c.header-header.ensures
+          ∙ first_passed named is_active f c.args.self.now.count c.loop-index.index c.header-header.result
+          c.loop-index-test.true c.header-header.ensures
           (sym c.is_active.ensures ∙ w.if-is_active.true) (sym w.is_name_at.ensures ∙ w.if-is_name_at.false)
       | else-is_active-via-else-is_active w ↦ c.loop-index.invariant
-          ∙ first_left named is_active f c.args.self.now.count c.loop-index.index c.header-header.result c.loop-index-test.true c.header-header.ensures
+          ∙ first_left named is_active f c.args.self.now.count c.loop-index.index c.header-header.result
+          c.loop-index-test.true c.header-header.ensures
           (sym c.is_active.ensures ∙ w.if-is_active.false)
     ]
 
@@ -37,4 +45,5 @@ pub returns : goal.returns
 returns c =
     sym (c.loop-index.invariant
     ∙ first_end (λ header. is_name_at c.args.names.now header.name c.args.name.now) is_active
-    (header_of c.args.self.now.layout c.args.self.now.entry_size c.args.self.now.entries.now) c.args.self.now.count c.loop-index.index (omega arith))
+    (header_of c.args.self.now.layout c.args.self.now.entry_size c.args.self.now.entries.now) c.args.self.now.count
+    c.loop-index.index (omega arith))

@@ -8,7 +8,8 @@ use Rattle.elf_sections.proofs.section_table.SectionTable.names.Goals as goal
 pub returns-then-self-index : goal.returns-then-self-index
 returns-then-self-index c =
     sym (names_of c.args.file.now (table_of c.args.self.now) None c.if-self-eq-UNDEF.false
-    (no_header_at_index c.args.self.now.layout c.args.self.now.entry_size c.args.self.now.count c.args.self.now.entries.now
+    (no_header_at_index c.args.self.now.layout c.args.self.now.entry_size c.args.self.now.count
+    c.args.self.now.entries.now
     c.args.self.now.names_index c.if-self-index.true))
 
 pub returns-in-Ok : goal.returns-in-Ok

@@ -9,6 +9,8 @@ past count size width offset length same large fits =
 
 pub returns-in-None : goal.returns-in-None
 returns-in-None c =
-    sym (range_past c.args.self.now.header.table_offset (c.args.count * c.args.self.now.header.entry_size) c.args.self.now.length
-    (past c.args.count c.args.self.now.header.entry_size c.from.result c.args.self.now.header.table_offset c.args.self.now.length
+    sym (range_past c.args.self.now.header.table_offset (c.args.count * c.args.self.now.header.entry_size)
+    c.args.self.now.length
+    (past c.args.count c.args.self.now.header.entry_size c.from.result c.args.self.now.header.table_offset
+    c.args.self.now.length
     c.from.ensures c.in-None.ensures (omega arith)))

@@ -8,10 +8,12 @@ loop-slot-init c = none_answered (λ asked seen. IsIndexAnswer c.args.stored.now
 
 pub loop-slot-preserved : goal.loop-slot-preserved
 loop-slot-preserved c =
-    one_more_answered (λ asked seen. IsIndexAnswer c.args.stored.now asked.address seen) c.args.places.now c.loop-slot.places c.loop-slot.slot
+    one_more_answered (λ asked seen. IsIndexAnswer c.args.stored.now asked.address seen) c.args.places.now
+    c.loop-slot.places c.loop-slot.slot
     c.loop-slot.invariant _ _ (omega arith) c.answer_in.ensures
 
 pub returns : goal.returns
 returns c =
-    all_answered (λ asked seen. IsIndexAnswer c.args.stored.now asked.address seen) c.args.places.now c.loop-slot.places c.loop-slot.slot
+    all_answered (λ asked seen. IsIndexAnswer c.args.stored.now asked.address seen) c.args.places.now c.loop-slot.places
+    c.loop-slot.slot
     c.loop-slot.invariant (omega arith)

@@ -16,6 +16,9 @@ returns-in-Ok-clause-found c =
       ranges = c.len.ensures;
       address_size = search rules;
       inside = omega (arith, stands.inside, c.identity_offset.ensures, size);
-      identity = subst (λ n. slice_range bytes n (n + length c.identity.result.now) ≡ i.identity) (sym c.identity_offset.ensures)
-          (subst (λ m. slice_range bytes (identity_begin i) (identity_begin i + m) ≡ i.identity) (sym size) stands.identity);
+      identity =
+          subst (λ n. slice_range bytes n (n + length c.identity.result.now) ≡ i.identity)
+          (sym c.identity_offset.ensures)
+          (subst (λ m. slice_range bytes (identity_begin i) (identity_begin i + m) ≡ i.identity) (sym size)
+          stands.identity);
     }

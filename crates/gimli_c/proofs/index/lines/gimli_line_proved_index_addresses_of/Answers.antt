@@ -18,7 +18,9 @@ returns-clause-found c = λ _.
       record {
         index = index_of c.in-Ok.index;
         is = c.in-Ok.ensures.stored;
-        is_first = λ ordered. subst (λ (line : ℕ). IsFirstLine found c.args.line line) (sym c.line.ensures) (c.in-Some.ensures ordered).0;
+        is_first =
+            λ ordered.
+            subst (λ (line : ℕ). IsFirstLine found c.args.line line) (sym c.line.ensures) (c.in-Some.ensures ordered).0;
         addresses_are = λ ordered. (c.in-Some.ensures ordered).1 ∙ ap (λ (line : ℕ). found line) (sym c.line.ensures);
       },
       (omega (arith, c.put_addresses.ensures.count), c.put_addresses-2.ensures.put),

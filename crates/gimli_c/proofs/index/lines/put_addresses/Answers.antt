@@ -13,7 +13,8 @@ loop-slot-preserved c =
     let rest = addresses_left c.next.new.self in
     let here = sym c.loop-slot.invariant.1 ∙ c.in-Some.ensures.steps in
     let inside = within all c.loop-slot.slot c.in-Some.address rest here in (
-      c.put_address.ensures all c.args.room.now (next_item all c.loop-slot.slot c.in-Some.address rest here) c.loop-slot.invariant.0,
+      c.put_address.ensures all c.args.room.now (next_item all c.loop-slot.slot c.in-Some.address rest here)
+          c.loop-slot.invariant.0,
       rest_items all c.loop-slot.slot c.in-Some.address rest here,
       omega (arith, inside),
     )
@@ -22,7 +23,8 @@ pub returns-in_default-clause-put : goal.returns-in_default-clause-put
 returns-in_default-clause-put c =
     let all = addresses_left c.args.found in
     c.loop-slot.invariant.0
-    ∙ written_take c.loop-slot.slot all c.args.room.now (inl (no_item all c.loop-slot.slot (sym c.loop-slot.invariant.1 ∙ c.in_default.ensures.steps.0)))
+    ∙ written_take c.loop-slot.slot all c.args.room.now
+    (inl (no_item all c.loop-slot.slot (sym c.loop-slot.invariant.1 ∙ c.in_default.ensures.steps.0)))
 
 pub returns-in_default-clause-count : goal.returns-in_default-clause-count
 returns-in_default-clause-count c =

@@ -9,7 +9,8 @@ returns-then-bytes-stored-clause-room c = λ _.
     record {
       bytes = c.in-Ok.made.items;
       is_index =
-          same_index c.args.section.now c.args.options.now.big _ _ _ _ _ _ _ _ c.args.identity.now _ c.new.ensures.bytes c.new-2.ensures.bytes
+          same_index c.args.section.now c.args.options.now.big _ _ _ _ _ _ _ _ c.args.identity.now _ c.new.ensures.bytes
+          c.new-2.ensures.bytes
           c.sections_in-sections.ensures c.in-Ok.ensures.ok;
       passes = omega (arith, c.if-bytes-stored.true, same);
       size_is = same;
@@ -21,9 +22,11 @@ returns-clause-ok c = λ _.
     record {
       bytes = c.in-Ok.made.items;
       is_index =
-          same_index c.args.section.now c.args.options.now.big _ _ _ _ _ _ _ _ c.args.identity.now _ c.new.ensures.bytes c.new-2.ensures.bytes
+          same_index c.args.section.now c.args.options.now.big _ _ _ _ _ _ _ _ c.args.identity.now _ c.new.ensures.bytes
+          c.new-2.ensures.bytes
           c.sections_in-sections.ensures c.in-Ok.ensures.ok;
       fits = omega (arith, c.if-bytes-stored.false, same);
-      written_is = c.copy_bytes.ensures ∙ ap (λ (xs : List ℕ). slots_with xs c.args.stored.now) c.as_slice-bytes.ensures.value;
+      written_is =
+          c.copy_bytes.ensures ∙ ap (λ (xs : List ℕ). slots_with xs c.args.stored.now) c.as_slice-bytes.ensures.value;
       size_is = same;
     }

@@ -15,7 +15,8 @@ returns-in-Ok-write_index-clause-ok c =
     let options = c.args.options.now in
     let source =
     index_source
-    (program c.args.section.now options.big options.address_size options.lowest texts.debug_line_str.slice.now texts.debug_str.slice.now)
+    (program c.args.section.now options.big options.address_size options.lowest texts.debug_line_str.slice.now
+    texts.debug_str.slice.now)
     (sections_of (λ s. s.slice.now) (λ s. is_big s.endian) (2 ^ 64) c.args.sections.now) c.args.identity.now in
     record {
       units = c.in_ok-units.units;
@@ -23,8 +24,10 @@ returns-in-Ok-write_index-clause-ok c =
       directory = λ line. option_map (λ s. s.slice.now) (directory_for c.in-Ok.compilations line);
       tells = c.in-Ok.ensures.ok;
       index =
-          index_made source (λ line. option_map (λ s. s.slice.now) (directory_for c.in-Ok.compilations line)) c.in_ok-units.units c.from-size.result
-          c.new-bytes.result.items c.write_index.new.out.items (search rules) (search rules) c.in-Ok-write_index.ensures.index;
+          index_made source (λ line. option_map (λ s. s.slice.now) (directory_for c.in-Ok.compilations line))
+          c.in_ok-units.units c.from-size.result
+          c.new-bytes.result.items c.write_index.new.out.items (search rules) (search rules)
+          c.in-Ok-write_index.ensures.index;
     }
 
 pub returns-in_err-units-clause-err : goal.returns-in_err-units-clause-err

@@ -2,7 +2,10 @@ use Rattle.gimli_compilation.specs.inside.AbbreviationTable.{IsTable}
 use Rattle.gimli_compilation.proofs.AbbreviationTables.{table_asked}
 use Rattle.gimli_compilation.proofs.abbreviation.Abbreviations.find.Goals as goal
 use Rattle.gimli_compilation.proofs.abbreviation.Abbreviations.find.Goals.{then-into_u64-self, else-into_u64-self}
-use Rattle.gimli_compilation.proofs.abbreviation.Abbreviations.find.Goals.{then-self-lt-ASKED_BEFORE_KEPT, else-self-lt-ASKED_BEFORE_KEPT+in_ok-read_whole}
+use Rattle.gimli_compilation.proofs.abbreviation.Abbreviations.find.Goals.{
+  then-self-lt-ASKED_BEFORE_KEPT,
+  else-self-lt-ASKED_BEFORE_KEPT+in_ok-read_whole,
+}
 
 pub returns-clause-listed : goal.returns-clause-listed
 returns-clause-listed g c =

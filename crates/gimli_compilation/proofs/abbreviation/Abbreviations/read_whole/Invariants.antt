@@ -4,7 +4,8 @@ use Rattle.gimli_compilation.proofs.abbreviation.Abbreviations.read_whole.Given 
 
 abbrev pub invariant-loop-self : goal.invariant-loop-self
 invariant-loop-self g l = record {
-  table : (section : List ℕ) → IsTable g.R.Reader.bytes section l.initial.self → IsTable g.R.Reader.bytes section l.self;
+  table : (section : List ℕ) → IsTable g.R.Reader.bytes section l.initial.self
+      → IsTable g.R.Reader.bytes section l.self;
   offset : l.self.offset ≡ l.initial.self.offset;
 }
 

@@ -11,9 +11,11 @@ returns-in-Err-clause-refusal g c =
 pub returns-clause-compilation : goal.returns-clause-compilation
 returns-clause-compilation g c =
     let read = rw c.info_at-input.ensures.order at c.in-Ok.ensures.read in
-    compilation_is _ _ _ _ _ c.info_at-input.ensures.bytes _ _ (content_done _ _ _ _ _ _ read c.in_ok-outcome.ensures.read) c.answer.ensures
+    compilation_is _ _ _ _ _ c.info_at-input.ensures.bytes _ _
+    (content_done _ _ _ _ _ _ read c.in_ok-outcome.ensures.read) c.answer.ensures
 
 pub returns-clause-refusal : goal.returns-clause-refusal
 returns-clause-refusal g c =
     let read = rw c.info_at-input.ensures.order at c.in-Ok.ensures.read in
-    refusal_is _ _ _ _ _ c.info_at-input.ensures.bytes _ _ (content_done _ _ _ _ _ _ read c.in_ok-outcome.ensures.read) c.answer.ensures
+    refusal_is _ _ _ _ _ c.info_at-input.ensures.bytes _ _ (content_done _ _ _ _ _ _ read c.in_ok-outcome.ensures.read)
+    c.answer.ensures

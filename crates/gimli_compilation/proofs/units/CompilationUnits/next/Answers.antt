@@ -3,27 +3,32 @@ use Rattle.gimli_compilation.proofs.UnitLaws.{rest_is_end, next_offset}
 use Rattle.gimli_compilation.proofs.units.CompilationUnits.next.Goals as goal
 
 pub offset_from-self-inside-requires : goal.offset_from-self-inside-requires
-offset_from-self-inside-requires g c = rest_is_end _ _ _ _ _ c.info_at-rest.ensures.bytes (rw c.info_at-rest.ensures.order at c.skip_unit.ensures)
+offset_from-self-inside-requires g c =
+    rest_is_end _ _ _ _ _ c.info_at-rest.ensures.bytes (rw c.info_at-rest.ensures.order at c.skip_unit.ensures)
 
 pub returns-then-is_empty-clause-end : goal.returns-then-is_empty-clause-end
-returns-then-is_empty-clause-end g c = rw (← c.self.view_is) (sym c.info_at-rest.ensures.bytes ∙ c.is_empty.ensures.0 c.if-is_empty.true)
+returns-then-is_empty-clause-end g c =
+    rw (← c.self.view_is) (sym c.info_at-rest.ensures.bytes ∙ c.is_empty.ensures.0 c.if-is_empty.true)
 
 pub returns-clause-next : goal.returns-clause-next
 returns-clause-next g c =
     let after = rw c.info_at-rest.ensures.order at c.skip_unit.ensures in
-    rw (← c.self.view_is) (next_offset _ _ _ _ _ _ c.info_at-rest.ensures.bytes (λ none. let t = c.is_empty.ensures.1 none in absurd (search rules)) after
+    rw (← c.self.view_is) (next_offset _ _ _ _ _ _ c.info_at-rest.ensures.bytes
+    (λ none. let t = c.is_empty.ensures.1 none in absurd (search rules)) after
     c.offset_from-self-inside.ensures).follows
 
 pub returns-clause-onward : goal.returns-clause-onward
 returns-clause-onward g c =
     let after = rw c.info_at-rest.ensures.order at c.skip_unit.ensures in
-    rw (← c.self.view_is) (next_offset _ _ _ _ _ _ c.info_at-rest.ensures.bytes (λ none. let t = c.is_empty.ensures.1 none in absurd (search rules)) after
+    rw (← c.self.view_is) (next_offset _ _ _ _ _ _ c.info_at-rest.ensures.bytes
+    (λ none. let t = c.is_empty.ensures.1 none in absurd (search rules)) after
     c.offset_from-self-inside.ensures).onward
 
 pub returns-clause-within : goal.returns-clause-within
 returns-clause-within g c =
     let after = rw c.info_at-rest.ensures.order at c.skip_unit.ensures in
-    rw (← c.self.view_is) (next_offset _ _ _ _ _ _ c.info_at-rest.ensures.bytes (λ none. let t = c.is_empty.ensures.1 none in absurd (search rules)) after
+    rw (← c.self.view_is) (next_offset _ _ _ _ _ _ c.info_at-rest.ensures.bytes
+    (λ none. let t = c.is_empty.ensures.1 none in absurd (search rules)) after
     c.offset_from-self-inside.ensures).inside
 
 pub returns-clause-compilation : goal.returns-clause-compilation

@@ -8,4 +8,8 @@ pub returns : goal.returns
 returns c =
     let found = c.args.self.now in
     let index = index_of found.index in
-    omega (arith, few_begun found.path.now found.line index (ordered_number index) (found.end - found.next) found.next, c.saturating_sub.ensures)
+    omega (
+      arith,
+      few_begun found.path.now found.line index (ordered_number index) (found.end - found.next) found.next,
+      c.saturating_sub.ensures,
+    )

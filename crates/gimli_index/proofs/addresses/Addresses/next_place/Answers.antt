@@ -10,7 +10,8 @@ returns-in-Some-clause-left c =
     let place = c.loop-place.place in
     sym c.loop-place.invariant ∙ from_here found place c.loop-place-test.true
     ∙ ap (λ xs. xs ++ addresses_from found (place + 1))
-    (ap (address_begun found.path.now found.line (index_of found.index)) (sym c.ordered_number-start.ensures) ∙ c.in-Some.ensures)
+    (ap (address_begun found.path.now found.line (index_of found.index)) (sym c.ordered_number-start.ensures)
+    ∙ c.in-Some.ensures)
 
 pub loop-place-preserved : goal.loop-place-preserved
 loop-place-preserved c =
@@ -19,5 +20,6 @@ loop-place-preserved c =
     sym
     (from_here found place c.loop-place-test.true
     ∙ ap (λ xs. xs ++ addresses_from found (place + 1))
-    (ap (address_begun found.path.now found.line (index_of found.index)) (sym c.ordered_number-start.ensures) ∙ c.in_default.ensures))
+    (ap (address_begun found.path.now found.line (index_of found.index)) (sym c.ordered_number-start.ensures)
+    ∙ c.in_default.ensures))
     ∙ c.loop-place.invariant

@@ -6,6 +6,7 @@ use Rattle.gimli_index.proofs.contents.Contents.names.Given as goal
 
 abbrev pub invariant-loop-source : goal.invariant-loop-source
 invariant-loop-source l = record {
-  numbers : l.names.items ≡ map (λ s. path_number (source_path l.self.paths.now s)) (take l.source-index l.self.sources.now);
+  numbers : l.names.items
+      ≡ map (λ s. path_number (source_path l.self.paths.now s)) (take l.source-index l.self.sources.now);
   few : All (λ n. n < 2 ^ 31) l.names.items;
 }

@@ -20,8 +20,11 @@ returns c =
     let old = c.in_ok-ranks.ranks.items in
     let new = c.sort.new.self.items in
     let rise : IsNonDecreasing new = IsNonDecreasingBy-from_sort (λ x. x) new c.in_ok-sort.ensures.sorted in
-    let is = order_is starts (length entries) old new (omega (arith, c.requires)) (sym (length-map entries (entry_start (contents_of c.args.self.now []))))
+    let is =
+    order_is starts (length entries) old new (omega (arith, c.requires))
+    (sym (length-map entries (entry_start (contents_of c.args.self.now []))))
     c.in_ok-ranks.ensures c.sort.ensures.permutation rise in
     then_ok c.indices_of.result _ _ (λ order order_items.
-    subst (λ (ns : List ℕ). IsOrder starts (length ns) (slice_index ns)) (sym (order_items ∙ ap (map (λ r. r % 2 ^ 32)) c.deref.ensures.value)) is)
+    subst (λ (ns : List ℕ). IsOrder starts (length ns) (slice_index ns))
+    (sym (order_items ∙ ap (map (λ r. r % 2 ^ 32)) c.deref.ensures.value)) is)
     c.indices_of.ensures

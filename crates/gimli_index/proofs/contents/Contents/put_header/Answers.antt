@@ -28,6 +28,7 @@ returns c =
     ∙ ap (λ b. first ++ (address ++ le_bytes 2 (size_of contents.start_size) ++ le_bytes 8 b)) c.requires.base in
     then_put old (start ++ sizes ++ counts ++ more) (le_bytes 4 (length order) ++ le_bytes 4 0) fourth last
     (then_put old (start ++ sizes ++ counts) more third fourth
-    (then_put old (start ++ sizes) counts second third (then_put old start sizes first second c.in_ok-put_magic.ensures sized) c.in_ok-put_words.ensures)
+    (then_put old (start ++ sizes) counts second third
+    (then_put old start sizes first second c.in_ok-put_magic.ensures sized) c.in_ok-put_words.ensures)
     c.in_ok-put_words-2.ensures)
     put_order

@@ -21,12 +21,14 @@ loop-index-preserved c =
     let ranks = c.loop-index.ranks.items in
     let e = get_or entries i nowhere in
     let there : slice_get starts i ≡ Some (entry_start made e) =
-    slice_get-map (entry_start made) entries i ∙ ap (option_map (entry_start made)) (slice_get-get_or entries i nowhere c.loop-index-test.true) in
+    slice_get-map (entry_start made) entries i
+    ∙ ap (option_map (entry_start made)) (slice_get-get_or entries i nowhere c.loop-index-test.true) in
     elim c.match-key.branch [
       | in-Some+in_ok-push w ↦
           let more = one_key starts i ranks (entry_start made e) there c.loop-index.invariant w.from.result
           (sym w.in-Some.ensures ∙ ap Some (sym w.from.ensures)) (omega (arith, c.requires)) in
           rw w.ranks-is (subst (AreRanks starts (i + 1)) (sym w.in_ok-push.ensures.items) more)
       | in_default w ↦
-          rw w.ranks-is (no_key starts i ranks (entry_start made e) there c.loop-index.invariant (sym c.key.ensures ∙ w.in_default.is))
+          rw w.ranks-is (no_key starts i ranks (entry_start made e) there c.loop-index.invariant
+          (sym c.key.ensures ∙ w.in_default.is))
     ]

@@ -54,7 +54,8 @@ returns-clause-written c =
           (then_put old (header ++ sources ++ starts ++ places ++ numbers) contents.paths x5 x6
           (then_put old (header ++ sources ++ starts ++ places) numbers x4 x5
           (then_put old (header ++ sources ++ starts) places x3 x4
-          (then_put old (header ++ sources) starts x2 x3 (then_put old header sources x1 x2 put_header c.in_ok-put_sources.ensures.bytes) put_starts)
+          (then_put old (header ++ sources) starts x2 x3
+          (then_put old header sources x1 x2 put_header c.in_ok-put_sources.ensures.bytes) put_starts)
           c.in_ok-put_entries.ensures.bytes)
           put_numbers)
           c.in_ok-extend_from_slice.ensures.items)
@@ -67,12 +68,16 @@ returns-clause-written c =
           sources = counts.sources;
           paths = counts.paths;
           identity = counts.identity;
-          order = omega (arith, (c.in_ok-order.ensures).all, few, length-map entries (entry_start contents), counts.entries);
+          order =
+              omega
+              (arith, (c.in_ok-order.ensures).all, few, length-map entries (entry_start contents), counts.entries);
         };
         near = search rules;
         places = c.in_ok-put_entries.ensures.fits;
         sources = c.in_ok-put_sources.ensures.fits;
-        order = subst (λ (ns : List ℕ). All (λ i. i < 2 ^ 32) ns) c.as_slice-numbers.ensures.value c.in_ok-put_order.ensures.fits;
+        order =
+            subst (λ (ns : List ℕ). All (λ i. i < 2 ^ 32) ns) c.as_slice-numbers.ensures.value
+            c.in_ok-put_order.ensures.fits;
       };
       ordered = c.in_ok-order.ensures;
     }

@@ -26,7 +26,8 @@ returns c =
     λ ordered.
     let first = c.in_ok-first.ensures.place ordered in (
       first_line_in (rows_of path (starts_of index)) c.args.line line (c.in_ok-first.ensures.line ordered),
-      addresses_are path line index ordered place c.first_at.result c.first_at.ensures.within first.within first.key first.before
+      addresses_are path line index ordered place c.first_at.result c.first_at.ensures.within first.within first.key
+          first.before
           (λ k less. omega (arith, c.first_at.ensures.before ordered k less, key_is))
           (λ k le lt. omega (arith, c.first_at.ensures.after ordered k le lt, key_is)),
     )

@@ -4,7 +4,8 @@ use Rattle.gimli_index.proofs.line_index.LineIndex.check.Goals as goal
 
 pub returns-then-not-starts_ascend-clause-err : goal.returns-then-not-starts_ascend-clause-err
 returns-then-not-starts_ascend-clause-err c =
-    λ ascending. c.starts_ascend.ensures.no c.if-not-starts_ascend.true (numbers_ascend (index_of c.args.self.now) ascending)
+    λ ascending.
+    c.starts_ascend.ensures.no c.if-not-starts_ascend.true (numbers_ascend (index_of c.args.self.now) ascending)
 
 pub returns-clause-ok : goal.returns-clause-ok
 returns-clause-ok c = record {

@@ -9,7 +9,9 @@ pub returns-in_err-number-clause-place : goal.returns-in_err-number-clause-place
 returns-in_err-number-clause-place c =
     let index = index_of c.args.self.now in
     let below : c.args.address < index.base = omega (arith, c.in_err-number.ensures) in
-    λ ascending. ap (option_map (place_among c.args.self.now.path_bytes.now)) c.from_residual.ensures ∙ sym (below_base index c.args.address below)
+    λ ascending.
+    ap (option_map (place_among c.args.self.now.path_bytes.now)) c.from_residual.ensures
+    ∙ sym (below_base index c.args.address below)
 
 pub returns-in_err-index-clause-place : goal.returns-in_err-index-clause-place
 returns-in_err-index-clause-place c =
@@ -40,7 +42,8 @@ returns-clause-range c =
     let i = c.in_ok-index.index in
     let is : c.args.address ≡ index.base + number = omega (arith, c.in_ok-number.ensures) in
     let last : i + 1 ≡ c.starts_up_to.result = omega (arith, c.in_ok-index.ensures) in
-    λ ascending. found_around index c.args.address number i c.entry_span.result is (omega (arith, c.starts_up_to.ensures.within))
+    λ ascending.
+    found_around index c.args.address number i c.entry_span.result is (omega (arith, c.starts_up_to.ensures.within))
     (c.starts_up_to.ensures.before (numbers_ascend index ascending) i (omega arith)) (numbers_ascend index ascending)
     (λ k later within. c.starts_up_to.ensures.after (numbers_ascend index ascending) k (omega arith) within)
     c.entry_span.ensures.range

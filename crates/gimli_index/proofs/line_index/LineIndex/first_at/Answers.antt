@@ -37,5 +37,9 @@ loop-low-preserved c =
       high = omega (arith, i.high);
       before = i.before;
       after = λ ordered k le lt.
-          omega (arith, keys_rise (starts_of index) index.ordered (ordered_number index) ordered middle k le lt, c.ordered_key.ensures);
+          omega (
+            arith,
+            keys_rise (starts_of index) index.ordered (ordered_number index) ordered middle k le lt,
+            c.ordered_key.ensures,
+          );
     }

@@ -8,4 +8,5 @@ use Rattle.gimli_index.proofs.line_index.LineIndex.first_line.Given as goal
 
 abbrev pub invariant-loop-place : goal.invariant-loop-place
 invariant-loop-place l = IsOrdered (index_of l.self) → (k m : ℕ) → k < l.place → l.asked ≤ m
-    → is_statement (nat_eq 1) m (row_of l.path (start_at (index_of l.self) (ordered_number (index_of l.self) k))) ≡ false
+    → is_statement (nat_eq 1) m (row_of l.path (start_at (index_of l.self) (ordered_number (index_of l.self) k)))
+    ≡ false

@@ -5,7 +5,8 @@ use Rattle.gimli_index.proofs.Values.{value_at, no_value_at}
 use Rattle.gimli_index.proofs.line_index.LineIndex.get.Goals as goal
 
 pub returns-then-index-self : goal.returns-then-index-self
-returns-then-index-self c = sym (no_value_at (start_at (index_of c.args.self.now)) c.args.self.now.starts c.args.index c.if-index-self.true)
+returns-then-index-self c =
+    sym (no_value_at (start_at (index_of c.args.self.now)) c.args.self.now.starts c.args.index c.if-index-self.true)
 
 pub returns : goal.returns
 returns c =

@@ -10,7 +10,8 @@ test_of p true = refl
 test_of p false = refl
 
 pub returns-in-Some : goal.returns-in-Some
-returns-in-Some c = test_of (place_of c.in-Some.place) c.in-Some.place.is_stmt ∙ ap (λ o. is_some (if_statement o)) c.in-Some.ensures
+returns-in-Some c =
+    test_of (place_of c.in-Some.place) c.in-Some.place.is_stmt ∙ ap (λ o. is_some (if_statement o)) c.in-Some.ensures
 
 pub returns-in-None : goal.returns-in-None
 returns-in-None c = ap (λ o. is_some (if_statement o)) c.in-None.ensures

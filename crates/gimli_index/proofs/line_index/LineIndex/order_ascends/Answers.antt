@@ -13,7 +13,10 @@ loop-place-preserved c =
     let key_is = c.place_key.ensures ∙ ap (λ o. option_map_or place_key o 0) c.in-Some.ensures in
     let same : place ≡ place + 1 - 1 = omega arith in
     record {
-      are = more_in_order index place c.loop-place.last c.place_key.result c.ordered_number-start.result c.loop-place.invariant.are c.loop-place.invariant.last
-          (c.comes_after.ensures.yes c.if-not-comes_after.false) c.ordered_number-start.ensures (sym (ap is_some c.in-Some.ensures)) key_is;
+      are =
+          more_in_order index place c.loop-place.last c.place_key.result c.ordered_number-start.result
+          c.loop-place.invariant.are c.loop-place.invariant.last
+          (c.comes_after.ensures.yes c.if-not-comes_after.false) c.ordered_number-start.ensures
+          (sym (ap is_some c.in-Some.ensures)) key_is;
       last = (omega arith, c.ordered_number-start.ensures ∙ ap (ordered_number index) same, key_is);
     }

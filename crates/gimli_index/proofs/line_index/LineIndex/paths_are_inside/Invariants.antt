@@ -5,4 +5,5 @@ use Rattle.gimli_index.specs.declared.place.NoPath.TheVariants.{Outside}
 use Rattle.gimli_index.proofs.line_index.LineIndex.paths_are_inside.Given as goal
 
 abbrev pub invariant-loop-index : goal.invariant-loop-index
-invariant-loop-index l = (k : ℕ) → k < l.index → path_of l.self.path_bytes.now (source_at (index_of l.self) k) ≡ Err Outside → ⊥
+invariant-loop-index l =
+    (k : ℕ) → k < l.index → path_of l.self.path_bytes.now (source_at (index_of l.self) k) ≡ Err Outside → ⊥

@@ -14,13 +14,15 @@ loop-index-preserved c =
     let unit : ℕ = 1 in
     elim c.if-is_statement.branch [
       | then-is_statement w ↦
-          let one : cond (is_statement (f i)) unit 0 ≡ unit = ap (λ b. cond b unit 0) (sym c.is_statement.ensures ∙ w.if-is_statement.true) in
+          let one : cond (is_statement (f i)) unit 0
+          ≡ unit = ap (λ b. cond b unit 0) (sym c.is_statement.ensures ∙ w.if-is_statement.true) in
           record {
             few = omega (arith, c.loop-index.invariant.few, w.count-is);
             count = omega (arith, c.loop-index.invariant.count, more, one, w.count-is);
           }
       | else-is_statement w ↦
-          let none : cond (is_statement (f i)) unit 0 ≡ 0 = ap (λ b. cond b unit 0) (sym c.is_statement.ensures ∙ w.if-is_statement.false) in
+          let none : cond (is_statement (f i)) unit 0
+          ≡ 0 = ap (λ b. cond b unit 0) (sym c.is_statement.ensures ∙ w.if-is_statement.false) in
           record {
             few = omega (arith, c.loop-index.invariant.few, w.count-is);
             count = omega (arith, c.loop-index.invariant.count, more, none, w.count-is);

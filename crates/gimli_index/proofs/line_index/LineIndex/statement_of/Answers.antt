@@ -10,14 +10,18 @@ pub returns-then-not-is_of_line : goal.returns-then-not-is_of_line
 returns-then-not-is_of_line c =
     let path = c.args.path.now in
     let start = start_at (index_of c.args.self.now) c.args.index in
-    let row_is : place_row path start.address (place_of c.in-Some.place) ≡ row_of path start = ap (start_row path start.address) c.in-Some.ensures in
-    ap (is_of_line (nat_eq 1) c.args.line) (sym row_is) ∙ sym (c.is_of_line.ensures start.address) ∙ c.if-not-is_of_line.true
+    let row_is : place_row path start.address (place_of c.in-Some.place)
+    ≡ row_of path start = ap (start_row path start.address) c.in-Some.ensures in
+    ap (is_of_line (nat_eq 1) c.args.line) (sym row_is) ∙ sym (c.is_of_line.ensures start.address)
+    ∙ c.if-not-is_of_line.true
 
 pub returns : goal.returns
 returns c =
     let path = c.args.path.now in
     let start = start_at (index_of c.args.self.now) c.args.index in
-    let row_is : place_row path start.address (place_of c.in-Some.place) ≡ row_of path start = ap (start_row path start.address) c.in-Some.ensures in (
-      ap (is_of_line (nat_eq 1) c.args.line) (sym row_is) ∙ sym (c.is_of_line.ensures start.address) ∙ c.if-not-is_of_line.false,
+    let row_is : place_row path start.address (place_of c.in-Some.place)
+    ≡ row_of path start = ap (start_row path start.address) c.in-Some.ensures in (
+      ap (is_of_line (nat_eq 1) c.args.line) (sym row_is) ∙ sym (c.is_of_line.ensures start.address)
+          ∙ c.if-not-is_of_line.false,
       ap (λ (r : LineRow). r.is_stmt) (sym row_is),
     )

@@ -8,7 +8,11 @@ use Rattle.gimli_index.proofs.origin.Origin.row_path.Goals as goal
 
 -- the paths of a header by a directory
 abbrev paths_by : {D : Type 0} → (D → List ℕ) → Strings → Header → Option D → Paths
-paths_by bytes sections header directory = record { sections = sections; header = header; comp_dir = option_map bytes directory }
+paths_by bytes sections header directory = record {
+  sections = sections;
+  header = header;
+  comp_dir = option_map bytes directory;
+}
 
 pub returns-in_default-clause-ok : goal.returns-in_default-clause-ok
 returns-in_default-clause-ok g c =
@@ -16,7 +20,8 @@ returns-in_default-clause-ok g c =
     let number = g.R.Offset.ReaderOffset.number in
     let sections = strings g.R.Reader.bytes c.args.self.now.strings.now in
     let none : directory (number c.args.header.now.offset.0) ≡ None =
-    ap (λ o. directory (number o.0)) (sym c.offset.ensures) ∙ ap directory (sym c.into_u64-offset.ensures) ∙ sym c.directory_of.ensures ∙ c.in_default.is in
+    ap (λ o. directory (number o.0)) (sym c.offset.ensures) ∙ ap directory (sym c.into_u64-offset.ensures)
+    ∙ sym c.directory_of.ensures ∙ c.in_default.is in
     let same = c.new.ensures ∙ sym (ap (paths_by g.R.Reader.bytes sections c.args.header.now.meaning) none) in
     rw same at c.of_row.ensures.ok
 
@@ -26,7 +31,8 @@ returns-in_default-clause-err g c =
     let number = g.R.Offset.ReaderOffset.number in
     let sections = strings g.R.Reader.bytes c.args.self.now.strings.now in
     let none : directory (number c.args.header.now.offset.0) ≡ None =
-    ap (λ o. directory (number o.0)) (sym c.offset.ensures) ∙ ap directory (sym c.into_u64-offset.ensures) ∙ sym c.directory_of.ensures ∙ c.in_default.is in
+    ap (λ o. directory (number o.0)) (sym c.offset.ensures) ∙ ap directory (sym c.into_u64-offset.ensures)
+    ∙ sym c.directory_of.ensures ∙ c.in_default.is in
     let same = c.new.ensures ∙ sym (ap (paths_by g.R.Reader.bytes sections c.args.header.now.meaning) none) in
     rw same at c.of_row.ensures.err
 
@@ -36,11 +42,15 @@ returns-clause-ok g c =
     let number = g.R.Offset.ReaderOffset.number in
     let sections = strings g.R.Reader.bytes c.args.self.now.strings.now in
     let some : directory (number c.args.header.now.offset.0) ≡ Some c.in-Some.directory =
-    ap (λ o. directory (number o.0)) (sym c.offset.ensures) ∙ ap directory (sym c.into_u64-offset.ensures) ∙ sym c.directory_of.ensures ∙ c.in-Some.is in
+    ap (λ o. directory (number o.0)) (sym c.offset.ensures) ∙ ap directory (sym c.into_u64-offset.ensures)
+    ∙ sym c.directory_of.ensures ∙ c.in-Some.is in
     let handed =
-    ap (λ (xs : List ℕ). let q : Paths = record { sections = sections; header = c.args.header.now.meaning; comp_dir = Some xs } in q)
+    ap (λ (xs : List ℕ).
+    let q : Paths = record { sections = sections; header = c.args.header.now.meaning; comp_dir = Some xs } in
+    q)
     (c.deref.ensures.value ∙ c.in-Ok.ensures.ok) in
-    let same = c.new-2.ensures ∙ handed ∙ sym (ap (paths_by g.R.Reader.bytes sections c.args.header.now.meaning) some) in
+    let same =
+    c.new-2.ensures ∙ handed ∙ sym (ap (paths_by g.R.Reader.bytes sections c.args.header.now.meaning) some) in
     rw same at c.of_row-2.ensures.ok
 
 pub returns-clause-err : goal.returns-clause-err
@@ -49,9 +59,13 @@ returns-clause-err g c =
     let number = g.R.Offset.ReaderOffset.number in
     let sections = strings g.R.Reader.bytes c.args.self.now.strings.now in
     let some : directory (number c.args.header.now.offset.0) ≡ Some c.in-Some.directory =
-    ap (λ o. directory (number o.0)) (sym c.offset.ensures) ∙ ap directory (sym c.into_u64-offset.ensures) ∙ sym c.directory_of.ensures ∙ c.in-Some.is in
+    ap (λ o. directory (number o.0)) (sym c.offset.ensures) ∙ ap directory (sym c.into_u64-offset.ensures)
+    ∙ sym c.directory_of.ensures ∙ c.in-Some.is in
     let handed =
-    ap (λ (xs : List ℕ). let q : Paths = record { sections = sections; header = c.args.header.now.meaning; comp_dir = Some xs } in q)
+    ap (λ (xs : List ℕ).
+    let q : Paths = record { sections = sections; header = c.args.header.now.meaning; comp_dir = Some xs } in
+    q)
     (c.deref.ensures.value ∙ c.in-Ok.ensures.ok) in
-    let same = c.new-2.ensures ∙ handed ∙ sym (ap (paths_by g.R.Reader.bytes sections c.args.header.now.meaning) some) in
+    let same =
+    c.new-2.ensures ∙ handed ∙ sym (ap (paths_by g.R.Reader.bytes sections c.args.header.now.meaning) some) in
     rw same at c.of_row-2.ensures.err

@@ -11,7 +11,8 @@ loop-index-preserved c =
     let i = c.loop-index.index in
     let start = start_at index i in
     let rest = drop (i + 1) (starts_of index) in
-    let here : List Range = (record { start = start.address; end = first_start rest; place = start.place }) ∷ ranges_of rest in
+    let here : List Range =
+    (record { start = start.address; end = first_start rest; place = start.place }) ∷ ranges_of rest in
     sym (ap ranges_of (start_here index i c.loop-index-test.true)
     ∙ ap (λ (b : Bool). if b then ranges_of rest else here) (sym c.is_empty_at.ensures ∙ c.if-not-is_empty_at.false))
     ∙ c.loop-index.invariant

@@ -6,4 +6,5 @@ use Rattle.gimli_index.proofs.ranges.PlaceRanges.long_from.Given as goal
 
 abbrev pub invariant-loop-index : goal.invariant-loop-index
 invariant-loop-index l =
-    ranges_of (drop l.index (starts_of (index_of l.self.index))) ≡ ranges_of (drop l.from (starts_of (index_of l.self.index)))
+    ranges_of (drop l.index (starts_of (index_of l.self.index)))
+    ≡ ranges_of (drop l.from (starts_of (index_of l.self.index)))

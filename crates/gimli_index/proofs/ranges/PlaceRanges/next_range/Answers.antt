@@ -16,10 +16,12 @@ returns c =
     let i = c.long_from-index.result in
     let start = start_at index i in
     let rest = drop (i + 1) (starts_of index) in
-    let range : ℕ → Option ℕ → Option Place → List Range = λ a end place. (record { start = a; end = end; place = place }) ∷ ranges_of rest in
+    let range : ℕ → Option ℕ → Option Place → List Range = λ a end place.
+    (record { start = a; end = end; place = place }) ∷ ranges_of rest in
     sym c.long_from-index.ensures.same
     ∙ ap ranges_of (start_here index i c.if-index-self.false)
-    ∙ ap (λ (b : Bool). if b then ranges_of rest else range start.address (first_start rest) start.place) (c.long_from-index.ensures.long c.if-index-self.false)
+    ∙ ap (λ (b : Bool). if b then ranges_of rest else range start.address (first_start rest) start.place)
+    (c.long_from-index.ensures.long c.if-index-self.false)
     ∙ sym (ap (λ a. range a (first_start rest) start.place) c.address_at.ensures)
     ∙ sym (ap (λ e. range c.address_at.result e start.place) c.address_from.ensures)
     ∙ sym (ap (range c.address_at.result c.address_from.result) c.entry_place.ensures)

@@ -16,19 +16,25 @@ returns-clause-place g c =
     let t = texts_of g.R.Reader.bytes c.args.origin.now.strings.now c.args.origin.now.compilations.now in
     let units = c.args.origin.now.lookup.now in
     let rows = c.in-Some.rows in
-    let within : rows.unit < length units = subst (λ (o : Option CoveringRows). IfSome o (λ f. f.unit < length units)) c.in-Some.is c.requires.unit in
+    let within : rows.unit
+    < length units = subst (λ (o : Option CoveringRows). IfSome o (λ f. f.unit < length units)) c.in-Some.is
+    c.requires.unit in
     let known = get_inside units rows.unit within in
-    place_known t units c.source_of.new.self c.in_ok-source.source c.in_ok-line.line c.in_ok-column.column c.is_stmt.result
+    place_known t units c.source_of.new.self c.in_ok-source.source c.in_ok-line.line c.in_ok-column.column
+    c.is_stmt.result
     (record { unit = rows.unit; file = rows.row.file })
     known.0 rows.row
-    c.in_ok-source.ensures.are c.in_ok-source.ensures.number known.1 refl c.in_ok-line.ensures.ok c.in_ok-column.ensures.ok c.is_stmt.ensures
-    ∙ sym (ap (found_place t units) c.in-Some.is ∙ ap (option_map (λ (u : KeptUnit). row_place t u.unit rows.row)) known.1)
+    c.in_ok-source.ensures.are c.in_ok-source.ensures.number known.1 refl c.in_ok-line.ensures.ok
+    c.in_ok-column.ensures.ok c.is_stmt.ensures
+    ∙ sym
+    (ap (found_place t units) c.in-Some.is ∙ ap (option_map (λ (u : KeptUnit). row_place t u.unit rows.row)) known.1)
 
 pub returns-in_err-line-clause-err : goal.returns-in_err-line-clause-err
 returns-in_err-line-clause-err g c =
     let units = c.args.origin.now.lookup.now in
     let rows = c.in-Some.rows in
-    let found : AreFound units rows = subst (λ (o : Option CoveringRows). IfSome o (AreFound units)) c.in-Some.is c.requires.found in
+    let found : AreFound units rows =
+    subst (λ (o : Option CoveringRows). IfSome o (AreFound units)) c.in-Some.is c.requires.found in
     let p = err_from_is_err_and c.from_residual.result c.from_residual.ensures.1 in
     let e = c.in_err-line.ensures.err in
     rw (p.1, p.2, e.0) (rows.row, (rows, found, refl), e.1)
@@ -37,7 +43,8 @@ pub returns-in_err-column-clause-err : goal.returns-in_err-column-clause-err
 returns-in_err-column-clause-err g c =
     let units = c.args.origin.now.lookup.now in
     let rows = c.in-Some.rows in
-    let found : AreFound units rows = subst (λ (o : Option CoveringRows). IfSome o (AreFound units)) c.in-Some.is c.requires.found in
+    let found : AreFound units rows =
+    subst (λ (o : Option CoveringRows). IfSome o (AreFound units)) c.in-Some.is c.requires.found in
     let p = err_from_is_err_and c.from_residual-in_err-column.result c.from_residual-in_err-column.ensures.1 in
     let e = c.in_err-column.ensures.err in
     rw (p.1, p.2, e.0) (rows.row, (rows, found, refl), e.1)
@@ -47,6 +54,7 @@ returns-clause-inside g c =
     let rows = c.in-Some.rows in
     omega (
       arith,
-      slice_get_within c.source_of.new.self.keys c.in_ok-source.source (record { unit = rows.unit; file = rows.row.file }) c.in_ok-source.ensures.number,
+      slice_get_within c.source_of.new.self.keys c.in_ok-source.source
+          (record { unit = rows.unit; file = rows.row.file }) c.in_ok-source.ensures.number,
       c.in_ok-source.ensures.are.count,
     )

@@ -36,7 +36,8 @@ returns-in-Some-clause-pair g c =
     let i = c.loop-rows.rows-index in
     let lt : i < length items = omega arith in
     rw (← c.self.view_is, ← c.deref-rows-items.ensures.value)
-    (first_found c.args.a items i c.rows-item.result c.in-Some.pair.0 c.in-Some.pair.1 lt c.rows-item.is c.loop-rows.invariant.none c.in-Some.ensures.pair)
+    (first_found c.args.a items i c.rows-item.result c.in-Some.pair.0 c.in-Some.pair.1 lt c.rows-item.is
+    c.loop-rows.invariant.none c.in-Some.ensures.pair)
 
 pub loop-rows-preserved : goal.loop-rows-preserved
 loop-rows-preserved g c =
@@ -48,12 +49,21 @@ loop-rows-preserved g c =
     let size = ap (λ (r : List LineRow). length r) c.rows-item.is in
     let sizes = sum_by_more length items i rows lt in
     record {
-      none = All-more (HasNoPair c.args.a) items i rows lt before.none (subst (HasNoPair c.args.a) c.rows-item.is c.in_default.ensures.pair);
+      none =
+          All-more (HasNoPair c.args.a) items i rows lt before.none
+          (subst (HasNoPair c.args.a) c.rows-item.is c.in_default.ensures.pair);
       at_least = λ some. elim (cases_lt 0 (length rows)) [
         | inl more ↦ omega (arith, c.find.ensures.at_least more)
         | inr empty ↦ omega (arith, before.at_least (omega (arith, some, sizes, size, empty)), c.find.ensures.grows)
       ];
-      at_most = omega (arith, before.at_most, c.find.ensures.at_most, sum_by_more most_probes items i rows lt, ap most_probes c.rows-item.is);
+      at_most =
+          omega (
+            arith,
+            before.at_most,
+            c.find.ensures.at_most,
+            sum_by_more most_probes items i rows lt,
+            ap most_probes c.rows-item.is,
+          );
     }
 
 pub returns-clause-pair : goal.returns-clause-pair
@@ -61,4 +71,5 @@ returns-clause-pair g c =
     let items = c.deref-rows-items.result.now in
     let i = c.loop-rows.rows-index in
     rw (← c.self.view_is, ← c.deref-rows-items.ensures.value)
-    (subst (All (HasNoPair c.args.a)) (take_all i items (omega (arith, c.loop-rows-test.false))) c.loop-rows.invariant.none)
+    (subst (All (HasNoPair c.args.a)) (take_all i items (omega (arith, c.loop-rows-test.false)))
+    c.loop-rows.invariant.none)

@@ -11,9 +11,11 @@ returns-in-Some-clause-pair g c =
     let sequences = c.as_slice.result.now in
     let found = c.in-Some.found in
     let first =
-    MatchOption-at_some (All (HasNoPair c.args.a) sequences) (λ (f : Found). IsFirstPairIn c.args.a sequences f.sequence f.row f.next) found c.in-Some.is
+    MatchOption-at_some (All (HasNoPair c.args.a) sequences)
+    (λ (f : Found). IsFirstPairIn c.args.a sequences f.sequence f.row f.next) found c.in-Some.is
     c.find-found.ensures.found in
-    rw (← c.self.view_is, ← c.as_slice.ensures.value) (first_pair_of_index c.args.a sequences found.sequence found.row found.next first)
+    rw (← c.self.view_is, ← c.as_slice.ensures.value)
+    (first_pair_of_index c.args.a sequences found.sequence found.row found.next first)
 
 pub returns-in-Some-clause-at_least : goal.returns-in-Some-clause-at_least
 returns-in-Some-clause-at_least g c = rw (← c.self.view_is, ← c.as_slice.ensures.value) c.find-found.ensures.at_least
@@ -25,7 +27,8 @@ pub returns-in-None-clause-pair : goal.returns-in-None-clause-pair
 returns-in-None-clause-pair g c =
     let sequences = c.as_slice.result.now in
     let none =
-    MatchOption-at_none (All (HasNoPair c.args.a) sequences) (λ (f : Found). IsFirstPairIn c.args.a sequences f.sequence f.row f.next) c.in-None.is
+    MatchOption-at_none (All (HasNoPair c.args.a) sequences)
+    (λ (f : Found). IsFirstPairIn c.args.a sequences f.sequence f.row f.next) c.in-None.is
     c.find-found.ensures.found in
     rw (← c.self.view_is, ← c.as_slice.ensures.value) none
 

@@ -13,7 +13,8 @@ pub returns-else-is_between : goal.returns-else-is_between
 returns-else-is_between c = λ ended unended known.
     let k = rw c.in-After.is at known in (
       k.0,
-      none_comes_after c.args.a unended k.2 c.in-After.last c.args.row k.1 k.3 (λ from before. absurd (false≢true (c.if-is_between.ensures.1 (from, before)))),
+      none_comes_after c.args.a unended k.2 c.in-After.last c.args.row k.1 k.3 (λ from before.
+          absurd (false≢true (c.if-is_between.ensures.1 (from, before)))),
       unended,
       refl,
     )

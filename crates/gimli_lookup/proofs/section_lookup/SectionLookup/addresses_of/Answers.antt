@@ -20,18 +20,23 @@ loop-unit-preserved g c =
     let path = c.args.path.now in
     let units = c.args.self.now in
     let i = c.loop-unit.unit in
-    let count : length c.units-unit-end.result.now ≡ length units = ap length c.units-unit-end.ensures ∙ length-map units (λ (u : KeptUnit). u.unit) in
+    let count : length c.units-unit-end.result.now ≡ length units = ap length c.units-unit-end.ensures
+    ∙ length-map units (λ (u : KeptUnit). u.unit) in
     let inside : i < length units = omega (arith, count) in
     let d = some_unit units i inside in
-    subst (λ (addresses : ℕ → List ℕ). AreAddressesFrom addresses c.args.line c.in_ok-found.found) (one_more_unit sections path units i d inside)
-    (c.in_ok-found.ensures.ok (addresses_of_path sections path (take i units)) (unit_addresses sections path (slice_index_or units i d)) c.args.line
+    subst (λ (addresses : ℕ → List ℕ). AreAddressesFrom addresses c.args.line c.in_ok-found.found)
+    (one_more_unit sections path units i d inside)
+    (c.in_ok-found.ensures.ok (addresses_of_path sections path (take i units))
+    (unit_addresses sections path (slice_index_or units i d)) c.args.line
     c.loop-unit.invariant (c.in_ok-unit_addresses.ensures.ok d))
 
 pub returns-clause-ok : goal.returns-clause-ok
 returns-clause-ok g c =
     let sections = strings g.R.Reader.bytes c.args.sections.now in
     let units = c.args.self.now in
-    let count : length c.units-unit-end.result.now ≡ length units = ap length c.units-unit-end.ensures ∙ length-map units (λ (u : KeptUnit). u.unit) in
+    let count : length c.units-unit-end.result.now ≡ length units = ap length c.units-unit-end.ensures
+    ∙ length-map units (λ (u : KeptUnit). u.unit) in
     let past : length units ≤ c.loop-unit.unit = omega (arith, count, c.loop-unit-test.false) in
-    subst (λ (us : List KeptUnit). AreAddressesFrom (addresses_of_path sections c.args.path.now us) c.args.line c.loop-unit.found)
+    subst (λ (us : List KeptUnit).
+    AreAddressesFrom (addresses_of_path sections c.args.path.now us) c.args.line c.loop-unit.found)
     (take_all c.loop-unit.unit units past) c.loop-unit.invariant

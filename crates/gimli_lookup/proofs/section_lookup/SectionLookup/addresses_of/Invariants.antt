@@ -5,4 +5,6 @@ use Rattle.gimli_lookup.specs.Strings.{strings}
 use Rattle.gimli_lookup.proofs.section_lookup.SectionLookup.addresses_of.Given as goal
 
 abbrev pub invariant-loop-unit : goal.invariant-loop-unit
-invariant-loop-unit g l = AreAddressesFrom (addresses_of_path (strings g.R.Reader.bytes l.sections) l.path (take l.unit l.self)) l.line l.found
+invariant-loop-unit g l =
+    AreAddressesFrom (addresses_of_path (strings g.R.Reader.bytes l.sections) l.path (take l.unit l.self)) l.line
+    l.found

@@ -7,7 +7,9 @@ use Rattle.gimli_lookup.proofs.section_lookup.SectionLookup.addresses_of_file.Go
 pub returns-clause-ok : goal.returns-clause-ok
 returns-clause-ok g c =
     λ d.
-    subst (λ (sequences : List (List LineRow)). IfOk c.addresses_from.result (AreAddressesFrom (addresses_of (nat_eq c.args.file) sequences) c.args.line))
+    subst (λ (sequences : List (List LineRow)).
+    IfOk c.addresses_from.result (AreAddressesFrom (addresses_of (nat_eq c.args.file) sequences) c.args.line))
     (c.sequences_of.ensures d)
-    (subst (λ (is_file : ℕ → Bool). IfOk c.addresses_from.result (AreAddressesFrom (addresses_of is_file c.sequences_of.result.now) c.args.line))
+    (subst (λ (is_file : ℕ → Bool).
+    IfOk c.addresses_from.result (AreAddressesFrom (addresses_of is_file c.sequences_of.result.now) c.args.line))
     (among_one c.args.file) c.addresses_from.ensures.ok)

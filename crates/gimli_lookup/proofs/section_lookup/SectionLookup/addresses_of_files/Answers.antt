@@ -8,5 +8,6 @@ pub returns-clause-ok : goal.returns-clause-ok
 returns-clause-ok g c =
     λ d.
     subst
-    (λ (sequences : List (List LineRow)). IfOk c.addresses_from.result (AreAddressesFrom (addresses_of (is_among c.args.files.now) sequences) c.args.line))
+    (λ (sequences : List (List LineRow)). IfOk c.addresses_from.result
+    (AreAddressesFrom (addresses_of (is_among c.args.files.now) sequences) c.args.line))
     (c.sequences_of.ensures d) c.addresses_from.ensures.ok

@@ -13,9 +13,11 @@ unit_near-requires g c =
     let sequences = c.as_slice.result.now in
     let found = c.in-Some.found in
     let first =
-    MatchOption-at_some (All (HasNoPair c.args.a) sequences) (λ (f : Found). IsFirstPairIn c.args.a sequences f.sequence f.row f.next) found c.in-Some.is
+    MatchOption-at_some (All (HasNoPair c.args.a) sequences)
+    (λ (f : Found). IsFirstPairIn c.args.a sequences f.sequence f.row f.next) found c.in-Some.is
     c.find-found.ensures.found in
-    index_within c.args.a c.self.inside.sequences.items sequences c.self.inside.units.items c.as_slice-in-Some.result.now found.sequence found.row found.next
+    index_within c.args.a c.self.inside.sequences.items sequences c.self.inside.units.items
+    c.as_slice-in-Some.result.now found.sequence found.row found.next
     c.self.invariant.0 c.as_slice.ensures.value c.as_slice-in-Some.ensures.value first
 
 pub returns-in-Some-clause-pair : goal.returns-in-Some-clause-pair
@@ -23,9 +25,11 @@ returns-in-Some-clause-pair g c =
     let sequences = c.as_slice.result.now in
     let found = c.in-Some.found in
     let first =
-    MatchOption-at_some (All (HasNoPair c.args.a) sequences) (λ (f : Found). IsFirstPairIn c.args.a sequences f.sequence f.row f.next) found c.in-Some.is
+    MatchOption-at_some (All (HasNoPair c.args.a) sequences)
+    (λ (f : Found). IsFirstPairIn c.args.a sequences f.sequence f.row f.next) found c.in-Some.is
     c.find-found.ensures.found in
-    rw (← all_are c.self.inside.sequences.items c.self.inside.units.items sequences c.args.self.now c.self.invariant.0 c.self.view_is c.as_slice.ensures.value)
+    rw (← all_are c.self.inside.sequences.items c.self.inside.units.items sequences c.args.self.now c.self.invariant.0
+    c.self.view_is c.as_slice.ensures.value)
     (first_pair_of_index c.args.a sequences found.sequence found.row found.next first)
 
 pub returns-in-Some-clause-unit : goal.returns-in-Some-clause-unit
@@ -33,24 +37,29 @@ returns-in-Some-clause-unit g c =
     let sequences = c.as_slice.result.now in
     let found = c.in-Some.found in
     let first =
-    MatchOption-at_some (All (HasNoPair c.args.a) sequences) (λ (f : Found). IsFirstPairIn c.args.a sequences f.sequence f.row f.next) found c.in-Some.is
+    MatchOption-at_some (All (HasNoPair c.args.a) sequences)
+    (λ (f : Found). IsFirstPairIn c.args.a sequences f.sequence f.row f.next) found c.in-Some.is
     c.find-found.ensures.found in
-    unit_found c.args.a c.self.inside.sequences.items sequences c.self.inside.units.items c.as_slice-in-Some.result.now c.args.self.now c.unit_near.result
+    unit_found c.args.a c.self.inside.sequences.items sequences c.self.inside.units.items c.as_slice-in-Some.result.now
+    c.args.self.now c.unit_near.result
     found.sequence found.row found.next
-    c.self.invariant.0 c.self.view_is c.as_slice.ensures.value c.as_slice-in-Some.ensures.value c.unit_near.ensures.unit c.unit_near.ensures.first
+    c.self.invariant.0 c.self.view_is c.as_slice.ensures.value c.as_slice-in-Some.ensures.value c.unit_near.ensures.unit
+    c.unit_near.ensures.first
     c.unit_near.ensures.end first
 
 pub returns-in-Some-clause-at_least : goal.returns-in-Some-clause-at_least
 returns-in-Some-clause-at_least g c =
     rw
-    (← all_are c.self.inside.sequences.items c.self.inside.units.items c.as_slice.result.now c.args.self.now c.self.invariant.0 c.self.view_is
+    (← all_are c.self.inside.sequences.items c.self.inside.units.items c.as_slice.result.now c.args.self.now
+    c.self.invariant.0 c.self.view_is
     c.as_slice.ensures.value)
     c.find-found.ensures.at_least
 
 pub returns-in-Some-clause-at_most : goal.returns-in-Some-clause-at_most
 returns-in-Some-clause-at_most g c =
     rw
-    (← all_are c.self.inside.sequences.items c.self.inside.units.items c.as_slice.result.now c.args.self.now c.self.invariant.0 c.self.view_is
+    (← all_are c.self.inside.sequences.items c.self.inside.units.items c.as_slice.result.now c.args.self.now
+    c.self.invariant.0 c.self.view_is
     c.as_slice.ensures.value)
     c.find-found.ensures.at_most
 
@@ -58,21 +67,25 @@ pub returns-in-None-clause-pair : goal.returns-in-None-clause-pair
 returns-in-None-clause-pair g c =
     let sequences = c.as_slice.result.now in
     let none =
-    MatchOption-at_none (All (HasNoPair c.args.a) sequences) (λ (f : Found). IsFirstPairIn c.args.a sequences f.sequence f.row f.next) c.in-None.is
+    MatchOption-at_none (All (HasNoPair c.args.a) sequences)
+    (λ (f : Found). IsFirstPairIn c.args.a sequences f.sequence f.row f.next) c.in-None.is
     c.find-found.ensures.found in
-    rw (← all_are c.self.inside.sequences.items c.self.inside.units.items sequences c.args.self.now c.self.invariant.0 c.self.view_is c.as_slice.ensures.value)
+    rw (← all_are c.self.inside.sequences.items c.self.inside.units.items sequences c.args.self.now c.self.invariant.0
+    c.self.view_is c.as_slice.ensures.value)
     none
 
 pub returns-in-None-clause-at_least : goal.returns-in-None-clause-at_least
 returns-in-None-clause-at_least g c =
     rw
-    (← all_are c.self.inside.sequences.items c.self.inside.units.items c.as_slice.result.now c.args.self.now c.self.invariant.0 c.self.view_is
+    (← all_are c.self.inside.sequences.items c.self.inside.units.items c.as_slice.result.now c.args.self.now
+    c.self.invariant.0 c.self.view_is
     c.as_slice.ensures.value)
     c.find-found.ensures.at_least
 
 pub returns-in-None-clause-at_most : goal.returns-in-None-clause-at_most
 returns-in-None-clause-at_most g c =
     rw
-    (← all_are c.self.inside.sequences.items c.self.inside.units.items c.as_slice.result.now c.args.self.now c.self.invariant.0 c.self.view_is
+    (← all_are c.self.inside.sequences.items c.self.inside.units.items c.as_slice.result.now c.args.self.now
+    c.self.invariant.0 c.self.view_is
     c.as_slice.ensures.value)
     c.find-found.ensures.at_most

@@ -6,7 +6,8 @@ use Rattle.gimli_lookup.proofs.SectionUnits.{none_kept, one_kept, all_kept, IsGi
 use Rattle.gimli_lookup.proofs.section_lookup.SectionLookup.new.Goals as goal
 
 pub units-init : goal.units-init
-units-init g c = rw (c.new-units.ensures.items, c.new-sequences.ensures.items) (none_kept c.args.lowest c.units-walk.result)
+units-init g c =
+    rw (c.new-units.ensures.items, c.new-sequences.ensures.items) (none_kept c.args.lowest c.units-walk.result)
 
 pub units-preserved : goal.units-preserved
 units-preserved g c =
@@ -21,16 +22,19 @@ units-preserved g c =
     } in
     let unit = c.in_ok-unit.unit in
     rw c.in_ok-push.ensures.ok
-    (one_kept c.units-walk.result.section c.units-walk.result.entry c.args.lowest c.units-walk.result.offsets c.units.units.items c.units.sequences.items
+    (one_kept c.units-walk.result.section c.units-walk.result.entry c.args.lowest c.units-walk.result.offsets
+    c.units.units.items c.units.sequences.items
     c.new.new.sequences.items
-    c.units.walk c.next.new.self o c.in-Some.next.program unit c.units.invariant given c.in_ok-unit.ensures.offset c.in_ok-unit.ensures.kept)
+    c.units.walk c.next.new.self o c.in-Some.next.program unit c.units.invariant given c.in_ok-unit.ensures.offset
+    c.in_ok-unit.ensures.kept)
 
 pub returns-clause-offsets : goal.returns-clause-offsets
 returns-clause-offsets g c =
     let units = c.units.units.items in
     let none = rw c.in_default.is at c.in_ok-next.ensures.next in
     let are = c.units.invariant.to_come ∙ ap (λ (os : List ℕ). map (λ (u : ListedUnit). u.offset) units ++ os) none.0 in
-    subst (AreUnits (notation_of (g.R.Reader.big c.args.section.now) g.R.Offset.ReaderOffset.limit) 0 (g.R.Reader.bytes c.args.section.now))
+    subst (AreUnits (notation_of (g.R.Reader.big c.args.section.now) g.R.Offset.ReaderOffset.limit) 0
+    (g.R.Reader.bytes c.args.section.now))
     (all_kept c.units.sequences.items units c.units-walk.result.offsets are) c.units-walk.ensures.offsets
 
 pub returns-clause-units : goal.returns-clause-units

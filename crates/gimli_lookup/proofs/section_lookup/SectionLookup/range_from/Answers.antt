@@ -16,18 +16,24 @@ unit_near-unit-requires g c =
     let a = c.args.a in
     let sequences = c.as_slice.result.now in
     let found = c.in-Some.found in
-    let first = MatchOption-at_some (All (HasNoPair a) sequences) (λ (f : Found). IsFirstPairIn a sequences f.sequence f.row f.next) found c.in-Some.is
-    (c.find_with_end-found.ensures.found a (omega arith) (before_above a c.find_with_end-found.result.1 c.find_with_end-found.ensures.above)) in
-    index_within a c.self.inside.sequences.items sequences c.self.inside.units.items c.as_slice-in-Some.result.now found.sequence found.row found.next
+    let first =
+    MatchOption-at_some (All (HasNoPair a) sequences)
+    (λ (f : Found). IsFirstPairIn a sequences f.sequence f.row f.next) found c.in-Some.is
+    (c.find_with_end-found.ensures.found a (omega arith)
+    (before_above a c.find_with_end-found.result.1 c.find_with_end-found.ensures.above)) in
+    index_within a c.self.inside.sequences.items sequences c.self.inside.units.items c.as_slice-in-Some.result.now
+    found.sequence found.row found.next
     c.self.invariant.0 c.as_slice.ensures.value c.as_slice-in-Some.ensures.value first
 
 pub returns-in-None-clause-found : goal.returns-in-None-clause-found
 returns-in-None-clause-found g c = λ b le before.
     let sequences = c.as_slice.result.now in
     let none =
-    MatchOption-at_none (All (HasNoPair b) sequences) (λ (f : Found). IsFirstPairIn b sequences f.sequence f.row f.next) c.in-None.is
+    MatchOption-at_none (All (HasNoPair b) sequences) (λ (f : Found). IsFirstPairIn b sequences f.sequence f.row f.next)
+    c.in-None.is
     (c.find_with_end-found.ensures.found b le before) in
-    rw (← all_are c.self.inside.sequences.items c.self.inside.units.items sequences c.args.self.now c.self.invariant.0 c.self.view_is c.as_slice.ensures.value)
+    rw (← all_are c.self.inside.sequences.items c.self.inside.units.items sequences c.args.self.now c.self.invariant.0
+    c.self.view_is c.as_slice.ensures.value)
     none
 
 pub returns-in-Some-clause-found : goal.returns-in-Some-clause-found
@@ -35,31 +41,39 @@ returns-in-Some-clause-found g c = λ b le before.
     let sequences = c.as_slice.result.now in
     let found = c.in-Some.found in
     let first =
-    MatchOption-at_some (All (HasNoPair b) sequences) (λ (f : Found). IsFirstPairIn b sequences f.sequence f.row f.next) found c.in-Some.is
+    MatchOption-at_some (All (HasNoPair b) sequences) (λ (f : Found). IsFirstPairIn b sequences f.sequence f.row f.next)
+    found c.in-Some.is
     (c.find_with_end-found.ensures.found b le before) in
-    unit_found b c.self.inside.sequences.items sequences c.self.inside.units.items c.as_slice-in-Some.result.now c.args.self.now c.unit_near-unit.result
+    unit_found b c.self.inside.sequences.items sequences c.self.inside.units.items c.as_slice-in-Some.result.now
+    c.args.self.now c.unit_near-unit.result
     found.sequence
     found.row found.next
-    c.self.invariant.0 c.self.view_is c.as_slice.ensures.value c.as_slice-in-Some.ensures.value c.unit_near-unit.ensures.unit c.unit_near-unit.ensures.first
+    c.self.invariant.0 c.self.view_is c.as_slice.ensures.value c.as_slice-in-Some.ensures.value
+    c.unit_near-unit.ensures.unit c.unit_near-unit.ensures.first
     c.unit_near-unit.ensures.end first
 
 pub find_with_end-found-requires-clause-aside : goal.find_with_end-found-requires-clause-aside
 find_with_end-found-requires-clause-aside g c =
     let same =
-    all_are c.self.inside.sequences.items c.self.inside.units.items c.as_slice.result.now c.args.self.now c.self.invariant.0 c.self.view_is
+    all_are c.self.inside.sequences.items c.self.inside.units.items c.as_slice.result.now c.args.self.now
+    c.self.invariant.0 c.self.view_is
     c.as_slice.ensures.value in
     subst (λ (sequences : List (List LineRow)). IsAside c.args.a sequences c.args.aside.now) (sym same) c.requires
 
 pub returns-in-None-clause-aside : goal.returns-in-None-clause-aside
 returns-in-None-clause-aside g c =
     let same =
-    all_are c.self.inside.sequences.items c.self.inside.units.items c.as_slice.result.now c.args.self.now c.self.invariant.0 c.self.view_is
+    all_are c.self.inside.sequences.items c.self.inside.units.items c.as_slice.result.now c.args.self.now
+    c.self.invariant.0 c.self.view_is
     c.as_slice.ensures.value in
-    subst (λ (sequences : List (List LineRow)). IsAside c.args.a sequences c.find_with_end-found.new.aside) same c.find_with_end-found.ensures.aside
+    subst (λ (sequences : List (List LineRow)). IsAside c.args.a sequences c.find_with_end-found.new.aside) same
+    c.find_with_end-found.ensures.aside
 
 pub returns-in-Some-clause-aside : goal.returns-in-Some-clause-aside
 returns-in-Some-clause-aside g c =
     let same =
-    all_are c.self.inside.sequences.items c.self.inside.units.items c.as_slice.result.now c.args.self.now c.self.invariant.0 c.self.view_is
+    all_are c.self.inside.sequences.items c.self.inside.units.items c.as_slice.result.now c.args.self.now
+    c.self.invariant.0 c.self.view_is
     c.as_slice.ensures.value in
-    subst (λ (sequences : List (List LineRow)). IsAside c.args.a sequences c.find_with_end-found.new.aside) same c.find_with_end-found.ensures.aside
+    subst (λ (sequences : List (List LineRow)). IsAside c.args.a sequences c.find_with_end-found.new.aside) same
+    c.find_with_end-found.ensures.aside

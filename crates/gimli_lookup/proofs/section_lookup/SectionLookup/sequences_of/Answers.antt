@@ -8,12 +8,20 @@ part-requires g c =
     let units = c.self.inside.units.items in
     let sequences = c.self.inside.sequences.items in
     let unit = c.index.result.now in
-    let lt : c.args.unit < length units = within_units sequences units c.args.unit c.args.self.now c.self.view_is c.requires in
+    let lt : c.args.unit
+    < length units = within_units sequences units c.args.unit c.args.self.now c.self.view_is c.requires in
     let indexes : HasPlaces 0 (length sequences) unit =
-    subst (HasPlaces 0 (length sequences)) (sym c.index.ensures) (has_indexes 0 units (length sequences) c.args.unit unit c.self.invariant.0 lt) in
+    subst (HasPlaces 0 (length sequences)) (sym c.index.ensures)
+    (has_indexes 0 units (length sequences) c.args.unit unit c.self.invariant.0 lt) in
     record {
       order = omega (arith, indexes.order, c.indexes-indexes.ensures.start, c.indexes-indexes.ensures.end);
-      end = omega (arith, indexes.ends, c.indexes-indexes.ensures.end, ap (λ (rows : List (List LineRow)). length rows) c.as_slice.ensures.value);
+      end =
+          omega (
+            arith,
+            indexes.ends,
+            c.indexes-indexes.ensures.end,
+            ap (λ (rows : List (List LineRow)). length rows) c.as_slice.ensures.value,
+          );
     }
 
 pub returns : goal.returns

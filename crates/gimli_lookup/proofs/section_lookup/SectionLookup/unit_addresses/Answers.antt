@@ -16,9 +16,16 @@ returns-clause-ok g c =
     let unit = slice_index_or c.args.self.now c.args.unit d in
     let same : is_among c.deref.result.now ≡ unit_has_path sections path unit.unit =
     fun_ext (λ i.
-    ap (λ xs. is_among xs i) c.deref.ensures.value ∙ c.in_ok-files.ensures.ok i ∙ ap (λ u. unit_has_path sections path u i) (c.unit_at.ensures d)) in
+    ap (λ xs.
+    is_among xs
+    i) c.deref.ensures.value ∙ c.in_ok-files.ensures.ok i ∙ ap (λ u.
+    unit_has_path sections path u i) (c.unit_at.ensures d)) in
     subst (λ (sequences : List (List LineRow)).
-    IfOk c.addresses_from.result (AreAddressesFrom (addresses_of (unit_has_path sections path unit.unit) sequences) c.args.line))
+    IfOk c.addresses_from.result
+    (AreAddressesFrom (addresses_of (unit_has_path sections path unit.unit) sequences) c.args.line))
     (c.sequences_of.ensures d)
-    (subst (λ (is_file : ℕ → Bool). IfOk c.addresses_from.result (AreAddressesFrom (addresses_of is_file c.sequences_of.result.now) c.args.line)) same
+    (subst
+    (λ (is_file : ℕ → Bool). IfOk c.addresses_from.result
+    (AreAddressesFrom (addresses_of is_file c.sequences_of.result.now) c.args.line))
+    same
     c.addresses_from.ensures.ok)

@@ -6,12 +6,14 @@ use Rattle.gimli_lookup.proofs.section_lookup.SectionLookup.unit_at.Goals as goa
 
 pub offset_bounds-units-unit : goal.offset_bounds-units-unit
 offset_bounds-units-unit g c =
-    let count : length c.units.result.now ≡ length c.args.self.now = ap length c.units.ensures ∙ length-map c.args.self.now (λ (u : KeptUnit). u.unit) in
+    let count : length c.units.result.now ≡ length c.args.self.now = ap length c.units.ensures
+    ∙ length-map c.args.self.now (λ (u : KeptUnit). u.unit) in
     omega (arith, count, c.requires)
 
 pub bounds-units-unit : goal.bounds-units-unit
 bounds-units-unit g c =
-    let count : length c.units.result.now ≡ length c.args.self.now = ap length c.units.ensures ∙ length-map c.args.self.now (λ (u : KeptUnit). u.unit) in
+    let count : length c.units.result.now ≡ length c.args.self.now = ap length c.units.ensures
+    ∙ length-map c.args.self.now (λ (u : KeptUnit). u.unit) in
     omega (arith, count, c.requires)
 
 pub returns : goal.returns

@@ -5,4 +5,5 @@ use Rattle.gimli_lookup.proofs.section_lookup.SectionLookup.units.Goals as goal
 
 pub returns : goal.returns
 returns g c =
-    c.as_slice.ensures.value ∙ sym (listed_are c.self.inside.sequences.items c.self.inside.units.items) ∙ ap (map (λ (u : KeptUnit). u.unit)) c.self.view_is
+    c.as_slice.ensures.value ∙ sym (listed_are c.self.inside.sequences.items c.self.inside.units.items)
+    ∙ ap (map (λ (u : KeptUnit). u.unit)) c.self.view_is

@@ -9,7 +9,8 @@ use Rattle.gimli_lookup.proofs.section_unit.UnitLookup.search.Goals as goal
 pub returns-in-Err-clause-searched : goal.returns-in-Err-clause-searched
 returns-in-Err-clause-searched g c =
     rw (c.in-Err.is, c.bare.ensures)
-    (refused c.args.lowest c.args.index c.args.addresses.now c.in-Err.e (g.R.Offset.ReaderOffset.number c.args.offset.0) c.args.pairs.now.items)
+    (refused c.args.lowest c.args.index c.args.addresses.now c.in-Err.e (g.R.Offset.ReaderOffset.number c.args.offset.0)
+    c.args.pairs.now.items)
 
 pub returns-then-is_none-clause-searched : goal.returns-then-is_none-clause-searched
 returns-then-is_none-clause-searched g c =
@@ -17,15 +18,19 @@ returns-then-is_none-clause-searched g c =
     let parts = c.in_ok-found-in-Ok.ensures.found in
     let old = c.args.pairs.now.items in
     let new = c.keep_pairs.new.pairs.items in
-    let kept = subst (λ (ps : List CoveringRows). AreKeptBehind c.args.addresses.now old ps new) c.deref.ensures.value c.in_ok-keep_pairs.ensures.ok in
+    let kept =
+    subst (λ (ps : List CoveringRows). AreKeptBehind c.args.addresses.now old ps new) c.deref.ensures.value
+    c.in_ok-keep_pairs.ensures.ok in
     let before : c.len-before.result ≡ length old = search rules in
     let after : c.len.result ≡ length new = search rules in
     let none = none_is found.fault (c.is_none.ensures ∙ ap (λ b. not b) c.if-is_none.true) in
     let offset = g.R.Offset.ReaderOffset.number c.args.offset.0 in
     let bare = c.bare-then-is_none.ensures ∙ ap (λ o. bare_unit offset o) (sym none) in
     rw c.in-Ok.is
-    (searched c.args.lowest c.args.index c.args.addresses.now c.in-Ok.program found.run offset found.fault c.bare-then-is_none.result old found.pairs.items new
-    parts.0 parts.1 c.in_ok-found-in-Ok.ensures.run.source.notation parts.2 kept (inr (omega (arith, before, after, c.if-len-before.true), none, bare)))
+    (searched c.args.lowest c.args.index c.args.addresses.now c.in-Ok.program found.run offset found.fault
+    c.bare-then-is_none.result old found.pairs.items new
+    parts.0 parts.1 c.in_ok-found-in-Ok.ensures.run.source.notation parts.2 kept
+    (inr (omega (arith, before, after, c.if-len-before.true), none, bare)))
 
 pub invariant_of-result : goal.invariant_of-result
 invariant_of-result g c =
@@ -42,8 +47,11 @@ returns-clause-searched g c =
     let parts = c.in_ok-found-in-Ok.ensures.found in
     let old = c.args.pairs.now.items in
     let new = c.keep_pairs.new.pairs.items in
-    let kept = subst (λ (ps : List CoveringRows). AreKeptBehind c.args.addresses.now old ps new) c.deref.ensures.value c.in_ok-keep_pairs.ensures.ok in
+    let kept =
+    subst (λ (ps : List CoveringRows). AreKeptBehind c.args.addresses.now old ps new) c.deref.ensures.value
+    c.in_ok-keep_pairs.ensures.ok in
     rw (c.in-Ok.is, c.in_ok-boxed.ensures.ok)
-    (searched c.args.lowest c.args.index c.args.addresses.now c.in-Ok.program found.run (g.R.Offset.ReaderOffset.number c.args.offset.0) found.fault _ old
+    (searched c.args.lowest c.args.index c.args.addresses.now c.in-Ok.program found.run
+    (g.R.Offset.ReaderOffset.number c.args.offset.0) found.fault _ old
     found.pairs.items new
     parts.0 parts.1 c.in_ok-found-in-Ok.ensures.run.source.notation parts.2 kept (inl refl))

@@ -13,8 +13,12 @@ returns-in-Some-clause-found c = λ b le before.
     let inner : IsBefore b c.nearer-end.result = c.nearer.ensures.first b before in
     let next : b < c.in-Some.found.next.address = omega (arith, c.nearer.ensures.second b before, c.address.ensures) in
     still_found c.args.self.now c.args.sequences.now c.args.a b c.args.found.now c.requires.index le
-    (subst (λ (steps : List Step). (k : ℕ) (d : Step) → k < length steps → IsApart c.args.a b (slice_index_or steps k d).from) c.as_slice.ensures.value
-    (λ k d lt. apart_of c.args.a b (slice_index_or c.as_slice.result.now k d).from c.next_step.result (both.first b inner)
+    (subst
+    (λ (steps : List Step). (k : ℕ) (d : Step) → k < length steps
+    → IsApart c.args.a b (slice_index_or steps k d).from)
+    c.as_slice.ensures.value
+    (λ k d lt. apart_of c.args.a b (slice_index_or c.as_slice.result.now k d).from c.next_step.result
+    (both.first b inner)
     (c.next_step.ensures.clear k d lt)))
     (λ i d lt down k r is. apart_of c.args.a b r.address c.args.unordered (both.second b inner)
     (c.requires.clear i d lt down k r is))
@@ -25,8 +29,12 @@ pub returns-in-None-clause-found : goal.returns-in-None-clause-found
 returns-in-None-clause-found c = λ b le before.
     let both = c.nearer-end.ensures in
     still_found c.args.self.now c.args.sequences.now c.args.a b c.args.found.now c.requires.index le
-    (subst (λ (steps : List Step). (k : ℕ) (d : Step) → k < length steps → IsApart c.args.a b (slice_index_or steps k d).from) c.as_slice.ensures.value
-    (λ k d lt. apart_of c.args.a b (slice_index_or c.as_slice.result.now k d).from c.next_step.result (both.first b before)
+    (subst
+    (λ (steps : List Step). (k : ℕ) (d : Step) → k < length steps
+    → IsApart c.args.a b (slice_index_or steps k d).from)
+    c.as_slice.ensures.value
+    (λ k d lt. apart_of c.args.a b (slice_index_or c.as_slice.result.now k d).from c.next_step.result
+    (both.first b before)
     (c.next_step.ensures.clear k d lt)))
     (λ i d lt down k r is. apart_of c.args.a b r.address c.args.unordered (both.second b before)
     (c.requires.clear i d lt down k r is))

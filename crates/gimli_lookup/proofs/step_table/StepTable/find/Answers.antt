@@ -1,4 +1,5 @@
-use Rattle.std.proofs.Common.{◌≡◌, ◌∙◌, ◌<◌, ◌≤◌, ◌^◌, ◌*◌, true, List, length, ap, subst, sym, refl, inl, inr, arith, rules}
+use Rattle.std.proofs.Common.{◌≡◌, ◌∙◌, ◌<◌, ◌≤◌, ◌^◌, ◌*◌, true, List, length, ap, subst, sym, refl, inl, inr, arith}
+use Rattle.std.proofs.Common.{rules}
 use Rattle.std.proofs.lemmas.Grind.{common_steps}
 use Rattle.gimli_line.specs.declared.run.row.LineRow.{LineRow}
 use Rattle.gimli_lookup.specs.declared.steps.Step.{Step}
@@ -7,36 +8,43 @@ use Rattle.gimli_lookup.specs.Probes.{binary_digits}
 use Rattle.gimli_lookup.specs.Steps.{step_at}
 use Rattle.gimli_lookup.proofs.CoveringPairs.{covering_has_pair, covering_is_ordered}
 use Rattle.gimli_lookup.proofs.Digits.{digits_below}
-use Rattle.gimli_lookup.proofs.StepTables.{covering_within, covering_is, none_covers_before, probes_of_covering, step_probes, some_probes, found_uncovered}
+use Rattle.gimli_lookup.proofs.StepTables.{covering_within, covering_is, none_covers_before, probes_of_covering}
+use Rattle.gimli_lookup.proofs.StepTables.{step_probes, some_probes, found_uncovered}
 use Rattle.gimli_lookup.proofs.Unordered.{first_of_unordered, first_of_covering, scan_and_rows}
 use Rattle.gimli_lookup.proofs.step_table.StepTable.find.Goals as goal
 
 pub find_unordered-found-requires-clause-count : goal.find_unordered-found-requires-clause-count
 find_unordered-found-requires-clause-count c =
     let fits : length c.as_slice.result.now < 2 ^ 64 = first_of (search rules, grind (arith, common_steps)) in
-    omega (arith, c.sequence_at.ensures.at_most, digits_below 64 (length c.as_slice.result.now) fits, c.requires.countable)
+    omega
+    (arith, c.sequence_at.ensures.at_most, digits_below 64 (length c.as_slice.result.now) fits, c.requires.countable)
 
 pub returns-in_default-clause-found : goal.returns-in_default-clause-found
 returns-in_default-clause-found c =
     let index = c.args.self.now in
     let sequences = c.args.sequences.now in
     let said = c.in_default.ensures.value ∙ ap (step_at c.args.a) c.as_slice.ensures.value in
-    found_uncovered index sequences c.requires c.args.a said c.find_unordered-found.result c.find_unordered-found.ensures.found
+    found_uncovered index sequences c.requires c.args.a said c.find_unordered-found.result
+    c.find_unordered-found.ensures.found
 
 pub returns-in_default-clause-at_least : goal.returns-in_default-clause-at_least
-returns-in_default-clause-at_least c = λ some. elim (some_probes c.args.self.now c.args.sequences.now c.requires c.args.a some) [
-  | inl steps ↦
-      let here : 0 < length c.as_slice.result.now = subst (λ (xs : List Step). 0 < length xs) (sym c.as_slice.ensures.value) steps in
-      omega (arith, c.sequence_at.ensures.at_least here, c.find_unordered-found.ensures.grows)
-  | inr rows ↦ omega (arith, c.find_unordered-found.ensures.at_least refl rows)
-]
+returns-in_default-clause-at_least c =
+    λ some. elim (some_probes c.args.self.now c.args.sequences.now c.requires c.args.a some) [
+      | inl steps ↦
+          let here : 0
+          < length c.as_slice.result.now = subst (λ (xs : List Step). 0 < length xs) (sym c.as_slice.ensures.value)
+          steps in
+          omega (arith, c.sequence_at.ensures.at_least here, c.find_unordered-found.ensures.grows)
+      | inr rows ↦ omega (arith, c.find_unordered-found.ensures.at_least refl rows)
+    ]
 
 pub returns-in_default-clause-at_most : goal.returns-in_default-clause-at_most
 returns-in_default-clause-at_most c =
     let index = c.args.self.now in
     let sequences = c.args.sequences.now in
     let few : binary_digits (length c.as_slice.result.now) ≤ binary_digits (2 * length sequences) =
-    subst (λ (xs : List Step). binary_digits (length xs) ≤ binary_digits (2 * length sequences)) (sym c.as_slice.ensures.value)
+    subst (λ (xs : List Step). binary_digits (length xs) ≤ binary_digits (2 * length sequences))
+    (sym c.as_slice.ensures.value)
     (step_probes index sequences c.requires c.args.a) in
     omega (arith, c.sequence_at.ensures.at_most, few, c.find_unordered-found.ensures.at_most)
 
@@ -48,7 +56,8 @@ find_unordered-requires-clause-end c =
 pub find_unordered-requires-clause-count : goal.find_unordered-requires-clause-count
 find_unordered-requires-clause-count c =
     let fits : length c.as_slice.result.now < 2 ^ 64 = first_of (search rules, grind (arith, common_steps)) in
-    omega (arith, c.sequence_at.ensures.at_most, digits_below 64 (length c.as_slice.result.now) fits, c.requires.countable)
+    omega
+    (arith, c.sequence_at.ensures.at_most, digits_below 64 (length c.as_slice.result.now) fits, c.requires.countable)
 
 pub returns-in-Some-find_unordered-clause-found : goal.returns-in-Some-find_unordered-clause-found
 returns-in-Some-find_unordered-clause-found c =
@@ -57,14 +66,16 @@ returns-in-Some-find_unordered-clause-found c =
     let said = c.in-Some.ensures.value ∙ ap (step_at c.args.a) c.as_slice.ensures.value in
     let found = c.in-Some-find_unordered.found in
     first_of_unordered c.args.a c.in-Some.sequence sequences found.sequence found.row found.next
-    (none_covers_before index sequences c.requires c.args.a c.in-Some.sequence said) c.in-Some-find_unordered.ensures.found
+    (none_covers_before index sequences c.requires c.args.a c.in-Some.sequence said)
+    c.in-Some-find_unordered.ensures.found
 
 pub returns-in-Some-find_unordered-clause-at_most : goal.returns-in-Some-find_unordered-clause-at_most
 returns-in-Some-find_unordered-clause-at_most c =
     let index = c.args.self.now in
     let sequences = c.args.sequences.now in
     let few : binary_digits (length c.as_slice.result.now) ≤ binary_digits (2 * length sequences) =
-    subst (λ (xs : List Step). binary_digits (length xs) ≤ binary_digits (2 * length sequences)) (sym c.as_slice.ensures.value)
+    subst (λ (xs : List Step). binary_digits (length xs) ≤ binary_digits (2 * length sequences))
+    (sym c.as_slice.ensures.value)
     (step_probes index sequences c.requires c.args.a) in
     omega (arith, c.sequence_at.ensures.at_most, few, c.find_unordered.ensures.at_most)
 
@@ -85,7 +96,8 @@ find_by_halves-requires-clause-order c =
     let said = c.in-Some.ensures.value ∙ ap (step_at c.args.a) c.as_slice.ensures.value in
     let rows = c.index-sequences-sequence.result in
     let covering : covers c.args.a rows ≡ true =
-    ap (covers c.args.a) c.index-sequences-sequence.is ∙ covering_is c.args.self.now c.args.sequences.now c.requires c.args.a c.in-Some.sequence said rows in
+    ap (covers c.args.a) c.index-sequences-sequence.is
+    ∙ covering_is c.args.self.now c.args.sequences.now c.requires c.args.a c.in-Some.sequence said rows in
     covering_is_ordered c.args.a rows covering
 
 pub find_by_halves-requires-clause-count : goal.find_by_halves-requires-clause-count
@@ -95,14 +107,16 @@ find_by_halves-requires-clause-count c =
     let said = c.in-Some.ensures.value ∙ ap (step_at c.args.a) c.as_slice.ensures.value in
     let rows = c.index-sequences-sequence.result in
     let covering : covers c.args.a rows ≡ true =
-    ap (covers c.args.a) c.index-sequences-sequence.is ∙ covering_is index sequences c.requires c.args.a c.in-Some.sequence said rows in
+    ap (covers c.args.a) c.index-sequences-sequence.is
+    ∙ covering_is index sequences c.requires c.args.a c.in-Some.sequence said rows in
     let fits : length c.as_slice.result.now < 2 ^ 64 = first_of (search rules, grind (arith, common_steps)) in
     omega (
       arith,
       c.sequence_at.ensures.at_most,
       digits_below 64 (length c.as_slice.result.now) fits,
       c.find_unordered.ensures.at_most,
-      scan_and_rows sequences c.in-Some.sequence rows (covering_within index sequences c.requires c.args.a c.in-Some.sequence said)
+      scan_and_rows sequences c.in-Some.sequence rows
+          (covering_within index sequences c.requires c.args.a c.in-Some.sequence said)
           c.index-sequences-sequence.is
           (covering_is_ordered c.args.a rows covering),
       c.requires.countable,
@@ -113,7 +127,8 @@ returns-in_default-find_by_halves-clause-found c =
     let said = c.in-Some.ensures.value ∙ ap (step_at c.args.a) c.as_slice.ensures.value in
     let rows = c.index-sequences-sequence.result in
     let covering : covers c.args.a rows ≡ true =
-    ap (covers c.args.a) c.index-sequences-sequence.is ∙ covering_is c.args.self.now c.args.sequences.now c.requires c.args.a c.in-Some.sequence said rows in
+    ap (covers c.args.a) c.index-sequences-sequence.is
+    ∙ covering_is c.args.self.now c.args.sequences.now c.requires c.args.a c.in-Some.sequence said rows in
     absurd (covering_has_pair c.args.a rows covering c.in_default-find_by_halves.ensures.pair)
 
 pub returns-in_default-find_by_halves-clause-at_most : goal.returns-in_default-find_by_halves-clause-at_most
@@ -121,7 +136,8 @@ returns-in_default-find_by_halves-clause-at_most c =
     let said = c.in-Some.ensures.value ∙ ap (step_at c.args.a) c.as_slice.ensures.value in
     let rows = c.index-sequences-sequence.result in
     let covering : covers c.args.a rows ≡ true =
-    ap (covers c.args.a) c.index-sequences-sequence.is ∙ covering_is c.args.self.now c.args.sequences.now c.requires c.args.a c.in-Some.sequence said rows in
+    ap (covers c.args.a) c.index-sequences-sequence.is
+    ∙ covering_is c.args.self.now c.args.sequences.now c.requires c.args.a c.in-Some.sequence said rows in
     absurd (covering_has_pair c.args.a rows covering c.in_default-find_by_halves.ensures.pair)
 
 pub returns-clause-found : goal.returns-clause-found
@@ -133,7 +149,8 @@ returns-clause-found c =
     let sequence = c.in-Some.sequence in
     first_of_covering c.args.a sequences sequence rows c.in-Some-find_by_halves.row c.in-Some-find_by_halves.next
     (covering_within index sequences c.requires c.args.a sequence said) c.index-sequences-sequence.is
-    (none_covers_before index sequences c.requires c.args.a sequence said) c.in_default-find_unordered.ensures.found c.in-Some-find_by_halves.ensures.pair
+    (none_covers_before index sequences c.requires c.args.a sequence said) c.in_default-find_unordered.ensures.found
+    c.in-Some-find_by_halves.ensures.pair
 
 pub returns-clause-at_most : goal.returns-clause-at_most
 returns-clause-at_most c =
@@ -142,8 +159,17 @@ returns-clause-at_most c =
     let said = c.in-Some.ensures.value ∙ ap (step_at c.args.a) c.as_slice.ensures.value in
     let rows = c.index-sequences-sequence.result in
     let few : binary_digits (length c.as_slice.result.now) ≤ binary_digits (2 * length sequences) =
-    subst (λ (xs : List Step). binary_digits (length xs) ≤ binary_digits (2 * length sequences)) (sym c.as_slice.ensures.value)
+    subst (λ (xs : List Step). binary_digits (length xs) ≤ binary_digits (2 * length sequences))
+    (sym c.as_slice.ensures.value)
     (step_probes index sequences c.requires c.args.a) in
     let here = ap (λ (r : List LineRow). binary_digits (length r)) c.index-sequences-sequence.is in
     let probes = probes_of_covering index sequences c.requires c.args.a c.in-Some.sequence said rows in
-    omega (arith, c.sequence_at.ensures.at_most, few, c.find_unordered.ensures.at_most, c.find_by_halves.ensures.at_most, here, probes)
+    omega (
+      arith,
+      c.sequence_at.ensures.at_most,
+      few,
+      c.find_unordered.ensures.at_most,
+      c.find_by_halves.ensures.at_most,
+      here,
+      probes,
+    )

@@ -9,12 +9,14 @@ use Rattle.gimli_lookup.proofs.step_table.StepTable.find_from.Goals as goal
 pub returns-in_default : goal.returns-in_default
 returns-in_default c =
     let said = sym c.in_default.is ∙ c.requires.sequence in
-    found_uncovered c.args.self.now c.args.sequences.now c.requires.index c.args.a said c.found_before.result c.found_before.ensures
+    found_uncovered c.args.self.now c.args.sequences.now c.requires.index c.args.a said c.found_before.result
+    c.found_before.ensures
 
 pub found_before-requires-2-clause-end : goal.found_before-requires-2-clause-end
 found_before-requires-2-clause-end c =
     let said = sym c.in-Some.is ∙ c.requires.sequence in
-    omega (arith, covering_within c.args.self.now c.args.sequences.now c.requires.index c.args.a c.in-Some.sequence said)
+    omega
+    (arith, covering_within c.args.self.now c.args.sequences.now c.requires.index c.args.a c.in-Some.sequence said)
 
 pub returns-in-Some-found_before : goal.returns-in-Some-found_before
 returns-in-Some-found_before c =
@@ -23,7 +25,8 @@ returns-in-Some-found_before c =
     let said = sym c.in-Some.is ∙ c.requires.sequence in
     let found = c.in-Some-found_before.found in
     first_of_unordered c.args.a c.in-Some.sequence sequences found.sequence found.row found.next
-    (none_covers_before index sequences c.requires.index c.args.a c.in-Some.sequence said) c.in-Some-found_before.ensures
+    (none_covers_before index sequences c.requires.index c.args.a c.in-Some.sequence said)
+    c.in-Some-found_before.ensures
 
 pub offset_bounds-sequences-sequence : goal.offset_bounds-sequences-sequence
 offset_bounds-sequences-sequence c =
@@ -53,10 +56,12 @@ find_from-requires-clause-count c =
     let said = sym c.in-Some.is ∙ c.requires.sequence in
     let rows = c.index-sequences-sequence.result in
     let covering : covers c.args.a rows ≡ true =
-    ap (covers c.args.a) c.index-sequences-sequence.is ∙ covering_is index sequences c.requires.index c.args.a c.in-Some.sequence said rows in
+    ap (covers c.args.a) c.index-sequences-sequence.is
+    ∙ covering_is index sequences c.requires.index c.args.a c.in-Some.sequence said rows in
     omega (
       arith,
-      scan_and_rows sequences c.in-Some.sequence rows (covering_within index sequences c.requires.index c.args.a c.in-Some.sequence said)
+      scan_and_rows sequences c.in-Some.sequence rows
+          (covering_within index sequences c.requires.index c.args.a c.in-Some.sequence said)
           c.index-sequences-sequence.is
           (covering_is_ordered c.args.a rows covering),
       c.requires.index.countable,
@@ -80,4 +85,5 @@ returns c =
     let sequence = c.in-Some.sequence in
     first_of_covering c.args.a sequences sequence rows c.in-Some-find_from.row c.in-Some-find_from.next
     (covering_within index sequences c.requires.index c.args.a sequence said) c.index-sequences-sequence.is
-    (none_covers_before index sequences c.requires.index c.args.a sequence said) c.in_default-found_before.ensures c.in-Some-find_from.ensures
+    (none_covers_before index sequences c.requires.index c.args.a sequence said) c.in_default-found_before.ensures
+    c.in-Some-find_from.ensures

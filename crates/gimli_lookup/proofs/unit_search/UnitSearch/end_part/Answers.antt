@@ -5,4 +5,5 @@ use Rattle.gimli_lookup.proofs.unit_search.UnitSearch.end_part.Goals as goal
 
 pub returns : goal.returns
 returns c = λ unit addresses cut sees.
-    part_ended unit addresses cut c.args.self.now _ (ap (λ (s : UnitSearch). record s { last = None }) c.self.view_is) sees
+    part_ended unit addresses cut c.args.self.now _ (ap (λ (s : UnitSearch). record s { last = None }) c.self.view_is)
+    sees

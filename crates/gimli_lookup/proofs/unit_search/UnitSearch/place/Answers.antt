@@ -8,7 +8,8 @@ pub returns-clause-ok : goal.returns-clause-ok
 returns-clause-ok c = λ unit cut sees.
     let lowest = sym sees.lowest ∙ sym (ap (λ (s : UnitSearch). s.lowest) c.self.view_is) in
     placed_at unit c.args.addresses.now cut c.args.row.now c.end_part.new.self false
-    (ap (λ (n : ℕ). stands n c.args.row.now) lowest ∙ sym c.if-stands.ensures) (c.end_part.ensures unit c.args.addresses.now cut sees)
+    (ap (λ (n : ℕ). stands n c.args.row.now) lowest ∙ sym c.if-stands.ensures)
+    (c.end_part.ensures unit c.args.addresses.now cut sees)
 
 pub returns-then-stands-clause-ok : goal.returns-then-stands-clause-ok
 returns-then-stands-clause-ok c =

@@ -15,7 +15,8 @@ returns-in_err-tables-clause-err g c =
     let target = c.unwrap_or-encoding.ensures ∙ ap (λ own. unwrap_or c.args.encoding own) c.encoding.ensures.encoding in
     let p = err_from_is_err_and c.from_residual.result c.from_residual.ensures.1 in
     rw (p.1, p.2)
-    (refused_at_start s h given c.args.line_strings.now c.unwrap_or-encoding.result target c.in_err-tables.field-0.0 c.in_err-tables.ensures.err)
+    (refused_at_start s h given c.args.line_strings.now c.unwrap_or-encoding.result target c.in_err-tables.field-0.0
+    c.in_err-tables.ensures.err)
 
 pub returns-in_err-add_directories_and_files-clause-err : goal.returns-in_err-add_directories_and_files-clause-err
 returns-in_err-add_directories_and_files-clause-err g c =
@@ -23,10 +24,13 @@ returns-in_err-add_directories_and_files-clause-err g c =
     let h = c.args.header.now.meaning in
     let given = handed_of c.args.encoding c.args.line_encoding (option_map g.R.Reader.bytes c.args.from_comp_name) in
     let target = c.unwrap_or-encoding.ensures ∙ ap (λ own. unwrap_or c.args.encoding own) c.encoding.ensures.encoding in
-    let p = err_from_is_err_and c.from_residual-in_err-add_directories_and_files.result c.from_residual-in_err-add_directories_and_files.ensures.1 in
+    let p =
+    err_from_is_err_and c.from_residual-in_err-add_directories_and_files.result
+    c.from_residual-in_err-add_directories_and_files.ensures.1 in
     rw (p.1, p.2)
     (refused_at_listed s h given c.args.line_strings.now c.unwrap_or-encoding.result target
-    (tables_with c.tables_at_start.new.line_strings c.in_ok-tables.tables) c.in_err-add_directories_and_files.field-0.0 c.in_ok-tables.ensures.ok
+    (tables_with c.tables_at_start.new.line_strings c.in_ok-tables.tables) c.in_err-add_directories_and_files.field-0.0
+    c.in_ok-tables.ensures.ok
     c.in_err-add_directories_and_files.ensures.err)
 
 pub returns-in_err-add_directories_and_files-clause-stays : goal.returns-in_err-add_directories_and_files-clause-stays

@@ -5,7 +5,8 @@ use Rattle.gimli_core.specs.declared.common.LineEncoding.{LineEncoding}
 use Rattle.gimli_write.specs.declared.convert_error.ConvertError.{ConvertError}
 use Rattle.gimli_write.specs.convert.Texts.{◌>>=◌}
 use Rattle.gimli_write.specs.convert.SourceTables.{TablesAndTexts}
-use Rattle.gimli_write.specs.convert.Preparation.{working_directory, SourceFile, source_file, line_encoding_of, first_texts, start_of_tables}
+use Rattle.gimli_write.specs.convert.Preparation.{working_directory, SourceFile, source_file, line_encoding_of}
+use Rattle.gimli_write.specs.convert.Preparation.{first_texts, start_of_tables}
 use Rattle.gimli_write.proofs.ConvertHeader.{at_third}
 use Rattle.gimli_write.proofs.convert.header.tables_at_start.Goals as goal
 
@@ -18,7 +19,10 @@ returns-clause-ok g c =
     let second = source_file encoding.version s h (option_map g.R.Reader.bytes c.args.from_comp_name) in
     let lines = line_encoding_of h.parameters.line_encoding c.args.line_encoding in
     let next : List ℕ → SourceFile → Result TablesAndTexts ConvertError =
-    λ directory file. lines >>= λ (e : LineEncoding). Ok (start_of_tables encoding e h (first_texts encoding.version c.args.line_strings.now directory file)) in
+    λ directory file. lines >>= λ (e : LineEncoding).
+    Ok (start_of_tables encoding e h (first_texts encoding.version c.args.line_strings.now directory file)) in
     IfOk-weaker c.tables_with_texts.result _ _
-    (λ tables is. at_third first second next c.in_ok-directory.directory.items c.in_ok-file.file c.in_ok-directory.ensures.ok c.in_ok-file.ensures.ok ∙ is)
+    (λ tables is. at_third first second next c.in_ok-directory.directory.items c.in_ok-file.file
+    c.in_ok-directory.ensures.ok c.in_ok-file.ensures.ok
+    ∙ is)
     (rw c.as_slice.ensures.value at c.tables_with_texts.ensures.ok)

@@ -12,7 +12,11 @@ loop-place-preserved c =
     record {
       part = part_on c.args.old.now c.args.new.now place c.loop-place.changes c.keep_change.new.changes kept part;
       kept = λ other whole.
-          keeps_on c.args.old.now c.args.new.now place c.loop-place.changes c.keep_change.new.changes kept other (c.loop-place.invariant.kept other whole);
-      done = done_on c.args.old.now c.args.new.now c.args.self.now place c.next.new.self c.loop-place.changes c.keep_change.new.changes kept part
-          (subst (λ (left : List Place). IsDone c.args.old.now c.args.new.now c.args.self.now left c.loop-place.changes) goes c.loop-place.invariant.done);
+          keeps_on c.args.old.now c.args.new.now place c.loop-place.changes c.keep_change.new.changes kept other
+          (c.loop-place.invariant.kept other whole);
+      done =
+          done_on c.args.old.now c.args.new.now c.args.self.now place c.next.new.self c.loop-place.changes
+          c.keep_change.new.changes kept part
+          (subst (λ (left : List Place). IsDone c.args.old.now c.args.new.now c.args.self.now left c.loop-place.changes)
+          goes c.loop-place.invariant.done);
     }

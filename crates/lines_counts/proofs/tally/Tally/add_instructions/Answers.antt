@@ -13,7 +13,9 @@ instructions-init g c =
     let h : Header = c.args.header.now.meaning in
     let notation : Notation = c.args.header.now.notation in
     record {
-      counted = subst (λ (xs : List ℕ). AreCounted notation h h.program c.args.self.now xs c.args.self.now) (sym c.requires.bytes)
+      counted =
+          subst (λ (xs : List ℕ). AreCounted notation h h.program c.args.self.now xs c.args.self.now)
+          (sym c.requires.bytes)
           (counted_none notation h h.program c.args.self.now);
       same = c.requires.bytes ∙ sym (ap (λ (u : Unread). u.bytes) c.instructions-instructions.ensures);
       notation = ap (λ (u : Unread). u.notation) c.instructions-instructions.ensures;
@@ -22,19 +24,25 @@ instructions-init g c =
 pub returns-in_err-bytes-clause-counted : goal.returns-in_err-bytes-clause-counted
 returns-in_err-bytes-clause-counted g c =
     let next = rw c.in-Some.is at c.in_ok-instruction.ensures.next in
-    let no = c.in_err-bytes.ensures.sizes _ c.args.header.now.meaning next.0 _ (c.instructions.invariant.same ∙ next.1) next.2 in
+    let no =
+    c.in_err-bytes.ensures.sizes _ c.args.header.now.meaning next.0 _ (c.instructions.invariant.same ∙ next.1)
+    next.2 in
     absurd cc
 
 pub returns-in_err-bytes-clause-fault : goal.returns-in_err-bytes-clause-fault
 returns-in_err-bytes-clause-fault g c =
     let next = rw c.in-Some.is at c.in_ok-instruction.ensures.next in
-    let no = c.in_err-bytes.ensures.sizes _ c.args.header.now.meaning next.0 _ (c.instructions.invariant.same ∙ next.1) next.2 in
+    let no =
+    c.in_err-bytes.ensures.sizes _ c.args.header.now.meaning next.0 _ (c.instructions.invariant.same ∙ next.1)
+    next.2 in
     absurd cc
 
 pub returns-in_err-bytes-clause-some : goal.returns-in_err-bytes-clause-some
 returns-in_err-bytes-clause-some g c =
     let next = rw c.in-Some.is at c.in_ok-instruction.ensures.next in
-    let no = c.in_err-bytes.ensures.sizes _ c.args.header.now.meaning next.0 _ (c.instructions.invariant.same ∙ next.1) next.2 in
+    let no =
+    c.in_err-bytes.ensures.sizes _ c.args.header.now.meaning next.0 _ (c.instructions.invariant.same ∙ next.1)
+    next.2 in
     absurd cc
 
 pub instructions-preserved : goal.instructions-preserved
@@ -43,9 +51,17 @@ instructions-preserved g c =
     let notation : Notation = c.args.header.now.notation in
     let seen = ins_seen g.R.Reader.bytes g.R.Offset.ReaderOffset.number in
     let done =
-    next_counted notation h h.program (g.R.Reader.bytes c.instructions.rest) (g.R.Reader.bytes c.instruction_bytes.new.rest) c.args.self.now
-    c.instructions.self c.add.new.self c.instructions.instructions c.next_instruction.new.self (option_map seen c.in_ok-instruction.field-0)
-    (seen c.in-Some.instruction) c.on.result c.in_ok-bytes.bytes (ap (option_map seen) c.in-Some.is) c.in_ok-instruction.ensures.next
-    c.instructions.invariant.same c.instructions.invariant.notation c.instructions.invariant.counted c.in_ok-bytes.ensures.sizes
+    next_counted notation h h.program (g.R.Reader.bytes c.instructions.rest)
+    (g.R.Reader.bytes c.instruction_bytes.new.rest) c.args.self.now
+    c.instructions.self c.add.new.self c.instructions.instructions c.next_instruction.new.self
+    (option_map seen c.in_ok-instruction.field-0)
+    (seen c.in-Some.instruction) c.on.result c.in_ok-bytes.bytes (ap (option_map seen) c.in-Some.is)
+    c.in_ok-instruction.ensures.next
+    c.instructions.invariant.same c.instructions.invariant.notation c.instructions.invariant.counted
+    c.in_ok-bytes.ensures.sizes
     c.in_ok-bytes.ensures.left c.on.ensures c.add.ensures in
-    record { counted = done.0; same = done.1; notation = c.next_instruction.ensures.notation ∙ c.instructions.invariant.notation }
+    record {
+      counted = done.0;
+      same = done.1;
+      notation = c.next_instruction.ensures.notation ∙ c.instructions.invariant.notation;
+    }

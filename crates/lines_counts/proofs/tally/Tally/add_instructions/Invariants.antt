@@ -4,7 +4,8 @@ use Rattle.lines_counts.proofs.tally.Tally.add_instructions.Given as goal
 
 abbrev pub invariant-instructions : goal.invariant-instructions
 invariant-instructions g l = record {
-  counted : AreCounted l.header.notation l.header.meaning l.header.meaning.program l.initial.self (g.R.Reader.bytes l.rest) l.self;
+  counted : AreCounted l.header.notation l.header.meaning l.header.meaning.program l.initial.self
+      (g.R.Reader.bytes l.rest) l.self;
   same : g.R.Reader.bytes l.rest ≡ l.instructions.bytes;
   notation : l.instructions.notation ≡ l.header.notation;
 }

@@ -15,7 +15,8 @@ text_cause-cause-requires c =
     all_at (IsWithin texts) c.args.self.now.directories c.args.index (line_text c.index-directories-index.result)
     c.requires.can.directories
     (mapped_at line_text c.directories-directories.result.now c.args.self.now.directories c.args.index
-    c.index-directories-index.result (c.directories-directories.ensures ∙ c.tables.ensures.directories) c.requires.there c.index-directories-index.is)
+    c.index-directories-index.result (c.directories-directories.ensures ∙ c.tables.ensures.directories) c.requires.there
+    c.index-directories-index.is)
 
 pub returns : goal.returns
 returns c =
@@ -25,11 +26,13 @@ returns c =
     let own = c.wanted_form-form.result.0 in
     let there : slice_get p.directories c.args.index ≡ Some t =
     mapped_at line_text c.directories-directories.result.now p.directories c.args.index
-    c.index-directories-index.result (c.directories-directories.ensures ∙ c.tables.ensures.directories) c.requires.there c.index-directories-index.is in
+    c.index-directories-index.result (c.directories-directories.ensures ∙ c.tables.ensures.directories) c.requires.there
+    c.index-directories-index.is in
     let not_handed : (nat_le p.encoding.version 4 && nat_eq c.args.index 0) ≡ false = search rules in
     let form : own ≡ wanted_form p.encoding.version (first_form p.directories) =
     c.wanted_form-form.ensures ∙ ap (λ (v : ℕ). wanted_form v c.directory_form.result.0) c.version.ensures
-    ∙ ap (wanted_form p.encoding.version) (c.directory_form.ensures ∙ ap first_form (c.directories-directories.ensures ∙ c.tables.ensures.directories)) in
+    ∙ ap (wanted_form p.encoding.version)
+    (c.directory_form.ensures ∙ ap first_form (c.directories-directories.ensures ∙ c.tables.ensures.directories)) in
     c.text_cause-cause.ensures ∙ ap (λ (f : Format). text_cause f texts (own, t)) c.format.ensures
     ∙ ap (λ (n : ℕ). text_cause p.encoding.format texts (n, t)) form
     ∙ sym (directory_there p texts c.args.index t there not_handed)

@@ -2,7 +2,8 @@ use Rattle.std.proofs.Common.{sym, ◌∙◌, inr}
 use Rattle.std.specs.Prelude.{Err}
 use Rattle.std.proofs.lemmas.Result.{err_from_is_err_and}
 use Rattle.gimli_write.proofs.ConvertSteps.{kept_then}
-use Rattle.gimli_write.proofs.Outcomes.{fed_next, fed_fewer, feed_refused, read_refused, left_open, converted_all, refused_then}
+use Rattle.gimli_write.proofs.Outcomes.{fed_next, fed_fewer, feed_refused, read_refused, left_open, converted_all}
+use Rattle.gimli_write.proofs.Outcomes.{refused_then}
 use Rattle.gimli_write.proofs.Writable.{writable_then, writable_with_items}
 use Rattle.gimli_write.proofs.convert.conversion.Conversion.feed_all.Goals as goal
 
@@ -13,7 +14,8 @@ returns-in_err-row-clause-err g c =
     let p = err_from_is_err_and c.from_residual.result c.from_residual.ensures.1 in
     rw (p.1, p.2)
     (refused_then e (c.rows.invariant.same (Err e))
-    (read_refused map c.rows.self c.read_row.new.self c.rows.line_strings c.read_row.new.line_strings e c.in_err-row.ensures.err))
+    (read_refused map c.rows.self c.read_row.new.self c.rows.line_strings c.read_row.new.line_strings e
+    c.in_err-row.ensures.err))
 
 pub returns-in_err-row-clause-stays : goal.returns-in_err-row-clause-stays
 returns-in_err-row-clause-stays g c =
@@ -22,7 +24,8 @@ returns-in_err-row-clause-stays g c =
 pub rows-smaller : goal.rows-smaller
 rows-smaller g c =
     let hands = rw c.in-Some.is at c.in_ok-row.ensures.ok in
-    fed_fewer (goal.F-post g c.args.convert_address.now) c.rows.self c.read_row.new.self c.rows.line_strings c.read_row.new.line_strings c.in-Some.row hands
+    fed_fewer (goal.F-post g c.args.convert_address.now) c.rows.self c.read_row.new.self c.rows.line_strings
+    c.read_row.new.line_strings c.in-Some.row hands
     c.in_ok-row.ensures.reads_on.adds _ c.in_ok-feed-in-Some.ensures.kept c.in_ok-feed-in-Some.ensures.items
 
 pub rows-preserved : goal.rows-preserved
@@ -31,7 +34,8 @@ rows-preserved g c =
     record {
       same = λ outcome comes.
           c.rows.invariant.same outcome
-          (fed_next (goal.F-post g c.args.convert_address.now) c.rows.self c.read_row.new.self c.rows.line_strings c.read_row.new.line_strings c.in-Some.row
+          (fed_next (goal.F-post g c.args.convert_address.now) c.rows.self c.read_row.new.self c.rows.line_strings
+          c.read_row.new.line_strings c.in-Some.row
           hands
           c.in_ok-row.ensures.reads_on.adds _ _
           c.in_ok-feed-in-Some.ensures.ok c.in_ok-feed-in-Some.ensures.kept c.in_ok-feed-in-Some.ensures.items comes);
@@ -47,10 +51,12 @@ returns-in_err-feed-in-Some-clause-err g c =
     let map = goal.F-post g c.args.convert_address.now in
     let hands = rw c.in-Some.is at c.in_ok-row.ensures.ok in
     let e = c.in_err-feed-in-Some.field-0.0 in
-    let p = err_from_is_err_and c.from_residual-in_err-feed-in-Some.result c.from_residual-in_err-feed-in-Some.ensures.1 in
+    let p =
+    err_from_is_err_and c.from_residual-in_err-feed-in-Some.result c.from_residual-in_err-feed-in-Some.ensures.1 in
     rw (p.1, p.2)
     (refused_then e (c.rows.invariant.same (Err e))
-    (feed_refused map c.rows.self c.read_row.new.self c.rows.line_strings c.read_row.new.line_strings c.in-Some.row hands c.in_ok-row.ensures.reads_on.adds e
+    (feed_refused map c.rows.self c.read_row.new.self c.rows.line_strings c.read_row.new.line_strings c.in-Some.row
+    hands c.in_ok-row.ensures.reads_on.adds e
     c.in_err-feed-in-Some.ensures.err))
 
 pub returns-in_err-feed-in-Some-clause-stays : goal.returns-in_err-feed-in-Some-clause-stays
@@ -61,7 +67,8 @@ pub returns-in-None-clause-err : goal.returns-in-None-clause-err
 returns-in-None-clause-err g c =
     let end = rw c.in-None.is at c.in_ok-row.ensures.ok in
     inr (c.rows.invariant.same _
-    (left_open (goal.F-post g c.args.convert_address.now) c.rows.self c.read_row.new.self c.rows.line_strings c.read_row.new.line_strings end.0
+    (left_open (goal.F-post g c.args.convert_address.now) c.rows.self c.read_row.new.self c.rows.line_strings
+    c.read_row.new.line_strings end.0
     c.in_ok-row.ensures.reads_on.adds
     (sym c.in_sequence.ensures ∙ c.if-in_sequence.true)))
 
@@ -73,7 +80,8 @@ pub returns-in-None-2-clause-ok : goal.returns-in-None-2-clause-ok
 returns-in-None-2-clause-ok g c =
     let end = rw c.in-None.is at c.in_ok-row.ensures.ok in
     c.rows.invariant.same _
-    (converted_all (goal.F-post g c.args.convert_address.now) c.rows.self c.read_row.new.self c.rows.line_strings c.read_row.new.line_strings end.0
+    (converted_all (goal.F-post g c.args.convert_address.now) c.rows.self c.read_row.new.self c.rows.line_strings
+    c.read_row.new.line_strings end.0
     c.in_ok-row.ensures.reads_on.adds
     (sym c.in_sequence.ensures ∙ c.if-in_sequence.false))
 

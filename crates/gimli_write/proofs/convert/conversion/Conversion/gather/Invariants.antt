@@ -9,7 +9,8 @@ use Rattle.gimli_write.proofs.convert.conversion.Conversion.gather.Given as goal
 
 abbrev pub invariant-rows : goal.invariant-rows
 invariant-rows g l = record {
-  same : sequence_from l.start l.rows.items (still_to_read l.self l.line_strings) ≡ sequence_from None [] (still_to_read l.fn.self l.fn.line_strings);
+  same : sequence_from l.start l.rows.items (still_to_read l.self l.line_strings)
+      ≡ sequence_from None [] (still_to_read l.fn.self l.fn.line_strings);
   reads_on : ReadsOn (beside l.fn.line_strings l.fn.self) (beside l.line_strings l.self);
   last : KeepsFinalTables (beside l.fn.line_strings l.fn.self) (beside l.line_strings l.self);
 }

@@ -13,7 +13,8 @@ returns-in_err-row_or_end-clause-leaves g c =
       still = tt;
       ended = tt;
       stopped = λ other.
-          held_stops a.sections a.source a.tables a.address a.address a.held None a.failed c.args.line_strings.now c.in-Some-held.row
+          held_stops a.sections a.source a.tables a.address a.address a.held None a.failed c.args.line_strings.now
+          c.in-Some-held.row
           c.in-Some-held.is (subst (λ (s : Conversion). s.failed ≡ None) (sym c.self.view_is) c.requires)
           (c.in_err-row_or_end.ensures.lacks c.args.line_strings.now);
     }))
@@ -23,7 +24,8 @@ returns-in-Some-held-clause-leaves g c =
     let a = c.self.inside in
     rw (← c.self.view_is) (record {
       still =
-          held_last a.sections a.source a.tables a.address a.address a.held None a.failed c.args.line_strings.now c.in-Some-held.row
+          held_last a.sections a.source a.tables a.address a.address a.held None a.failed c.args.line_strings.now
+          c.in-Some-held.row
           c.in-Some-held.is refl (c.in_ok-row_or_end.ensures.found c.args.line_strings.now);
       ended = λ none. absurd cc;
       stopped = tt;

@@ -16,8 +16,10 @@ returns-in-Done-clause-ok g c =
     let a = c.steps.self-inside in
     let tables = without_built (tables_with c.steps.line_strings a.tables) in
     let read = rw c.in-Done.is at c.in_ok-step.ensures.reading in
-    let over = rw c.in-Done.is at c.in_ok-step.ensures.shorter in
-    (sym c.steps.invariant.left ∙ ap after_definitions (read a.sections tables), none_left a.sections tables c.step.new.self over)
+    let over = rw c.in-Done.is at c.in_ok-step.ensures.shorter in (
+      sym c.steps.invariant.left ∙ ap after_definitions (read a.sections tables),
+      none_left a.sections tables c.step.new.self over,
+    )
 
 pub steps-preserved : goal.steps-preserved
 steps-preserved g c =
@@ -30,7 +32,8 @@ steps-preserved g c =
     record {
       left =
           sym (ap after_definitions
-          (read a.sections (without_built before) ∙ ap defines (file_taken a.sections c.step.new.self before f _ c.in_ok-add_file-in-Defines.ensures.ok)))
+          (read a.sections (without_built before)
+          ∙ ap defines (file_taken a.sections c.step.new.self before f _ c.in_ok-add_file-in-Defines.ensures.ok)))
           ∙ c.steps.invariant.left;
       first = λ more. c.steps.invariant.first (ap defines_first (read a.sections (without_built before)));
       version = ap (λ h. h.parameters.encoding.version) c.in_ok-step.ensures.header ∙ c.steps.invariant.version;
@@ -58,11 +61,15 @@ returns-in_err-add_file-in-Defines-clause-err g c =
     let before = tables_with c.steps.line_strings a.tables in
     let read = rw c.in-Defines.is at c.in_ok-step.ensures.reading in
     let now = conversion a.sections a.source a.tables a.address a.held a.failed in
-    let p = err_from_is_err_and c.from_residual-in_err-add_file-in-Defines.result c.from_residual-in_err-add_file-in-Defines.ensures.1 in
+    let p =
+    err_from_is_err_and c.from_residual-in_err-add_file-in-Defines.result
+    c.from_residual-in_err-add_file-in-Defines.ensures.1 in
     rw (p.1, p.2)
-    (file_refusal a.sections c.step.new.self before f (source_left now c.steps.line_strings) (source_left c.args.self.now c.args.line_strings.now)
+    (file_refusal a.sections c.step.new.self before f (source_left now c.steps.line_strings)
+    (source_left c.args.self.now c.args.line_strings.now)
     c.in_err-add_file-in-Defines.field-0.0
-    (read a.sections (without_built before)) c.steps.invariant.left c.steps.invariant.first c.in_err-add_file-in-Defines.ensures.err)
+    (read a.sections (without_built before)) c.steps.invariant.left c.steps.invariant.first
+    c.in_err-add_file-in-Defines.ensures.err)
 
 pub returns-in-Done-clause-last : goal.returns-in-Done-clause-last
 returns-in-Done-clause-last g c =

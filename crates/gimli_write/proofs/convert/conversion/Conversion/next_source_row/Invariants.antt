@@ -11,8 +11,10 @@ invariant-steps g l =
     let a = l.self-inside in
     let now = conversion a.sections a.source a.tables a.address a.held a.failed in
     record {
-      left : after_definitions (source_left now l.line_strings) ≡ after_definitions (source_left l.fn.self l.fn.line_strings);
-      first : defines_first (source_left now l.line_strings) ≡ true → defines_first (source_left l.fn.self l.fn.line_strings) ≡ true;
+      left : after_definitions (source_left now l.line_strings)
+          ≡ after_definitions (source_left l.fn.self l.fn.line_strings);
+      first : defines_first (source_left now l.line_strings) ≡ true
+          → defines_first (source_left l.fn.self l.fn.line_strings) ≡ true;
       version : version_of_source now ≡ version_of_source l.fn.self;
       sections : a.sections ≡ l.fn.self.sections;
       address : a.address ≡ l.fn.self.address;

@@ -20,7 +20,10 @@ returns-in_err-tables-clause-err g c =
 
 pub returns-clause-ok : goal.returns-clause-ok
 returns-clause-ok g c =
-    let sections : Sections = record { strings = g.R.Reader.bytes c.args.debug_str; line_strings = g.R.Reader.bytes c.args.debug_line_str } in
+    let sections : Sections = record {
+      strings = g.R.Reader.bytes c.args.debug_str;
+      line_strings = g.R.Reader.bytes c.args.debug_line_str;
+    } in
     let h = c.args.from_program.meaning in
     let notation = c.args.from_program.notation in
     let tables = tables_with c.prepare.new.line_strings c.in_ok-tables.tables in
@@ -31,18 +34,24 @@ returns-clause-ok g c =
       prepared = is;
       reads =
           subst (λ (x : TablesAndTexts).
-          ReadsItems notation sections h tables h.program (reading_left sections (start_of_source h (record { bytes = h.program; notation = notation })) x))
+          ReadsItems notation sections h tables h.program
+          (reading_left sections (start_of_source h (record { bytes = h.program; notation = notation })) x))
           (sym same) (start_reads notation sections h tables h.program);
       unread = refl;
     })
 
 pub returns-clause-writable : goal.returns-clause-writable
 returns-clause-writable g c =
-    let sections : Sections = record { strings = g.R.Reader.bytes c.args.debug_str; line_strings = g.R.Reader.bytes c.args.debug_line_str } in
+    let sections : Sections = record {
+      strings = g.R.Reader.bytes c.args.debug_str;
+      line_strings = g.R.Reader.bytes c.args.debug_line_str;
+    } in
     let h = c.args.from_program.meaning in
     let tables = tables_with c.prepare.new.line_strings c.in_ok-tables.tables in
     let given = handed_of c.args.encoding c.args.line_encoding (option_map g.R.Reader.bytes c.args.from_comp_name) in
     let is = rw c.header.ensures at c.in_ok-tables.ensures.ok in
     rw c.start-conversion.ensures (record {
-      can = λ strings. ready_written strings (encoding_of h given) tables (prepared_ready strings sections h given c.args.line_strings.now tables is);
+      can = λ strings.
+          ready_written strings (encoding_of h given) tables
+          (prepared_ready strings sections h given c.args.line_strings.now tables is);
     })

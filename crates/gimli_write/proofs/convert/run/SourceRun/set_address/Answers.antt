@@ -10,7 +10,8 @@ invariant_of-self g c =
     let h = c.self.inside.program.meaning in
     address_ready h.parameters c.args.address c.self.inside.row c.execute-never_refused.new.self c.self.invariant
     (address_done h.parameters c.args.address c.self.inside.row c.execute-never_refused.new.self _
-    c.execute-never_refused.ensures.step c.execute-never_refused.ensures.overflow c.execute-never_refused.ensures.memory)
+    c.execute-never_refused.ensures.step c.execute-never_refused.ensures.overflow
+    c.execute-never_refused.ensures.memory)
 
 pub returns : goal.returns
 returns g c =
@@ -18,8 +19,12 @@ returns g c =
     let h2 = c.execute-never_refused.new.program.meaning in
     let r2 = c.execute-never_refused.new.self in
     let u = c.self.inside.instructions in
-    subst (λ (s : SourceRun). state h2 r2 c.args.address (Some c.args.address) u ≡ state_after (SetAddress c.args.address) s) c.self.view_is
+    subst
+    (λ (s : SourceRun). state h2 r2 c.args.address (Some c.args.address) u ≡ state_after (SetAddress c.args.address) s)
+    c.self.view_is
     (address_state c.args.address h h2 c.self.inside.row r2 c.self.inside.base c.self.inside.pending u
-    (address_header c.args.address h h2 c.execute-never_refused.result c.execute-never_refused.ensures.files c.execute-never_refused.ensures.kept)
+    (address_header c.args.address h h2 c.execute-never_refused.result c.execute-never_refused.ensures.files
+    c.execute-never_refused.ensures.kept)
     (address_done h.parameters c.args.address c.self.inside.row r2 c.execute-never_refused.result
-    c.execute-never_refused.ensures.step c.execute-never_refused.ensures.overflow c.execute-never_refused.ensures.memory))
+    c.execute-never_refused.ensures.step c.execute-never_refused.ensures.overflow
+    c.execute-never_refused.ensures.memory))

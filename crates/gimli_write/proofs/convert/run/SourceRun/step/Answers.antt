@@ -5,9 +5,13 @@ use Rattle.gimli_write.proofs.convert.run.SourceRun.step.Goals as goal
 
 pub returns-in-Err : goal.returns-in-Err
 returns-in-Err g c =
-    let s = state c.self.inside.program.meaning c.self.inside.row c.self.inside.base c.self.inside.pending c.self.inside.instructions in
+    let s =
+    state c.self.inside.program.meaning c.self.inside.row c.self.inside.base c.self.inside.pending
+    c.self.inside.instructions in
     let lent : c.header-header.result.now.meaning ≡ c.self.inside.program.meaning = rw c.header-header.ensures refl in
-    let x = refused_steps {Endian = Unit {0}} g.R.Reader.bytes g.R.Offset.ReaderOffset.number s _ lent _ _ c.in-Err.ensures.notation _ c.in-Err.ensures.err in
+    let x =
+    refused_steps {Endian = Unit {0}} g.R.Reader.bytes g.R.Offset.ReaderOffset.number s _ lent _ _
+    c.in-Err.ensures.notation _ c.in-Err.ensures.err in
     rw (← c.self.view_is) (record {
       reading = x.reading;
       refusal = x.refusal;
@@ -20,10 +24,14 @@ returns-in-Err g c =
 
 pub returns-in-Quiet : goal.returns-in-Quiet
 returns-in-Quiet g c =
-    let s = state c.self.inside.program.meaning c.self.inside.row c.self.inside.base c.self.inside.pending c.self.inside.instructions in
+    let s =
+    state c.self.inside.program.meaning c.self.inside.row c.self.inside.base c.self.inside.pending
+    c.self.inside.instructions in
     let lent : c.header-header.result.now.meaning ≡ c.self.inside.program.meaning = rw c.header-header.ensures refl in
     let q = rw c.in-Quiet.is at c.in-Ok.ensures.ok in
-    let x = quiet_steps {Endian = Unit {0}} g.R.Reader.bytes g.R.Offset.ReaderOffset.number s _ lent _ _ c.in-Ok.ensures.notation q.0 q.1 in
+    let x =
+    quiet_steps {Endian = Unit {0}} g.R.Reader.bytes g.R.Offset.ReaderOffset.number s _ lent _ _
+    c.in-Ok.ensures.notation q.0 q.1 in
     rw (← c.self.view_is) (record {
       reading = x.reading;
       refusal = x.refusal;
@@ -36,10 +44,14 @@ returns-in-Quiet g c =
 
 pub returns-in-Address : goal.returns-in-Address
 returns-in-Address g c =
-    let s = state c.self.inside.program.meaning c.self.inside.row c.self.inside.base c.self.inside.pending c.self.inside.instructions in
+    let s =
+    state c.self.inside.program.meaning c.self.inside.row c.self.inside.base c.self.inside.pending
+    c.self.inside.instructions in
     let lent : c.header-header.result.now.meaning ≡ c.self.inside.program.meaning = rw c.header-header.ensures refl in
     let q = rw c.in-Address.is at c.in-Ok.ensures.ok in
-    let x = address_steps {Endian = Unit {0}} g.R.Reader.bytes g.R.Offset.ReaderOffset.number s _ lent _ _ c.in-Ok.ensures.notation q.0 _ q.1 in
+    let x =
+    address_steps {Endian = Unit {0}} g.R.Reader.bytes g.R.Offset.ReaderOffset.number s _ lent _ _
+    c.in-Ok.ensures.notation q.0 _ q.1 in
     rw (← c.self.view_is) (record {
       reading = x.reading;
       refusal = x.refusal;
@@ -52,11 +64,14 @@ returns-in-Address g c =
 
 pub returns-in-Row : goal.returns-in-Row
 returns-in-Row g c =
-    let s = state c.self.inside.program.meaning c.self.inside.row c.self.inside.base c.self.inside.pending c.self.inside.instructions in
+    let s =
+    state c.self.inside.program.meaning c.self.inside.row c.self.inside.base c.self.inside.pending
+    c.self.inside.instructions in
     let lent : c.header-header.result.now.meaning ≡ c.self.inside.program.meaning = rw c.header-header.ensures refl in
     let q = rw c.in-Row.is at c.in-Ok.ensures.ok in
     let x =
-    row_steps g.R.Reader.bytes g.R.Offset.ReaderOffset.number s _ lent _ _ c.in-Ok.ensures.notation q.0 c.self.invariant q.1 c.header.result.now.meaning
+    row_steps g.R.Reader.bytes g.R.Offset.ReaderOffset.number s _ lent _ _ c.in-Ok.ensures.notation q.0 c.self.invariant
+    q.1 c.header.result.now.meaning
     (rw c.header.ensures refl) _ c.reset.ensures _ _ c.made.ensures.step c.made.ensures.new in
     rw (← c.self.view_is) (record {
       reading = x.reading;
@@ -70,5 +85,8 @@ returns-in-Row g c =
 
 pub invariant_of-self : goal.invariant_of-self
 invariant_of-self g c =
-    let s = state c.self.inside.program.meaning c.self.inside.row c.self.inside.base c.self.inside.pending c.self.inside.instructions in
-    refused_ready s _ (rw c.header-header.ensures refl) _ c.execute_next.new.self _ c.in-Err.ensures.err c.self.invariant
+    let s =
+    state c.self.inside.program.meaning c.self.inside.row c.self.inside.base c.self.inside.pending
+    c.self.inside.instructions in
+    refused_ready s _ (rw c.header-header.ensures refl) _ c.execute_next.new.self _ c.in-Err.ensures.err
+    c.self.invariant

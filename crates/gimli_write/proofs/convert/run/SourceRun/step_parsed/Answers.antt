@@ -10,7 +10,9 @@ use Rattle.gimli_write.proofs.convert.run.SourceRun.step_parsed.Goals as goal
 pub returns-in-Err : goal.returns-in-Err
 returns-in-Err g c =
     let e = rw c.header.ensures at c.in-Err.ensures.refusal in
-    let s = state c.self.inside.program.meaning c.self.inside.row c.self.inside.base c.self.inside.pending c.self.inside.instructions in
+    let s =
+    state c.self.inside.program.meaning c.self.inside.row c.self.inside.base c.self.inside.pending
+    c.self.inside.instructions in
     rw (← c.self.view_is) (record {
       reading = tt;
       refusal = λ sections tables. at_fault sections tables s _ e.0 e.2;
@@ -24,7 +26,9 @@ returns-in-Err g c =
 pub returns-in-Ok-None : goal.returns-in-Ok-None
 returns-in-Ok-None g c =
     let n = rw c.in-Ok-None.field-0-is at c.in-Ok-None.ensures.next in
-    let s = state c.self.inside.program.meaning c.self.inside.row c.self.inside.base c.self.inside.pending c.self.inside.instructions in
+    let s =
+    state c.self.inside.program.meaning c.self.inside.row c.self.inside.base c.self.inside.pending
+    c.self.inside.instructions in
     rw (← c.self.view_is) (record {
       reading = λ sections tables. none_left sections tables s n.0;
       refusal = tt;
@@ -38,12 +42,15 @@ returns-in-Ok-None g c =
 pub returns-in-DefineFile : goal.returns-in-DefineFile
 returns-in-DefineFile g c =
     let n = rw c.in-Ok-Some.field-0-is at c.in-Ok-Some.ensures.next in
-    let s = state c.self.inside.program.meaning c.self.inside.row c.self.inside.base c.self.inside.pending c.self.inside.instructions in
+    let s =
+    state c.self.inside.program.meaning c.self.inside.row c.self.inside.base c.self.inside.pending
+    c.self.inside.instructions in
     let u = c.next_instruction.new.self in
     let notation = c.in-Ok-Some.ensures.notation in
     let lent : c.header.result.now.meaning ≡ c.self.inside.program.meaning = rw c.header.ensures refl in
     let f = file_seen g.R.Reader.bytes g.R.Offset.ReaderOffset.number c.in-DefineFile.file in
-    let is : ins_seen g.R.Reader.bytes g.R.Offset.ReaderOffset.number c.in-Ok-Some.instruction ≡ DefineFile f = rw c.in-DefineFile.is refl in
+    let is : ins_seen g.R.Reader.bytes g.R.Offset.ReaderOffset.number c.in-Ok-Some.instruction
+    ≡ DefineFile f = rw c.in-DefineFile.is refl in
     let spelled = spelled_as _ _ _ _ _ _ lent is n.2 in
     rw (← c.self.view_is) (record {
       reading = λ sections tables. after_file sections tables s u notation f _ n.1 spelled;
@@ -58,25 +65,32 @@ returns-in-DefineFile g c =
 pub returns-in-SetAddress : goal.returns-in-SetAddress
 returns-in-SetAddress g c =
     let n = rw c.in-Ok-Some.field-0-is at c.in-Ok-Some.ensures.next in
-    let s = state c.self.inside.program.meaning c.self.inside.row c.self.inside.base c.self.inside.pending c.self.inside.instructions in
+    let s =
+    state c.self.inside.program.meaning c.self.inside.row c.self.inside.base c.self.inside.pending
+    c.self.inside.instructions in
     let u = c.next_instruction.new.self in
     let lent : c.header.result.now.meaning ≡ c.self.inside.program.meaning = rw c.header.ensures refl in
     let is : ins_seen g.R.Reader.bytes g.R.Offset.ReaderOffset.number c.in-Ok-Some.instruction
     ≡ SetAddress c.in-SetAddress.address = rw c.in-SetAddress.is refl in
     let spelled = spelled_as _ _ _ _ _ _ lent is n.2 in
-    rw (← c.self.view_is) (steps_source _ _ s c.set_address.new.self u c.in-Ok-Some.ensures.notation (SetAddress c.in-SetAddress.address) (n.0, n.1, spelled) _
-    (ap (λ q. q.header) c.set_address.ensures) (ap (λ q. q.unread) c.set_address.ensures) refl refl c.set_address.ensures refl tt)
+    rw (← c.self.view_is) (steps_source _ _ s c.set_address.new.self u c.in-Ok-Some.ensures.notation
+    (SetAddress c.in-SetAddress.address) (n.0, n.1, spelled) _
+    (ap (λ q. q.header) c.set_address.ensures) (ap (λ q. q.unread) c.set_address.ensures) refl refl
+    c.set_address.ensures refl tt)
 
 pub returns-in_default : goal.returns-in_default
 returns-in_default g c =
     let n = rw c.in-Ok-Some.field-0-is at c.in-Ok-Some.ensures.next in
     let i = ins_seen g.R.Reader.bytes g.R.Offset.ReaderOffset.number c.in-Ok-Some.instruction in
-    let s = state c.self.inside.program.meaning c.self.inside.row c.self.inside.base c.self.inside.pending c.self.inside.instructions in
+    let s =
+    state c.self.inside.program.meaning c.self.inside.row c.self.inside.base c.self.inside.pending
+    c.self.inside.instructions in
     let u = c.next_instruction.new.self in
     let lent : c.header.result.now.meaning ≡ c.self.inside.program.meaning = rw c.header.ensures refl in
     let spelled = spelled_as _ _ _ _ i i lent refl n.2 in
     let file : defines_file i
     ≡ false = other_kind _ _ _ (λ f is. c.in_default.not-DefineFile f is) in
     rw (← c.self.view_is)
-    (steps_source _ _ s c.execute.new.self u c.in-Ok-Some.ensures.notation i (n.0, n.1, spelled) _ c.execute.ensures.header c.execute.ensures.unread file
+    (steps_source _ _ s c.execute.new.self u c.in-Ok-Some.ensures.notation i (n.0, n.1, spelled) _
+    c.execute.ensures.header c.execute.ensures.unread file
     c.execute.ensures.fits c.execute.ensures.step c.execute.ensures.made c.execute.ensures.overflow)

@@ -18,7 +18,8 @@ loop-file-preserved g c =
     let next = tables_with c.add_file.new.line_strings c.add_file.new.self in
     record {
       left =
-          sym (done_first (add here (seen x)) (λ (l : TablesAndTexts). all_added add (map seen (drop (i + 1) xs)) l) next c.in_ok-add_file.ensures.ok)
+          sym (done_first (add here (seen x)) (λ (l : TablesAndTexts). all_added add (map seen (drop (i + 1) xs)) l)
+          next c.in_ok-add_file.ensures.ok)
           ∙ sym (next_added add seen xs i x here lt c.file-item.is) ∙ c.loop-file.invariant.left;
       stays = kept_then c.args.line_strings.now c.loop-file.line_strings c.add_file.new.line_strings
           c.loop-file.invariant.stays c.in_ok-add_file.ensures.stays;
@@ -39,7 +40,8 @@ returns-in_err-add_file-clause-err g c =
     (refused_same (add here (seen x) >>= λ l. all_added add (map seen (drop (i + 1) xs)) l)
     (all_added add (map seen xs) (tables_with c.args.line_strings.now c.args.self.now)) e
     (sym (next_added add seen xs i x here lt c.file-item.is) ∙ c.loop-file.invariant.left)
-    (refused_first (add here (seen x)) (λ l. all_added add (map seen (drop (i + 1) xs)) l) e c.in_err-add_file.ensures.err))
+    (refused_first (add here (seen x)) (λ l. all_added add (map seen (drop (i + 1) xs)) l) e
+    c.in_err-add_file.ensures.err))
 
 pub returns-in_err-add_file-clause-stays : goal.returns-in_err-add_file-clause-stays
 returns-in_err-add_file-clause-stays g c =

@@ -10,6 +10,7 @@ invariant-loop-file g l =
     let add = all_added (file_added l.sections) in
     let seen = file_seen g.R.Reader.bytes g.R.Offset.ReaderOffset.number in
     record {
-      left : add (map seen (drop l.file-index l.files)) (tables_with l.line_strings l.self) ≡ add (map seen l.files) (tables_with l.fn.line_strings l.fn.self);
+      left : add (map seen (drop l.file-index l.files)) (tables_with l.line_strings l.self)
+          ≡ add (map seen l.files) (tables_with l.fn.line_strings l.fn.self);
       stays : KeepsTexts l.fn.line_strings l.line_strings;
     }

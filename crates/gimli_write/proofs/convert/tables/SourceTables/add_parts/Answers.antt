@@ -58,7 +58,9 @@ returns-in_err-source-clause-writable g c =
     let kept =
     kept_then _ _ _ c.in_ok-path.ensures.stays
     c.in_err-source.ensures.stays in
-    record { still = λ strings. written_later strings c.args.line_strings.now c.optional_program_text.new.line_strings kept _ }
+    record {
+      still = λ strings. written_later strings c.args.line_strings.now c.optional_program_text.new.line_strings kept _;
+    }
 
 pub returns-in-Err-clause-writable : goal.returns-in-Err-clause-writable
 returns-in-Err-clause-writable g c =
@@ -76,7 +78,8 @@ returns-in_err-push-in-Ok-clause-writable g c =
       still = λ strings. rw (c.in-Ok.ensures.ok, ← c.self.view_is)
           (written_with_parts line_text _ _ _ _
           _ _ _ _ _ _ _
-          c.in_ok-path.ensures.stays c.in_ok-source.ensures.stays c.in_ok-path.ensures.within c.in_ok-source.ensures.within c.in_ok-source.ensures.no_zero);
+          c.in_ok-path.ensures.stays c.in_ok-source.ensures.stays c.in_ok-path.ensures.within
+          c.in_ok-source.ensures.within c.in_ok-source.ensures.no_zero);
     }
 
 pub returns-in_ok-push-in-Ok-clause-writable : goal.returns-in_ok-push-in-Ok-clause-writable
@@ -85,5 +88,6 @@ returns-in_ok-push-in-Ok-clause-writable g c =
       still = λ strings. rw (c.in-Ok.ensures.ok, ← c.self.view_is)
           (written_with_parts line_text _ _ _ _
           _ _ _ _ _ _ _
-          c.in_ok-path.ensures.stays c.in_ok-source.ensures.stays c.in_ok-path.ensures.within c.in_ok-source.ensures.within c.in_ok-source.ensures.no_zero);
+          c.in_ok-path.ensures.stays c.in_ok-source.ensures.stays c.in_ok-path.ensures.within
+          c.in_ok-source.ensures.within c.in_ok-source.ensures.no_zero);
     }
