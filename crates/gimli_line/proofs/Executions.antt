@@ -1,95 +1,149 @@
 -- Instructions that are executed from their bytes do what they do when they are taken and executed.
-use Rattle.std.proofs.Common.{◌≡◌, ◌<◌, ◌≤◌, ℕ, zero, suc, arith, Bool, true, false, List, Some, refl, sym, ap, Ok}
+use Rattle.std.proofs.Common.{◌≡◌, ◌<◌, ◌≤◌, ℕ, zero, suc, arith, Bool, true, false, not, List, refl, sym, ap, subst}
+use Rattle.std.proofs.Common.{Ok, ℤ}
 use Rattle.std.proofs.Math.Dec.{eqb-suc-zero}
 use Rattle.std.proofs.lemmas.Bool.{le-leb, lt-leb}
-use Rattle.std.specs.Prelude.{nat_le, nat_eq}
+use Rattle.std.specs.Prelude.{nat_le}
 use Rattle.gimli_core.specs.Notation.{Notation}
-use Rattle.gimli_core.specs.Reading.{byte_at, split_at, text_at, unsigned_at}
+use Rattle.gimli_core.specs.Reading.{byte_at, unsigned_at, signed_at}
 use Rattle.gimli_line.specs.declared.run.from_bytes.Executed.{Executed}
-use Rattle.gimli_line.specs.declared.run.from_bytes.Executed.TheVariants.{Quiet, Address, Row}
+use Rattle.gimli_line.specs.declared.run.from_bytes.Executed.TheVariants.{No, Quiet, Address, Row}
 use Rattle.gimli_line.specs.declared.run.row.LineRow.{LineRow}
-use Rattle.gimli_line.specs.declared.run.instruction.LineInstruction.TheVariants.{Special, Copy, DefineFile}
+use Rattle.gimli_line.specs.declared.run.instruction.LineInstruction.TheVariants.{Special, Copy, AdvanceLine, SetFile}
+use Rattle.gimli_line.specs.declared.run.instruction.LineInstruction.TheVariants.{SetColumn, NegateStatement}
 use Rattle.gimli_line.specs.declared.run.instruction.LineInstruction.TheVariants.{EndSequence}
 use Rattle.gimli_line.specs.declared.run.instruction.LineInstruction.TheVariants.{SetAddress}
-use Rattle.gimli_line.specs.header.File.{File}
-use Rattle.gimli_line.specs.header.FormReading.{offset_at}
 use Rattle.gimli_line.specs.header.Header.{Header}
-use Rattle.gimli_line.specs.header.HeaderReading.{plain_file_at}
-use Rattle.gimli_line.specs.header.Productions.{among}
-use Rattle.gimli_line.specs.run.Instruction.{Ins, makes_row, defines_file}
-use Rattle.gimli_line.specs.run.InstructionGrammar.{file, extended_opcodes}
-use Rattle.gimli_line.specs.run.InstructionReading.{standard_at, extended_at, extended_operands_at, ins_at}
+use Rattle.gimli_line.specs.header.Parameters.{Parameters}
+use Rattle.gimli_line.specs.run.Instruction.{Ins, makes_row}
+use Rattle.gimli_line.specs.run.InstructionReading.{standard_at, ins_at}
 use Rattle.gimli_line.specs.run.Machine.{step_of, is_refused}
-use Rattle.gimli_line.specs.run.Execution.{told_of, IsExecuted, ExecutesNext}
+use Rattle.gimli_line.specs.run.Registers.{advanced_line}
+use Rattle.gimli_line.specs.run.Execution.{told_of, is_executed, IsExecuted, IsExecutedAs, ExecutesNext}
 use Rattle.gimli_line.specs.run.Unread.{Unread}
 
--- ---- which instruction stands there
+-- ---- the standard opcodes that are executed so, from the bytes after them
 
-zero_not : (n : ℕ) → 0 < n → nat_eq n 0 ≡ false
-zero_not zero some = absurd (omega (arith, some))
-zero_not (suc n) some = eqb-suc-zero n
+module _ (notation : Notation) (h : Header) (bytes : List ℕ) (r : LineRow) (opcode : ℕ) where
+  pub copies : opcode ≡ 1 → IsExecutedAs h.parameters (standard_at notation h opcode bytes) bytes r r Row
+  unfolding standard_at
+  copies is =
+      rw is (record { instruction = Copy; reading = refl; defines = refl; refusal = refl; registers = refl }, refl)
 
-module _ (notation : Notation) (h : Header) (bytes rest : List ℕ) (opcode base : ℕ)
-    (is : base ≡ h.parameters.opcode_base)
-    (read : (Ok opcode, rest) ≡ byte_at bytes) where
-  pub special_read : 0 < opcode → base ≤ opcode → ins_at notation h bytes ≡ (Ok (Special opcode), rest)
+  pub negates : opcode ≡ 6
+      → IsExecutedAs h.parameters (standard_at notation h opcode bytes) bytes r (record r { is_stmt = not r.is_stmt })
+      Quiet
+  unfolding standard_at
+  negates is =
+      rw is
+      (record { instruction = NegateStatement; reading = refl; defines = refl; refusal = refl; registers = refl }, refl)
+
+module _ (notation : Notation) (h : Header) (bytes rest : List ℕ) (r : LineRow) (opcode : ℕ) where
+  pub advances_line : opcode ≡ 3 → (advance : ℤ) → (Ok advance, rest) ≡ signed_at bytes
+      → IsExecutedAs h.parameters (standard_at notation h opcode bytes) rest r
+      (record r { line = advanced_line advance r.line }) Quiet
+  unfolding standard_at
+  advances_line is advance read =
+      rw is (
+        record {
+          instruction = AdvanceLine advance;
+          reading = rw (← read) refl;
+          defines = refl;
+          refusal = refl;
+          registers = refl;
+        },
+        refl,
+      )
+
+  pub sets_file : opcode ≡ 4 → (file : ℕ) → (Ok file, rest) ≡ unsigned_at bytes
+      → IsExecutedAs h.parameters (standard_at notation h opcode bytes) rest r (record r { file = file }) Quiet
+  unfolding standard_at
+  sets_file is file read = rw is (
+    record {
+      instruction = SetFile file;
+      reading = rw (← read) refl;
+      defines = refl;
+      refusal = refl;
+      registers = refl;
+    },
+    refl,
+  )
+
+  pub sets_column : opcode ≡ 5 → (column : ℕ) → (Ok column, rest) ≡ unsigned_at bytes
+      → IsExecutedAs h.parameters (standard_at notation h opcode bytes) rest r (record r { column = column }) Quiet
+  unfolding standard_at
+  sets_column is column read =
+      rw is (
+        record {
+          instruction = SetColumn column;
+          reading = rw (← read) refl;
+          defines = refl;
+          refusal = refl;
+          registers = refl;
+        },
+        refl,
+      )
+
+-- ---- a program whose first byte was taken
+
+module _ (notation : Notation) (h : Header) (bytes rest : List ℕ) where
+  pub special_first : (opcode : ℕ) → 0 < opcode → nat_le h.parameters.opcode_base opcode ≡ true
+      → (Ok opcode, rest) ≡ byte_at bytes
+      → ins_at notation h bytes ≡ (Ok (Special opcode), rest)
   unfolding ins_at
-  special_read some le =
-      rw (← read, zero_not opcode some, le-leb h.parameters.opcode_base opcode (omega (arith, le, is))) refl
+  special_first zero some special read = absurd (omega (arith, some))
+  special_first (suc o) some special read = rw (← read, eqb-suc-zero o, special) refl
 
-  pub standard_read : 0 < opcode → opcode < base → ins_at notation h bytes ≡ standard_at notation h opcode rest
+  pub standard_first : (opcode : ℕ) → 0 < opcode → nat_le h.parameters.opcode_base opcode ≡ false
+      → (Ok opcode, rest) ≡ byte_at bytes
+      → ins_at notation h bytes ≡ standard_at notation h opcode rest
   unfolding ins_at
-  standard_read some lt =
-      rw (← read, zero_not opcode some, lt-leb h.parameters.opcode_base opcode (omega (arith, lt, is))) refl
+  standard_first zero some standard read = absurd (omega (arith, some))
+  standard_first (suc o) some standard read = rw (← read, eqb-suc-zero o, standard) refl
 
--- a zero byte was in front of it
-pub extended_first : (notation : Notation) (h : Header) (whole bytes : List ℕ) (opcode : ℕ) → opcode ≡ 0
-    → (Ok opcode, bytes) ≡ byte_at whole
-    → ins_at notation h whole ≡ extended_at notation h bytes
-unfolding ins_at
-extended_first notation h whole bytes opcode is read = rw (← read, is) refl
+  abbrev pub special_executed : (opcode base : ℕ) (k : Parameters) → k ≡ h.parameters → base ≡ h.parameters.opcode_base
+      → 0 < opcode → base ≤ opcode
+      → (Ok opcode, rest) ≡ byte_at bytes
+      → (old new : LineRow) (refused : Bool) → new ≡ step_of k (Special opcode) old
+      → is_refused k (Special opcode) old ≡ refused
+      → IsExecuted h.parameters (ins_at notation h bytes) rest old new refused
+  special_executed opcode base k same is some le read old new refused step refusal =
+      let above : h.parameters.opcode_base ≤ opcode = omega (arith, le, is) in
+      record {
+        instruction = Special opcode;
+        reading = special_first opcode some (le-leb h.parameters.opcode_base opcode above) read;
+        defines = refl;
+        refusal = subst (λ (p : Parameters). is_refused p (Special opcode) old ≡ refused) same refusal;
+        registers = subst (λ (p : Parameters). new ≡ step_of p (Special opcode) old) same step;
+      }
 
--- its length was taken, then that many bytes, and of these its opcode
-pub opened : (notation : Notation) (h : Header) (bytes after inside operands rest : List ℕ) (size opcode : ℕ)
-    → (Ok size, after) ≡ offset_at notation.limit unsigned_at bytes → (Ok inside, rest) ≡ split_at size after
-    → (Ok opcode, operands) ≡ byte_at inside
-    → extended_at notation h bytes ≡ extended_operands_at notation h opcode operands rest
-unfolding extended_at
-opened notation h bytes after inside operands rest size opcode length part first = rw (← length, ← part, ← first) refl
+  pub standard_executed : (opcode base : ℕ) → base ≡ h.parameters.opcode_base → 0 < opcode → opcode < base
+      → (Ok opcode, rest) ≡ byte_at bytes
+      → (after : List ℕ) (old new : LineRow) (told : Executed)
+      → IsExecutedAs h.parameters (standard_at notation h opcode rest) after old new told
+      → IsExecutedAs h.parameters (ins_at notation h bytes) after old new told
+  standard_executed opcode base is some lt read after old new told x =
+      let below : nat_le h.parameters.opcode_base opcode
+      ≡ false = lt-leb h.parameters.opcode_base opcode (omega (arith, lt, is)) in
+      rw (standard_first opcode some below read) x
 
--- files are defined up to version 4
-file_opcode : (version : ℕ) → nat_le version 4 ≡ true → among 3 (extended_opcodes version) ≡ Some (file DefineFile)
-file_opcode version old = rw old refl
-
-pub file_read : (notation : Notation) (h : Header) (operands rest : List ℕ) (opcode : ℕ) → opcode ≡ 3
-    → nat_le h.parameters.encoding.version 4 ≡ true → (path left : List ℕ) → (Ok path, left) ≡ text_at operands
-    → (f : File) (after : List ℕ) → (Ok f, after) ≡ plain_file_at path left
-    → extended_operands_at notation h opcode operands rest ≡ (Ok (DefineFile f), rest)
-unfolding extended_operands_at
-file_read notation h operands rest opcode is old path left text f after found =
-    rw is (rw (extended_operands_at, file_opcode h.parameters.encoding.version old) (rw (← text) (rw (← found) refl)))
-
--- ---- what is told of it
+-- ---- what is told
 
 module _ (h : Header) (old new : Unread) (row after : LineRow) where
-  abbrev executed : (i : Ins) (refused : Bool) → ins_at old.notation h old.bytes ≡ (Ok i, new.bytes)
-      → defines_file i ≡ false
-      → after ≡ step_of h.parameters i row → is_refused h.parameters i row ≡ refused
-      → IsExecuted h.parameters (ins_at old.notation h old.bytes) new.bytes row after refused
-  executed i refused reading none registers refusal =
-      record { instruction = i; reading = reading; defines = none; refusal = refusal; registers = registers }
+  pub executes_it : (told : Executed) → is_executed told ≡ true
+      → IsExecutedAs h.parameters (ins_at old.notation h old.bytes) new.bytes row after told
+      → ExecutesNext h old new row after told
+  executes_it No is x = absurd cc
+  executes_it Quiet is x = x
+  executes_it (Address a) is x = x
+  executes_it Row is x = x
 
-  pub executes : (i : Ins) → ins_at old.notation h old.bytes ≡ (Ok i, new.bytes) → defines_file i ≡ false
-      → after ≡ step_of h.parameters i row → is_refused h.parameters i row ≡ false
-      → ExecutesNext h old new row after (told_of i)
-  executes (Special o) reading none registers refusal =
-      (executed (Special o) false reading none registers refusal, refl)
-  executes Copy reading none registers refusal = (executed Copy false reading none registers refusal, refl)
-  executes EndSequence reading none registers refusal =
-      (executed EndSequence false reading none registers refusal, refl)
-  executes (SetAddress a) reading none registers refusal =
-      (executed (SetAddress a) false reading none registers refusal, refl)
-  executes i reading none registers refusal = (executed i false reading none registers refusal, refl)
+  pub executes_none : (told : Executed) → is_executed told ≡ false → (told ≡ No → (new ≡ old) × (after ≡ row))
+      → ExecutesNext h old new row after told
+  executes_none No is same = same refl
+  executes_none Quiet is same = absurd cc
+  executes_none (Address a) is same = absurd cc
+  executes_none Row is same = absurd cc
 
 pub told_row : (i : Ins) → Row ≡ told_of i → makes_row i ≡ true
 told_row (Special o) told = refl

@@ -1,3 +1,5 @@
+pub mod AddressSizes
+pub mod OtherExecutions
 pub mod Backwards
 pub mod ShortLeb
 pub mod Steps

@@ -3,4 +3,3 @@ pub mod Rows
 pub mod SequenceSplit
 pub mod StoredRow
 pub mod Unread
-pub mod Execution

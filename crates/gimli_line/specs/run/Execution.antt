@@ -53,6 +53,10 @@ told_of EndSequence = Row
 told_of (SetAddress a) = Address a
 told_of i = Quiet
 
+abbrev pub is_executed : Executed → Bool
+is_executed No = false
+is_executed told = true
+
 -- it wasn't refused, and this is told of it
 abbrev pub IsExecutedAs : Parameters → Read Ins → List ℕ → LineRow → LineRow → Executed → Type 0
 IsExecutedAs parameters read rest old new told =

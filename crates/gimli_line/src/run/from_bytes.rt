@@ -7,29 +7,24 @@
 //! for special opcodes and the standard ones that are met most, `next_defined_file` for a
 //! definition of a file, and `execute_other` for the rest of those that are met at all often. Each
 //! gives up, with nothing changed, where an instruction is another one, has an operand of more than
-//! two bytes or isn't there as a whole; then it is parsed. What an opcode does stands in
-//! `LineRow::step` alone, for both ways, and here which bytes say it: each opcode makes its
-//! instruction and calls `go_past`, in line, so that the instruction itself is never made.
+//! two bytes or isn't there as a whole; then it is parsed. What an opcode does stands in `row.rt`
+//! alone, and here which bytes say it. What joins the two ways is one definition: by `IsExecuted`
+//! the registers are those after the instruction that `ins_at` reads from these bytes, which is the
+//! one that `next_instruction` returns.
 
-ghost use Rattle.std.specs.Prelude.{◌≡◌, false, IfErr, IfOk, IfSome, IsNone, Ok};
+ghost use Rattle.std.specs.Prelude.{◌≡◌, ◌<◌, IfErr, IfOk, IfSome, IsNone, IsTrue, Ok};
 ghost use Rattle.gimli_core.specs.Notation.{Notation, notation_of};
-ghost use Rattle.gimli_core.specs.Reading.{unsigned_at};
+ghost use Rattle.gimli_core.specs.Reading.{number_at, unsigned_at};
 ghost use Rattle.gimli_line.specs.declared.run.instruction.LineInstruction.TheVariants.{DefineFile};
 ghost use Rattle.gimli_line.specs.header.File.{file_seen, FileHasOrder};
 ghost use Rattle.gimli_line.specs.header.FormReading.{offset_at};
 ghost use Rattle.gimli_line.specs.header.Header.{Header};
-ghost use Rattle.gimli_line.specs.run.Execution.{told_of, ExecutesNext, RefusesNext};
-ghost use Rattle.gimli_line.specs.run.Instruction.{ins_seen, defines_file};
-ghost use Rattle.gimli_line.specs.run.InstructionReading.{
-  extended_at,
-  extended_operands_at,
-  ins_at,
-};
-ghost use Rattle.gimli_line.specs.declared.run.row.LineRow.{LineRow};
-ghost use Rattle.gimli_line.specs.header.Parameters.{Parameters};
-ghost use Rattle.gimli_line.specs.run.Machine.{is_refused, step_of, with_register, IsAllowed};
+ghost use Rattle.gimli_line.specs.run.Execution.{is_executed, ExecutesNext, IsExecutedAs};
+ghost use Rattle.gimli_line.specs.run.Execution.{RefusesNext};
+ghost use Rattle.gimli_line.specs.run.InstructionReading.{extended_at, ins_at, standard_at};
 
 use crate::header::file_entry::FileEntry;
+use crate::header::parameters::Parameters;
 use crate::header::program_header::LineProgramHeader;
 use crate::run::instruction::{LineInstruction, LineInstructions};
 use crate::run::leb128::{read_short_sleb128, read_short_uleb128};
@@ -56,6 +51,19 @@ pub enum Executed {
     Row,
 }
 
+impl Executed {
+    /// Whether an instruction was executed.
+    #[inline(always)]
+    fn is_executed(&self) -> bool
+        ensures { result ≡ is_executed self.now }
+    {
+        match self {
+            Executed::No => false,
+            _ => true,
+        }
+    }
+}
+
 /// Takes an unsigned LEB128 number of one or two bytes as an offset. None where it is longer, or
 /// isn't there as a whole, or the offset type is too narrow.
 #[inline(always)]
@@ -73,27 +81,13 @@ fn read_short_offset<R: Reader>(input: &mut R) -> Option<R::Offset>
     }
 }
 
-/// Takes the length and the opcode of an extended instruction, from the bytes after the zero byte,
-/// and gives the opcode and the bytes after it within the instruction. None where the length is
-/// long, or one of them isn't there.
-#[inline(always)]
-fn read_extended<R: Reader>(input: &mut R) -> Option<(DwLne, R)>
-    ensures read { IfSome result (λ opened. (n : Notation) (h : Header) → n.limit ≡ R.Offset.limit
-        → extended_at n h (R.bytes input.old)
-        ≡ extended_operands_at n h opened.0.0 (R.bytes opened.1) (R.bytes input.new)) }
-    ensures order { R.big input.new ≡ R.big input.old }
-    ensures part { IfSome result (λ opened. R.big opened.1 ≡ R.big input.old) }
+/// Takes the operand of a set address.
+fn read_set_address<R: Reader>(operands: &mut R, parameters: &Parameters) -> Result<u64>
+    ensures read { (result, R.bytes operands.new)
+        ≡ number_at (R.big operands.old) parameters.now.encoding.address_size
+        (R.bytes operands.old) }
 {
-    let Some(length) = read_short_offset(input) else {
-        return None;
-    };
-    let Ok(mut inside) = input.split(length) else {
-        return None;
-    };
-    match inside.read_u8() {
-        Ok(opcode) => Some((DwLne(opcode), inside)),
-        Err(_) => None,
-    }
+    operands.read_address(parameters.encoding.address_size)
 }
 
 /// Takes a definition of a file, from the bytes after the zero byte. None at another opcode, or
@@ -110,11 +104,16 @@ fn read_defined_file<R: Reader>(
     ensures order { R.big input.new ≡ R.big input.old }
     ensures file { IfSome result (FileHasOrder R.big (R.big input.old)) }
 {
-    let Some(opened) = read_extended(input) else {
+    let Some(length) = read_short_offset(input) else {
         return None;
     };
-    let mut inside = opened.1;
-    match opened.0 {
+    let Ok(mut inside) = input.split(length) else {
+        return None;
+    };
+    let Ok(opcode) = inside.read_u8() else {
+        return None;
+    };
+    match DwLne(opcode) {
         constants::DW_LNE_define_file if header.parameters.encoding.version <= 4 => {
             let Ok(path_name) = inside.read_null_terminated_slice() else {
                 return None;
@@ -125,6 +124,93 @@ fn read_defined_file<R: Reader>(
             }
         }
         _ => None,
+    }
+}
+
+impl LineRow {
+    /// Executes one of the standard opcodes that are met most, from the bytes after it. Not
+    /// executed is another opcode, or one whose operand isn't short; no register changes then.
+    #[inline(always)]
+    fn exec_common_opcode<R: Reader>(&mut self, opcode: DwLns, input: &mut R) -> Executed
+        ensures executed { IsTrue (is_executed result) → (n : Notation) → (h : Header) →
+            IsExecutedAs h.parameters (standard_at n h opcode.0 (R.bytes input.old))
+            (R.bytes input.new) self.old self.new result }
+        ensures some { IsTrue (is_executed result) → 0 < opcode.0 }
+        ensures none { result ≡ Executed.No → self.new ≡ self.old }
+        ensures order { R.big input.new ≡ R.big input.old }
+    {
+        match opcode {
+            constants::DW_LNS_copy => return Executed::Row,
+            constants::DW_LNS_advance_line => {
+                let Some(line_advance) = read_short_sleb128(input) else {
+                    return Executed::No;
+                };
+                self.set_register(LineInstruction::<R>::AdvanceLine(line_advance));
+            }
+            constants::DW_LNS_set_file => {
+                let Some(file) = read_short_uleb128(input) else {
+                    return Executed::No;
+                };
+                self.set_register(LineInstruction::<R>::SetFile(file));
+            }
+            constants::DW_LNS_set_column => {
+                let Some(column) = read_short_uleb128(input) else {
+                    return Executed::No;
+                };
+                self.set_register(LineInstruction::<R>::SetColumn(column));
+            }
+            constants::DW_LNS_negate_stmt => {
+                self.set_register(LineInstruction::<R>::NegateStatement);
+            }
+            _ => return Executed::No,
+        }
+        Executed::Quiet
+    }
+
+    /// Executes one of the extended opcodes that are met most, from the bytes after the zero byte.
+    /// Not executed is another opcode, or one whose length or operand is long or isn't there; no
+    /// register changes then.
+    fn exec_extended_opcode<R: Reader>(
+        &mut self,
+        header: &LineProgramHeader<R>,
+        input: &mut R,
+    ) -> Executed
+        ensures executed { IsTrue (is_executed result) → IsExecutedAs header.now.meaning.parameters
+            (extended_at (notation_of (R.big input.old) R.Offset.limit) header.now.meaning
+            (R.bytes input.old)) (R.bytes input.new) self.old self.new result }
+        ensures none { result ≡ Executed.No → self.new ≡ self.old }
+        ensures order { R.big input.new ≡ R.big input.old }
+    {
+        let Some(length) = read_short_offset(input) else {
+            return Executed::No;
+        };
+        let Ok(mut inside) = input.split(length) else {
+            return Executed::No;
+        };
+        let Ok(opcode) = inside.read_u8() else {
+            return Executed::No;
+        };
+        match DwLne(opcode) {
+            constants::DW_LNE_end_sequence => {
+                self.set_register(LineInstruction::<R>::EndSequence);
+                Executed::Row
+            }
+            constants::DW_LNE_set_address => {
+                let Ok(address) = read_set_address(&mut inside, &header.parameters) else {
+                    return Executed::No;
+                };
+                self.exec_set_address(address, &header.parameters);
+                Executed::Address(address)
+            }
+            constants::DW_LNE_set_discriminator => {
+                let Some(discriminator) = read_short_uleb128(&mut inside) else {
+                    return Executed::No;
+                };
+                self.set_register(LineInstruction::<R>::SetDiscriminator(discriminator));
+                Executed::Quiet
+            }
+            _ => Executed::No,
+        }
     }
 }
 
@@ -177,130 +263,18 @@ impl<R: Reader> LineInstructions<R> {
         let Ok(opcode) = input.read_u8() else {
             return Ok(Executed::No);
         };
-        if opcode >= header.parameters.opcode_base {
-            return self.go_past(
-                LineInstruction::Special(opcode),
-                Executed::Row,
-                input,
-                header,
-                row,
-            );
+        if opcode >= header.opcode_base() {
+            self.input = input;
+            match row.exec_special_opcode(opcode, &header.parameters) {
+                Err(e) => return Err(e),
+                Ok(()) => return Ok(Executed::Row),
+            }
         }
-        match DwLns(opcode) {
-            constants::DW_LNS_copy => Ok(self.set_past(
-                LineInstruction::Copy,
-                Executed::Row,
-                input,
-                header,
-                row,
-            )),
-            constants::DW_LNS_advance_line => {
-                let Some(advance) = read_short_sleb128(&mut input) else {
-                    return Ok(Executed::No);
-                };
-                Ok(self.set_past(
-                    LineInstruction::AdvanceLine(advance),
-                    Executed::Quiet,
-                    input,
-                    header,
-                    row,
-                ))
-            }
-            constants::DW_LNS_set_file => {
-                let Some(file) = read_short_uleb128(&mut input) else {
-                    return Ok(Executed::No);
-                };
-                Ok(self.set_past(
-                    LineInstruction::SetFile(file),
-                    Executed::Quiet,
-                    input,
-                    header,
-                    row,
-                ))
-            }
-            constants::DW_LNS_set_column => {
-                let Some(column) = read_short_uleb128(&mut input) else {
-                    return Ok(Executed::No);
-                };
-                Ok(self.set_past(
-                    LineInstruction::SetColumn(column),
-                    Executed::Quiet,
-                    input,
-                    header,
-                    row,
-                ))
-            }
-            constants::DW_LNS_negate_stmt => {
-                Ok(self.set_past(
-                    LineInstruction::NegateStatement,
-                    Executed::Quiet,
-                    input,
-                    header,
-                    row,
-                ))
-            }
-            _ => Ok(Executed::No),
+        let executed = row.exec_common_opcode(DwLns(opcode), &mut input);
+        if executed.is_executed() {
+            self.input = input;
         }
-    }
-
-    /// Executes the instruction that the program begins with, which sets a register by its operand
-    /// alone and of which this is told, and goes on behind its bytes.
-    #[inline(always)]
-    fn set_past(
-        &mut self,
-        instruction: LineInstruction<R>,
-        told: Executed,
-        rest: R,
-        _header: &LineProgramHeader<R>,
-        row: &mut LineRow,
-    ) -> Executed
-        requires read { ins_at self.old.notation _header.now.meaning self.old.bytes
-            ≡ (Ok (ins_seen R.bytes R.Offset.number instruction), R.bytes rest) }
-        requires order { R.big rest ≡ self.old.notation.big }
-        requires file { defines_file (ins_seen R.bytes R.Offset.number instruction) ≡ false }
-        requires register { (k : Parameters) (r : LineRow) →
-            step_of k (ins_seen R.bytes R.Offset.number instruction) r
-            ≡ with_register (ins_seen R.bytes R.Offset.number instruction) r }
-        requires fits { (k : Parameters) (r : LineRow) →
-            is_refused k (ins_seen R.bytes R.Offset.number instruction) r ≡ false }
-        requires told { told ≡ told_of (ins_seen R.bytes R.Offset.number instruction) }
-        ensures ok { ExecutesNext _header.now.meaning self.old self.new row.old row.new result }
-        ensures notation { self.new.notation ≡ self.old.notation }
-    {
-        self.input = rest;
-        row.set_register(instruction);
-        told
-    }
-
-    /// Executes the instruction that the program begins with, of which this is told, and goes on
-    /// behind its bytes.
-    #[inline(always)]
-    fn go_past(
-        &mut self,
-        instruction: LineInstruction<R>,
-        told: Executed,
-        rest: R,
-        header: &LineProgramHeader<R>,
-        row: &mut LineRow,
-    ) -> Result<Executed>
-        requires read { ins_at self.old.notation header.now.meaning self.old.bytes
-            ≡ (Ok (ins_seen R.bytes R.Offset.number instruction), R.bytes rest) }
-        requires order { R.big rest ≡ self.old.notation.big }
-        requires allowed { IsAllowed header.now.meaning.parameters
-            (ins_seen R.bytes R.Offset.number instruction) }
-        requires file { defines_file (ins_seen R.bytes R.Offset.number instruction) ≡ false }
-        requires told { told ≡ told_of (ins_seen R.bytes R.Offset.number instruction) }
-        ensures ok { IfOk result
-            (ExecutesNext header.now.meaning self.old self.new row.old row.new) }
-        ensures err { IfErr result
-            (RefusesNext header.now.meaning self.old self.new row.old row.new) }
-        ensures notation { self.new.notation ≡ self.old.notation }
-    {
-        self.input = rest;
-        match row.step(instruction, &header.parameters) {
-            Err(e) => Err(e),
-            Ok(()) => Ok(told),
-        }
+        Ok(executed)
     }
 
     /// Takes the next instruction where it defines a file (DWARF 4, 6.2.5.3). None, and nothing is
@@ -353,7 +327,11 @@ impl<R: Reader> LineInstructions<R> {
             return Ok(Executed::No);
         };
         if opcode == 0 {
-            return self.execute_extended(input, header, row);
+            let executed = row.exec_extended_opcode(header, &mut input);
+            if executed.is_executed() {
+                self.input = input;
+            }
+            return Ok(executed);
         }
         if opcode >= header.opcode_base() {
             return Ok(Executed::No);
@@ -363,84 +341,18 @@ impl<R: Reader> LineInstructions<R> {
                 let Some(advance) = read_short_uleb128(&mut input) else {
                     return Ok(Executed::No);
                 };
-                self.go_past(
-                    LineInstruction::AdvancePc(advance),
-                    Executed::Quiet,
-                    input,
-                    header,
-                    row,
-                )
+                self.input = input;
+                match row.apply_operation_advance(advance, &header.parameters) {
+                    Err(e) => return Err(e),
+                    Ok(()) => return Ok(Executed::Quiet),
+                }
             }
             constants::DW_LNS_const_add_pc => {
-                self.go_past(
-                    LineInstruction::ConstAddPc,
-                    Executed::Quiet,
-                    input,
-                    header,
-                    row,
-                )
-            }
-            _ => Ok(Executed::No),
-        }
-    }
-
-    /// Executes one of the extended opcodes that are met most, from the bytes after the zero byte.
-    #[inline(always)]
-    fn execute_extended(
-        &mut self,
-        after_zero: R,
-        header: &LineProgramHeader<R>,
-        row: &mut LineRow,
-    ) -> Result<Executed>
-        requires read { ins_at self.old.notation header.now.meaning self.old.bytes
-            ≡ extended_at self.old.notation header.now.meaning (R.bytes after_zero) }
-        requires order { R.big after_zero ≡ self.old.notation.big }
-        requires limit { self.old.notation.limit ≡ R.Offset.limit }
-        ensures ok { IfOk result
-            (ExecutesNext header.now.meaning self.old self.new row.old row.new) }
-        ensures err { IfErr result
-            (RefusesNext header.now.meaning self.old self.new row.old row.new) }
-        ensures notation { self.new.notation ≡ self.old.notation }
-    {
-        let mut input = after_zero;
-        let Some(opened) = read_extended(&mut input) else {
-            return Ok(Executed::No);
-        };
-        let mut inside = opened.1;
-        match opened.0 {
-            constants::DW_LNE_end_sequence => {
-                Ok(self.set_past(
-                    LineInstruction::EndSequence,
-                    Executed::Row,
-                    input,
-                    header,
-                    row,
-                ))
-            }
-            constants::DW_LNE_set_address => {
-                let Ok(address) = inside.read_address(header.parameters.encoding.address_size)
-                else {
-                    return Ok(Executed::No);
-                };
-                self.go_past(
-                    LineInstruction::SetAddress(address),
-                    Executed::Address(address),
-                    input,
-                    header,
-                    row,
-                )
-            }
-            constants::DW_LNE_set_discriminator => {
-                let Some(discriminator) = read_short_uleb128(&mut inside) else {
-                    return Ok(Executed::No);
-                };
-                Ok(self.set_past(
-                    LineInstruction::SetDiscriminator(discriminator),
-                    Executed::Quiet,
-                    input,
-                    header,
-                    row,
-                ))
+                self.input = input;
+                match row.exec_const_add_pc(&header.parameters) {
+                    Err(e) => return Err(e),
+                    Ok(()) => return Ok(Executed::Quiet),
+                }
             }
             _ => Ok(Executed::No),
         }

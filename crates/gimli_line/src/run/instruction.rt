@@ -101,7 +101,6 @@ where
     ghost use Rattle.gimli_line.specs.run.Machine.{IsAllowed};
 
     /// Whether it makes a row, under a tombstone or not.
-    #[inline(always)]
     pub(crate) fn makes_row(&self) -> bool
         ensures { result ≡ makes_row (ins_seen R.bytes Offset.number self.now) }
     {

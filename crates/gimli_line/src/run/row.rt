@@ -3,6 +3,8 @@
 ghost use Rattle.std.specs.Prelude.{◌≡◌, ◌<◌, ◌≤◌, ◌+◌, Bool, true, false, IfErr, IfOk, IsTrue};
 ghost use Rattle.std.specs.Prelude.{MatchOption, OnErr, OnOk, option_map};
 ghost use Rattle.std.specs.Int.NonZero.{non_zero_u64_get};
+ghost use Rattle.gimli_core.specs.Numbers.{is_address_size};
+ghost use Rattle.gimli_core.specs.Reading.{result_map, sized_sum};
 
 use crate::header::file_entry::FileEntry;
 use crate::header::parameters::Parameters;
@@ -40,6 +42,20 @@ pub enum ColumnType {
     Column(NonZeroU64),
 }
 
+/// The sum as an address of a size, as `add_sized` gives it; where the size is 8, nothing more is
+/// asked than that it fits.
+#[inline(always)]
+fn sum_of_size(address: u64, length: u64, size: u8) -> Result<u64>
+    requires { IsTrue (is_address_size size) }
+    ensures { result_map (λ sum. sum) result ≡ sized_sum address length size }
+{
+    let sum = address.wrapping_add(length);
+    if address <= sum && size > 4 {
+        return Ok(sum);
+    }
+    address.add_sized(length, size)
+}
+
 impl LineRow {
     ghost use Rattle.gimli_line.specs.header.Header.{file_of, own_file_of};
     ghost use Rattle.gimli_line.specs.header.Orders.{KeepsSource};
@@ -49,7 +65,6 @@ impl LineRow {
     ghost use Rattle.gimli_line.specs.run.Machine.{initial, reset_row, rebase_of, IsAllowed};
     ghost use Rattle.gimli_line.specs.run.Machine.{is_refused, step_of, with_register};
     ghost use Rattle.gimli_line.specs.run.OperationPointer.{is_too_large};
-    ghost use Rattle.gimli_line.specs.inside.run.Execution.{Executes};
     ghost use Rattle.gimli_line.specs.run.Execution.{OverflowIs, OtherRefusalIs};
     ghost use Rattle.gimli_line.specs.run.Row.{column_number};
     ghost use Rattle.gimli_line.specs.run.Registers.{advanced_line};
@@ -225,62 +240,31 @@ impl LineRow {
         Ok(instruction.makes_row())
     }
 
-    /// Executes an instruction on the registers alone: what each opcode does to them stands here.
-    #[inline(always)]
-    pub(super) fn step<R: Reader>(
+    /// Executes an instruction on the registers alone.
+    fn step<R: Reader>(
         &mut self,
         instruction: LineInstruction<R>,
         parameters: &Parameters,
     ) -> Result<()>
         requires { IsAllowed parameters.now (ins_seen R.bytes R.Offset.number instruction) }
-        ensures { Executes parameters.now (ins_seen R.bytes R.Offset.number instruction)
-            self.old self.new result }
+        ensures step { self.new
+            ≡ step_of parameters.now (ins_seen R.bytes R.Offset.number instruction) self.old }
+        ensures fits { OnOk result
+            (is_refused parameters.now (ins_seen R.bytes R.Offset.number instruction) self.old
+            ≡ false) }
+        ensures overflow { IfErr result (λ e. (e ≡ Error.AddressOverflow)
+            × (is_refused parameters.now (ins_seen R.bytes R.Offset.number instruction) self.old
+            ≡ true)) }
     {
         match instruction {
-            // Advances line, address and op_index at once, by the formula of DWARF 5, 6.2.5.1: the
-            // opcode above the opcode base counts lines from line_base on, and an operation for
-            // each line_range of it.
-            LineInstruction::Special(opcode) => {
-                let adjusted_opcode = opcode - parameters.opcode_base;
-                let line_range = parameters.line_encoding.line_range;
-                let line_base = parameters.line_encoding.line_base;
-                let line_advance = i64::from(line_base) + i64::from(adjusted_opcode % line_range);
-                self.apply_line_advance(line_advance);
-                self.apply_operation_advance(u64::from(adjusted_opcode / line_range), parameters)
-            }
+            LineInstruction::Special(opcode) => self.exec_special_opcode(opcode, parameters),
             LineInstruction::AdvancePc(advance) => {
                 self.apply_operation_advance(advance, parameters)
             }
-            // As special opcode 255 does.
-            LineInstruction::ConstAddPc => {
-                let adjusted_opcode = 255 - parameters.opcode_base;
-                let operation_advance = adjusted_opcode / parameters.line_encoding.line_range;
-                self.apply_operation_advance(u64::from(operation_advance), parameters)
-            }
-            // From operation 0 on. The minimum instruction length has no part in it: it is for
-            // assemblers that can't know the lengths of instructions.
-            LineInstruction::FixedAddPc(advance) => {
-                if self.tombstone {
-                    return Ok(());
-                }
-                self.add_to_address(u64::from(advance), parameters)?;
-                self.op_index = 0;
-                Ok(())
-            }
-            // From operation 0 on; or a tombstone for what follows, where the address is below the
-            // one before it, or stands for nothing (a tombstone). A linker that drops a function
-            // leaves its rows, and puts a value in the place of their address: all ones, as LLVM's
-            // does and DWARF 6 asks; all ones less one, where all ones has a meaning of its own; or
-            // 0 and what was added to it, as older ones do. Addresses of a sequence only grow
-            // (DWARF 5, 6.2.5), so one that is below the last within a sequence is of a dropped
-            // function too.
+            LineInstruction::ConstAddPc => self.exec_const_add_pc(parameters),
+            LineInstruction::FixedAddPc(advance) => self.exec_fixed_add_pc(advance, parameters),
             LineInstruction::SetAddress(address) => {
-                let min_tombstone = u64::min_tombstone(parameters.encoding.address_size);
-                self.tombstone = address < self.address || address >= min_tombstone;
-                if !self.tombstone {
-                    self.address = address;
-                    self.op_index = 0;
-                }
+                self.exec_set_address(address, parameters);
                 Ok(())
             }
             LineInstruction::Copy
@@ -368,13 +352,19 @@ impl LineRow {
     /// Advances address and op_index by so many operations: the operation advance of DWARF 5,
     /// 6.2.5.1. Without several operations in an instruction op_index is 0 and the address moves by
     /// whole instructions.
-    fn apply_operation_advance(
+    pub(super) fn apply_operation_advance(
         &mut self,
         operation_advance: u64,
         parameters: &Parameters,
     ) -> Result<()>
-        ensures { Executes parameters.now (LineInstruction.AdvancePc operation_advance)
-            self.old self.new result }
+        ensures step { self.new
+            ≡ step_of parameters.now (LineInstruction.AdvancePc operation_advance) self.old }
+        ensures fits { OnOk result
+            (is_refused parameters.now (LineInstruction.AdvancePc operation_advance) self.old
+            ≡ false) }
+        ensures overflow { IfErr result (λ e. (e ≡ Error.AddressOverflow)
+            × (is_refused parameters.now (LineInstruction.AdvancePc operation_advance) self.old
+            ≡ true)) }
     {
         if self.tombstone {
             return Ok(());
@@ -393,8 +383,7 @@ impl LineRow {
         self.add_to_address(address_advance, parameters)
     }
 
-    /// Adds to the address. Of 8 bytes nothing more is asked than that the sum fits.
-    #[inline(always)]
+    /// Adds to the address.
     fn add_to_address(&mut self, length: u64, parameters: &Parameters) -> Result<()>
         ensures ok { OnOk result ((is_too_large parameters.now
             (record { address = self.old.address + length; op_index = self.old.op_index }) ≡ false)
@@ -404,13 +393,77 @@ impl LineRow {
             (record { address = self.old.address + length; op_index = self.old.op_index }) ≡ true)
             × (self.new ≡ self.old)) }
     {
-        let size = parameters.encoding.address_size;
-        let sum = self.address.wrapping_add(length);
-        if size == 8 && self.address <= sum {
-            self.address = sum;
+        self.address = sum_of_size(self.address, length, parameters.encoding.address_size)?;
+        Ok(())
+    }
+
+    /// Adds bytes to the address, from operation 0 on (`DW_LNS_fixed_advance_pc` in DWARF 5,
+    /// 6.2.5.2). The minimum instruction length has no part in it: it is for assemblers that can't
+    /// know the lengths of instructions.
+    fn exec_fixed_add_pc(&mut self, advance: u16, parameters: &Parameters) -> Result<()>
+        ensures step { self.new
+            ≡ step_of parameters.now (LineInstruction.FixedAddPc advance) self.old }
+        ensures fits { OnOk result
+            (is_refused parameters.now (LineInstruction.FixedAddPc advance) self.old ≡ false) }
+        ensures overflow { IfErr result (λ e. (e ≡ Error.AddressOverflow)
+            × (is_refused parameters.now (LineInstruction.FixedAddPc advance) self.old ≡ true)) }
+    {
+        if self.tombstone {
             return Ok(());
         }
-        self.address = self.address.add_sized(length, size)?;
+        self.add_to_address(u64::from(advance), parameters)?;
+        self.op_index = 0;
         Ok(())
+    }
+
+    /// Advances address and op_index as special opcode 255 does (`DW_LNS_const_add_pc` in DWARF 5,
+    /// 6.2.5.2).
+    pub(super) fn exec_const_add_pc(&mut self, parameters: &Parameters) -> Result<()>
+        ensures step { self.new ≡ step_of parameters.now LineInstruction.ConstAddPc self.old }
+        ensures fits { OnOk result
+            (is_refused parameters.now LineInstruction.ConstAddPc self.old ≡ false) }
+        ensures overflow { IfErr result (λ e. (e ≡ Error.AddressOverflow)
+            × (is_refused parameters.now LineInstruction.ConstAddPc self.old ≡ true)) }
+    {
+        let adjusted_opcode = 255 - parameters.opcode_base;
+        let operation_advance = adjusted_opcode / parameters.line_encoding.line_range;
+        self.apply_operation_advance(u64::from(operation_advance), parameters)
+    }
+
+    /// Advances line, address and op_index at once, by the formula of DWARF 5, 6.2.5.1: the opcode
+    /// above the opcode base counts lines from line_base on, and an operation for each line_range
+    /// of it.
+    #[inline(always)]
+    pub(super) fn exec_special_opcode(&mut self, opcode: u8, parameters: &Parameters) -> Result<()>
+        requires { parameters.now.opcode_base ≤ opcode }
+        ensures some { 0 < opcode }
+        ensures step { self.new ≡ step_of parameters.now (LineInstruction.Special opcode) self.old }
+        ensures fits { OnOk result
+            (is_refused parameters.now (LineInstruction.Special opcode) self.old ≡ false) }
+        ensures overflow { IfErr result (λ e. (e ≡ Error.AddressOverflow)
+            × (is_refused parameters.now (LineInstruction.Special opcode) self.old ≡ true)) }
+    {
+        let adjusted_opcode = opcode - parameters.opcode_base;
+        let line_range = parameters.line_encoding.line_range;
+        let line_base = parameters.line_encoding.line_base;
+        self.apply_line_advance(i64::from(line_base) + i64::from(adjusted_opcode % line_range));
+        self.apply_operation_advance(u64::from(adjusted_opcode / line_range), parameters)
+    }
+
+    /// Sets the address, from operation 0 on; or is a tombstone for what follows, where the address
+    /// is below the one before it, or stands for nothing (a tombstone). A linker that drops a
+    /// function leaves its rows, and puts a value in the place of their address: all ones, as
+    /// LLVM's does and DWARF 6 asks; all ones less one, where all ones has a meaning of its own; or
+    /// 0 and what was added to it, as older ones do. Addresses of a sequence only grow (DWARF 5,
+    /// 6.2.5), so one that is below the last within a sequence is of a dropped function too.
+    pub(super) fn exec_set_address(&mut self, address: u64, parameters: &Parameters)
+        ensures { self.new ≡ step_of parameters.now (LineInstruction.SetAddress address) self.old }
+    {
+        let min_tombstone = u64::min_tombstone(parameters.encoding.address_size);
+        self.tombstone = address < self.address || address >= min_tombstone;
+        if !self.tombstone {
+            self.address = address;
+            self.op_index = 0;
+        }
     }
 }

@@ -1,13 +1,19 @@
-use Rattle.std.proofs.Common.{rules, refl, ap, sym, ◌∙◌}
+use Rattle.std.proofs.Common.{rules, ap, sym, ◌∙◌}
 use Rattle.std.specs.Prelude.{nat_le}
+use Rattle.gimli_core.specs.Notation.{notation_of}
 use Rattle.gimli_line.specs.header.Header.{Header}
 use Rattle.gimli_line.specs.header.Parameters.{Parameters}
-use Rattle.gimli_line.proofs.Executions.{file_read}
+use Rattle.gimli_line.proofs.OtherExecutions.{opened, defines}
 use Rattle.gimli_line.proofs.run.from_bytes.read_defined_file.Goals as goal
 
 pub returns-in-Ok-parse-clause-read : goal.returns-in-Ok-parse-clause-read
 returns-in-Ok-parse-clause-read g c =
+    let n = notation_of (g.R.Reader.big c.args.input.now) g.R.Offset.ReaderOffset.limit in
+    let h = c.args.header.now.meaning in
+    let whole = opened n h _ _ _ _ _ c.in-Some.ensures.read c.in-Ok.ensures.read in
     let same = ap (λ (m : Header). m.parameters) (ap (λ v. v.meaning) c.header.view_is) in
     let old = ap (λ (k : Parameters). nat_le k.encoding.version 4) (sym same) ∙ search rules in
-    c.in-Some.ensures.read _ c.args.header.now.meaning refl
-    ∙ file_read _ _ _ _ c.in-Some.opened.0.0 (search rules) old _ _ c.in-Ok.ensures.read _ _ c.in-Ok-parse.ensures.read
+    whole
+    ∙ defines n h _ _ _ c.in-Ok-read_u8.opcode c.in-Ok-read_u8.ensures.read (search rules) old _ _
+    c.in-Ok-read_null_terminated_slice.ensures.read _ _
+    c.in-Ok-parse.ensures.read

@@ -1,22 +1,73 @@
-use Rattle.std.proofs.Common.{rules, ◌≡◌, ◌∙◌, refl, arith}
-use Rattle.gimli_line.specs.run.InstructionReading.{standard_at}
-use Rattle.gimli_line.proofs.Executions.{standard_read, extended_first}
+use Rattle.std.proofs.Common.{rules, ◌≡◌, ◌∙◌, refl, sym, ap, arith}
+use Rattle.gimli_core.specs.Notation.{notation_of}
+use Rattle.gimli_line.specs.declared.run.instruction.LineInstruction.TheVariants.{AdvancePc, ConstAddPc}
+use Rattle.gimli_line.specs.header.Header.{Header}
+use Rattle.gimli_line.proofs.Executions.{executes_it, executes_none}
+use Rattle.gimli_line.proofs.OtherExecutions.{below_executed, advance_read, const_add_read, extended_first}
 use Rattle.gimli_line.proofs.run.instruction.LineInstructions.execute_other.Goals as goal
 
-pub execute_extended-requires-clause-read : goal.execute_extended-requires-clause-read
-execute_extended-requires-clause-read g c =
-    rw (← c.self.view_is) (extended_first _ _ _ _ _ c.if-opcode-eq0.true c.in-Ok.ensures.read)
+pub returns-then-is_executed-clause-ok : goal.returns-then-is_executed-clause-ok
+returns-then-is_executed-clause-ok g c =
+    let n = notation_of (g.R.Reader.big c.self.inside.input) g.R.Offset.ReaderOffset.limit in
+    let first =
+    extended_first n c.args.header.now.meaning _ _ c.in-Ok.opcode c.if-opcode-eq0.true c.in-Ok.ensures.read in
+    let is = sym c.is_executed.ensures ∙ c.if-is_executed.true in
+    rw (← c.self.view_is) (executes_it _ _ _ _ _ _ is
+    (rw first (rw c.in-Ok.ensures.order at (c.exec_extended_opcode-executed.ensures.executed is))))
 
-pub go_past-requires-clause-read : goal.go_past-requires-clause-read
-unfolding standard_at
-go_past-requires-clause-read g c =
+pub returns-else-is_executed-clause-ok : goal.returns-else-is_executed-clause-ok
+returns-else-is_executed-clause-ok g c =
+    let is = sym c.is_executed.ensures ∙ c.if-is_executed.false in
+    rw (← c.self.view_is) (executes_none _ _ _ _ _ _ is (λ none.
+    (refl, c.exec_extended_opcode-executed.ensures.none none)))
+
+pub returns-in-Err-clause-err : goal.returns-in-Err-clause-err
+returns-in-Err-clause-err g c =
+    let same = ap (λ (m : Header). m.parameters) (ap (λ v. v.meaning) c.header.view_is) in
     let is : c.in-Ok.opcode ≡ 2 = search rules in
-    rw (← c.self.view_is) (standard_read _ _ _ _ _ _ c.opcode_base.ensures c.in-Ok.ensures.read (omega (arith, is))
-    c.if-opcode-opcode_base.false ∙ rw (is, ← c.in-Some.ensures.read) refl)
+    let over = c.in-Err.ensures.overflow in
+    rw (← c.self.view_is) (
+      over.0,
+      below_executed _ _ _ _ _ _ _ same c.opcode_base.ensures (omega (arith, is)) c.if-opcode-opcode_base.false
+          c.in-Ok.ensures.read
+          (AdvancePc c.in-Some.advance)
+          _ (advance_read _ _ _ _ is _ _ c.in-Some.ensures.read) refl _ _ _ c.apply_operation_advance.ensures.step
+          over.1,
+    )
 
-pub go_past-requires-in-DW_LNS_const_add_pc-clause-read : goal.go_past-requires-in-DW_LNS_const_add_pc-clause-read
-unfolding standard_at
-go_past-requires-in-DW_LNS_const_add_pc-clause-read g c =
+pub returns-in-Ok-apply_operation_advance-clause-ok : goal.returns-in-Ok-apply_operation_advance-clause-ok
+returns-in-Ok-apply_operation_advance-clause-ok g c =
+    let same = ap (λ (m : Header). m.parameters) (ap (λ v. v.meaning) c.header.view_is) in
+    let is : c.in-Ok.opcode ≡ 2 = search rules in
+    rw (← c.self.view_is) (
+      below_executed _ _ _ _ _ _ _ same c.opcode_base.ensures (omega (arith, is)) c.if-opcode-opcode_base.false
+          c.in-Ok.ensures.read
+          (AdvancePc c.in-Some.advance) _ (advance_read _ _ _ _ is _ _ c.in-Some.ensures.read) refl _ _ _
+          c.apply_operation_advance.ensures.step
+          c.in-Ok-apply_operation_advance.ensures.fits,
+      refl,
+    )
+
+pub returns-in-Err-exec_const_add_pc-clause-err : goal.returns-in-Err-exec_const_add_pc-clause-err
+returns-in-Err-exec_const_add_pc-clause-err g c =
+    let same = ap (λ (m : Header). m.parameters) (ap (λ v. v.meaning) c.header.view_is) in
     let is : c.in-Ok.opcode ≡ 8 = search rules in
-    rw (← c.self.view_is) (standard_read _ _ _ _ _ _ c.opcode_base.ensures c.in-Ok.ensures.read (omega (arith, is))
-    c.if-opcode-opcode_base.false ∙ rw is refl)
+    let over = c.in-Err-exec_const_add_pc.ensures.overflow in
+    rw (← c.self.view_is) (
+      over.0,
+      below_executed _ _ _ _ _ _ _ same c.opcode_base.ensures (omega (arith, is)) c.if-opcode-opcode_base.false
+          c.in-Ok.ensures.read ConstAddPc _
+          (const_add_read _ _ _ _ is) refl _ _ _ c.exec_const_add_pc.ensures.step over.1,
+    )
+
+pub returns-in-Ok-exec_const_add_pc-clause-ok : goal.returns-in-Ok-exec_const_add_pc-clause-ok
+returns-in-Ok-exec_const_add_pc-clause-ok g c =
+    let same = ap (λ (m : Header). m.parameters) (ap (λ v. v.meaning) c.header.view_is) in
+    let is : c.in-Ok.opcode ≡ 8 = search rules in
+    rw (← c.self.view_is) (
+      below_executed _ _ _ _ _ _ _ same c.opcode_base.ensures (omega (arith, is)) c.if-opcode-opcode_base.false
+          c.in-Ok.ensures.read
+          ConstAddPc _ (const_add_read _ _ _ _ is) refl _ _ _ c.exec_const_add_pc.ensures.step
+          c.in-Ok-exec_const_add_pc.ensures.fits,
+      refl,
+    )

@@ -1,6 +1,6 @@
 use Rattle.std.proofs.Common.{◌∙◌}
 use Rattle.gimli_core.specs.Notation.{notation_of}
-use Rattle.gimli_line.proofs.Executions.{extended_first}
+use Rattle.gimli_line.proofs.OtherExecutions.{extended_first}
 use Rattle.gimli_line.proofs.run.instruction.LineInstructions.next_defined_file.Goals as goal
 
 pub returns-clause-read : goal.returns-clause-read

@@ -1,0 +1,9 @@
+use Rattle.std.proofs.Common.{refl, arith}
+use Rattle.gimli_line.proofs.AddressSizes.{sum_fits}
+use Rattle.gimli_line.proofs.run.row.sum_of_size.Goals as goal
+
+pub returns-then-size-gt4 : goal.returns-then-size-gt4
+returns-then-size-gt4 c =
+    sum_fits c.args.address c.args.length c.args.size _ c.requires c.if-size-gt4.true (omega (arith, c.ranges.length))
+    refl c.if-address-sum.true
+    (omega (arith, c.ranges.address))
