@@ -37,8 +37,8 @@ def examples():
 
 
 def printed(command, folder, environment):
-    ran = subprocess.run(["bash", "-c", command], cwd=folder, env=environment, capture_output=True)
-    return (ran.stdout + ran.stderr).decode("utf8", "replace")
+    ran = subprocess.run(["bash", "-c", command], cwd=folder, env=environment, stdout=subprocess.PIPE, stderr=subprocess.STDOUT)
+    return ran.stdout.decode("utf8", "replace")
 
 
 def is_as_written(command, output, folder, environment):
