@@ -108,8 +108,8 @@ impl<'a> Index<'a> {
     ///
     /// [`Error::OUT_OF_MEMORY`], [`Error::UNSUPPORTED_ADDRESS_SIZE`] where that of the sections is none of 1, 2, 4 and 8, and
     /// [`Error::INDEX_TOO_LARGE`] and [`Error::PLACE_TOO_LARGE`] where 32 bits don't count what the index would have.
-    /// [`Error::INDEX_TOO_LARGE`] also where its paths, each once with a zero byte, have more bytes than 256 times those of the sections and 64 MiB: a
-    /// directory stands in the path of each of its files.
+    /// [`Error::INDEX_TOO_LARGE`] also where its paths, each once with a zero byte, have more bytes than 256 times those of the sections
+    /// and 64 MiB: a directory stands in the path of each of its files.
     pub fn write(
         sections: &Sections<'_>,
         compilations: &CompilationSections<'_>,

@@ -30,7 +30,8 @@
  * - What a call writes to overlaps neither what it reads nor anything else that it writes to.
  * - No call but those that ask indexes is made from a signal handler, or in the forked child of a process with threads.
  * Where the room for an answer is too small, a call answers GIMLI_LINE_NO_ROOM, says how much it takes, and writes nothing else, but that
- * gimli_line_read_file and gimli_line_read_directory write their struct, which says it: ask with no room first, or once more. What is answered stands at the front of its room, and the rest of the room stays as it was.
+ * gimli_line_read_file and gimli_line_read_directory write their struct, which says it: ask with no room first, or once more. What is
+ * answered stands at the front of its room, and the rest of the room stays as it was.
  * Nothing of the caller is kept after a call, and no call has a thread of its own, an order or an end: any may run in several threads at
  * once. Addresses are those of the file: of an address of a process take off the base at which the program was loaded.
  *
@@ -277,8 +278,8 @@ gimli_line_status gimli_line_find_row(const gimli_line_sections *sections, size_
                                       gimli_line_row *second) GIMLI_LINE_CALL;
 
 /* An index: bytes (docs/INDEX.md) that say from which addresses on which file, line and column come, made once, and then mapped from a
- * file or linked into a program. It is for threads and for signal handlers. Each call from here to
- * gimli_line_place_path takes the bytes of an index, and
+ * file or linked into a program. It is for threads and for signal handlers. Each call from here to gimli_line_place_path
+ * takes the bytes of an index, and
  *
  * - any number of threads may ask one index at once;
  * - it is async-signal-safe: a handler of SIGPROF may ask, whatever the program was doing;
