@@ -28,10 +28,10 @@ pub fn print_bytes(name: &str, bytes: &[u8], text: &mut String) -> Result<()> {
     Ok(writeln!(text)?)
 }
 
-/// Two functions of six bytes, one after the other.
-pub const AT_0X1000: [Address; 2] = [Address::Constant(0x1000), Address::Constant(0x1006)];
+/// Two functions of ten bytes, one after the other.
+pub const AT_0X1000: [Address; 2] = [Address::Constant(0x1000), Address::Constant(0x100a)];
 
-/// Appends the unit of two functions of six bytes at these addresses, and its texts.
+/// Appends the unit of two functions of ten bytes at these addresses, and its texts.
 pub fn write_unit<W: Writer, T: Writer>(
     alloc: Global,
     functions: [Address; 2],
@@ -64,7 +64,7 @@ fn write_program<W: Writer, T: Writer>(
     texts: &mut DebugLineStr<T>,
     line_strings: &mut LineStringTable,
 ) -> Result<()> {
-    let source = program.default_file();
+    let source = with_digest(program)?;
     let header = add_header(program, line_strings)?;
     add_function(program, source, functions[0], [3, 4])?;
     add_function(program, header, functions[1], [8, 9])?;
@@ -91,6 +91,17 @@ fn with_source(alloc: Global, line_strings: &mut LineStringTable) -> Result<Line
     Ok(program)
 }
 
+/// Gives the source file the MD5 digest of `abc`, and returns its id.
+fn with_digest(program: &mut LineProgram) -> Result<FileId> {
+    let source = program.default_file();
+    if program.is_none() || program.version() < 5 {
+        return Err(Error::InvalidRange);
+    }
+    program.get_file_info_mut(source).md5 =
+        *b"\x90\x01\x50\x98\x3c\xd2\x4f\xb0\xd6\x96\x3f\x7d\x28\xe1\x7f\x72";
+    Ok(source)
+}
+
 /// Adds the file `a.h` in the directory `inc`, with the MD5 digest of an empty file.
 fn add_header(program: &mut LineProgram, line_strings: &mut LineStringTable) -> Result<FileId> {
     if program.is_none() {
@@ -110,7 +121,8 @@ fn add_header(program: &mut LineProgram, line_strings: &mut LineStringTable) -> 
     Ok(file)
 }
 
-/// Adds a function of six bytes: a line of a file, and another one for its last byte.
+/// Adds a function of ten bytes: a line of a file; another one after four bytes, where the prologue
+/// ends; and for the last byte that one again, as another block and no statement.
 fn add_function(
     program: &mut LineProgram,
     file: FileId,
@@ -122,11 +134,16 @@ fn add_function(
     }
     program.set_address(address)?;
     add_row(program, file, 0, lines[0])?;
-    add_row(program, file, 5, lines[1])?;
-    if program.is_none() || !program.can_end_sequence(6) {
+    program.row().prologue_end = true;
+    add_row(program, file, 4, lines[1])?;
+    let row = program.row();
+    row.is_statement = false;
+    row.discriminator = 2;
+    add_row(program, file, 9, lines[1])?;
+    if program.is_none() || !program.can_end_sequence(10) {
         return Err(Error::InvalidRange);
     }
-    program.end_sequence(6)
+    program.end_sequence(10)
 }
 
 /// Prints what `write` refuses of a program: a file whose path isn't in a table, as that of the
