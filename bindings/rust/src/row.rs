@@ -66,6 +66,16 @@ impl LineRow {
         LineRow { flags: self.flags | 1, ..self }
     }
 
+    /// The same as the end of a prologue.
+    pub fn with_prologue_end(self) -> LineRow {
+        LineRow { flags: self.flags | 8, ..self }
+    }
+
+    /// The same of a block that this number tells apart, from version 4 on.
+    pub fn with_discriminator(self, discriminator: u64) -> LineRow {
+        LineRow { discriminator, ..self }
+    }
+
     /// The same as the end of its sequence.
     pub fn with_end(self) -> LineRow {
         LineRow { flags: self.flags | 4, ..self }

@@ -11,7 +11,6 @@ mod lookups;
 mod many;
 mod readers;
 mod relocations;
-mod traps;
 mod units;
 
 use gimli_write::ConvertResult;
@@ -27,7 +26,7 @@ fn first_false(found: &[bool]) -> Option<usize> {
 }
 
 /// Each check, and what it finds.
-fn checks(alloc: Global) -> [(&'static str, Found); 11] {
+fn checks(alloc: Global) -> [(&'static str, Found); 10] {
     [
         ("readers::skipped", readers::skipped()),
         ("lookups::narrow_unit", lookups::narrow_unit(alloc)),
@@ -38,7 +37,6 @@ fn checks(alloc: Global) -> [(&'static str, Found); 11] {
         ("converted::refused", converted::refused(alloc)),
         ("many::writers_and_tables", many::writers_and_tables(alloc)),
         ("many::conversions", many::conversions(alloc)),
-        ("traps::told", traps::told(alloc)),
         ("errors::turned", errors::turned()),
     ]
 }

@@ -147,26 +147,13 @@ if [ "$(uname -m)" = x86_64 ] || [ "$(uname -m)" = aarch64 ]; then
     cp "$work/built.index" "$work/loaded/crash.lines"
     [ "$("$work/crash" "$work/loaded" || true)" = "??" ]
 fi
-# The lines of two functions whose addresses a linker gives, by each form of relocations: addr2line finds what compiler.c wrote.
+# The lines of two functions whose addresses a linker gives, by each form of relocations.
 linked=0
 if [ "$(uname -m)" = x86_64 ]; then
-    printf 'int first(void);\nint second(void);\nint main(void) { return first() * 10 + second() == 12 ? 0 : 1; }\n' >"$work/two_main.c"
-    printf '/made/two.c:%s\n' 3 3 4 8 8 9 >"$work/wanted"
     for version in 2 3 4 5; do
         for form in in-list in-place; do
             "$work/compiler" $version $form >"$work/two.s"
-            cc -c "$work/two.s" -o "$work/two.o"
-            [ "$(readelf -r "$work/two.o" | sed -n '/\.rela\.debug_line/,/^$/p' | grep -c R_X86_64_64)" = 2 ]
-            cc "$work/two_main.c" "$work/two.o" -o "$work/two"
-            "$work/two"
-            asked=$(for at in "first 0" "first 4" "first 5" "second 0" "second 4" "second 5"; do
-                printf '%x\n' $((0x$(nm "$work/two" | awk -v name="${at% *}" '$3 == name {print $1}') + ${at#* }))
-            done)
-            # shellcheck disable=SC2086
-            addr2line -e "$work/two" $asked | cmp "$work/wanted" -
-            # Six rows and two ends, by another reader.
-            [ "$(readelf --debug-dump=decodedline "$work/two.o" 2>/dev/null | grep -c '^two.c  *[0-9]')" -ge 4 ]
-            linked=$((linked + $(wc -l <"$work/wanted")))
+            linked=$((linked + $("$here/linked.sh" $version <"$work/two.s")))
         done
     done
 fi
@@ -191,6 +178,6 @@ echo "gimli_c: an index that was written by docs/INDEX.md alone is read as it wa
 echo "gimli_c: $directories answers on directories, paths and lines are as made by hand"
 echo "gimli_c: $mapped places by indexes that make_index made are addr2line's, and each index has its program's build id"
 echo "gimli_c: $begins addresses of lines by those indexes have these lines by addr2line too"
-echo "gimli_c: $linked lines at symbols that a linker placed are addr2line's"
+echo "gimli_c: $linked answers of readelf, addr2line and gdb on two functions that ld and lld placed are as wanted"
 echo "gimli_c: $places paths and lines of the examples ($in_each) are addr2line's"
 echo "gimli_c: $compared lines of the example addr2line are linetool's"

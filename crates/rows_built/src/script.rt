@@ -11,17 +11,19 @@ use row_text::Piece::{Bytes, Number, Word};
 use row_text::{Arguments, Attempts, Lines, Stop, Target};
 use std::alloc::Global;
 
-/// Builds the programs of a text's scripts and writes them; prints what that gives, and returns the
-/// status: 1 where a program is refused or a condition isn't met. Of a bad script nothing is
-/// printed.
+/// Builds the programs of a text's scripts, and writes them or tells their traps; prints what that
+/// gives, and returns the status: 1 where a program is refused or a condition isn't met. Of a bad
+/// script nothing is printed.
 pub fn write(
     alloc: Global,
     attempts: Attempts,
     input: &str,
+    tells_traps: bool,
     lines: &mut Lines,
 ) -> Result<u8, Stop> {
     let start = lines.len();
     let mut script = Script::new(alloc, attempts);
+    script.tells_traps = tells_traps;
     let status = script.run(input, lines);
     if status.is_err() {
         lines.truncate(start);
@@ -44,6 +46,8 @@ pub(crate) struct Script {
     pub order: RunTimeEndian,
     /// Whether it is read back.
     pub reads_back: bool,
+    /// Whether its traps are told, and it isn't written.
+    tells_traps: bool,
     /// What it is written into.
     target: Target,
     /// What the section holds before.
@@ -75,6 +79,7 @@ impl Script {
             before: 0,
             order: RunTimeEndian::Little,
             reads_back: false,
+            tells_traps: false,
             target: Target::Vector,
             prefix: Vec::new(alloc),
             unit: None,
@@ -107,10 +112,11 @@ impl Script {
             ["next"] => {
                 self.finish(lines)?;
                 lines.print("--\n", &[]);
-                let (number, status) = (self.number, self.status);
+                let (number, status, tells) = (self.number, self.status, self.tells_traps);
                 *self = Script::new(self.alloc, self.attempts);
                 self.number = number;
                 self.status = status;
+                self.tells_traps = tells;
             }
             ["order", ..] => self.order = rest.order(),
             ["writer", ..] => self.target = rest.target(),
@@ -197,10 +203,28 @@ impl Script {
         if !self.has_program {
             return Err(Stop::Bad);
         }
-        if self.is_ended || !self.print_written(lines) {
+        if self.tells_traps && !self.is_ended {
+            self.print_traps(lines);
+        } else if self.is_ended || !self.print_written(lines) {
             self.status = 1;
         }
         Ok(())
+    }
+
+    /// Prints the index of each item that has a trap, and the first of its traps.
+    fn print_traps(&self, lines: &mut Lines) {
+        if self.program.is_none() {
+            return;
+        }
+        let mut from = 0;
+        for _ in 0..u64::MAX {
+            let Some((index, trap)) = self.program.next_trap(from) else {
+                break;
+            };
+            lines.print("% ", &[Number(index as u64)]);
+            lines.put_error("", trap);
+            from = index.wrapping_add(1);
+        }
     }
 
     /// Writes the program, and prints what that gives; false where it is refused or a condition

@@ -39,7 +39,9 @@ pub fn run(
     let count = words_before_parts(name).unwrap_or(words.len());
     let (own, parts) = words.split_at(count.min(words.len()));
     match (input, own) {
-        (Input::Script(script), [_]) => write(alloc, attempts, script, lines),
+        (Input::Script(script), [name]) => {
+            write(alloc, attempts, script, *name == "traps", lines)
+        }
         (Input::Script(_), _) => Err(Stop::Bad),
         (Input::Section(section, named), _) => {
             if parts.iter().any(|word| !word.starts_with('@')) {

@@ -1,26 +1,30 @@
-/* What a compiler does: it writes the lines of two functions, whose addresses it doesn't know, and prints them as a source of the
- * assembler, which makes the relocations of an object file: compiler VERSION [in-place], for x86-64. The place of a symbol is printed as
- * `.quad symbol + addend`; the addend is that of the list, or where `in-place` is said the number at the place. */
+/* What a compiler does: it writes the lines of two functions, which are of two files and in sections of their own, and prints them as a
+ * source of the assembler, which makes the relocations of an object file: compiler VERSION [in-place], for x86-64. The place of a symbol
+ * is printed as `.quad symbol + addend`; the addend is that of the list, or where `in-place` is said the number at the place. */
 #include <inttypes.h>
 #include <string.h>
 
 #include "file.h"
 #include "gimli_line.h"
 
-static const char *const symbols[] = {"first", "second"};
+static const char *const symbols[] = {"first", "second", "second_end"};
 
 /* The functions, and a unit of .debug_info that leads to their lines. */
-static const char code[] = ".text\n"
+static const char code[] = ".section .text.first, \"ax\", @progbits\n"
                            ".globl first, second\n"
                            "first: movl $1, %eax\n ret\n"
+                           ".section .text.second, \"ax\", @progbits\n"
                            "second: movl $2, %eax\n ret\n"
+                           "second_end:\n"
                            ".section .debug_abbrev, \"\", @progbits\n"
-                           ".byte 1, 0x11, 0, 0x03, 0x08, 0x1b, 0x08, 0x10, 0x17, 0x11, 0x01, 0x12, 0x07, 0, 0, 0\n"
+                           ".byte 1, 0x11, 0, 0x03, 0x08, 0x1b, 0x08, 0x10, 0x17, 0x11, 0x01, 0x55, 0x17, 0, 0, 0\n"
                            ".section .debug_info, \"\", @progbits\n"
                            ".long 2f - 1f\n"
                            "1: .short 4\n .long .debug_abbrev\n .byte 8, 1\n"
-                           ".asciz \"two.c\"\n .asciz \"/made\"\n .long .debug_line\n .quad first\n .quad 12\n"
+                           ".asciz \"two.c\"\n .asciz \"/made\"\n .long .debug_line\n .quad 0\n .long .debug_ranges\n"
                            "2:\n"
+                           ".section .debug_ranges, \"\", @progbits\n"
+                           ".quad first, first + 6, second, second + 6, 0, 0\n"
                            ".section .note.GNU-stack, \"\", @progbits\n"
                            ".section .debug_line, \"\", @progbits\n";
 
@@ -35,28 +39,32 @@ static int64_t addend_of(const gimli_line_relocation *relocation, const uint8_t 
 int main(int argc, char **argv) {
     if (argc < 2) return 2;
     unsigned version = (unsigned)atoi(argv[1]);
-    bool from_0 = version >= 5; /* numbers of directories and files count from 0 on */
+    bool from_0 = version >= 5; /* numbers of directories and files count from 0 on; before, directory 0 is that of the compilation */
 
-    static const char texts[] = "/madetwo.c";
-    gimli_line_name directory = {0, 5};
-    gimli_line_file_name file = {{5, 5}, 0, 0, 0, {0}};
-    uint64_t number = from_0 ? 0 : 1;
+    static const char texts[] = "/madeinctwo.ctwo.h";
+    gimli_line_name directories[] = {{0, 5}, {5, 3}};
+    gimli_line_file_name files[] = {
+        {{8, 5}, 0, 0, 0, {0x90, 0x01, 0x50, 0x98, 0x3c, 0xd2, 0x4f, 0xb0, 0xd6, 0x96, 0x3f, 0x7d, 0x28, 0xe1, 0x7f, 0x72}},
+        {{13, 5}, 1, 0, 0, {0xd4, 0x1d, 0x8c, 0xd9, 0x8f, 0x00, 0xb2, 0x04, 0xe9, 0x80, 0x09, 0x98, 0xec, 0xf8, 0x42, 0x7e}},
+    };
+    uint64_t source = from_0 ? 0 : 1, header = source + 1;
     /* Two functions of six bytes; the last byte of each is of the next line. */
     gimli_line_row rows[] = {
-        {0, 0, number, 3, 1, 0, 0, GIMLI_LINE_IS_STMT}, {5, 0, number, 4, 1, 0, 0, GIMLI_LINE_IS_STMT},
-        {6, 0, 0, 0, 0, 0, 0, GIMLI_LINE_END_SEQUENCE}, {0, 0, number, 8, 1, 0, 0, GIMLI_LINE_IS_STMT},
-        {5, 0, number, 9, 1, 0, 0, GIMLI_LINE_IS_STMT}, {6, 0, 0, 0, 0, 0, 0, GIMLI_LINE_END_SEQUENCE},
+        {0, 0, source, 3, 1, 0, 0, GIMLI_LINE_IS_STMT}, {5, 0, source, 4, 1, 0, 0, GIMLI_LINE_IS_STMT | GIMLI_LINE_PROLOGUE_END},
+        {6, 0, 0, 0, 0, 0, 0, GIMLI_LINE_END_SEQUENCE}, {0, 0, header, 8, 1, 0, 0, GIMLI_LINE_IS_STMT},
+        {5, 0, header, 9, 1, 0, 0, GIMLI_LINE_IS_STMT}, {6, 0, 0, 0, 0, 0, 0, GIMLI_LINE_END_SEQUENCE},
     };
-    /* The second function begins six bytes after the first: its symbol is the first one's, with an addend, where the version is even. */
-    gimli_line_symbol starts[] = {{0, 0}, {version % 2 != 0, version % 2 != 0 ? 0 : 6}};
+    /* Where the version is even the second function begins six bytes before its end. */
+    gimli_line_symbol starts[] = {{0, 0}, {version % 2 != 0 ? 1 : 2, version % 2 != 0 ? 0 : -6}};
     gimli_line_contents contents = {.struct_size = sizeof contents,
                                     .encoding = GIMLI_LINE_ENCODING(version),
+                                    .details = GIMLI_LINE_HAS_MD5, /* of version 5 alone */
                                     .texts = texts,
                                     .text_length = sizeof texts - 1,
-                                    .directories = &directory,
-                                    .directory_count = from_0,
-                                    .files = &file,
-                                    .file_count = 1,
+                                    .directories = from_0 ? directories : directories + 1,
+                                    .directory_count = from_0 ? 2 : 1,
+                                    .files = files,
+                                    .file_count = 2,
                                     .rows = rows,
                                     .row_count = sizeof rows / sizeof rows[0],
                                     .symbols = starts,
@@ -65,8 +73,7 @@ int main(int argc, char **argv) {
 
     /* How much room it takes is asked first. */
     size_t size, count;
-    gimli_line_status status =
-        gimli_line_write_relocatable(&contents, NULL, 0, &size, NULL, 0, &count);
+    gimli_line_status status = gimli_line_write_relocatable(&contents, NULL, 0, &size, NULL, 0, &count);
     if (status != GIMLI_LINE_NO_ROOM) stop_if(status);
     uint8_t *unit = malloc(size);
     gimli_line_relocation *relocations = malloc(count * sizeof *relocations);

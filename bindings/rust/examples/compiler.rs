@@ -1,0 +1,80 @@
+//! What a compiler does: it writes the lines of two functions, which are of two files and in sections of their own, and prints them as a
+//! source of the assembler, which makes the relocations of an object file for x86-64.
+//!
+//!   cargo run --example compiler VERSION [in-place]
+
+use gimli_line_proved::{Addends, Contents, Encoding, FileDetails, LineRow, Symbol};
+use std::env;
+use std::error::Error;
+
+const SYMBOLS: [&str; 2] = ["first", "second"];
+
+/// The functions, and a unit of .debug_info that leads to their lines.
+const CODE: &str = r#".section .text.first, "ax", @progbits
+.globl first, second
+first: movl $1, %eax
+ ret
+.section .text.second, "ax", @progbits
+second: movl $2, %eax
+ ret
+.section .debug_abbrev, "", @progbits
+.byte 1, 0x11, 0, 0x03, 0x08, 0x1b, 0x08, 0x10, 0x17, 0x11, 0x01, 0x55, 0x17, 0, 0, 0
+.section .debug_info, "", @progbits
+.long 2f - 1f
+1: .short 4
+ .long .debug_abbrev
+ .byte 8, 1
+.asciz "two.c"
+ .asciz "/made"
+ .long .debug_line
+ .quad 0
+ .long .debug_ranges
+2:
+.section .debug_ranges, "", @progbits
+.quad first, first + 6, second, second + 6, 0, 0
+.section .note.GNU-stack, "", @progbits
+.section .debug_line, "", @progbits"#;
+
+/// The digests of `abc` and of no bytes.
+const DIGESTS: [[u8; 16]; 2] = [
+    [0x90, 0x01, 0x50, 0x98, 0x3c, 0xd2, 0x4f, 0xb0, 0xd6, 0x96, 0x3f, 0x7d, 0x28, 0xe1, 0x7f, 0x72],
+    [0xd4, 0x1d, 0x8c, 0xd9, 0x8f, 0x00, 0xb2, 0x04, 0xe9, 0x80, 0x09, 0x98, 0xec, 0xf8, 0x42, 0x7e],
+];
+
+/// Two functions of six bytes; the last byte of each is of the next line.
+fn contents(version: u16) -> Contents {
+    let mut contents = Contents::new(Encoding::new(version));
+    // Directories and files count from 0 on in version 5; before, directory 0 is that of the compilation.
+    let source = u64::from(version < 5);
+    if version >= 5 {
+        contents.directory(b"/made");
+    }
+    contents.directory(b"inc");
+    let details = DIGESTS.map(|md5| FileDetails { md5: Some(md5), ..FileDetails::default() });
+    contents.file_with(b"two.c", 0, details[0]);
+    contents.file_with(b"two.h", 1, details[1]);
+    for (file, line) in [(source, 3), (source + 1, 8)] {
+        let row = LineRow::at(0).with_file(file).with_column(1).with_statement();
+        contents.row(row.with_line(line));
+        contents.row(LineRow::at(5).with_file(file).with_column(1).with_statement().with_line(line + 1).with_prologue_end());
+        contents.row(LineRow::at(6).with_end());
+    }
+    contents
+}
+
+fn main() -> Result<(), Box<dyn Error>> {
+    let words: Vec<String> = env::args().skip(1).collect();
+    let version = words.first().ok_or("usage: compiler VERSION [in-place]")?.parse()?;
+    let addends = if words.get(1).is_some_and(|it| it == "in-place") { Addends::InPlace } else { Addends::Listed };
+    let symbols = [0, 1].map(|symbol| Symbol { symbol, addend: 0 });
+    let written = contents(version).write_relocatable(&symbols, addends)?;
+    println!("{CODE}");
+    let mut at = 0;
+    for place in written.relocations {
+        written.unit[at..place.offset].iter().for_each(|byte| println!(".byte {byte}"));
+        println!(".quad {} + {}", SYMBOLS[place.symbol], place.addend);
+        at = place.offset + place.size as usize;
+    }
+    written.unit[at..].iter().for_each(|byte| println!(".byte {byte}"));
+    Ok(())
+}

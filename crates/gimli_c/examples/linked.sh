@@ -1,0 +1,47 @@
+#!/usr/bin/env bash
+# Assembles what examples/c/compiler.c and the example compiler.rs of bindings/rust print, links it with a C program by ld and by lld, which
+# may not warn, and asks readelf, addr2line and gdb for the lines of its two functions, which are of two files and in sections of their own.
+#
+#     linked.sh VERSION <SOURCE
+#
+# It prints how many answers were as wanted. Where a linker or gdb is missing it isn't asked.
+set -eu
+version=$1
+work=$(mktemp -d)
+trap 'rm -rf "$work"' EXIT
+cat >"$work/two.s"
+cc -c "$work/two.s" -o "$work/two.o"
+printf 'int first(void);\nint second(void);\nint main(void) { return first() * 10 + second() == 12 ? 0 : 1; }\n' >"$work/main.c"
+
+asked=0
+wants() {
+    asked=$((asked + 1))
+    [ "$2" = "$3" ] || { echo "linked.sh: version $version: $1 says '$2', wanted '$3'" >&2; exit 1; }
+}
+wants "readelf of relocations" "$(readelf -rW "$work/two.o" | sed -n '/\.rela\.debug_line/,/^$/p' | grep -c R_X86_64_64)" 2
+# Six rows and two ends, by another reader.
+rows=$(readelf --debug-dump=decodedline "$work/two.o" 2>/dev/null | grep -cE '^two\.[ch] +[0-9]')
+wants "readelf of rows" "$((rows >= 4))" 1
+digests=$(readelf --debug-dump=rawline "$work/two.o" 2>/dev/null | grep -oE '0x(900150983cd24fb0d6963f7d28e17f72|d41d8cd98f00b204e9800998ecf8427e)' | tr '\n' ' ')
+wants "readelf of digests" "$digests" "$([ "$version" -lt 5 ] || echo '0x900150983cd24fb0d6963f7d28e17f72 0xd41d8cd98f00b204e9800998ecf8427e ')"
+for linker in bfd lld; do
+    command -v "ld.$linker" >/dev/null || continue
+    cc "-fuse-ld=$linker" -Wl,--fatal-warnings "$work/main.c" "$work/two.o" -o "$work/two"
+    "$work/two"
+    for row in "first 0 two.c:3" "first 4 two.c:3" "first 5 two.c:4" "second 0 inc/two.h:8" "second 4 inc/two.h:8" "second 5 inc/two.h:9"; do
+        read -r symbol offset place <<<"$row"
+        address=$(printf '%x' $((0x$(nm "$work/two" | awk -v name="$symbol" '$3 == name {print $1}') + offset)))
+        # addr2line (GNU Binutils 2.40) numbers the files of version 5 from 1, so it is asked for lines alone there.
+        said=$(addr2line -e "$work/two" "$address")
+        if [ "$version" -lt 5 ]; then wants "addr2line" "$said" "/made/$place"; else wants "addr2line" "${said##*:}" "${place##*:}"; fi
+        command -v gdb >/dev/null || continue
+        said=$(gdb -nx -batch -ex "info line *0x$address" "$work/two" 2>/dev/null | sed -nE 's/^Line ([0-9]+) of "([^"]*)".*/\2:\1/p')
+        wants "gdb" "$said" "$place"
+    done
+    command -v gdb >/dev/null || continue
+    for line in "first 3" "second 8"; do
+        said=$(gdb -nx -batch -ex "info line ${line% *}" "$work/two" 2>/dev/null | sed -nE 's/^Line ([0-9]+) .*<([a-z]+)> and .*<([a-z]+\+5)>\.$/\2 \1 \3/p')
+        wants "gdb of a function" "$said" "$line ${line% *}+5"
+    done
+done
+echo "$asked"
