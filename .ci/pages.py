@@ -8,8 +8,9 @@ Refused are, on the pages of NARROW, a line of prose above 100 characters (what 
 none) and a cell of a table above 300; on every page a link to a file of the tree, or to a heading, that isn't there, the name
 of a source or a script that no file has, a name in code that no source has, and a clause that a call hasn't (`CALL`, clause
 `NAME`); in ARCHITECTURE.md a line `A <- B, C` from which, with what B and C stand on, A doesn't stand on what crates.txt says; in
-CHANGELOG.md a version that neither the header for C nor `lines` has; and in CONTRIBUTING.md a limit that isn't that of the scripts,
-or that the tree passes.
+CHANGELOG.md a version that neither the header for C nor `lines` has; in CONTRIBUTING.md a limit that isn't that of the scripts,
+or that the tree passes; and in a table whose last column is headed `Run by`, a name there that is neither a row of
+crates/vectors/data/ nor a check of crates/checks (one that begins with `none: ` says why there is none).
 """
 import glob
 import os
@@ -150,6 +151,20 @@ def uncited(pages):
                         yield f"{page}: {'::'.join(owner + [name.split('::')[-1]])} has no clause {clause}"
 
 
+def untested(pages):
+    """The tests that tables of pages name and that aren't there."""
+    texts = {it: open(os.path.join(TOP, it), encoding="utf8").read() for it in found(["crates/vectors/data/*.rows", "crates/checks/stdout"])}
+    tests = {name for text in texts.values() for name in re.findall(r"^(?:== |test )(.*?)(?: \.\.\. ok)?$", text, re.M)}
+    for page in pages:
+        is_asked = False
+        for number, line, is_code in lines_of(page):
+            cells = [] if is_code or not line.startswith("|") else [it.strip() for it in line.strip("|").split("|")]
+            for name in cells[-1].split("; ") if is_asked and cells and set(line) - set("|-") else []:
+                if name not in tests and not name.startswith("none: "):
+                    yield f"{page}:{number}: no row or check is {name!r}"
+            is_asked = bool(cells) and (is_asked or cells[-1] == "Run by")
+
+
 def other_versions():
     """The versions of CHANGELOG.md that aren't those of the header for C and of `lines`."""
     page = open(os.path.join(TOP, "CHANGELOG.md"), encoding="utf8").read()
@@ -261,7 +276,7 @@ def main(words):
     ends = files()
     words = words_of_sources() | OTHERS
     told += [it for page in found(NARROW) for it in [*unknown(page, ends), *unnamed(page, words)]]
-    told += [*uncited(found(NARROW)), *misdrawn(), *other_versions(), *other_limits()]
+    told += [*uncited(found(NARROW)), *untested(found(PAGES)), *misdrawn(), *other_versions(), *other_limits()]
     print("\n".join(told), end="\n" if told else "")
     sys.exit(1 if told else 0)
 

@@ -104,6 +104,11 @@ fn first_wrong_in(
 /// The same in an empty section.
 fn first_wrong(program: &LineProgram, texts: &mut Texts) -> Found {
     let alloc = *texts.line_strings.allocator();
+    // Its texts aren't in other tables.
+    let others = Texts::new(alloc);
+    if program.can_write(&others.line_strings, &others.strings) {
+        return Ok(Some(0));
+    }
     let mut unit = Section::from(RelocatableVec::new(alloc, LittleEndian, Addends::Listed));
     first_wrong_in(&mut unit, program, texts)
 }
