@@ -94,15 +94,10 @@ fn print_files<R: Lender>(header: &LineProgramHeader<R>, lines: &mut Lines) {
 /// Prints a file: its values, in the order of the tables of version 5.
 fn print_file<R: Lender>(file: &FileEntry<R>, lines: &mut Lines) {
     add_value(&file.path_name(), lines);
-    lines.print(
-        " dir % time % size % md5 % source ",
-        &[
-            Number(file.directory_index()),
-            Number(file.timestamp()),
-            Number(file.size()),
-            Digits(file.md5()),
-        ],
-    );
+    let (directory, time) = (Number(file.directory_index()), Number(file.timestamp()));
+    let (size, md5) = (Number(file.size()), Digits(file.md5()));
+    let text = " dir % time % size % md5 % source ";
+    lines.print(text, &[directory, time, size, md5]);
     match &file.source() {
         Some(source) => add_value(source, lines),
         None => lines.print("-", &[]),
@@ -130,18 +125,12 @@ fn print_instruction<R: Lender>(instruction: &LineInstruction<R>, lines: &mut Li
             ("UnknownStandard1(%, %)\n", opcode.0, Number(*n))
         }
         LineInstruction::UnknownStandardN(opcode, operands) => {
-            (
-                "UnknownStandardN(%, %)\n",
-                opcode.0,
-                Digits(operands.lent_bytes()),
-            )
+            let operands = Digits(operands.lent_bytes());
+            ("UnknownStandardN(%, %)\n", opcode.0, operands)
         }
         LineInstruction::UnknownExtended(opcode, operands) => {
-            (
-                "UnknownExtended(%, %)\n",
-                opcode.0,
-                Digits(operands.lent_bytes()),
-            )
+            let operands = Digits(operands.lent_bytes());
+            ("UnknownExtended(%, %)\n", opcode.0, operands)
         }
         LineInstruction::DefineFile(file) => return print_defined(file, lines),
         known => return lines.put_error("", *known),

@@ -107,12 +107,8 @@ fn add_header(program: &mut LineProgram, line_strings: &mut LineStringTable) -> 
     if program.is_none() {
         return Err(Error::InvalidRange);
     }
-    let info = FileInfo {
-        timestamp: 0,
-        size: 0,
-        md5: *b"\xd4\x1d\x8c\xd9\x8f\0\xb2\x04\xe9\x80\x09\x98\xec\xf8\x42\x7e",
-        source: None,
-    };
+    let mut info = FileInfo::default();
+    info.md5 = *b"\xd4\x1d\x8c\xd9\x8f\0\xb2\x04\xe9\x80\x09\x98\xec\xf8\x42\x7e";
     let include = line_strings.add(b"inc")?;
     let path = line_strings.add(b"a.h")?;
     let directory = program.add_directory(LineString::LineStringRef(include))?;
@@ -167,19 +163,13 @@ fn print_refused(
         return Err(Error::InvalidRange);
     }
     program.add_file(path, program.default_directory(), None)?;
-    let symbol = Address::Symbol {
-        symbol: 1,
-        addend: 0,
-    };
-    program.set_address(symbol)?;
+    let (symbol, addend) = (1, 0);
+    program.set_address(Address::Symbol { symbol, addend })?;
     if !program.can_write(line_strings, &strings) {
         return Err(Error::InvalidRange);
     }
-    print_part(
-        "directory",
-        program.refused_directory(line_strings, &strings),
-        text,
-    )?;
+    let directory = program.refused_directory(line_strings, &strings);
+    print_part("directory", directory, text)?;
     print_part("file", program.refused_file(line_strings, &strings), text)?;
     print_part("item", program.refused_item(), text)
 }

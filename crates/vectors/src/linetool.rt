@@ -59,7 +59,7 @@ pub fn run_linetool(
 ) -> Result<u8, Stop> {
     let [section, _, _] = sections;
     let mut left = usize::MAX;
-    let (words, file) = match words {
+    let (words, breaks) = match words {
         ["room", room, words @ ..] => {
             left = parse_number(room).ok_or(Stop::Bad)? as usize;
             (words, Some(false))
@@ -68,13 +68,8 @@ pub fn run_linetool(
         ["broken", words @ ..] => (words, Some(true)),
         words => (words, Some(false)),
     };
-    let file = match file {
-        Some(breaks) => Some(RowFile {
-            bytes: section,
-            breaks,
-        }),
-        None => None,
-    };
+    let bytes = section;
+    let file = breaks.map(|breaks| RowFile { bytes, breaks });
     let mut own = Vec::new(alloc);
     for word in words {
         own.push(*word)?;

@@ -48,13 +48,8 @@ pub fn run(
                 return Err(Stop::Bad);
             }
             let (strings, line_strings) = texts_of(named)?;
-            run_over(
-                alloc,
-                own,
-                attempts,
-                [section, strings, line_strings],
-                lines,
-            )
+            let sections = [section.as_slice(), strings, line_strings];
+            run_over(alloc, own, attempts, sections, lines)
         }
     }
 }
