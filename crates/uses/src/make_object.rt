@@ -48,11 +48,11 @@ const ABBREVIATION: &[u8] = b"\x01\x11\0\x03\x08\x1b\x08\x10\x17\x11\x01\x55\x17
 
 /// The addresses of the unit, by which it is found (section 6.1.2): ten bytes from each function
 /// on. The relocations are those of the unit's offset, and of these addresses.
-const ADDRESSES: &[u8] = b"\x3c\0\0\0\x02\0\0\0\0\0\x08\0\0\0\0\0\
+const SPANS: &[u8] = b"\x3c\0\0\0\x02\0\0\0\0\0\x08\0\0\0\0\0\
     \0\0\0\0\0\0\0\0\x0a\0\0\0\0\0\0\0\0\0\0\0\0\0\0\0\x0a\0\0\0\0\0\0\0\
     \0\0\0\0\0\0\0\0\0\0\0\0\0\0\0\0";
 
-const ADDRESS_RELOCATIONS: &[u8] = b"\x06\0\0\0\0\0\0\0\x0a\0\0\0\x04\0\0\0\0\0\0\0\0\0\0\0\
+const SPAN_RELOCATIONS: &[u8] = b"\x06\0\0\0\0\0\0\0\x0a\0\0\0\x04\0\0\0\0\0\0\0\0\0\0\0\
     \x10\0\0\0\0\0\0\0\x01\0\0\0\x06\0\0\0\0\0\0\0\0\0\0\0\
     \x20\0\0\0\0\0\0\0\x01\0\0\0\x07\0\0\0\0\0\0\0\0\0\0\0";
 
@@ -96,11 +96,8 @@ fn make_object(alloc: Global, object: &mut Vec<u8>) -> Result<()> {
         ([0x1_0000_004c, 0, 0, 0], ABBREVIATION),
         ([0x2_0000_005a, 0, 0x6_0000_000a, 24], SYMBOLS),
         ([0x3_0000_0062, 0, 0, 0], NAMES),
-        ([0x1_0000_006f, 0, 0, 0], ADDRESSES),
-        (
-            [0x4_0000_006a, 0x40, 0xb_0000_0009, 24],
-            ADDRESS_RELOCATIONS,
-        ),
+        ([0x1_0000_006f, 0, 0, 0], SPANS),
+        ([0x4_0000_006a, 0x40, 0xb_0000_0009, 24], SPAN_RELOCATIONS),
         ([0x1_0000_0083, 0, 0, 0], RANGES),
         ([0x4_0000_007e, 0x40, 0xd_0000_0009, 24], RANGE_RELOCATIONS),
         // Without this one a linker makes the stack executable, and warns.
