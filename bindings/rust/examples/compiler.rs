@@ -54,9 +54,9 @@ fn contents(version: u16) -> Contents {
     contents.file_with(b"two.c", 0, details[0]);
     contents.file_with(b"two.h", 1, details[1]);
     for (file, line) in [(source, 3), (source + 1, 8)] {
-        let row = LineRow::at(0).with_file(file).with_column(1).with_statement();
-        contents.row(row.with_line(line));
-        contents.row(LineRow::at(5).with_file(file).with_column(1).with_statement().with_line(line + 1).with_prologue_end());
+        let row = |address, line| LineRow::at(address).with_file(file).with_line(line).with_column(1).with_statement();
+        contents.row(row(0, line));
+        contents.row(row(5, line + 1).with_prologue_end());
         contents.row(LineRow::at(6).with_end());
     }
     contents
@@ -65,7 +65,7 @@ fn contents(version: u16) -> Contents {
 fn main() -> Result<(), Box<dyn Error>> {
     let words: Vec<String> = env::args().skip(1).collect();
     let version = words.first().ok_or("usage: compiler VERSION [in-place]")?.parse()?;
-    let addends = if words.get(1).is_some_and(|it| it == "in-place") { Addends::InPlace } else { Addends::Listed };
+    let addends = if words.get(1).map(String::as_str) == Some("in-place") { Addends::InPlace } else { Addends::Listed };
     let symbols = [0, 1].map(|symbol| Symbol { symbol, addend: 0 });
     let written = contents(version).write_relocatable(&symbols, addends)?;
     println!("{CODE}");
