@@ -50,9 +50,12 @@ int main(int argc, char **argv) {
     uint64_t source = from_0 ? 0 : 1, header = source + 1;
     /* Two functions of six bytes; the last byte of each is of the next line. */
     gimli_line_row rows[] = {
-        {0, 0, source, 3, 1, 0, 0, GIMLI_LINE_IS_STMT}, {5, 0, source, 4, 1, 0, 0, GIMLI_LINE_IS_STMT | GIMLI_LINE_PROLOGUE_END},
-        {6, 0, 0, 0, 0, 0, 0, GIMLI_LINE_END_SEQUENCE}, {0, 0, header, 8, 1, 0, 0, GIMLI_LINE_IS_STMT},
-        {5, 0, header, 9, 1, 0, 0, GIMLI_LINE_IS_STMT}, {6, 0, 0, 0, 0, 0, 0, GIMLI_LINE_END_SEQUENCE},
+        {0, 0, source, 3, 1, 0, 0, GIMLI_LINE_IS_STMT},
+        {5, 0, source, 4, 1, 0, 0, GIMLI_LINE_IS_STMT | GIMLI_LINE_PROLOGUE_END},
+        {6, 0, 0, 0, 0, 0, 0, GIMLI_LINE_END_SEQUENCE},
+        {0, 0, header, 8, 1, 0, 0, GIMLI_LINE_IS_STMT},
+        {5, 0, header, 9, 1, 0, 0, GIMLI_LINE_IS_STMT | GIMLI_LINE_PROLOGUE_END},
+        {6, 0, 0, 0, 0, 0, 0, GIMLI_LINE_END_SEQUENCE},
     };
     /* Where the version is even the second function begins six bytes before its end. */
     gimli_line_symbol starts[] = {{0, 0}, {version % 2 != 0 ? 1 : 2, version % 2 != 0 ? 0 : -6}};
