@@ -64,7 +64,7 @@ fn write_program<W: Writer, T: Writer>(
     texts: &mut DebugLineStr<T>,
     line_strings: &mut LineStringTable,
 ) -> Result<()> {
-    let source = with_digest(program)?;
+    let source = with_digest(program, line_strings)?;
     let header = add_header(program, line_strings)?;
     add_function(program, source, functions[0], [3, 4])?;
     add_function(program, header, functions[1], [8, 9])?;
@@ -91,15 +91,17 @@ fn with_source(alloc: Global, line_strings: &mut LineStringTable) -> Result<Line
     Ok(program)
 }
 
-/// Gives the source file the MD5 digest of `abc`, and returns its id.
-fn with_digest(program: &mut LineProgram) -> Result<FileId> {
-    let source = program.default_file();
-    if program.is_none() || program.version() < 5 {
+/// Gives the source file the MD5 digest of `abc`, and returns its id: a file that is there takes
+/// what is handed of it.
+fn with_digest(program: &mut LineProgram, line_strings: &mut LineStringTable) -> Result<FileId> {
+    if program.is_none() {
         return Err(Error::InvalidRange);
     }
-    program.get_file_info_mut(source).md5 =
-        *b"\x90\x01\x50\x98\x3c\xd2\x4f\xb0\xd6\x96\x3f\x7d\x28\xe1\x7f\x72";
-    Ok(source)
+    let mut info = FileInfo::default();
+    info.md5 = *b"\x90\x01\x50\x98\x3c\xd2\x4f\xb0\xd6\x96\x3f\x7d\x28\xe1\x7f\x72";
+    let path = line_strings.add(b"a.c")?;
+    let directory = program.default_directory();
+    program.add_file(LineString::LineStringRef(path), directory, Some(info))
 }
 
 /// Adds the file `a.h` in the directory `inc`, with the MD5 digest of an empty file.
