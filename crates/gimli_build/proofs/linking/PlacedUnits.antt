@@ -141,7 +141,8 @@ module _ (at : Placement) (big : Bool) (unit : Encoding) (p : Built) (texts : St
   pub placed-short : 5 ≤ p.encoding.version
       → All (λ t. IsOffsetHeld (2 ^ 64) at (texts_after p texts) t.1) (emitted_texts p (texts_after p texts))
   placed-short new =
-      all_from _ _ (λ t fits. text_short p.encoding.format t.1 fits.1) _ (fit.offsets new)
+      all_from (λ t. OffsetFits at p.encoding.format (texts_after p texts) t.1) _
+      (λ t fits. text_short p.encoding.format t.1 fits.1) _ (fit.offsets new)
     where
       wide : (format : Format) (n : ℕ) → n < 256 ^ word_size format → n < 2 ^ 64
       wide Dwarf32 n lt = omega (arith, lt)

@@ -27,7 +27,7 @@ use Rattle.gimli_build.proofs.reading.EventsBack.{cut-back, rows-back}
 unit_known : (at : Placement) (big : Bool) (p : Built) (texts : StringTables) (unit : List ℕ) → whole_bytes (counted at) big p texts ≡ Ok unit
     → p.encoding.version ≤ 5
 unit_known at big p texts unit is =
-    let w = unit_written _ _ p _ _ is in
+    let w = unit_written (counted at) _ p texts _ is in
     let address : List ℕ = if nat_le p.encoding.version 4 then [] else p.encoding.address_size ∷ 0 ∷ [] in
     let b = before_written _ _ _ w.opening_is in
     version-known _ _ _ b.front_is
