@@ -1,5 +1,5 @@
 -- Units that are built, and the bytes that they are written as, worked out by hand.
-use Rattle.std.proofs.Common.{◌≡◌, ℕ, ◌^◌, Bool, true, false, List, [], ◌∷◌, ◌++◌, Some, None, Ok, refl, negsuc, pos, ℤ}
+use Rattle.std.proofs.Common.{◌≡◌, ℕ, ◌-◌, ◌^◌, Bool, true, false, List, [], ◌∷◌, ◌++◌, Some, None, Ok, refl, negsuc, pos, ℤ}
 use Rattle.gimli_core.specs.declared.common.Encoding.{Encoding}
 use Rattle.gimli_core.specs.declared.common.LineEncoding.{LineEncoding}
 use Rattle.gimli_core.specs.declared.common.Format.{Format}
@@ -159,9 +159,9 @@ missing_source_by_reference = refl
 
 -- ---- once a linker has placed symbols and sections
 
--- symbol 0 at 0x401000, and each section at 0x20
+-- symbol 0 at 0x401000; a linker that merges texts puts the second one at 0x20, the first at 0x23
 abbrev there : Placement
-there = record { symbol = λ n. 0x401000; section = λ s. 0x20 }
+there = record { symbol = λ n. 0x401000; section = λ s n. 0x23 - n }
 
 -- a row at the symbol and 4, and an end 8 after it
 abbrev by_symbol : Built
@@ -171,8 +171,8 @@ linked_unit : unit_bytes (placed there) false encoding_5 by_symbol (texts_in [] 
     ≡ Ok (0x3e ∷ 0x00 ∷ 0x00 ∷ 0x00 ∷ 0x05 ∷ 0x00 ∷ 0x08 ∷ 0x00 ∷ 0x25 ∷ 0x00 ∷ 0x00 ∷ 0x00 ∷ 0x01 ∷ 0x01 ∷ 0x01 ∷ 0xfb
     ∷ 0x0e ∷ 0x0d
     ∷ 0x00 ∷ 0x01 ∷ 0x01 ∷ 0x01 ∷ 0x01 ∷ 0x00 ∷ 0x00 ∷ 0x00 ∷ 0x01 ∷ 0x00 ∷ 0x00 ∷ 0x01 ∷ 0x01 ∷ 0x01 ∷ 0x1f ∷ 0x01
-    ∷ 0x20 ∷ 0x00 ∷ 0x00 ∷ 0x00
-    ∷ 0x02 ∷ 0x01 ∷ 0x1f ∷ 0x02 ∷ 0x0f ∷ 0x01 ∷ 0x23 ∷ 0x00 ∷ 0x00 ∷ 0x00 ∷ 0x00
+    ∷ 0x23 ∷ 0x00 ∷ 0x00 ∷ 0x00
+    ∷ 0x02 ∷ 0x01 ∷ 0x1f ∷ 0x02 ∷ 0x0f ∷ 0x01 ∷ 0x20 ∷ 0x00 ∷ 0x00 ∷ 0x00 ∷ 0x00
     ∷ 0x00 ∷ 0x09 ∷ 0x02 ∷ 0x04 ∷ 0x10 ∷ 0x40 ∷ 0x00 ∷ 0x00 ∷ 0x00 ∷ 0x00 ∷ 0x00 ∷ 0x01 ∷ 0x02 ∷ 0x08 ∷ 0x00 ∷ 0x01
     ∷ 0x01 ∷ [])
 unfolding uleb base_byte

@@ -2,3 +2,4 @@
 pub mod Lengths
 pub mod SameBytes
 pub mod PlacedUnits
+pub mod FoundTexts

@@ -27,10 +27,10 @@ pub mod Version5Tables
 pub mod Unit
 pub mod Cause
 pub mod Refused
-pub mod Linked
 pub mod NoFiles
 pub mod Traps
 pub mod Stored
 pub mod Texts
 pub mod ReadsBack
+pub mod Linked
 pub mod inside

@@ -1,12 +1,13 @@
 -- A unit whose addresses, and offsets of texts, a linker fills in: the program that it is then.
-use Rattle.std.specs.Prelude.{◌≡◌, ℕ, ◌+◌, ◌<◌, ◌≤◌, ◌^◌, map, All}
+use Rattle.std.specs.Prelude.{◌≡◌, ℕ, ◌+◌, ◌≤◌, ◌^◌, List, ◌++◌, length, map, All}
 use Rattle.gimli_core.specs.Numbers.{word_size}
 use Rattle.gimli_core.specs.declared.common.Format.{Format}
 use Rattle.gimli_core.specs.declared.common.SectionId.TheVariants.{DebugStr, DebugLineStr}
-use Rattle.gimli_bytes.specs.Hand.{Placement}
+use Rattle.gimli_bytes.specs.Hand.{Placement, unplaced}
 use Rattle.gimli_bytes.specs.Relocations.{AddressOf, CallFits, address_placed}
-use Rattle.gimli_bytes.specs.Texts.{offset_of, StringTables}
-use Rattle.gimli_build.specs.LineText.{LineText, Inline, InStrings, InLineStrings}
+use Rattle.gimli_bytes.specs.Texts.{table_bytes, StringTables}
+use Rattle.gimli_build.specs.LineText.{LineText}
+use Rattle.gimli_build.specs.ReadsBack.{IsOffsetHeld}
 use Rattle.gimli_build.specs.Built.{Built}
 use Rattle.gimli_build.specs.Cause.{emitted_texts}
 use Rattle.gimli_build.specs.declared.built.items.BuiltItem.{BuiltItem}
@@ -28,13 +29,11 @@ abbrev pub AddressFits : Placement → ℕ → BuiltItem → Type 0
 AddressFits at size (SetAddress a) = CallFits at (AddressOf a size)
 AddressFits at size item = Unit {0}
 
--- where the section of a text's table begins, and the offset of the text there
+-- the offset of a text in the section of its table, and what it becomes
 abbrev pub OffsetFits : Placement → Format → StringTables → LineText → Type 0
-OffsetFits at format texts (Inline text) = Unit {0}
-OffsetFits at format texts (InStrings i) =
-    at.section DebugStr + offset_of texts.strings i < 256 ^ word_size format
-OffsetFits at format texts (InLineStrings i) =
-    at.section DebugLineStr + offset_of texts.line_strings i < 256 ^ word_size format
+OffsetFits at format texts t =
+    IsOffsetHeld (256 ^ word_size format) unplaced texts t
+    × IsOffsetHeld (256 ^ word_size format) at texts t
 
 -- each sum that a linker makes for the unit of a program, with these tables; up to version 4 it
 -- has no offset of a text
@@ -45,5 +44,12 @@ pub record SumsFit (at : Placement) (p : Built) (texts : StringTables) : Type 0 
 
 -- both sections of texts begin at 0, so that an offset there is a number as it is
 pub record TextsBeginAtZero (at : Placement) : Type 0 where
-  pub strings : at.section DebugStr ≡ 0
-  pub line_strings : at.section DebugLineStr ≡ 0
+  pub strings : (n : ℕ) → at.section DebugStr n ≡ n
+  pub line_strings : (n : ℕ) → at.section DebugLineStr n ≡ n
+
+-- a section has the bytes of a table after others, from where offsets are counted then
+pub record HasTable (section : List ℕ) (placed : ℕ → ℕ) (texts : List (List ℕ)) : Type 0 where
+  pub before : List ℕ
+  pub after : List ℕ
+  pub whole : section ≡ before ++ (table_bytes texts ++ after)
+  pub counted : (n : ℕ) → placed n ≡ length before + n

@@ -1,10 +1,11 @@
 -- What is read of a unit that was built.
 use Rattle.std.specs.Prelude.{◌≡◌, ℕ, ◌-◌, ◌<◌, ◌≤◌, All, List, [], ◌++◌, length, map, slice_get}
-use Rattle.std.specs.Prelude.{Bool, false, None, option_map, nat_le, if◌then◌else◌}
+use Rattle.std.specs.Prelude.{Bool, false, None, option_map, nat_le, if◌then◌else◌, IfSome}
 use Rattle.std.specs.Option.{option_to_list}
 use Rattle.gimli_core.specs.Notation.{Notation}
 use Rattle.gimli_core.specs.Values.{Value}
 use Rattle.gimli_core.specs.declared.common.Format.TheVariants.{Dwarf64}
+use Rattle.gimli_core.specs.declared.common.SectionId.TheVariants.{DebugStr, DebugLineStr}
 use Rattle.gimli_core.specs.declared.attribute_value.AttributeValue.TheVariants.{String}
 use Rattle.gimli_line.specs.declared.header.file_entry.FileEntryFormat.{FileEntryFormat}
 use Rattle.gimli_build.specs.Version5Tables.{directory_formats, file_formats}
@@ -14,10 +15,11 @@ use Rattle.gimli_line.specs.header.File.{File as ReadFile}
 use Rattle.gimli_line.specs.run.InstructionGrammar.{Decodes}
 use Rattle.gimli_line.specs.run.Events.{Events, row}
 use Rattle.gimli_line.specs.declared.run.row.LineRow.{LineRow as ReadRow}
-use Rattle.gimli_bytes.specs.Texts.{table_bytes, offset_of, StringTables}
+use Rattle.gimli_bytes.specs.Hand.{Placement, unplaced}
+use Rattle.gimli_bytes.specs.Texts.{offset_of, StringTables}
 use Rattle.gimli_build.specs.LineText.{LineText, Inline, InStrings, InLineStrings, bytes_in}
 use Rattle.gimli_build.specs.Tables.{File}
-use Rattle.gimli_build.specs.Texts.{Sections, IsText, IsOptionalText, OneByOne}
+use Rattle.gimli_build.specs.Texts.{Sections, StandsAt, IsText, IsOptionalText, OneByOne}
 use Rattle.gimli_build.specs.Stored.{stored_details}
 use Rattle.gimli_build.specs.Items.{AddressesFit}
 use Rattle.gimli_build.specs.Runs.{program_instructions}
@@ -92,23 +94,38 @@ pub record ReadsBack (notation : Notation) (unit_entry : UnitEntry) (sections : 
       → (rows : List ReadRow) × Events notation header header.program (map row rows)
       × RowsMatch p.encoding.version [] p.items rows
 
--- an offset of a reader is below this limit, and holds the offset that stands for a text
-abbrev pub IsOffsetHeld : ℕ → StringTables → LineText → Type 0
-IsOffsetHeld limit texts (Inline text) = Unit {0}
-IsOffsetHeld limit texts (InStrings i) = offset_of texts.strings i < limit
-IsOffsetHeld limit texts (InLineStrings i) = offset_of texts.line_strings i < limit
+-- an offset of a reader is below this limit, and holds what the offset of a text becomes
+abbrev pub IsOffsetHeld : ℕ → Placement → StringTables → LineText → Type 0
+IsOffsetHeld limit at texts (Inline text) = Unit {0}
+IsOffsetHeld limit at texts (InStrings i) = at.section DebugStr (offset_of texts.strings i) < limit
+IsOffsetHeld limit at texts (InLineStrings i) =
+    at.section DebugLineStr (offset_of texts.line_strings i) < limit
+
+-- a text of a table stands in a section where its offset leads, once that is placed
+abbrev pub IsTextFound : List ℕ → (ℕ → ℕ) → List (List ℕ) → ℕ → Type 0
+IsTextFound section placed texts i =
+    IfSome (slice_get texts i) (StandsAt section (placed (offset_of texts i)))
+
+-- so does one of a program, if it is an offset
+abbrev pub IsFound : Sections → Placement → StringTables → LineText → Type 0
+IsFound sections at texts (Inline text) = Unit {0}
+IsFound sections at texts (InStrings i) =
+    IsTextFound sections.strings (at.section DebugStr) texts.strings i
+IsFound sections at texts (InLineStrings i) =
+    IsTextFound sections.line_strings (at.section DebugLineStr) texts.line_strings i
 
 -- how such a unit has to be read: in the order in which it was written, with its address size, up
--- to version 4 with the working directory, and beside the sections of its tables; by a reader whose
--- offsets hold the numbers of the unit
-pub record IsReadWell (notation : Notation) (unit_entry : UnitEntry) (sections : Sections)
-    (big : Bool) (p : Built) (texts : StringTables) (unit : List ℕ) : Type 0 where
+-- to version 4 with the working directory, and beside sections in which its offsets, as they are
+-- placed, lead to its texts; by a reader whose offsets hold the numbers of the unit
+pub record IsReadWell (at : Placement) (notation : Notation) (unit_entry : UnitEntry)
+    (sections : Sections) (big : Bool) (p : Built) (texts : StringTables) (unit : List ℕ)
+    : Type 0 where
   pub order : notation.big ≡ big
   pub address_size : unit_entry.address_size ≡ p.encoding.address_size
   pub directory : p.encoding.version ≤ 4
       → unit_entry.directory ≡ option_map (bytes_in texts) (slice_get p.directories 0)
-  pub strings_are : sections.strings ≡ table_bytes texts.strings
-  pub line_strings_are : sections.line_strings ≡ table_bytes texts.line_strings
+  pub texts_found : 5 ≤ p.encoding.version
+      → All (λ t. IsFound sections at texts t.1) (emitted_texts p texts)
   -- an extended instruction has at most 11 bytes after its length
   pub instructions_held : 11 < notation.limit
   -- any offset holds a word of the 32-bit format; in the 64-bit format the unit length counts all
@@ -116,10 +133,15 @@ pub record IsReadWell (notation : Notation) (unit_entry : UnitEntry) (sections :
   pub length_held : p.encoding.format ≡ Dwarf64 → length unit - 12 < notation.limit
   -- and from version 5 on, a text may be an offset
   pub texts_held : 5 ≤ p.encoding.version → p.encoding.format ≡ Dwarf64
-      → All (λ t. IsOffsetHeld notation.limit texts t.1) (emitted_texts p texts)
+      → All (λ t. IsOffsetHeld notation.limit at texts t.1) (emitted_texts p texts)
 
--- whoever reads these bytes well reads the program back
-abbrev pub ReadsBackAs : Bool → Built → StringTables → List ℕ → Type 0
-ReadsBackAs big p texts unit = (notation : Notation) (unit_entry : UnitEntry) (sections : Sections)
-    → IsReadWell notation unit_entry sections big p texts unit
+-- whoever reads these bytes well, with the offsets of texts so placed, reads the program back
+abbrev pub ReadsBackPlaced : Placement → Bool → Built → StringTables → List ℕ → Type 0
+ReadsBackPlaced at big p texts unit =
+    (notation : Notation) (unit_entry : UnitEntry) (sections : Sections)
+    → IsReadWell at notation unit_entry sections big p texts unit
     → ReadsBack notation unit_entry sections p texts unit
+
+-- or as they are written
+abbrev pub ReadsBackAs : Bool → Built → StringTables → List ℕ → Type 0
+ReadsBackAs = ReadsBackPlaced unplaced

@@ -12,6 +12,10 @@ pub record Sections : Type 0 where
   pub strings : List ℕ
   pub line_strings : List ℕ
 
+-- a text and a zero byte stand in a section from an offset on
+abbrev pub StandsAt : List ℕ → ℕ → List ℕ → Type 0
+StandsAt section offset text = (rest : List ℕ) × (drop offset section ≡ text ++ 0 ∷ rest)
+
 -- a text of a section from an offset on, up to a zero byte
 pub record IsTextAt (section : List ℕ) (offset : ℕ) (text : List ℕ) : Type 0 where
   pub rest : List ℕ

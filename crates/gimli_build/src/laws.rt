@@ -44,16 +44,18 @@ ghost use Rattle.gimli_build.specs.UnitReader.{bytes_of_items, IsWritableRow, Ar
 ghost use Rattle.gimli_build.specs.Sizes.{IsMove, SpecialSuffices, SpecialAndConstantSuffice};
 ghost use Rattle.gimli_build.specs.Sizes.{row_size};
 ghost use Rattle.gimli_build.specs.Built.{Built};
-ghost use Rattle.gimli_build.specs.ReadsBack.{DecodesAs};
+ghost use Rattle.gimli_build.specs.ReadsBack.{DecodesAs, IsFound};
+ghost use Rattle.gimli_build.specs.Texts.{Sections};
 ghost use Rattle.gimli_build.specs.NoFiles.{DefinesNoFile, program_started};
 ghost use Rattle.gimli_build.specs.declared.built.files.FileInfo.{FileInfo};
 ghost use Rattle.gimli_build.specs.declared.built.line_string.LineString.{LineString};
-ghost use Rattle.gimli_build.specs.LineText.{line_text};
+ghost use Rattle.gimli_build.specs.LineText.{LineText, line_text};
 ghost use Rattle.gimli_build.specs.TableFields.{details};
-ghost use Rattle.gimli_bytes.specs.Hand.{Placement, plain};
+ghost use Rattle.gimli_bytes.specs.Hand.{Placement, unplaced, plain};
 ghost use Rattle.gimli_bytes.specs.Relocations.{placed, counted};
-ghost use Rattle.gimli_bytes.specs.Texts.{StringTables};
-ghost use Rattle.gimli_build.specs.Linked.{placed_program, SumsFit, TextsBeginAtZero};
+ghost use Rattle.gimli_bytes.specs.Texts.{StringTables, table_bytes};
+ghost use Rattle.gimli_build.specs.Linked.{placed_program, SumsFit, TextsBeginAtZero, HasTable};
+ghost use Rattle.gimli_core.specs.declared.common.SectionId.TheVariants.{DebugStr, DebugLineStr};
 ghost use Rattle.gimli_build.specs.Unit.{unit_bytes};
 ghost use Rattle.gimli_build.specs.Version5Tables.{texts_after};
 
@@ -229,8 +231,8 @@ pub fn equal_texts_hash_alike()
 {}
 
 /// Where each sum that a linker makes fits its size, a unit whose relocations are applied is what
-/// is written, as numbers, of the same program with its symbols replaced; an offset of a text
-/// counts from where its section begins, and is the number itself where that is 0.
+/// is written, as numbers, of the same program with its symbols replaced; an offset of a text is
+/// what the linker makes of it, and the number itself where its section begins at 0.
 pub fn placed_units_are_numbers()
     ensures counted { (at : Placement) (big : Bool) (unit : Encoding) (p : Built)
         (handed : StringTables) → SumsFit at p (texts_after p handed) →
@@ -240,4 +242,18 @@ pub fn placed_units_are_numbers()
         (handed : StringTables) → SumsFit at p (texts_after p handed) → TextsBeginAtZero at →
         unit_bytes (placed at) big unit p handed
         ≡ unit_bytes plain big unit (placed_program at p) handed }
+{}
+
+/// The texts that a program refers to are found, as `linked` and `reads_back` ask, in sections that
+/// have the bytes of the tables after others, from where references are counted then; and in those
+/// that are just these bytes, by references as they are.
+pub fn texts_are_found()
+    ensures placed { (at : Placement) (sections : Sections) (texts : StringTables) →
+        HasTable sections.strings (at.section DebugStr) texts.strings →
+        HasTable sections.line_strings (at.section DebugLineStr) texts.line_strings →
+        (t : LineText) → IsFound sections at texts t }
+    ensures written { (sections : Sections) (texts : StringTables) →
+        sections.strings ≡ table_bytes texts.strings →
+        sections.line_strings ≡ table_bytes texts.line_strings →
+        (t : LineText) → IsFound sections unplaced texts t }
 {}

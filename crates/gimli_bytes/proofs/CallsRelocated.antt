@@ -5,12 +5,14 @@ use Rattle.std.proofs.Common.{◌++◌}
 use Rattle.std.proofs.Common.{length, refl, ap, sym, ◌∙◌, subst, Ok, Err, length-append, w64}
 use Rattle.std.specs.Prelude.{All, Result, nat_lt, nat_eq, ◌||◌, ◌+ℤ◌, FitsSigned}
 use Rattle.std.specs.Int.{cast_unsigned, cast_signed}
+use Rattle.std.proofs.Math.Nat.{mod-eq_of_lt}
 use Rattle.std.proofs.lemmas.Int.{ints, of_z-to_z}
 use Rattle.std.proofs.lemmas.Bool.{cases_lt, ne_eqb, lt-ltb, ltb-true, ltb-false}
 use Rattle.std.specs.List.{list_any}
 use Rattle.std.proofs.lemmas.List.Elements.{All-head, All-tail}
 use Rattle.gimli_core.specs.Numbers.{number_bytes, value_of}
 use Rattle.gimli_core.specs.Reading.{result_map}
+use Rattle.gimli_core.specs.declared.common.SectionId.{SectionId}
 use Rattle.gimli_bytes.specs.inside.Pieces.{put_over}
 use Rattle.gimli_bytes.specs.Number.{udata}
 use Rattle.gimli_bytes.specs.Written.{overwrite_of, patch}
@@ -36,13 +38,14 @@ use Rattle.gimli_bytes.specs.declared.relocation.Relocation.{Relocation}
 use Rattle.gimli_bytes.specs.declared.relocation.RelocationTarget.{RelocationTarget}
 use Rattle.gimli_bytes.specs.declared.relocation.RelocationTarget.TheVariants.{OfSymbol, OfSection}
 use Rattle.gimli_bytes.proofs.PieceLemmas.{patched-inside, length-put_over}
-use Rattle.gimli_bytes.proofs.RelocationLemmas.{length-number}
+use Rattle.gimli_bytes.proofs.RelocationLemmas.{length-number, number-mod}
 use Rattle.gimli_bytes.proofs.Relocating.{
   AreInside,
   IsApart,
   apart-from,
-  lowest_is,
-  sum_is,
+  addend_is,
+  low_sum,
+  sum_low,
   word_at,
   relocated-end,
   relocated-put,
@@ -109,19 +112,24 @@ udata_parts big m size word h = by (is_size size) (nat_lt m (256 ^ size)) refl r
 abbrev pub PutsNumber : Placement → Relocatable → RelocationTarget → ℤ → ℕ → ℕ → Type 0
 PutsNumber p v target z size n = size ≤ 8 → number_in_place v.addends z size < 256 ^ size
     → number_bytes v.big size
-    (place_of p target + cast_unsigned w64 (addend_in_list v.addends z) + value_of v.big
-    (number_bytes v.big size (number_in_place v.addends z size))) ≡ number_bytes v.big size n
+    (place_of p target ((cast_unsigned w64 (addend_in_list v.addends z) + value_of v.big
+    (number_bytes v.big size (number_in_place v.addends z size))) % 256 ^ size))
+    ≡ number_bytes v.big size n
 
 pub puts_sum : (p : Placement) (v : Relocatable) (target : RelocationTarget) (z : ℤ)
-    (size n q : ℕ) → place_of p target + cast_unsigned w64 z ≡ n + q * 2 ^ 64 → n < 256 ^ size
+    (size n : ℕ)
+    → (size ≤ 8 → place_of p target (cast_unsigned w64 z % 256 ^ size) % 256 ^ size ≡ n)
     → PutsNumber p v target z size n
-puts_sum p v target z size n q sum fits =
-    λ short small. sum_is _ _ z _ _ n q short small sum fits
+puts_sum p v target z size n is =
+    λ short small.
+    ap (λ k. number_bytes v.big size (place_of p target k)) (addend_is _ _ z _ small)
+    ∙ number-mod _ _ _
+    ∙ ap (number_bytes v.big size) (is short)
 
 pub puts_lowest : (p : Placement) (v : Relocatable) (target : RelocationTarget) (z : ℤ) (size : ℕ)
-    → PutsNumber p v target z size ((place_of p target + cast_unsigned w64 z) % 256 ^ size)
-puts_lowest p v target z size =
-    λ short small. lowest_is _ _ z _ _ small
+    → PutsNumber p v target z size
+    (place_of p target (cast_unsigned w64 z % 256 ^ size) % 256 ^ size)
+puts_lowest p v target z size = puts_sum p v target z size _ (λ short. refl)
 
 -- what a call leaves that writes this number once the relocations are applied
 pub record Puts (p : Placement) (v w : Relocatable) (size n : ℕ) : Type 0 where
@@ -352,8 +360,15 @@ over_same p v w at x inside called =
     free false is e =
         by (apart-from _ _ _ is) (overwrite_of v.bytes at x) refl e
 
-no_more : (t n : ℕ) → t + n ≡ t + n + 0 * 2 ^ 64
-no_more t n = omega arith
+-- an offset into a section that fits the size, as does what it becomes
+offset_is : (p : Placement) (section : SectionId) (n size : ℕ) → p.section section n < 256 ^ size
+    → n < 256 ^ size → n < 2 ^ 64
+    → p.section section (cast_unsigned w64 (cast_signed w64 n) % 256 ^ size) % 256 ^ size
+    ≡ p.section section n
+offset_is p section n size placed fits bits =
+    ap (λ k. p.section section (k % 256 ^ size) % 256 ^ size) (of_z-to_z w64 n bits)
+    ∙ ap (λ k. p.section section k % 256 ^ size) (mod-eq_of_lt fits)
+    ∙ mod-eq_of_lt placed
 
 pub call_same : (p : Placement) (v w : Relocatable) (call : Call) → AreInside v → CallFits p call
     → after_call v call ≡ Ok w → SameCall p v w call
@@ -366,7 +381,8 @@ call_same p v w (AddressOf (Symbol symbol addend) size) inside fits called =
     let n = fits.0.0 in
     let wrapped = wraps (p.symbol symbol) addend n fits.0.1 fits.1 in
     let puts = puts_place p v w (OfSymbol symbol) addend size n inside called
-    (puts_sum p v (OfSymbol symbol) addend size n wrapped.0 wrapped.1 fits.0.2) fits.0.2 in
+    (puts_sum p v (OfSymbol symbol) addend size n (λ short.
+    low_sum _ _ _ ∙ sum_low size _ _ n wrapped.0 short wrapped.1 fits.0.2)) fits.0.2 in
     record {
       same = rw fits.0.1 (placed_same p v w size n puts);
       inside = puts.inside;
@@ -374,22 +390,20 @@ call_same p v w (AddressOf (Symbol symbol addend) size) inside fits called =
           puts.big_is;
     }
 call_same p v w (OffsetInto section n size) inside fits called =
-    let bits = of_z-to_z w64 n fits.1 in
-    let sum : p.section section + cast_unsigned w64 (cast_signed w64 n) ≡ p.section section + n + 0
-    * 2 ^ 64 = rw bits (no_more (p.section section) n) in
-    let puts = puts_place p v w (OfSection section) (cast_signed w64 n) size (p.section section + n)
+    let puts = puts_place p v w (OfSection section) (cast_signed w64 n) size (p.section section n)
     inside called
-    (puts_sum p v (OfSection section) (cast_signed w64 n) size (p.section section + n) 0 sum fits.0)
-    fits.0 in
+    (puts_sum p v (OfSection section) (cast_signed w64 n) size (p.section section n)
+    (λ short. offset_is p section n size fits.0 fits.1 fits.2)) fits.0 in
     record {
-      same = placed_same p v w size (p.section section + n) puts;
+      same = placed_same p v w size (p.section section n) puts;
       inside =
           puts.inside;
       big_is = puts.big_is;
     }
 call_same p v w (ReferenceTo symbol size) inside fits called =
     let puts = puts_place p v w (OfSymbol symbol) (pos 0) size (p.symbol symbol) inside called
-    (puts_sum p v (OfSymbol symbol) (pos 0) size (p.symbol symbol) 0 (omega arith) fits) fits in
+    (puts_sum p v (OfSymbol symbol) (pos 0) size (p.symbol symbol) (λ short.
+    low_sum _ 0 _ ∙ sum_low size _ 0 _ 0 short (omega arith) fits)) fits in
     record {
       same = placed_same p v w size (p.symbol symbol) puts;
       inside = puts.inside;
@@ -398,13 +412,10 @@ call_same p v w (ReferenceTo symbol size) inside fits called =
     }
 call_same p v w (BytesAt at x) inside fits called = over_same p v w at x inside called
 call_same p v w (OffsetAt at section n size) inside fits called =
-    let bits = of_z-to_z w64 n fits.1 in
-    let sum : p.section section + cast_unsigned w64 (cast_signed w64 n) ≡ p.section section + n + 0
-    * 2 ^ 64 = rw bits (no_more (p.section section) n) in
     let puts = puts_place_at p v w at (OfSection section) (cast_signed w64 n) size
-    (p.section section + n) inside called
-    (puts_sum p v (OfSection section) (cast_signed w64 n) size (p.section section + n) 0 sum fits.0)
-    fits.0 in
+    (p.section section n) inside called
+    (puts_sum p v (OfSection section) (cast_signed w64 n) size (p.section section n)
+    (λ short. offset_is p section n size fits.0 fits.1 fits.2)) fits.0 in
     record { same = puts.0; inside = puts.1; big_is = puts.2 }
 
 pub calls_same : (p : Placement) (v w : Relocatable) (calls : List Call) → AreInside v

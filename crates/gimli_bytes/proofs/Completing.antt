@@ -12,7 +12,7 @@ use Rattle.gimli_core.specs.Reading.{result_map}
 use Rattle.gimli_core.specs.declared.common.SectionId.{SectionId}
 use Rattle.gimli_bytes.specs.inside.Pieces.{put_over}
 use Rattle.gimli_bytes.specs.Number.{udata}
-use Rattle.gimli_bytes.specs.Hand.{Placement}
+use Rattle.gimli_bytes.specs.Hand.{Placement, unplaced}
 use Rattle.gimli_bytes.specs.Written.{Begins, Appends, Overwrites, overwrite_of, patch}
 use Rattle.gimli_bytes.specs.Relocatable.{Relocatable}
 use Rattle.gimli_bytes.specs.Relocations.{Bytes, AddressOf, OffsetInto, ReferenceTo, BytesAt, OffsetAt, place_of}
@@ -29,7 +29,7 @@ use Rattle.gimli_bytes.specs.declared.relocation.RelocationTarget.TheVariants.{O
 use Rattle.std.proofs.lemmas.Bool.{ltb-false}
 use Rattle.gimli_bytes.proofs.PieceLemmas.{length-put_over, take-before}
 use Rattle.gimli_bytes.proofs.RelocationLemmas.{pow_positive}
-use Rattle.gimli_bytes.proofs.Relocating.{AreInside, inside-from, inside-to}
+use Rattle.gimli_bytes.proofs.Relocating.{AreInside, inside-from, inside-to, low_sum}
 use Rattle.gimli_bytes.proofs.CallsRelocated.{Puts, puts_place, puts_place_at, puts_lowest, more_same, number_same}
 use Rattle.gimli_bytes.proofs.CallsRelocated.{over_same}
 
@@ -52,9 +52,6 @@ on_err (Err e) f p = f p
 same_ok : {A : Type 0} (x y : A) → (let r : Result A Error = Ok x in r) ≡ Ok y → x ≡ y
 same_ok x y h = cc
 
-nowhere : Placement
-nowhere = record { symbol = λ n. 0; section = λ s. 0 }
-
 -- what a call that appends leaves
 pub record Grows (v w : Relocatable) : Type 0 where
   pub begins : Begins v.bytes w.bytes
@@ -69,10 +66,10 @@ lowest_fits n size = mod-lt n (pow_positive _)
 
 puts : (p : Placement) (v w : Relocatable) (target : RelocationTarget) (z : ℤ) (size : ℕ) → AreInside v
     → with_place v target z size ≡ Ok w
-    → Puts p v w size ((place_of p target + cast_unsigned w64 z) % 256 ^ size)
+    → Puts p v w size (place_of p target (cast_unsigned w64 z % 256 ^ size) % 256 ^ size)
 puts p v w target z size inside called =
     puts_place p v w _ z _ _ inside called (puts_lowest p v target z size)
-    (lowest_fits (place_of p target + cast_unsigned w64 z) size)
+    (lowest_fits (place_of p target (cast_unsigned w64 z % 256 ^ size)) size)
 
 pub grows_bytes : (v w : Relocatable) (x : List ℕ) → after_call v (Bytes x) ≡ Ok w → Grows v w
 grows_bytes v w x called =
@@ -81,7 +78,7 @@ grows_bytes v w x called =
       begins = begins_more v.bytes x;
       big_is = refl;
       stays = λ is.
-          inside-to _ _ (more_same nowhere v u x (inside-from _ _ is) refl).inside;
+          inside-to _ _ (more_same unplaced v u x (inside-from _ _ is) refl).inside;
     })
 
 grows_number : (v w : Relocatable) (n size : ℕ) → after_call v (AddressOf (Constant n) size) ≡ Ok w → Grows v w
@@ -99,7 +96,7 @@ grows_place v w target z size called = record {
   big_is = (by (udata v.big (number_in_place v.addends z size) size) called).1;
   stays = λ is.
       inside-to (length w.bytes) w.relocations
-      (puts nowhere v w target z size (inside-from (length v.bytes) v.relocations is) called).inside;
+      (puts unplaced v w target z size (inside-from (length v.bytes) v.relocations is) called).inside;
 }
   where
     Is : Relocatable → Type 0
@@ -150,8 +147,9 @@ completed_address p v w (Constant n) size is called =
     mapped (udata v.big n size) (applied p v) (applied p w)
     (number_same p v w n size (inside-from (length v.bytes) v.relocations is) called).same
 completed_address p v w (Symbol symbol addend) size is called =
+    let low = low_sum (p.symbol symbol) (cast_unsigned w64 addend) (256 ^ size) in
     put_there p v w size ((p.symbol symbol + cast_unsigned w64 addend) % 256 ^ size)
-    (puts p v w (OfSymbol symbol) addend size (inside-from (length v.bytes) v.relocations is) called)
+    (rw low at (puts p v w (OfSymbol symbol) addend size (inside-from (length v.bytes) v.relocations is) called))
 
 pub completed_offset : (p : Placement) (v w : Relocatable) (section : SectionId) (n size : ℕ) → n < 2 ^ 64
     → are_inside v ≡ true
@@ -162,15 +160,16 @@ completed_offset p v w section n size small is called =
     let so =
     puts p v w (OfSection section) (cast_signed w64 n) size (inside-from (length v.bytes) v.relocations is)
     called in
-    put_there p v w size ((p.section section + n) % 256 ^ size) (rw bits at so)
+    put_there p v w size (p.section section (n % 256 ^ size) % 256 ^ size) (rw bits at so)
 
 pub completed_reference : (p : Placement) (v w : Relocatable) (symbol size : ℕ) → are_inside v ≡ true
     → after_call v (ReferenceTo symbol size) ≡ Ok w
     → Appends (placed_reference p v.big symbol size) (applied p v) (applied p w)
 completed_reference p v w symbol size is called =
     let none : p.symbol symbol + 0 ≡ p.symbol symbol = omega arith in
+    let low = low_sum (p.symbol symbol) 0 (256 ^ size) ∙ ap (λ k. k % 256 ^ size) none in
     let so = puts p v w (OfSymbol symbol) (pos 0) size (inside-from (length v.bytes) v.relocations is) called in
-    put_there p v w size (p.symbol symbol % 256 ^ size) (rw none at so)
+    put_there p v w size (p.symbol symbol % 256 ^ size) (rw low at so)
 
 -- ---- bytes over others
 
@@ -182,7 +181,7 @@ pub record Stays (v w : Relocatable) (at : ℕ) : Type 0 where
 pub stays_inside : (v w : Relocatable) (x : List ℕ) (at : ℕ) → after_call v (BytesAt at x) ≡ Ok w → are_inside v ≡ true
     → are_inside w ≡ true
 stays_inside v w x at called is =
-    inside-to _ _ (over_same nowhere v w at x (inside-from _ _ is) called).inside
+    inside-to _ _ (over_same unplaced v w at x (inside-from _ _ is) called).inside
 
 pub completed_over : (p : Placement) (v w : Relocatable) (x : List ℕ) (at : ℕ) → are_inside v ≡ true
     → after_call v (BytesAt at x) ≡ Ok w
@@ -195,18 +194,18 @@ puts_at : (p : Placement) (v w : Relocatable) (at : ℕ) (section : SectionId) (
     → (patch (placed_offset p v.big section n size) (applied p v) at ≡ Ok (applied p w)) × AreInside w × (w.big ≡ v.big)
 puts_at p v w at section n size small is called =
     let bits : cast_unsigned w64 (cast_signed w64 n) ≡ n = of_z-to_z w64 n small in
-    let sum = (p.section section + cast_unsigned w64 (cast_signed w64 n)) % 256 ^ size in
+    let sum = p.section section (cast_unsigned w64 (cast_signed w64 n) % 256 ^ size) % 256 ^ size in
     let so =
     puts_place_at p v w at (OfSection section) (cast_signed w64 n) size sum (inside-from _ _ is) called
     (puts_lowest p v (OfSection section) (cast_signed w64 n) size)
-    (lowest_fits (p.section section + cast_unsigned w64 (cast_signed w64 n)) size) in
+    (lowest_fits (p.section section (cast_unsigned w64 (cast_signed w64 n) % 256 ^ size)) size) in
     rw bits at so
 
 pub stays_inside_at : (v w : Relocatable) (at : ℕ) (section : SectionId) (n size : ℕ) → n < 2 ^ 64
     → after_call v (OffsetAt at section n size) ≡ Ok w
     → are_inside v ≡ true → are_inside w ≡ true
 stays_inside_at v w at section n size small called is =
-    inside-to _ _ (puts_at nowhere v w at section n size small is called).1
+    inside-to _ _ (puts_at unplaced v w at section n size small is called).1
 
 pub completed_offset_at : (p : Placement) (v w : Relocatable) (at : ℕ) (section : SectionId) (n size : ℕ) → n < 2 ^ 64
     → are_inside v ≡ true

@@ -29,14 +29,14 @@ use Rattle.gimli_bytes.proofs.RelocationLemmas.{
   before-put_over,
   there-put_over,
   put_over-again,
-  number-mod,
 }
 
 -- ---- one relocation
 
 -- the number that a linker puts at a place where this stands
 abbrev pub sum_at : Placement → Bool → Relocation → List ℕ → ℕ
-sum_at p big r there = place_of p r.target + cast_unsigned w64 r.addend + value_of big there
+sum_at p big r there =
+    place_of p r.target ((cast_unsigned w64 r.addend + value_of big there) % 256 ^ r.size)
 
 abbrev pub word_at : Placement → Bool → Relocation → List ℕ → List ℕ
 word_at p big r there = number_bytes big r.size (sum_at p big r there)
@@ -225,56 +225,28 @@ sum_low size t c n q short sum fits =
     ∙ add-mul-mod_self_right n (q * 256 ^ (8 - size)) (256 ^ size)
     ∙ mod-eq_of_lt fits
 
-low_sum : (t c m : ℕ) → (t + c % m) % m ≡ (t + c) % m
+pub low_sum : (t c m : ℕ) → (t + c % m) % m ≡ (t + c) % m
 low_sum t c m =
     let split : t + c ≡ t + c % m + c / m * m = omega (arith, div-add-mod' c m) in
     sym (add-mul-mod_self_right (t + c % m) (c / m) m) ∙ ap (λ k. k % m) (sym split)
 
--- what stands at a place and what the list has make one addend: the lowest bytes of the sum
-pub lowest_is : (big : Bool) (addends : Addends) (z : ℤ) (size t : ℕ)
+-- what stands at a place and what the list has make one addend
+pub addend_is : (big : Bool) (addends : Addends) (z : ℤ) (size : ℕ)
     → number_in_place addends z size < 256 ^ size
-    → number_bytes big size
-    (t + cast_unsigned w64 (addend_in_list addends z) + value_of big
-    (number_bytes big size (number_in_place addends z size))) ≡ number_bytes big size
-    ((t + cast_unsigned w64 z) % 256 ^ size)
-lowest_is big addends z size t small =
+    → (cast_unsigned w64 (addend_in_list addends z)
+    + value_of big (number_bytes big size (number_in_place addends z size)))
+    % 256 ^ size
+    ≡ cast_unsigned w64 z % 256 ^ size
+addend_is big addends z size small =
     let there = (number_spelled _ _ _ small).value_is in
-    ap (λ k. number_bytes big size (t + cast_unsigned w64 (addend_in_list addends z) + k))
-    there
-    ∙ number-mod _ _
-    _
-    ∙ ap (number_bytes big size) (low _)
+    ap (λ k. (cast_unsigned w64 (addend_in_list addends z) + k) % 256 ^ size) there ∙ low _
   where
-    low : (a : Addends) → (t + cast_unsigned w64 (addend_in_list a z) + number_in_place a z size) %
-        256 ^ size ≡ (t + cast_unsigned w64 z) % 256 ^ size
+    low : (a : Addends)
+        → (cast_unsigned w64 (addend_in_list a z) + number_in_place a z size) % 256 ^ size
+        ≡ cast_unsigned w64 z % 256 ^ size
     low Listed =
-        let none : t + cast_unsigned w64 z + 0 ≡ t + cast_unsigned w64 z = omega arith in
+        let none : cast_unsigned w64 z + 0 ≡ cast_unsigned w64 z = omega arith in
         rw none refl
     low InPlace =
-        let none : t + 0 ≡ t = omega arith in
-        rw none (low_sum t _ _)
-
--- the sum itself, where it fits
-pub sum_is : (big : Bool) (addends : Addends) (z : ℤ) (size t n q : ℕ) → size ≤ 8
-    → number_in_place addends z size < 256 ^ size → t + cast_unsigned w64 z ≡ n + q * 2 ^ 64
-    → n < 256 ^ size
-    → number_bytes big size
-    (t + cast_unsigned w64 (addend_in_list addends z) + value_of big
-    (number_bytes big size (number_in_place addends z size))) ≡ number_bytes big size n
-sum_is big addends z size t n q short small sum fits =
-    let there = (number_spelled _ _ _ small).value_is in
-    ap (λ k. number_bytes big size (t + cast_unsigned w64 (addend_in_list addends z) + k))
-    there
-    ∙ number-mod _ _
-    _
-    ∙ ap (number_bytes big size) (low _)
-  where
-    low : (a : Addends) → (t + cast_unsigned w64 (addend_in_list a z) + number_in_place a z size) %
-        256 ^ size ≡ n
-    low Listed =
-        let none : t + cast_unsigned w64 z + 0 ≡ t + cast_unsigned w64 z = omega arith in
-        rw none (sum_low _ t _ n q short sum fits)
-    low InPlace =
-        let none : t + 0 ≡ t = omega arith in
-        rw none (low_sum t _ _
-        ∙ sum_low _ t _ n q short sum fits)
+        let none : 0 + cast_unsigned w64 z ≡ cast_unsigned w64 z = omega arith in
+        low_sum 0 _ _ ∙ ap (λ k. k % 256 ^ size) none

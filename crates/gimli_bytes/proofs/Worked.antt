@@ -1,9 +1,10 @@
 -- Worked calls of writers: the bytes of each, or its refusal, by hand, computed from the definitions.
-use Rattle.std.proofs.Common.{◌≡◌, ℕ, true, false, List, [], ◌∷◌, ◌++◌, Result, Ok, Err, arith, refl}
+use Rattle.std.proofs.Common.{◌≡◌, ℕ, ◌-◌, true, false, List, [], ◌∷◌, ◌++◌, Result, Ok, Err, arith, refl}
 use Rattle.std.specs.Prelude.{pos, negsuc, map, replicate, codes}
 use Rattle.gimli_core.specs.declared.common.Format.TheVariants.{Dwarf32, Dwarf64}
 use Rattle.gimli_core.specs.declared.common.SectionId.TheVariants.{DebugStr}
 use Rattle.gimli_core.specs.declared.constants.DwEhPe.{DwEhPe}
+use Rattle.gimli_core.specs.Reading.{result_map}
 use Rattle.gimli_bytes.specs.Hand.{Placement, section_word, plain_reference}
 use Rattle.gimli_bytes.specs.Number.{udata, sdata, uleb, sleb_within, sleb, address_bytes, escape_size, open_length}
 use Rattle.gimli_bytes.specs.Number.{length_word, pointer_data, pointer_at_end}
@@ -381,9 +382,9 @@ pub sizes_of_no_place : map refusal_of (AddressOf (Symbol 3 (pos 0)) 6 ∷ Offse
     ≡ Err (UnsupportedWordSize 6) ∷ Err (UnsupportedWordSize 0) ∷ Err (UnsupportedWordSize 5) ∷ []
 sizes_of_no_place = refl
 
--- symbols at 0x401000, sections at 0x20
+-- symbols at 0x401000; a linker that merges texts puts 3 at 0x20, and 0 at 0x23
 abbrev there : Placement
-there = record { symbol = λ n. 0x401000; section = λ s. 0x20 }
+there = record { symbol = λ n. 0x401000; section = λ s n. 0x23 - n }
 
 -- a linker adds what stands in the list and what stands in place
 pub completed : map (λ addends. applied there (record (begun addends) {
@@ -391,6 +392,12 @@ pub completed : map (λ addends. applied there (record (begun addends) {
   relocations = record { offset = 1; size = 4; target = OfSymbol 3; addend = pos 1 } ∷ [];
 })) (Listed ∷ InPlace ∷ []) ≡ replicate 2 (0xaa ∷ 0x05 ∷ 0x10 ∷ 0x40 ∷ 0 ∷ [])
 completed = refl
+
+-- and puts what an offset becomes
+pub completed_offset : map (λ addends. result_map (applied there) (after_calls (begun addends)
+    (OffsetInto DebugStr 3 1 ∷ OffsetInto DebugStr 0 1 ∷ []))) (Listed ∷ InPlace ∷ [])
+    ≡ replicate 2 (Ok (0xaa ∷ 0x20 ∷ 0x23 ∷ []))
+completed_offset = refl
 
 -- of a sum the lowest bytes
 pub placed_symbols : placed_address there false (Symbol 3 (negsuc 3)) 4

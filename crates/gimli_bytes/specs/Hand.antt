@@ -8,10 +8,15 @@ use Rattle.gimli_bytes.specs.declared.address.Address.{Address}
 use Rattle.gimli_bytes.specs.declared.error.Error.{Error}
 use Rattle.gimli_bytes.specs.declared.error.Error.TheVariants.{InvalidReference}
 
--- the address of each symbol, and where each section begins
+-- the address of each symbol, and what each offset into a section becomes: it counts from where the
+-- section begins; or a linker that merges texts moves each by itself
 pub record Placement : Type 0 where
   pub symbol : ℕ → ℕ
-  pub section : SectionId → ℕ
+  pub section : SectionId → ℕ → ℕ
+
+-- each offset as it is
+abbrev pub unplaced : Placement
+unplaced = record { symbol = λ symbol. 0; section = λ section n. n }
 
 -- the bytes of an address, of an offset into a section and of a reference to a symbol, each with
 -- whether the most significant byte comes first and with its size

@@ -60,22 +60,23 @@ use Rattle.gimli_bytes.specs.Relocatable.{Relocatable}
 
 -- ---- what a linker does
 
-abbrev pub place_of : Placement → RelocationTarget → ℕ
-place_of placement (OfSymbol symbol) = placement.symbol symbol
-place_of placement (OfSection section) = placement.section section
+-- what a target and an addend become
+abbrev pub place_of : Placement → RelocationTarget → ℕ → ℕ
+place_of placement (OfSymbol symbol) addend = placement.symbol symbol + addend
+place_of placement (OfSection section) addend = placement.section section addend
 
 -- bytes put over others from a place on
 abbrev pub bytes_over : List ℕ → ℕ → List ℕ → List ℕ
 bytes_over old at bytes = take at old ++ bytes ++ drop (at + length bytes) old
 
--- what a linker puts at a place: what the target is known by then, the addend of the list, and the
--- number at the place,
--- in as many of their lowest bytes as the place has. One of the last two is 0
+-- what a linker puts at a place, in as many bytes as the place has. The addend is that of the list
+-- and the number at the place, of which one is 0, in as many of their lowest bytes
 abbrev pub relocated : Placement → Bool → List ℕ → Relocation → List ℕ
 relocated placement big bytes r =
     let there = value_of big (take r.size (drop r.offset bytes)) in
     bytes_over bytes r.offset
-    (number_bytes big r.size (place_of placement r.target + cast_unsigned w64 r.addend + there))
+    (number_bytes big r.size
+    (place_of placement r.target ((cast_unsigned w64 r.addend + there) % 256 ^ r.size)))
 
 -- the bytes once the relocations are applied, one after the other
 abbrev pub all_relocated : Placement → Bool → List ℕ → List Relocation → List ℕ
@@ -190,8 +191,7 @@ sum_bytes big (pos n) size = udata big n size
 sum_bytes big (negsuc n) size = Err ValueTooLarge
 
 -- what a vector of bytes alone holds after a call in which each symbol is a number, and an offset
--- into a section is
--- counted from where the sections are counted from
+-- into a section is what it becomes
 abbrev pub plainly_after : Placement → Bool → List ℕ → Call → Result (List ℕ) Error
 plainly_after placement big old (Bytes bytes) = Ok (old ++ bytes)
 plainly_after placement big old (AddressOf (Constant n) size) =
@@ -199,12 +199,12 @@ plainly_after placement big old (AddressOf (Constant n) size) =
 plainly_after placement big old (AddressOf (Symbol symbol addend) size) =
     result_map (λ word. old ++ word) (sum_bytes big (pos (placement.symbol symbol) +ℤ addend) size)
 plainly_after placement big old (OffsetInto section n size) =
-    result_map (λ word. old ++ word) (udata big (placement.section section + n) size)
+    result_map (λ word. old ++ word) (udata big (placement.section section n) size)
 plainly_after placement big old (ReferenceTo symbol size) =
     result_map (λ word. old ++ word) (udata big (placement.symbol symbol) size)
 plainly_after placement big old (BytesAt offset bytes) = overwrite_of old offset bytes
 plainly_after placement big old (OffsetAt offset section n size) =
-    patch (udata big (placement.section section + n) size) old offset
+    patch (udata big (placement.section section n) size) old offset
 
 abbrev pub plainly_after_calls : Placement → Bool → List ℕ → List Call → Result (List ℕ) Error
 plainly_after_calls placement big old [] = Ok old
@@ -223,10 +223,10 @@ abbrev pub CallFits : Placement → Call → Type 0
 CallFits placement (AddressOf (Symbol symbol addend) size) =
     SumFits (pos (placement.symbol symbol) +ℤ addend) size × FitsSigned w64 addend
 CallFits placement (OffsetInto section n size) =
-    (placement.section section + n < 256 ^ size) × (n < 2 ^ 64)
+    (placement.section section n < 256 ^ size) × (n < 256 ^ size) × (n < 2 ^ 64)
 CallFits placement (ReferenceTo symbol size) = placement.symbol symbol < 256 ^ size
 CallFits placement (OffsetAt offset section n size) =
-    (placement.section section + n < 256 ^ size) × (n < 2 ^ 64)
+    (placement.section section n < 256 ^ size) × (n < 256 ^ size) × (n < 2 ^ 64)
 CallFits placement _ = Unit {0}
 
 -- each call's does
@@ -252,7 +252,7 @@ placed_address placement big (Symbol symbol addend) size =
 
 abbrev pub placed_offset : Placement → Bool → SectionId → ℕ → ℕ → Result (List ℕ) Error
 placed_offset placement big section n size =
-    lowest_bytes big (placement.section section + n) size
+    lowest_bytes big (placement.section section (n % 256 ^ size)) size
 
 abbrev pub placed_reference : Placement → Bool → ℕ → ℕ → Result (List ℕ) Error
 placed_reference placement big symbol size = lowest_bytes big (placement.symbol symbol) size
@@ -272,10 +272,10 @@ address_placed placement (Constant n) = Constant n
 address_placed placement (Symbol symbol addend) =
     Constant (unsigned_abs (pos (placement.symbol symbol) +ℤ addend))
 
--- an offset into a section, counted from where the sections are counted from
+-- an offset into a section, as what it becomes
 abbrev pub counted_offset : Placement → Bool → SectionId → ℕ → ℕ → Result (List ℕ) Error
 counted_offset placement big section n size =
-    section_word big (placement.section section + n) size
+    section_word big (placement.section section n) size
 
 -- as `plain` has them, but for such offsets
 abbrev pub counted : Placement → Hand

@@ -4,7 +4,6 @@ use Rattle.std.proofs.Common.{inl, inr, arith}
 use Rattle.std.specs.Prelude.{All, Result, Option, Some, None, IfOk, IfErr}
 use Rattle.std.proofs.lemmas.List.{length-drop, append-nil}
 use Rattle.std.proofs.lemmas.List.Elements.{All-nil, All-cons}
-use Rattle.std.proofs.lemmas.List.Sums.{sum_by-take-le}
 use Rattle.std.proofs.lemmas.Result.{IfOk-weaker, MatchResult-weaker}
 use Rattle.gimli_core.specs.Notation.{Notation}
 use Rattle.gimli_core.specs.Values.{Value}
@@ -14,14 +13,15 @@ use Rattle.gimli_line.specs.header.Header.{Header, UnitEntry}
 use Rattle.gimli_line.specs.header.HeaderGrammar.{SpellsUnit, HasHeaderFault}
 use Rattle.gimli_line.specs.header.File.{File as ReadFile}
 use Rattle.gimli_line.proofs.HeaderLaws.{one_header, no_fault}
-use Rattle.gimli_bytes.specs.Texts.{byte_count, offset_of, StringTables}
+use Rattle.gimli_bytes.specs.Hand.{unplaced}
+use Rattle.gimli_bytes.specs.Texts.{byte_count, StringTables}
 use Rattle.gimli_build.specs.Texts.{Sections, IsOptionalText, OneByOne}
 use Rattle.gimli_write.specs.inside.TextReading.{HasText, HasOptionalText, HasFileTexts}
-use Rattle.gimli_build.specs.LineText.{LineText, Inline, InStrings, InLineStrings}
 use Rattle.gimli_build.specs.Tables.{File}
 use Rattle.gimli_build.specs.Built.{Built}
-use Rattle.gimli_build.specs.ReadsBack.{IsDirectory, IsFile, IsOffsetHeld, ReadsBack, IsReadWell, ReadsBackAs}
+use Rattle.gimli_build.specs.ReadsBack.{IsDirectory, IsFile, ReadsBack, IsReadWell, ReadsBackAs}
 use Rattle.gimli_build.specs.ReadsBack.{directories_from_zero}
+use Rattle.gimli_build.proofs.linking.FoundTexts.{written-found, written-held}
 use Rattle.gimli_write.specs.declared.convert_error.ConvertError.{ConvertError}
 use Rattle.gimli_write.specs.declared.convert_error.ConvertError.TheVariants.{OutOfMemory as NoMemory}
 use Rattle.gimli_write.specs.declared.read_back.RoundTrip.{RoundTrip}
@@ -145,29 +145,17 @@ AreShort texts = (byte_count texts.strings < 2 ^ 64) × (byte_count texts.line_s
 module _ (big : Bool) (p : Built) (texts : StringTables) (section : List ℕ) (n : ℕ)
     (whole : ReadsBackAs big p texts (drop n section))
     (fits : length section < 2 ^ 64) (held : AreShort texts) where
-  read_well : IsReadWell (slice_notation big) (unit_entry_of p texts) (sections_of texts) big p texts (drop n section)
+  read_well : IsReadWell unplaced (slice_notation big) (unit_entry_of p texts) (sections_of texts) big p texts
+      (drop n section)
   read_well = record {
     order = refl;
     address_size = refl;
     directory = λ _. refl;
-    strings_are = refl;
-    line_strings_are = refl;
+    texts_found = λ new i d lt. written-found (sections_of texts) texts refl refl _;
     instructions_held = omega arith;
     length_held = λ wide. (let rest = length-drop n section in omega (arith, rest));
-    texts_held = λ new wide. all_held _;
+    texts_held = λ new wide i d lt. written-held texts held.0 held.1 _;
   }
-    where
-      offset_held : (texts : List (List ℕ)) (i : ℕ) → byte_count texts < 2 ^ 64 → offset_of texts i < 2 ^ 64
-      offset_held texts i short =
-          let le = sum_by-take-le (λ (t : List ℕ). length t + 1) texts i in omega (arith, le, short)
-
-      text_held : (t : LineText) → IsOffsetHeld (2 ^ 64) texts t
-      text_held (Inline text) = tt
-      text_held (InStrings i) = offset_held _ i held.0
-      text_held (InLineStrings i) = offset_held _ i held.1
-
-      all_held : (ts : List (ℕ × LineText)) → All (λ t. IsOffsetHeld (2 ^ 64) texts t.1) ts
-      all_held ts = λ i d lt. text_held _
 
   pub read_back : ReadsBack (slice_notation big) (unit_entry_of p texts) (sections_of texts) p texts (drop n section)
   read_back = whole _ _ _ read_well

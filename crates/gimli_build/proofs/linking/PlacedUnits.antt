@@ -1,18 +1,20 @@
 -- A unit once a linker has placed its symbols and sections.
-use Rattle.std.proofs.Common.{arith, ◌≡◌, ℕ, ◌+◌, Bool, List, [], ◌∷◌, ◌++◌, map, if◌then◌else◌, Ok, Err, refl, sym, ap}
-use Rattle.std.proofs.Common.{◌∙◌}
+use Rattle.std.proofs.Common.{arith, ◌≡◌, ℕ, ◌+◌, ◌<◌, ◌≤◌, ◌^◌, Bool, List, [], ◌∷◌, ◌++◌, map, if◌then◌else◌, Ok, Err, refl}
+use Rattle.std.proofs.Common.{sym, ap, ◌∙◌}
 use Rattle.std.specs.Prelude.{Result, All}
+use Rattle.std.proofs.Math.Nat.{mod-eq_of_lt}
 use Rattle.std.proofs.lemmas.List.Elements.{All-head, All-tail, All-nil, All-cons}
 use Rattle.gimli_core.specs.Numbers.{word_size}
 use Rattle.gimli_core.specs.Reading.{result_map}
 use Rattle.gimli_core.specs.declared.common.Encoding.{Encoding}
 use Rattle.gimli_core.specs.declared.common.LineEncoding.{LineEncoding}
-use Rattle.gimli_core.specs.declared.common.SectionId.TheVariants.{DebugStr, DebugLineStr}
+use Rattle.gimli_core.specs.declared.common.Format.{Format}
+use Rattle.gimli_core.specs.declared.common.Format.TheVariants.{Dwarf32, Dwarf64}
+use Rattle.gimli_core.specs.declared.common.SectionId.{SectionId}
 use Rattle.gimli_bytes.specs.Hand.{Hand, Placement, plain, section_word}
-use Rattle.gimli_bytes.specs.Number.{uleb, address_bytes}
-use Rattle.gimli_bytes.specs.Relocations.{placed, counted, address_placed}
-use Rattle.gimli_bytes.specs.Texts.{offset_of, StringTables}
-use Rattle.gimli_bytes.specs.declared.address.Address.{Address}
+use Rattle.gimli_bytes.specs.Number.{uleb}
+use Rattle.gimli_bytes.specs.Relocations.{placed, placed_offset, lowest_bytes, counted, address_placed}
+use Rattle.gimli_bytes.specs.Texts.{StringTables}
 use Rattle.gimli_bytes.specs.declared.error.Error.{Error}
 use Rattle.gimli_bytes.specs.declared.error.Error.TheVariants.{IncompatibleLineProgramEncoding}
 use Rattle.gimli_bytes.proofs.PlacedNumbers.{placed-word, placed-address}
@@ -26,37 +28,31 @@ use Rattle.gimli_build.specs.InstructionBytes.{instructions_bytes, set_address_b
 use Rattle.gimli_build.specs.Encode.{row_instructions, end_instructions}
 use Rattle.gimli_build.specs.Items.{items_bytes, next_previous, AreFit}
 use Rattle.gimli_build.specs.Version5Tables.{texts_after}
+use Rattle.gimli_build.specs.Cause.{emitted_texts}
+use Rattle.gimli_build.specs.ReadsBack.{IsOffsetHeld}
 use Rattle.gimli_build.specs.Linked.{placed_item, placed_program, AddressFits, OffsetFits, SumsFit, TextsBeginAtZero}
 use Rattle.gimli_build.specs.Unit.{is_incompatible, program_bytes, whole_bytes, unit_bytes}
 use Rattle.gimli_build.specs.inside.Conditions.{IsBuilt}
 use Rattle.gimli_build.specs.declared.built.row.LineRow.{LineRow}
 use Rattle.gimli_build.specs.declared.built.items.BuiltItem.{BuiltItem}
 use Rattle.gimli_build.specs.declared.built.items.BuiltItem.TheVariants.{SetAddress, Row, End}
-use Rattle.gimli_build.proofs.linking.SameBytes.{IsAlike, whole-alike}
+use Rattle.gimli_build.proofs.linking.SameBytes.{IsAlike, whole-alike, items-plain}
 
 -- ---- items
 
--- a hand that writes addresses as numbers
-abbrev WritesNumbers : Hand → Type 0
-WritesNumbers hand =
-    (big : Bool) (address : Address) (size : ℕ) → hand.address big address size ≡ address_bytes big address size
-
-module _ (at : Placement) (hand : Hand) (numbers : WritesNumbers hand) (big : Bool) (encoding : Encoding)
-    (e : LineEncoding) where
+module _ (at : Placement) (big : Bool) (encoding : Encoding) (e : LineEncoding) where
   items_placed : (previous : LineRow) (items : List BuiltItem) → All (AddressFits at encoding.address_size) items
       → items_bytes (placed at) big encoding e previous items
-      ≡ items_bytes hand big encoding e previous (map (placed_item at) items)
+      ≡ items_bytes plain big encoding e previous (map (placed_item at) items)
   items_placed previous [] fit = refl
   items_placed previous (SetAddress a ∷ items) fit =
       let size = encoding.address_size in
       let next = next_previous encoding.version e.default_is_stmt previous (SetAddress a) in
-      let address =
-      placed-address at _ a _ (All-head (AddressFits at size) _ _ fit)
-      ∙ sym (numbers big (address_placed at a) size) in
-      let first : set_address_bytes (placed at) big a size ≡ set_address_bytes hand big (address_placed at a) size =
-      ap (result_map (λ operand. 0 ∷ uleb (size + 1) ++ DW_LNE_set_address ∷ operand)) address in
+      let first : set_address_bytes (placed at) big a size ≡ set_address_bytes plain big (address_placed at a) size =
+      ap (result_map (λ operand. 0 ∷ uleb (size + 1) ++ DW_LNE_set_address ∷ operand))
+      (placed-address at _ a _ (All-head (AddressFits at size) _ _ fit)) in
       ap (λ r. result_append r (items_bytes (placed at) big encoding e next items)) first
-      ∙ ap (λ r. result_append (set_address_bytes hand big (address_placed at a) size) r)
+      ∙ ap (λ r. result_append (set_address_bytes plain big (address_placed at a) size) r)
       (items_placed next items (All-tail (AddressFits at size) _ _ fit))
   items_placed previous (Row r ∷ items) fit =
       ap (λ s. result_append (Ok (instructions_bytes (row_instructions encoding.version e previous r))) s)
@@ -73,23 +69,27 @@ all_from P Q f [] all = All-nil Q
 all_from P Q f (x ∷ xs) all = All-cons Q x _ (f x (All-head P x _ all)) (all_from P Q f xs (All-tail P x _ all))
 
 module _ (at : Placement) (big : Bool) (p : Built) (texts : StringTables) where
+  -- an offset that fits, as does what it becomes
+  offset_counted : (section : SectionId) (n size : ℕ) → n < 256 ^ size → at.section section n < 256 ^ size
+      → placed_offset at big section n size ≡ section_word big (at.section section n) size
+  offset_counted section n size fits placed_fits =
+      ap (λ k. lowest_bytes big (at.section section k) size) (mod-eq_of_lt fits) ∙ placed-word _ _ _ placed_fits
+
   text_counted : (t : LineText) → OffsetFits at p.encoding.format texts t
       → IsAlike (placed at) (counted at) big p texts t
   text_counted (Inline text) fits = refl
-  text_counted (InStrings i) fits = placed-word _ _ _ fits
-  text_counted (InLineStrings i) fits = placed-word _ _ _ fits
+  text_counted (InStrings i) fits = offset_counted _ _ _ fits.0 fits.1
+  text_counted (InLineStrings i) fits = offset_counted _ _ _ fits.0 fits.1
 
   text_plain : TextsBeginAtZero at → (t : LineText) → OffsetFits at p.encoding.format texts t
       → IsAlike (placed at) plain big p texts t
   text_plain zero (Inline text) fits = refl
   text_plain zero (InStrings i) fits =
-      let n = offset_of texts.strings i in
-      let there : at.section DebugStr + n ≡ n = omega (arith, zero.strings) in
-      text_counted (InStrings i) fits ∙ ap (λ m. section_word big m (word_size p.encoding.format)) there
+      text_counted (InStrings i) fits
+      ∙ ap (λ m. section_word big m (word_size p.encoding.format)) (zero.strings _)
   text_plain zero (InLineStrings i) fits =
-      let n = offset_of texts.line_strings i in
-      let there : at.section DebugLineStr + n ≡ n = omega (arith, zero.line_strings) in
-      text_counted (InLineStrings i) fits ∙ ap (λ m. section_word big m (word_size p.encoding.format)) there
+      text_counted (InLineStrings i) fits
+      ∙ ap (λ m. section_word big m (word_size p.encoding.format)) (zero.line_strings _)
 
 -- ---- units
 
@@ -112,12 +112,10 @@ unit_alike h k big unit p q texts encoding same =
 
 module _ (at : Placement) (big : Bool) (unit : Encoding) (p : Built) (texts : StringTables)
     (fit : SumsFit at p (texts_after p texts)) where
-  program_placed : (hand : Hand) → WritesNumbers hand
-      → program_bytes (placed at) big p ≡ program_bytes hand big (placed_program at p)
-  program_placed hand numbers =
-      items_placed at hand numbers big p.encoding p.line_encoding _ _ fit.addresses
+  program_placed : program_bytes (placed at) big p ≡ program_bytes plain big (placed_program at p)
+  program_placed = items_placed at big p.encoding p.line_encoding _ _ fit.addresses
 
-  placed_by : (hand : Hand) → WritesNumbers hand
+  placed_by : (hand : Hand) → program_bytes plain big (placed_program at p) ≡ program_bytes hand big (placed_program at p)
       → ((t : LineText) → OffsetFits at p.encoding.format (texts_after p texts) t
       → IsAlike (placed at) hand big p (texts_after p texts) t)
       → unit_bytes (placed at) big unit p texts ≡ unit_bytes hand big unit (placed_program at p) texts
@@ -127,15 +125,34 @@ module _ (at : Placement) (big : Bool) (unit : Encoding) (p : Built) (texts : St
       (λ new. all_from _
       _
       (λ t fits. alike t.1 fits) _ (fit.offsets new))
-      (program_placed hand numbers))
+      (program_placed ∙ numbers))
 
   pub placed-counted : unit_bytes (placed at) big unit p texts
       ≡ unit_bytes (counted at) big unit (placed_program at p) texts
-  placed-counted = placed_by (counted at) (λ big address size. refl) (text_counted at big p (texts_after p texts))
+  placed-counted =
+      placed_by (counted at) (sym (items-plain at big p.encoding p.line_encoding _ (map (placed_item at) p.items)))
+      (text_counted at big p (texts_after p texts))
 
   pub placed-plain : TextsBeginAtZero at
       → unit_bytes (placed at) big unit p texts ≡ unit_bytes plain big unit (placed_program at p) texts
-  placed-plain zero = placed_by plain (λ big address size. refl) (text_plain at big p (texts_after p texts) zero)
+  placed-plain zero = placed_by plain refl (text_plain at big p (texts_after p texts) zero)
+
+  -- 64 bits hold what the offsets of texts become
+  pub placed-short : 5 ≤ p.encoding.version
+      → All (λ t. IsOffsetHeld (2 ^ 64) at (texts_after p texts) t.1) (emitted_texts p (texts_after p texts))
+  placed-short new =
+      all_from (λ t. OffsetFits at p.encoding.format (texts_after p texts) t.1) _
+      (λ t fits. text_short p.encoding.format t.1 fits.1) _ (fit.offsets new)
+    where
+      wide : (format : Format) (n : ℕ) → n < 256 ^ word_size format → n < 2 ^ 64
+      wide Dwarf32 n lt = omega (arith, lt)
+      wide Dwarf64 n lt = omega (arith, lt)
+
+      text_short : (format : Format) (t : LineText) → IsOffsetHeld (256 ^ word_size format) at (texts_after p texts) t
+          → IsOffsetHeld (2 ^ 64) at (texts_after p texts) t
+      text_short format (Inline text) held = tt
+      text_short format (InStrings i) held = wide format _ held
+      text_short format (InLineStrings i) held = wide format _ held
 
 -- ---- the program with its symbols replaced
 

@@ -4,7 +4,10 @@ use Rattle.std.proofs.Common.{ap, ◌∙◌}
 use Rattle.std.specs.Prelude.{Result, All, nat_eq, nat_le}
 use Rattle.std.proofs.lemmas.Bool.{leb-false}
 use Rattle.std.proofs.lemmas.List.Elements.{All-head, All-tail}
-use Rattle.gimli_bytes.specs.Hand.{Hand}
+use Rattle.gimli_core.specs.declared.common.Encoding.{Encoding}
+use Rattle.gimli_core.specs.declared.common.LineEncoding.{LineEncoding}
+use Rattle.gimli_bytes.specs.Hand.{Hand, Placement, plain}
+use Rattle.gimli_bytes.specs.Relocations.{counted}
 use Rattle.gimli_bytes.specs.Number.{uleb, length_word}
 use Rattle.gimli_bytes.specs.Texts.{StringTables}
 use Rattle.gimli_bytes.specs.declared.error.Error.{Error}
@@ -23,7 +26,10 @@ use Rattle.gimli_build.specs.Version5Tables.{file_table_bytes}
 use Rattle.gimli_build.specs.Cause.{emitted_texts}
 use Rattle.gimli_build.specs.Unit.{line_encoding_bytes, opcode_bytes, opening_bytes, escape_bytes}
 use Rattle.gimli_build.specs.Unit.{tables_bytes, header_bytes, program_bytes, whole_bytes}
+use Rattle.gimli_build.specs.Items.{item_bytes, items_bytes, next_previous}
+use Rattle.gimli_build.specs.declared.built.row.LineRow.{LineRow}
 use Rattle.gimli_build.specs.declared.built.items.BuiltItem.{BuiltItem}
+use Rattle.gimli_build.specs.declared.built.items.BuiltItem.TheVariants.{SetAddress, Row, End}
 use Rattle.gimli_build.proofs.reading.ReadyTexts.{source_of}
 use Rattle.gimli_build.proofs.reading.EmittedTexts.{IsOfFile, AreOfTables, of-tables}
 
@@ -126,3 +132,21 @@ module _ (h k : Hand) (big : Bool) (p : Built) (texts : StringTables) where
       ∙ ap (λ r.
       after_length whole (result_append (opening_bytes big p.encoding) (result_append (header_bytes k big p texts) r)))
       same
+
+-- ---- items
+
+-- addresses are the same numbers
+module _ (at : Placement) (big : Bool) (encoding : Encoding) (e : LineEncoding) where
+  item_plain : (previous : LineRow) (item : BuiltItem)
+      → item_bytes (counted at) big encoding e previous item ≡ item_bytes plain big encoding e previous item
+  item_plain previous (SetAddress a) = refl
+  item_plain previous (Row r) = refl
+  item_plain previous (End offset op_index) = refl
+
+  pub items-plain : (previous : LineRow) (items : List BuiltItem)
+      → items_bytes (counted at) big encoding e previous items ≡ items_bytes plain big encoding e previous items
+  items-plain previous [] = refl
+  items-plain previous (item ∷ items) =
+      let next = next_previous encoding.version e.default_is_stmt previous item in
+      ap (λ r. result_append r (items_bytes (counted at) big encoding e next items)) (item_plain previous item)
+      ∙ ap (result_append (item_bytes plain big encoding e previous item)) (items-plain next items)

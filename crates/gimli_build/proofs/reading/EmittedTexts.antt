@@ -9,7 +9,6 @@ use Rattle.gimli_build.specs.Built.{Built}
 use Rattle.gimli_build.specs.Version5Tables.{first_form, path_texts, sources}
 use Rattle.gimli_build.specs.Cause.{file_texts, emitted_texts}
 use Rattle.gimli_build.proofs.reading.ReadyTexts.{source_of}
-use Rattle.gimli_build.specs.ReadsBack.{IsOffsetHeld}
 
 module _ (P : LineText → Type 0) (p : Built) (texts : StringTables) where
   -- of those of a file
@@ -72,20 +71,3 @@ module _ (P : LineText → Type 0) (p : Built) (texts : StringTables) where
       let filed = flat_map (file_texts p texts) p.files in
       let emitted : All IsEmitted (named ++ filed) = rw new at all in
       record { directories = of-directories _ _ (first_part _ _ emitted); files = of-files _ (last_part _ _ emitted) }
-
--- ---- the offsets of texts that a reader has to hold, text by text
-
-module _ (limit : ℕ) (p : Built) (texts : StringTables) where
-  abbrev pub IsHeld : LineText → Type 0
-  IsHeld t = IsOffsetHeld limit texts t
-
-  -- those of a file
-  abbrev pub IsFileHeld : File → Type 0
-  IsFileHeld f = IsOfFile IsHeld p texts f
-
-  -- those of a program of version 5
-  abbrev pub AreHeld : Type 0
-  AreHeld = AreOfTables IsHeld p texts
-
-  pub are-held : nat_le p.encoding.version 4 ≡ false → All (λ t. IsHeld t.1) (emitted_texts p texts) → AreHeld
-  are-held new all = of-tables IsHeld p texts new all

@@ -4,8 +4,9 @@ use Rattle.std.proofs.Common.{length-append}
 use Rattle.std.specs.Prelude.{nat_le}
 use Rattle.gimli_core.specs.Notation.{Notation}
 use Rattle.gimli_core.specs.declared.common.Encoding.{Encoding}
-use Rattle.gimli_bytes.specs.Hand.{plain}
-use Rattle.gimli_bytes.specs.Texts.{AreTexts, byte_count, StringTables}
+use Rattle.gimli_bytes.specs.Hand.{Placement}
+use Rattle.gimli_bytes.specs.Relocations.{counted}
+use Rattle.gimli_bytes.specs.Texts.{AreTexts, StringTables}
 use Rattle.gimli_bytes.specs.Written.{Appends, AppendsThat}
 use Rattle.gimli_line.specs.header.Header.{UnitEntry}
 use Rattle.gimli_build.specs.Built.{Built}
@@ -13,41 +14,41 @@ use Rattle.gimli_build.specs.Conditions.{CanWrite}
 use Rattle.gimli_build.specs.inside.Conditions.{IsBuilt}
 use Rattle.gimli_build.specs.Texts.{Sections}
 use Rattle.gimli_build.specs.Version5Tables.{texts_after}
-use Rattle.gimli_build.specs.ReadsBack.{ReadsBack, ReadsBackAs, IsReadWell}
+use Rattle.gimli_build.specs.ReadsBack.{ReadsBack, ReadsBackPlaced, IsReadWell}
 use Rattle.gimli_build.specs.Unit.{whole_bytes, unit_bytes}
 use Rattle.gimli_build.proofs.writing.Joined.{appended_bytes}
 use Rattle.gimli_build.proofs.writing.WrittenParts.{before_written}
 use Rattle.gimli_build.proofs.spellings.EncodingSpellings.{version-known}
 use Rattle.gimli_build.proofs.spellings.UnitSpellings.{unit_written}
-use Rattle.gimli_build.proofs.reading.UnitHeader.{whole_written, header-back}
+use Rattle.gimli_build.proofs.reading.UnitHeader.{AreShort, whole_written, header-back}
 use Rattle.gimli_build.proofs.reading.EventsBack.{cut-back, rows-back}
 
 -- a unit that is written has a known version
-unit_known : (big : Bool) (p : Built) (texts : StringTables) (unit : List ℕ) → whole_bytes plain big p texts ≡ Ok unit
+unit_known : (at : Placement) (big : Bool) (p : Built) (texts : StringTables) (unit : List ℕ) → whole_bytes (counted at) big p texts ≡ Ok unit
     → p.encoding.version ≤ 5
-unit_known big p texts unit is =
-    let w = unit_written _ p _ _ is in
+unit_known at big p texts unit is =
+    let w = unit_written (counted at) _ p texts _ is in
     let address : List ℕ = if nat_le p.encoding.version 4 then [] else p.encoding.address_size ∷ 0 ∷ [] in
     let b = before_written _ _ _ w.opening_is in
     version-known _ _ _ b.front_is
 
-reads-back : (notation : Notation) (unit_entry : UnitEntry) (sections : Sections) (big : Bool)
+reads-back : (at : Placement) (notation : Notation) (unit_entry : UnitEntry) (sections : Sections) (big : Bool)
     (unit_encoding : Encoding) (p : Built)
     (old_texts : StringTables) (unit : List ℕ)
     → length unit < 2 ^ 64 → IsBuilt p → CanWrite p old_texts → AreTexts (texts_after p old_texts).strings
     → AreTexts (texts_after p old_texts).line_strings
-    → byte_count (texts_after p old_texts).strings < 2 ^ 64 → byte_count (texts_after p old_texts).line_strings < 2 ^ 64
-    → unit_bytes plain big unit_encoding p old_texts ≡ Ok unit
-    → IsReadWell notation unit_entry sections big p (texts_after p old_texts) unit
+    → AreShort at p (texts_after p old_texts)
+    → unit_bytes (counted at) big unit_encoding p old_texts ≡ Ok unit
+    → IsReadWell at notation unit_entry sections big p (texts_after p old_texts) unit
     → ReadsBack notation unit_entry sections p (texts_after p old_texts) unit
-reads-back notation unit_entry sections big unit_encoding p old_texts unit small built can are_texts are_line_texts
-    short line_short is well =
+reads-back at notation unit_entry sections big unit_encoding p old_texts unit small built can are_texts are_line_texts
+    short is well =
     let texts = texts_after p old_texts in
     let h =
-    header-back notation unit_entry sections big unit_encoding p old_texts unit small built can are_texts
-    are_line_texts short line_short is well in
-    let whole = whole_written big unit_encoding p old_texts unit is in
-    let known = unit_known big p texts unit whole in
+    header-back at notation unit_entry sections big unit_encoding p old_texts unit small built can are_texts
+    are_line_texts short is well in
+    let whole = whole_written at big unit_encoding p old_texts unit is in
+    let known = unit_known at big p texts unit whole in
     let wide = well.instructions_held in
     record {
       header = h.header;
@@ -62,20 +63,20 @@ reads-back notation unit_entry sections big unit_encoding p old_texts unit small
     }
 
 -- what is appended is read back so
-pub appended-back : (big : Bool) (unit_encoding : Encoding) (p : Built) (old_texts : StringTables) (old new : List ℕ)
+pub appended-back : (at : Placement) (big : Bool) (unit_encoding : Encoding) (p : Built) (old_texts : StringTables) (old new : List ℕ)
     → length new < 2 ^ 64 → IsBuilt p
     → CanWrite p old_texts → AreTexts (texts_after p old_texts).strings
     → AreTexts (texts_after p old_texts).line_strings
-    → byte_count (texts_after p old_texts).strings < 2 ^ 64 → byte_count (texts_after p old_texts).line_strings < 2 ^ 64
-    → Appends (unit_bytes plain big unit_encoding p old_texts) old new
-    → AppendsThat (ReadsBackAs big p (texts_after p old_texts)) old new
-appended-back big unit_encoding p old_texts old new short built can are_texts are_line_texts held line_held written =
-    let a = appended_bytes (unit_bytes plain big unit_encoding p old_texts) old new written in
+    → AreShort at p (texts_after p old_texts)
+    → Appends (unit_bytes (counted at) big unit_encoding p old_texts) old new
+    → AppendsThat (ReadsBackPlaced at big p (texts_after p old_texts)) old new
+appended-back at big unit_encoding p old_texts old new short built can are_texts are_line_texts held written =
+    let a = appended_bytes (unit_bytes (counted at) big unit_encoding p old_texts) old new written in
     let long = ap length a.2 ∙ length-append old a.0 in
     let small : length a.0 < 2 ^ 64 = omega arith in (
       a.0,
       a.2,
       λ notation unit_entry sections well.
-          reads-back notation unit_entry sections big unit_encoding p old_texts a.0 small built can are_texts
-          are_line_texts held line_held a.1 well,
+          reads-back at notation unit_entry sections big unit_encoding p old_texts a.0 small built can are_texts
+          are_line_texts held a.1 well,
     )

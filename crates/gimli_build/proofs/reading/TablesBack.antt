@@ -9,10 +9,10 @@ use Rattle.std.proofs.lemmas.List.{append-nil}
 use Rattle.std.proofs.lemmas.List.Elements.{All-drop}
 use Rattle.gimli_core.specs.Notation.{Notation}
 use Rattle.gimli_core.specs.Values.{Value}
-use Rattle.gimli_core.specs.declared.common.Format.TheVariants.{Dwarf64}
 use Rattle.gimli_core.specs.declared.attribute_value.AttributeValue.TheVariants.{String}
-use Rattle.gimli_bytes.specs.Hand.{plain}
-use Rattle.gimli_bytes.specs.Texts.{AreTexts, table_bytes, StringTables}
+use Rattle.gimli_bytes.specs.Hand.{Placement}
+use Rattle.gimli_bytes.specs.Relocations.{counted}
+use Rattle.gimli_bytes.specs.Texts.{AreTexts, StringTables}
 use Rattle.gimli_bytes.specs.declared.error.Error.{Error}
 use Rattle.gimli_line.specs.header.Header.{UnitEntry}
 use Rattle.gimli_line.specs.header.File.{File as ReadFile}
@@ -24,7 +24,7 @@ use Rattle.gimli_build.specs.Texts.{Sections, OneByOne}
 use Rattle.gimli_build.specs.Stored.{Stored, stored_details}
 use Rattle.gimli_build.specs.Built.{Built}
 use Rattle.gimli_build.specs.inside.Conditions.{IsBuilt}
-use Rattle.gimli_build.specs.ReadsBack.{IsDirectory, IsFile}
+use Rattle.gimli_build.specs.ReadsBack.{IsDirectory, IsFile, IsFound}
 use Rattle.gimli_build.specs.Joined.{result_append}
 use Rattle.gimli_build.specs.Version4Tables.{directories_bytes, files_bytes}
 use Rattle.gimli_build.specs.Version5Tables.{directory_formats, file_formats, directory_table_bytes, file_table_bytes}
@@ -34,7 +34,8 @@ use Rattle.gimli_build.proofs.spellings.TableSpellings.{read_file, directories-s
 use Rattle.gimli_build.proofs.spellings.EncodingSpellings.{first-chosen, second-chosen}
 use Rattle.gimli_build.proofs.spellings.FormatForms.{read_format}
 use Rattle.gimli_build.proofs.reading.ReadyTexts.{AreReady}
-use Rattle.gimli_build.proofs.reading.EmittedTexts.{AreHeld}
+use Rattle.gimli_build.proofs.reading.EmittedTexts.{AreOfTables}
+use Rattle.gimli_build.proofs.spellings.TextForms.{IsHeld}
 use Rattle.gimli_build.proofs.spellings.Version5TableSpellings.{directory_entry, file_entry, new-directories-spelled}
 use Rattle.gimli_build.proofs.spellings.Version5TableSpellings.{new-files-spelled, new-directories-back}
 use Rattle.gimli_build.proofs.spellings.Version5TableSpellings.{new-files-back}
@@ -114,8 +115,8 @@ module _ (sections : Sections) (texts : StringTables) where
   files_back p [] old = tt
   files_back p (f ∷ fs) old = (file_back p f old, files_back p fs old)
 
-module _ (notation : Notation) (unit_entry : UnitEntry) (sections : Sections) (p : Built) (texts : StringTables)
-    (built : IsBuilt p) where
+module _ (at : Placement) (notation : Notation) (unit_entry : UnitEntry) (sections : Sections) (p : Built)
+    (texts : StringTables) (built : IsBuilt p) where
   module _ (old : nat_le p.encoding.version 4 ≡ true) where
     old_directories_spelled : (bytes : List ℕ) → directories_bytes p.directories ≡ Ok bytes
         → (directory_table notation p.encoding).Spells bytes
@@ -166,55 +167,51 @@ module _ (notation : Notation) (unit_entry : UnitEntry) (sections : Sections) (p
   -- ---- version 5
 
   module _ (new : nat_le p.encoding.version 4 ≡ false) (ready : AreReady p texts)
-      (strings_are : sections.strings ≡ table_bytes texts.strings)
-      (line_strings_are : sections.line_strings ≡ table_bytes texts.line_strings)
       (are_texts : AreTexts texts.strings) (are_line_texts : AreTexts texts.line_strings)
-      (strings_short : length (table_bytes texts.strings) < 2 ^ 64)
-      (line_strings_short : length (table_bytes texts.line_strings) < 2 ^ 64)
-      (held : p.encoding.format ≡ Dwarf64 → AreHeld notation.limit p texts) where
+      (held : AreOfTables (IsHeld notation.limit p.encoding.format at texts) p texts)
+      (found : AreOfTables (IsFound sections at texts) p texts) where
     new_directories_spelled : (bytes : List ℕ)
-        → directory_table_bytes plain notation.big p.encoding.format texts p ≡ Ok bytes → length bytes < 2 ^ 64
+        → directory_table_bytes (counted at) notation.big p.encoding.format texts p ≡ Ok bytes → length bytes < 2 ^ 64
         → (directory_table notation p.encoding).Spells bytes
-        (map read_format (directory_formats p), map path_of (map (directory_entry texts) p.directories))
+        (map read_format (directory_formats p), map path_of (map (directory_entry at texts) p.directories))
     new_directories_spelled bytes is small =
-        let entries = map (directory_entry texts) p.directories in
-        let spelled =
-        new-directories-spelled notation p texts ready strings_short line_strings_short held bytes is small in
+        let entries = map (directory_entry at texts) p.directories in
+        let spelled = new-directories-spelled at notation p texts ready held bytes is small in
         second-chosen (nat_le p.encoding.version 4) _ _ bytes _ new
         ((map read_format (directory_formats p), entries), bytes, [], sym (append-nil bytes), spelled, (refl, refl))
 
-    new_files_spelled : (bytes : List ℕ) → file_table_bytes plain notation.big p.encoding.format texts p ≡ Ok bytes
+    new_files_spelled : (bytes : List ℕ) → file_table_bytes (counted at) notation.big p.encoding.format texts p ≡ Ok bytes
         → length bytes < 2 ^ 64
         → (file_table notation p.encoding).Spells bytes
-        (map read_format (file_formats p), map file_of_entry (map (file_entry p texts) p.files))
+        (map read_format (file_formats p), map file_of_entry (map (file_entry at p texts) p.files))
     new_files_spelled bytes is small =
-        let entries = map (file_entry p texts) p.files in
-        let spelled = new-files-spelled notation p texts ready strings_short line_strings_short held bytes is small in
+        let entries = map (file_entry at p texts) p.files in
+        let spelled = new-files-spelled at notation p texts ready held bytes is small in
         second-chosen (nat_le p.encoding.version 4) _ _ bytes _ new
         ((map read_format (file_formats p), entries), bytes, [], sym (append-nil bytes), spelled, (refl, refl))
 
     new_back : OneByOne (IsDirectory sections texts)
-        (from_zero p unit_entry (map path_of (map (directory_entry texts) p.directories))) p.directories
+        (from_zero p unit_entry (map path_of (map (directory_entry at texts) p.directories))) p.directories
     new_back =
-        rw new (new-directories-back sections p texts strings_are line_strings_are are_texts are_line_texts _
-        ready.directories)
+        rw new (new-directories-back at sections p texts are_texts are_line_texts _ ready.directories
+        found.directories)
 
     new_tables : (bytes : List ℕ) → length bytes < 2 ^ 64
-        → result_append (directory_table_bytes plain notation.big p.encoding.format texts p)
-        (file_table_bytes plain notation.big p.encoding.format texts p)
+        → result_append (directory_table_bytes (counted at) notation.big p.encoding.format texts p)
+        (file_table_bytes (counted at) notation.big p.encoding.format texts p)
         ≡ Ok bytes
         → TablesBack notation unit_entry sections p texts bytes
     new_tables bytes small is =
         let b =
-        both_written (directory_table_bytes plain notation.big p.encoding.format texts p)
-        (file_table_bytes plain notation.big p.encoding.format texts p) bytes
+        both_written (directory_table_bytes (counted at) notation.big p.encoding.format texts p)
+        (file_table_bytes (counted at) notation.big p.encoding.format texts p) bytes
         is in
         let whole = ap length b.whole ∙ length-append b.first b.rest in
         record {
           directory_formats = map read_format (directory_formats p);
-          directories = map path_of (map (directory_entry texts) p.directories);
+          directories = map path_of (map (directory_entry at texts) p.directories);
           file_formats = map read_format (file_formats p);
-          files = map file_of_entry (map (file_entry p texts) p.files);
+          files = map file_of_entry (map (file_entry at p texts) p.files);
           directory_bytes = b.first;
           file_bytes = b.rest;
           whole = b.whole;
@@ -224,8 +221,7 @@ module _ (notation : Notation) (unit_entry : UnitEntry) (sections : Sections) (p
           files_spelled = new_files_spelled b.rest b.rest_is (omega (arith, whole, small));
           directories_back = new_back;
           files_back =
-              new-files-back sections p texts strings_are line_strings_are are_texts are_line_texts p.files new
-              ready.files;
+              new-files-back at sections p texts are_texts are_line_texts p.files new ready.files found.files;
         }
 
   -- ---- any version
@@ -235,32 +231,29 @@ module _ (notation : Notation) (unit_entry : UnitEntry) (sections : Sections) (p
     pub directory : nat_le p.encoding.version 4 ≡ true
         → unit_entry.directory ≡ option_map (bytes_in texts) (slice_get p.directories 0)
     pub ready : nat_le p.encoding.version 4 ≡ false → AreReady p texts
-    pub strings_are : sections.strings ≡ table_bytes texts.strings
-    pub line_strings_are : sections.line_strings ≡ table_bytes texts.line_strings
     pub are_texts : AreTexts texts.strings
     pub are_line_texts : AreTexts texts.line_strings
-    pub strings_short : length (table_bytes texts.strings) < 2 ^ 64
-    pub line_strings_short : length (table_bytes texts.line_strings) < 2 ^ 64
-    pub held : nat_le p.encoding.version 4 ≡ false → p.encoding.format ≡ Dwarf64 → AreHeld notation.limit p texts
+    pub held : nat_le p.encoding.version 4 ≡ false
+        → AreOfTables (IsHeld notation.limit p.encoding.format at texts) p texts
+    pub found : nat_le p.encoding.version 4 ≡ false → AreOfTables (IsFound sections at texts) p texts
 
   pub tables-back : (bytes : List ℕ) → AreReadWell → length bytes < 2 ^ 64
-      → tables_bytes plain notation.big p texts ≡ Ok bytes
+      → tables_bytes (counted at) notation.big p texts ≡ Ok bytes
       → TablesBack notation unit_entry sections p texts bytes
   tables-back bytes well small is =
       by (nat_le p.encoding.version 4) refl (result_append (directories_bytes p.directories) (files_bytes p.files))
-      (result_append (directory_table_bytes plain notation.big p.encoding.format texts p)
-      (file_table_bytes plain notation.big p.encoding.format texts p))
+      (result_append (directory_table_bytes (counted at) notation.big p.encoding.format texts p)
+      (file_table_bytes (counted at) notation.big p.encoding.format texts p))
       refl
       refl is
     where
       by : (b : Bool) → nat_le p.encoding.version 4 ≡ b → (r s : Result (List ℕ) Error)
           → r ≡ result_append (directories_bytes p.directories) (files_bytes p.files)
           → s
-          ≡ result_append (directory_table_bytes plain notation.big p.encoding.format texts p)
-          (file_table_bytes plain notation.big p.encoding.format texts p)
+          ≡ result_append (directory_table_bytes (counted at) notation.big p.encoding.format texts p)
+          (file_table_bytes (counted at) notation.big p.encoding.format texts p)
           → (if b then r else s) ≡ Ok bytes → TablesBack notation unit_entry sections p texts bytes
       by true old r s first second is = old_tables old bytes (well.directory old) (sym first ∙ is)
       by false new r s first second is =
-          new_tables new (well.ready new) well.strings_are well.line_strings_are well.are_texts well.are_line_texts
-          well.strings_short well.line_strings_short
-          (well.held new) bytes small (sym second ∙ is)
+          new_tables new (well.ready new) well.are_texts well.are_line_texts (well.held new) (well.found new) bytes
+          small (sym second ∙ is)

@@ -1,14 +1,14 @@
 -- What is read of the header of a written unit.
-use Rattle.std.proofs.Common.{◌≡◌, ℕ, ◌-◌, ◌<◌, ◌^◌, Bool, true, false, List, length, if◌then◌else◌, Ok, refl, ap, ◌∙◌}
-use Rattle.std.proofs.Common.{arith}
-use Rattle.std.specs.Prelude.{Result, Err, nat_le}
+use Rattle.std.proofs.Common.{◌≡◌, ℕ, ◌-◌, ◌<◌, ◌≤◌, ◌^◌, Bool, true, false, List, length, if◌then◌else◌, Ok, refl, ap, ◌∙◌}
+use Rattle.std.proofs.Common.{arith, sym}
+use Rattle.std.specs.Prelude.{Result, Err, nat_le, All}
 use Rattle.std.proofs.lemmas.Bool.{leb-true, leb-false}
 use Rattle.gimli_core.specs.Notation.{Notation}
 use Rattle.gimli_core.specs.declared.common.Encoding.{Encoding}
 use Rattle.gimli_core.specs.declared.common.Format.TheVariants.{Dwarf64}
-use Rattle.gimli_bytes.specs.Hand.{plain}
-use Rattle.gimli_bytes.specs.Texts.{AreTexts, byte_count, StringTables}
-use Rattle.gimli_bytes.proofs.TextLemmas.{length-table_bytes}
+use Rattle.gimli_bytes.specs.Hand.{Placement, plain}
+use Rattle.gimli_bytes.specs.Relocations.{counted}
+use Rattle.gimli_bytes.specs.Texts.{AreTexts, StringTables}
 use Rattle.gimli_bytes.specs.declared.error.Error.{Error}
 use Rattle.gimli_bytes.specs.declared.error.Error.TheVariants.{IncompatibleLineProgramEncoding}
 use Rattle.gimli_line.specs.header.Header.{Header, UnitEntry}
@@ -19,9 +19,13 @@ use Rattle.gimli_build.specs.inside.Conditions.{IsBuilt}
 use Rattle.gimli_build.specs.SameRow.{built_rules}
 use Rattle.gimli_build.specs.Version5Tables.{texts_after}
 use Rattle.gimli_build.specs.ReadsBack.{AreFormats, IsUnit, directories_from_zero, IsDirectory, IsFile, IsReadWell}
+use Rattle.gimli_build.specs.ReadsBack.{IsOffsetHeld, IsFound}
+use Rattle.gimli_build.specs.Cause.{emitted_texts}
 use Rattle.gimli_build.specs.Unit.{operand_counts, program_bytes, whole_bytes, unit_bytes}
 use Rattle.gimli_build.proofs.reading.ReadyTexts.{tables-ready}
-use Rattle.gimli_build.proofs.reading.EmittedTexts.{are-held}
+use Rattle.gimli_build.proofs.reading.EmittedTexts.{of-tables}
+use Rattle.gimli_build.proofs.linking.SameBytes.{items-plain}
+use Rattle.gimli_build.proofs.spellings.TextForms.{IsHeld}
 use Rattle.gimli_build.proofs.reading.TablesBack.{AreReadWell, tables-back}
 use Rattle.gimli_build.proofs.spellings.UnitSpellings.{UnitWritten, unit_written, fields_written, inside-short}
 use Rattle.gimli_build.proofs.spellings.UnitSpellings.{fields-short, tables-short, header_of, unit-is}
@@ -38,11 +42,15 @@ pub record HeaderBack (notation : Notation) (unit_entry : UnitEntry) (sections :
   pub files : OneByOne (IsFile sections p texts) header.files p.files
   pub program : program_bytes plain notation.big p ≡ Ok header.program
 
+-- 64 bits hold what the offsets of its texts become
+abbrev pub AreShort : Placement → Built → StringTables → Type 0
+AreShort at p texts = 5 ≤ p.encoding.version → All (λ t. IsOffsetHeld (2 ^ 64) at texts t.1) (emitted_texts p texts)
+
 -- a unit that is written is written whole
-pub whole_written : (big : Bool) (unit_encoding : Encoding) (p : Built) (old_texts : StringTables) (unit : List ℕ)
-    → unit_bytes plain big unit_encoding p old_texts ≡ Ok unit
-    → whole_bytes plain big p (texts_after p old_texts) ≡ Ok unit
-whole_written big unit_encoding p old_texts unit is =
+pub whole_written : (at : Placement) (big : Bool) (unit_encoding : Encoding) (p : Built) (old_texts : StringTables) (unit : List ℕ)
+    → unit_bytes (counted at) big unit_encoding p old_texts ≡ Ok unit
+    → whole_bytes (counted at) big p (texts_after p old_texts) ≡ Ok unit
+whole_written at big unit_encoding p old_texts unit is =
     by _ _ is
   where
     by : (b : Bool) (r : Result (List ℕ) Error)
@@ -51,79 +59,79 @@ whole_written big unit_encoding p old_texts unit is =
     by true r is = absurd cc
     by false r is = is
 
-module _ (notation : Notation) (unit_entry : UnitEntry) (sections : Sections) (p : Built) (built : IsBuilt p) where
-  whole_back : (texts : StringTables) (unit : List ℕ) → AreReadWell notation unit_entry sections p texts built
+module _ (at : Placement) (notation : Notation) (unit_entry : UnitEntry) (sections : Sections) (p : Built)
+    (built : IsBuilt p) where
+  whole_back : (texts : StringTables) (unit : List ℕ) → AreReadWell at notation unit_entry sections p texts built
       → unit_entry.address_size ≡ p.encoding.address_size
       → (p.encoding.format ≡ Dwarf64 → length unit - 12 < notation.limit) → length unit < 2 ^ 64
-      → UnitWritten notation.big p texts unit
+      → UnitWritten (counted at) notation.big p texts unit
       → HeaderBack notation unit_entry sections p texts unit
   whole_back texts unit well same holds small w =
-      let v = fields_written notation.big p texts w.fields w.fields_are in
-      let inside = inside-short notation.big p texts unit w in
-      let fields = fields-short notation.big p texts unit w in
-      let tables = tables-short notation.big p texts w.fields v in
+      let v = fields_written (counted at) notation.big p texts w.fields w.fields_are in
+      let inside = inside-short (counted at) notation.big p texts unit w in
+      let fields = fields-short (counted at) notation.big p texts unit w in
+      let tables = tables-short (counted at) notation.big p texts w.fields v in
       let t =
-      tables-back notation unit_entry sections p texts built v.tables well
+      tables-back at notation unit_entry sections p texts built v.tables well
       (omega (arith, inside, fields, tables, small)) v.tables_are in
       record {
         header =
-            header_of notation unit_entry sections p texts built v.tables t (length w.inside) (length w.fields)
-            w.program;
-        is_unit = unit-is notation unit_entry sections p texts built unit w v t same holds small;
+            header_of (counted at) notation unit_entry sections p texts built v.tables t (length w.inside)
+            (length w.fields) w.program;
+        is_unit = unit-is (counted at) notation unit_entry sections p texts built unit w v t same holds small;
         parameters = refl;
         counts = refl;
         formats = λ new. record { directories = t.directory_formats_are new; files = t.file_formats_are new };
         directories = t.directories_back;
         files = t.files_back;
-        program = w.program_is;
+        program = sym (items-plain at notation.big p.encoding p.line_encoding _ p.items) ∙ w.program_is;
       }
 
   -- how the unit is read, the tables are
   read_well : (old_texts : StringTables) (unit : List ℕ) → CanWrite p old_texts
       → AreTexts (texts_after p old_texts).strings
       → AreTexts (texts_after p old_texts).line_strings
-      → byte_count (texts_after p old_texts).strings < 2 ^ 64
-      → byte_count (texts_after p old_texts).line_strings < 2 ^ 64
-      → IsReadWell notation unit_entry sections notation.big p (texts_after p old_texts) unit
-      → AreReadWell notation unit_entry sections p (texts_after p old_texts) built
-  read_well old_texts unit can are_texts are_line_texts short line_short well = record {
+      → AreShort at p (texts_after p old_texts)
+      → IsReadWell at notation unit_entry sections notation.big p (texts_after p old_texts) unit
+      → AreReadWell at notation unit_entry sections p (texts_after p old_texts) built
+  read_well old_texts unit can are_texts are_line_texts short well = record {
     directory = λ old. well.directory (leb-true p.encoding.version 4 old);
     ready = λ new. tables-ready p old_texts new built can;
-    strings_are = well.strings_are;
-    line_strings_are = well.line_strings_are;
     are_texts = are_texts;
     are_line_texts = are_line_texts;
-    strings_short = rw (length-table_bytes (texts_after p old_texts).strings) short;
-    line_strings_short = rw (length-table_bytes (texts_after p old_texts).line_strings) line_short;
-    held = λ new wide. are-held notation.limit p (texts_after p old_texts) new
-        (let above = leb-false p.encoding.version 4 new in well.texts_held (omega (arith, above)) wide);
+    held = λ new. of-tables (IsHeld notation.limit p.encoding.format at (texts_after p old_texts)) p _ new
+        (λ i d lt. (λ wide. well.texts_held (late new) wide i d lt, short (late new) i d lt));
+    found = λ new. of-tables (IsFound sections at (texts_after p old_texts)) p _ new (well.texts_found (late new));
   }
+    where
+      late : nat_le p.encoding.version 4 ≡ false → 5 ≤ p.encoding.version
+      late new = let above = leb-false p.encoding.version 4 new in omega (arith, above)
 
 -- a unit whose length 64 bits hold
-pub header-back : (notation : Notation) (unit_entry : UnitEntry) (sections : Sections) (big : Bool)
+pub header-back : (at : Placement) (notation : Notation) (unit_entry : UnitEntry) (sections : Sections) (big : Bool)
     (unit_encoding : Encoding) (p : Built)
     (old_texts : StringTables) (unit : List ℕ)
     → length unit < 2 ^ 64 → IsBuilt p → CanWrite p old_texts → AreTexts (texts_after p old_texts).strings
     → AreTexts (texts_after p old_texts).line_strings
-    → byte_count (texts_after p old_texts).strings < 2 ^ 64 → byte_count (texts_after p old_texts).line_strings < 2 ^ 64
-    → unit_bytes plain big unit_encoding p old_texts ≡ Ok unit
-    → IsReadWell notation unit_entry sections big p (texts_after p old_texts) unit
+    → AreShort at p (texts_after p old_texts)
+    → unit_bytes (counted at) big unit_encoding p old_texts ≡ Ok unit
+    → IsReadWell at notation unit_entry sections big p (texts_after p old_texts) unit
     → HeaderBack notation unit_entry sections p (texts_after p old_texts) unit
-header-back notation unit_entry sections big unit_encoding p old_texts unit small built can are_texts are_line_texts
-    short line_short is well =
+header-back at notation unit_entry sections big unit_encoding p old_texts unit small built can are_texts are_line_texts
+    short is well =
     let texts = texts_after p old_texts in
-    let whole : whole_bytes plain notation.big p texts ≡ Ok unit =
-    ap (λ (b : Bool). whole_bytes plain b p texts) well.order ∙ whole_written big unit_encoding p old_texts unit is in
-    let same : IsReadWell notation unit_entry sections notation.big p texts unit = record {
+    let whole : whole_bytes (counted at) notation.big p texts ≡ Ok unit =
+    ap (λ (b : Bool). whole_bytes (counted at) b p texts) well.order
+    ∙ whole_written at big unit_encoding p old_texts unit is in
+    let same : IsReadWell at notation unit_entry sections notation.big p texts unit = record {
       order = refl;
       address_size = well.address_size;
       directory = well.directory;
-      strings_are = well.strings_are;
-      line_strings_are = well.line_strings_are;
+      texts_found = well.texts_found;
       instructions_held = well.instructions_held;
       length_held = well.length_held;
       texts_held = well.texts_held;
     } in
-    whole_back notation unit_entry sections p built texts unit
-    (read_well notation unit_entry sections p built old_texts unit can are_texts are_line_texts short line_short same)
-    same.address_size same.length_held small (unit_written notation.big p texts unit whole)
+    whole_back at notation unit_entry sections p built texts unit
+    (read_well at notation unit_entry sections p built old_texts unit can are_texts are_line_texts short same)
+    same.address_size same.length_held small (unit_written (counted at) notation.big p texts unit whole)

@@ -8,7 +8,7 @@ use Rattle.gimli_core.specs.Notation.{Notation}
 use Rattle.gimli_core.specs.declared.common.Format.{Format}
 use Rattle.gimli_core.specs.declared.common.Format.TheVariants.{Dwarf32, Dwarf64}
 use Rattle.gimli_core.specs.declared.error.Error.TheVariants.{OpcodeBaseZero}
-use Rattle.gimli_bytes.specs.Hand.{plain}
+use Rattle.gimli_bytes.specs.Hand.{Hand}
 use Rattle.gimli_bytes.specs.Number.{length_word}
 use Rattle.gimli_bytes.specs.declared.error.Error.{Error}
 use Rattle.gimli_bytes.specs.Texts.{StringTables}
@@ -34,7 +34,7 @@ use Rattle.gimli_build.proofs.reading.TablesBack.{TablesBack}
 
 -- ---- a unit that was written, and its parts
 
-pub record UnitWritten (big : Bool) (p : Built) (texts : StringTables) (unit : List ℕ) : Type 0 where
+pub record UnitWritten (hand : Hand) (big : Bool) (p : Built) (texts : StringTables) (unit : List ℕ) : Type 0 where
   pub length_bytes : List ℕ
   pub opening : List ℕ
   pub size : List ℕ
@@ -44,8 +44,8 @@ pub record UnitWritten (big : Bool) (p : Built) (texts : StringTables) (unit : L
   pub length_is : length_word big p.encoding.format (length inside) ≡ Ok length_bytes
   pub opening_is : opening_bytes big p.encoding ≡ Ok opening
   pub size_is : format_word big p.encoding.format (length fields) ≡ Ok size
-  pub fields_are : fields_bytes plain big p texts ≡ Ok fields
-  pub program_is : program_bytes plain big p ≡ Ok program
+  pub fields_are : fields_bytes hand big p texts ≡ Ok fields
+  pub program_is : program_bytes hand big p ≡ Ok program
   pub inside_is : inside ≡ opening ++ ((size ++ fields) ++ program)
   pub whole : unit ≡ (escape_bytes big p.encoding.format ++ length_bytes) ++ inside
 
@@ -61,9 +61,9 @@ rest_in_three : (whole first rest header size fields last : List ℕ) → whole 
 rest_in_three whole first rest header size fields last is parts inner =
     is ∙ ap (λ l. first ++ l) (parts ∙ ap (λ l. l ++ last) inner)
 
-pub unit_written : (big : Bool) (p : Built) (texts : StringTables) (unit : List ℕ)
-    → whole_bytes plain big p texts ≡ Ok unit → UnitWritten big p texts unit
-unit_written big p texts unit is =
+pub unit_written : (hand : Hand) (big : Bool) (p : Built) (texts : StringTables) (unit : List ℕ)
+    → whole_bytes hand big p texts ≡ Ok unit → UnitWritten hand big p texts unit
+unit_written hand big p texts unit is =
     let escape = escape_bytes big p.encoding.format in
     let word : ℕ → Result (List ℕ) Error = λ n. length_word big p.encoding.format n in
     let a = counted_written (λ n. result_append (Ok escape) (word n)) _ _ is in
@@ -88,17 +88,17 @@ unit_written big p texts unit is =
     }
 
 -- the fields, and their parts
-pub record FieldsWritten (big : Bool) (p : Built) (texts : StringTables) (fields : List ℕ) : Type 0 where
+pub record FieldsWritten (hand : Hand) (big : Bool) (p : Built) (texts : StringTables) (fields : List ℕ) : Type 0 where
   encoding : List ℕ
   pub tables : List ℕ
   encoding_is : line_encoding_bytes p.encoding.version p.line_encoding ≡ Ok encoding
-  pub tables_are : tables_bytes plain big p texts ≡ Ok tables
+  pub tables_are : tables_bytes hand big p texts ≡ Ok tables
   whole : fields ≡ (encoding ++ 13 ∷ []) ++ (operand_counts ++ tables)
 
-pub fields_written : (big : Bool) (p : Built) (texts : StringTables) (fields : List ℕ)
-    → fields_bytes plain big p texts ≡ Ok fields
-    → FieldsWritten big p texts fields
-fields_written big p texts fields is =
+pub fields_written : (hand : Hand) (big : Bool) (p : Built) (texts : StringTables) (fields : List ℕ)
+    → fields_bytes hand big p texts ≡ Ok fields
+    → FieldsWritten hand big p texts fields
+fields_written hand big p texts fields is =
     let a =
     both_written _ _ _ is in
     let b = after_written opcode_bytes _ _ a.rest_is in
@@ -112,9 +112,9 @@ fields_written big p texts fields is =
     }
 
 -- what is written of a unit is no longer than the unit
-pub inside-short : (big : Bool) (p : Built) (texts : StringTables) (unit : List ℕ) (w : UnitWritten big p texts unit)
+pub inside-short : (hand : Hand) (big : Bool) (p : Built) (texts : StringTables) (unit : List ℕ) (w : UnitWritten hand big p texts unit)
     → length w.inside ≤ length unit
-inside-short big p texts unit w =
+inside-short hand big p texts unit w =
     let whole = ap (λ l. length l) w.whole in
     omega (arith, whole, length-append (escape_bytes big p.encoding.format ++ w.length_bytes) w.inside)
 
@@ -129,17 +129,17 @@ length_wide big Dwarf64 n word wide is =
     let eight = ap length (same_written _ _ is) ∙ size_8 big n in
     omega (arith, whole, escape, eight)
 
-inside-wide : (big : Bool) (p : Built) (texts : StringTables) (unit : List ℕ) (w : UnitWritten big p texts unit)
+inside-wide : (hand : Hand) (big : Bool) (p : Built) (texts : StringTables) (unit : List ℕ) (w : UnitWritten hand big p texts unit)
     → p.encoding.format ≡ Dwarf64
     → length w.inside + 12 ≡ length unit
-inside-wide big p texts unit w wide =
+inside-wide hand big p texts unit w wide =
     let whole = ap (λ l. length l) w.whole in
     let front = length_wide _ _ _ _ wide w.length_is in
     omega (arith, whole, front, length-append (escape_bytes big p.encoding.format ++ w.length_bytes) w.inside)
 
-pub fields-short : (big : Bool) (p : Built) (texts : StringTables) (unit : List ℕ) (w : UnitWritten big p texts unit)
+pub fields-short : (hand : Hand) (big : Bool) (p : Built) (texts : StringTables) (unit : List ℕ) (w : UnitWritten hand big p texts unit)
     → length w.fields ≤ length w.inside
-fields-short big p texts unit w =
+fields-short hand big p texts unit w =
     let whole = ap (λ l. length l) w.inside_is in
     omega (
       arith,
@@ -150,10 +150,10 @@ fields-short big p texts unit w =
     )
 
 -- the tables are no longer than the fields
-pub tables-short : (big : Bool) (p : Built) (texts : StringTables) (fields : List ℕ)
-    (w : FieldsWritten big p texts fields)
+pub tables-short : (hand : Hand) (big : Bool) (p : Built) (texts : StringTables) (fields : List ℕ)
+    (w : FieldsWritten hand big p texts fields)
     → length w.tables ≤ length fields
-tables-short big p texts fields w =
+tables-short hand big p texts fields w =
     let whole = ap (λ l. length l) w.whole in
     omega (
       arith,
@@ -164,8 +164,8 @@ tables-short big p texts fields w =
 
 -- ---- the header
 
-module _ (notation : Notation) (unit_entry : UnitEntry) (sections : Sections) (p : Built) (texts : StringTables)
-    (built : IsBuilt p) where
+module _ (hand : Hand) (notation : Notation) (unit_entry : UnitEntry) (sections : Sections) (p : Built)
+    (texts : StringTables) (built : IsBuilt p) where
   abbrev pub Tables : List ℕ → Type 0
   Tables bytes = TablesBack notation unit_entry sections p texts bytes
 
@@ -198,7 +198,7 @@ module _ (notation : Notation) (unit_entry : UnitEntry) (sections : Sections) (p
     (13, 13 ∷ [], [], refl, positive-spelled _ OpcodeBaseZero (omega arith), (refl, refl)),
   )
 
-  fields_spelled : (unit_size : ℕ) (fields program : List ℕ) (w : FieldsWritten notation.big p texts fields)
+  fields_spelled : (unit_size : ℕ) (fields program : List ℕ) (w : FieldsWritten hand notation.big p texts fields)
       (t : Tables w.tables)
       → (fields_production notation unit_entry unit_size (opening_of fields) program).Spells fields
       (header_of w.tables t unit_size (length fields) program)
@@ -257,7 +257,7 @@ module _ (notation : Notation) (unit_entry : UnitEntry) (sections : Sections) (p
         ),
       )
 
-  module _ (unit : List ℕ) (w : UnitWritten notation.big p texts unit) (v : FieldsWritten notation.big p texts w.fields)
+  module _ (unit : List ℕ) (w : UnitWritten hand notation.big p texts unit) (v : FieldsWritten hand notation.big p texts w.fields)
       (t : Tables v.tables)
       (same : unit_entry.address_size ≡ p.encoding.address_size)
       (holds : p.encoding.format ≡ Dwarf64 → length unit - 12 < notation.limit)
@@ -271,10 +271,10 @@ module _ (notation : Notation) (unit_entry : UnitEntry) (sections : Sections) (p
 
     unit_spelled : (header_production notation unit_entry).Spells unit header
     unit_spelled =
-        let inside = inside-short notation.big p texts _ w in
-        let fields = fields-short notation.big p texts unit w in
+        let inside = inside-short hand notation.big p texts _ w in
+        let fields = fields-short hand notation.big p texts unit w in
         let inside_held : p.encoding.format ≡ Dwarf64 → length w.inside < notation.limit = λ wide.
-        (let rest = inside-wide notation.big p texts _ w wide in let lt = holds wide in omega (arith, rest, lt)) in
+        (let rest = inside-wide hand notation.big p texts _ w wide in let lt = holds wide in omega (arith, rest, lt)) in
         let fields_held : p.encoding.format ≡ Dwarf64 → length w.fields < notation.limit = λ wide.
         (let lt = inside_held wide in omega (arith, fields, lt)) in
         let length_spelled =

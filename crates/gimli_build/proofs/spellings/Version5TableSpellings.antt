@@ -10,10 +10,10 @@ use Rattle.gimli_core.specs.Notation.{Notation}
 use Rattle.gimli_core.specs.Values.{Value}
 use Rattle.gimli_core.specs.Production.{times}
 use Rattle.gimli_core.specs.declared.common.Format.{Format}
-use Rattle.gimli_core.specs.declared.common.Format.TheVariants.{Dwarf64}
-use Rattle.gimli_bytes.specs.Hand.{plain}
+use Rattle.gimli_bytes.specs.Hand.{Placement}
 use Rattle.gimli_bytes.specs.Number.{uleb}
-use Rattle.gimli_bytes.specs.Texts.{AreTexts, table_bytes, StringTables}
+use Rattle.gimli_bytes.specs.Relocations.{counted}
+use Rattle.gimli_bytes.specs.Texts.{AreTexts, StringTables}
 use Rattle.gimli_bytes.specs.declared.error.Error.{Error}
 use Rattle.gimli_bytes.proofs.ShortestUleb.{uleb_shortest}
 use Rattle.gimli_line.specs.header.File.{File as ReadFile}
@@ -25,18 +25,18 @@ use Rattle.gimli_build.specs.Texts.{Sections, IsText, IsOptionalText, OneByOne}
 use Rattle.gimli_build.specs.Stored.{stored_details}
 use Rattle.gimli_build.specs.Joined.{result_append, result_concat}
 use Rattle.gimli_build.specs.Built.{Built}
-use Rattle.gimli_build.specs.ReadsBack.{IsDirectory, IsFile}
+use Rattle.gimli_build.specs.ReadsBack.{IsDirectory, IsFile, IsFound}
 use Rattle.gimli_build.specs.Version5Tables.{first_form, path_texts, sources, formats_bytes, directory_formats}
 use Rattle.gimli_build.specs.Version5Tables.{file_formats, detail_bytes, text_in_form}
 use Rattle.gimli_build.specs.Version5Tables.{directory_table_bytes, source_bytes, file_entry_bytes, file_table_bytes}
 use Rattle.gimli_build.proofs.writing.WrittenParts.{same_written, both_written, after_written}
-use Rattle.gimli_build.proofs.spellings.TextForms.{read_text, IsReady, text-spelled, text-long, text-back}
+use Rattle.gimli_build.proofs.spellings.TextForms.{read_text, IsReady, IsHeld, text-spelled, text-long, text-back}
 use Rattle.gimli_build.proofs.spellings.FormatForms.{read_format, formats_of, formats-same, directory-formats}
 use Rattle.gimli_build.proofs.spellings.FormatForms.{file-formats}
 use Rattle.gimli_build.proofs.spellings.EntryForms.{entry_of, file_with, file-read, IsSpelled, last-spelled}
 use Rattle.gimli_build.proofs.spellings.EntryForms.{entry-spelled}
 use Rattle.gimli_build.proofs.reading.ReadyTexts.{source_of, IsFileReady, AreReady}
-use Rattle.gimli_build.proofs.reading.EmittedTexts.{IsHeld, IsFileHeld, AreHeld}
+use Rattle.gimli_build.proofs.reading.EmittedTexts.{IsOfFile, AreOfTables}
 
 -- ---- a table of entries
 
@@ -98,44 +98,45 @@ module _ (notation : Notation) (format : Format) {X : Type 0} (formats : List (�
 
 -- ---- the tables of a program
 
-abbrev pub directory_entry : StringTables → LineText → Entry
-directory_entry texts t = (0x0001, read_text texts t) ∷ []
+abbrev pub directory_entry : Placement → StringTables → LineText → Entry
+directory_entry at texts t = (0x0001, read_text at texts t) ∷ []
 
-abbrev pub file_entry : Built → StringTables → File → Entry
-file_entry p texts f =
+abbrev pub file_entry : Placement → Built → StringTables → File → Entry
+file_entry at p texts f =
     entry_of p.file_has_timestamp p.file_has_size p.file_has_md5 p.file_has_source
-    (read_text texts f.0.0) f.0.1 f.1.timestamp f.1.size f.1.md5 (read_text texts (source_of p texts f))
+    (read_text at texts f.0.0) f.0.1 f.1.timestamp f.1.size f.1.md5 (read_text at texts (source_of p texts f))
 
-module _ (notation : Notation) (p : Built) (texts : StringTables) (ready : AreReady p texts)
-    (strings_short : length (table_bytes texts.strings) < 2 ^ 64)
-    (line_strings_short : length (table_bytes texts.line_strings) < 2 ^ 64)
-    (held : p.encoding.format ≡ Dwarf64 → AreHeld notation.limit p texts) where
+module _ (at : Placement) (notation : Notation) (p : Built) (texts : StringTables) (ready : AreReady p texts)
+    (held : AreOfTables (IsHeld notation.limit p.encoding.format at texts) p texts) where
+  abbrev IsHeldHere : LineText → Type 0
+  IsHeldHere t = IsHeld notation.limit p.encoding.format at texts t
+
   -- a text can be read back, by this reader
   abbrev IsReadable : LineText → Type 0
-  IsReadable t = IsReady texts t × (p.encoding.format ≡ Dwarf64 → IsHeld notation.limit p texts t)
+  IsReadable t = IsReady texts t × IsHeldHere t
 
   abbrev IsFileReadable : File → Type 0
-  IsFileReadable f = IsFileReady p texts f × (p.encoding.format ≡ Dwarf64 → IsFileHeld notation.limit p texts f)
+  IsFileReadable f = IsFileReady p texts f × IsOfFile IsHeldHere p texts f
 
   abbrev text_written : ℕ → LineText → Result (List ℕ) Error
-  text_written form t = text_in_form plain notation.big p.encoding.format texts form t
+  text_written form t = text_in_form (counted at) notation.big p.encoding.format texts form t
 
   pub new-directories-spelled : (bytes : List ℕ)
-      → directory_table_bytes plain notation.big p.encoding.format texts p ≡ Ok bytes → length bytes < 2 ^ 64
+      → directory_table_bytes (counted at) notation.big p.encoding.format texts p ≡ Ok bytes → length bytes < 2 ^ 64
       → (table_production notation p.encoding.format).Spells bytes
-      (map read_format (directory_formats p), map (directory_entry texts) p.directories)
+      (map read_format (directory_formats p), map (directory_entry at texts) p.directories)
   new-directories-spelled bytes is small =
       let form = first_form p.directories in
       table_spelled notation p.encoding.format (directory_formats p) IsReadable (text_written form)
-      (directory_entry texts)
-      (λ t b own written. last-spelled notation p.encoding.format 0x0001 form b (read_text texts t)
-      (text-spelled notation p.encoding.format texts strings_short line_strings_short form t b own.0 own.1 written))
-      (λ t b written. text-long notation.big p.encoding.format texts form t b written)
+      (directory_entry at texts)
+      (λ t b own written. last-spelled notation p.encoding.format 0x0001 form b (read_text at texts t)
+      (text-spelled at notation p.encoding.format texts form t b own.0 own.1 written))
+      (λ t b written. text-long at notation.big p.encoding.format texts form t b written)
       p.directories bytes (directory-formats p)
-      (λ i d lt. (ready.directories i d lt, λ wide. (held wide).directories i d lt)) is small
+      (λ i d lt. (ready.directories i d lt, held.directories i d lt)) is small
 
   -- the bytes of a source, where it is written
-  source_written : (f : File) (bytes : List ℕ) → source_bytes plain notation.big p.encoding.format texts p f ≡ Ok bytes
+  source_written : (f : File) (bytes : List ℕ) → source_bytes (counted at) notation.big p.encoding.format texts p f ≡ Ok bytes
       → (p.file_has_source ≡ true → text_written (first_form (sources p.files)) (source_of p texts f) ≡ Ok bytes)
       × (p.file_has_source ≡ false → bytes ≡ [])
   source_written f bytes is = by _ _ is
@@ -147,68 +148,72 @@ module _ (notation : Notation) (p : Built) (texts : StringTables) (ready : AreRe
       by false r is = (λ same. absurd cc, λ same. same_written _ _ is)
 
   file_spelled : (f : File) (bytes : List ℕ) → IsFileReadable f
-      → file_entry_bytes plain notation.big p.encoding.format texts p f ≡ Ok bytes
-      → IsSpelled notation p.encoding.format (file_formats p) bytes (file_entry p texts f)
+      → file_entry_bytes (counted at) notation.big p.encoding.format texts p f ≡ Ok bytes
+      → IsSpelled notation p.encoding.format (file_formats p) bytes (file_entry at p texts f)
   file_spelled f bytes own is =
       let path_form = first_form (path_texts p.files) in
       let source_form = first_form (sources p.files) in
-      let source = source_bytes plain notation.big p.encoding.format texts p f in
+      let source = source_bytes (counted at) notation.big p.encoding.format texts p f in
       let a = both_written _ _ _ is in
       let b = after_written _ _ _ a.rest_is in
       let s = source_written f _ b.rest_is in
-      let spell = text-spelled notation p.encoding.format texts strings_short line_strings_short in
+      let spell = text-spelled at notation p.encoding.format texts in
       let whole : bytes ≡ a.first ++ (detail_bytes p f ++ b.rest) = a.whole ∙ ap (λ l. a.first ++ l) b.whole in
       let text = source_of p texts f in
       let list =
       formats_of p.file_has_timestamp p.file_has_size p.file_has_md5 p.file_has_source path_form source_form in
-      let entry = file_entry p texts f in
+      let entry = file_entry at p texts f in
       let spelled : IsSpelled notation p.encoding.format list (a.first ++ (detail_bytes p f ++ b.rest)) entry =
       entry-spelled notation p.encoding.format _ _ _ _ path_form _
       _ _ _ _ _ _ _ _
-      (spell path_form f.0.0 a.first own.0.path (λ wide. (own.1 wide).path) a.first_is) own.0.fits.directory
+      (spell path_form f.0.0 a.first own.0.path own.1.path a.first_is) own.0.fits.directory
       own.0.fits.timestamp own.0.fits.size own.0.fits.md5
-      (λ flag. spell source_form text b.rest (own.0.source flag) (λ wide. (own.1 wide).source flag) (s.0 flag)) s.1 in
+      (λ flag. spell source_form text b.rest (own.0.source flag) (own.1.source flag) (s.0 flag)) s.1 in
       let same : IsSpelled notation p.encoding.format list bytes entry =
       subst (λ l. IsSpelled notation p.encoding.format list l entry) (sym whole) spelled in
       subst (λ l. IsSpelled notation p.encoding.format l bytes entry) (sym (formats-same p)) same
 
-  file_long : (f : File) (bytes : List ℕ) → file_entry_bytes plain notation.big p.encoding.format texts p f ≡ Ok bytes
+  file_long : (f : File) (bytes : List ℕ) → file_entry_bytes (counted at) notation.big p.encoding.format texts p f ≡ Ok bytes
       → 0 < length bytes
   file_long f bytes is =
       let form = first_form (path_texts p.files) in
       let a =
       both_written (text_written form f.0.0)
-      (result_append (Ok (detail_bytes p f)) (source_bytes plain notation.big p.encoding.format texts p f)) bytes
+      (result_append (Ok (detail_bytes p f)) (source_bytes (counted at) notation.big p.encoding.format texts p f)) bytes
       is in
       let whole = ap length a.whole ∙ length-append a.first a.rest in
-      let long = text-long notation.big p.encoding.format texts form f.0.0 a.first a.first_is in
+      let long = text-long at notation.big p.encoding.format texts form f.0.0 a.first a.first_is in
       omega (arith, whole, long)
 
-  pub new-files-spelled : (bytes : List ℕ) → file_table_bytes plain notation.big p.encoding.format texts p ≡ Ok bytes
+  pub new-files-spelled : (bytes : List ℕ) → file_table_bytes (counted at) notation.big p.encoding.format texts p ≡ Ok bytes
       → length bytes < 2 ^ 64
       → (table_production notation p.encoding.format).Spells bytes
-      (map read_format (file_formats p), map (file_entry p texts) p.files)
+      (map read_format (file_formats p), map (file_entry at p texts) p.files)
   new-files-spelled bytes is small =
       table_spelled notation p.encoding.format (file_formats p) IsFileReadable
-      (file_entry_bytes plain notation.big p.encoding.format texts p)
-      (file_entry p texts)
+      (file_entry_bytes (counted at) notation.big p.encoding.format texts p)
+      (file_entry at p texts)
       file_spelled file_long p.files bytes (file-formats p)
-      (λ i d lt. (ready.files i d lt, λ wide. (held wide).files i d lt)) is small
+      (λ i d lt. (ready.files i d lt, held.files i d lt)) is small
 
 -- ---- what is read stands for what was built
 
-module _ (sections : Sections) (p : Built) (texts : StringTables)
-    (strings_are : sections.strings ≡ table_bytes texts.strings)
-    (line_strings_are : sections.line_strings ≡ table_bytes texts.line_strings)
+module _ (at : Placement) (sections : Sections) (p : Built) (texts : StringTables)
     (are_texts : AreTexts texts.strings) (are_line_texts : AreTexts texts.line_strings) where
-  text_back : (t : LineText) → IsReady texts t → IsText sections (read_text texts t) (bytes_in texts t)
-  text_back t ready = text-back _ _ strings_are line_strings_are are_texts are_line_texts t ready.within
+  abbrev IsFoundHere : LineText → Type 0
+  IsFoundHere t = IsFound sections at texts t
 
-  pub new-directories-back : (ts : List LineText) → All (IsReady texts) ts
-      → OneByOne (IsDirectory sections texts) (map path_of (map (directory_entry texts) ts)) ts
-  new-directories-back [] all = tt
-  new-directories-back (t ∷ ts) all =
-      (text_back t (All-head (IsReady texts) t _ all), new-directories-back ts (All-tail (IsReady texts) t _ all))
+  text_back : (t : LineText) → IsReady texts t → IsFoundHere t
+      → IsText sections (read_text at texts t) (bytes_in texts t)
+  text_back t ready found = text-back at _ _ are_texts are_line_texts t ready.within found
+
+  pub new-directories-back : (ts : List LineText) → All (IsReady texts) ts → All IsFoundHere ts
+      → OneByOne (IsDirectory sections texts) (map path_of (map (directory_entry at texts) ts)) ts
+  new-directories-back [] all found = tt
+  new-directories-back (t ∷ ts) all found = (
+    text_back t (All-head (IsReady texts) t _ all) (All-head IsFoundHere t _ found),
+    new-directories-back ts (All-tail (IsReady texts) t _ all) (All-tail IsFoundHere t _ found),
+  )
 
   -- what a file keeps in version 5
   stored_new : (d : Details) → nat_le p.encoding.version 4 ≡ false → stored_details p texts d ≡ record {
@@ -227,14 +232,15 @@ module _ (sections : Sections) (p : Built) (texts : StringTables)
   abbrev file_seen : File → ReadFile
   file_seen f =
       file_with p.file_has_timestamp p.file_has_size p.file_has_md5 p.file_has_source
-      (read_text texts f.0.0) f.0.1 f.1.timestamp f.1.size f.1.md5 (read_text texts (source_of p texts f))
+      (read_text at texts f.0.0) f.0.1 f.1.timestamp f.1.size f.1.md5 (read_text at texts (source_of p texts f))
 
   seen_back : (f : File) → nat_le p.encoding.version 4 ≡ false → IsFileReady p texts f
+      → IsOfFile IsFoundHere p texts f
       → IsFile sections p texts (file_seen f) f
-  seen_back f new own =
+  seen_back f new own found =
       let same = stored_new f.1 new in
       record {
-        path = text_back _ own.path;
+        path = text_back _ own.path found.path;
         directory = refl;
         timestamp = sym (ap (λ s. s.timestamp) same);
         size = sym (ap (λ s. s.size) same);
@@ -242,21 +248,23 @@ module _ (sections : Sections) (p : Built) (texts : StringTables)
         source =
             rw (ap (λ s. s.source) same)
             (source_back _ _ _
-            (λ flag. rw (← own.source_bytes flag) (text_back _ (own.source flag))));
+            (λ flag. rw (← own.source_bytes flag) (text_back _ (own.source flag) (found.source flag))));
       }
 
   file_back : (f : File) → nat_le p.encoding.version 4 ≡ false → IsFileReady p texts f
-      → IsFile sections p texts (file_of_entry (file_entry p texts f)) f
-  file_back f new own =
+      → IsOfFile IsFoundHere p texts f
+      → IsFile sections p texts (file_of_entry (file_entry at p texts f)) f
+  file_back f new own found =
       subst (λ r. IsFile sections p texts r f)
       (sym (file-read _ _ _ _
       _ _ _ _ _ _ own.fits.md5))
-      (seen_back f new own)
+      (seen_back f new own found)
 
   pub new-files-back : (fs : List File) → nat_le p.encoding.version 4 ≡ false → All (IsFileReady p texts) fs
-      → OneByOne (IsFile sections p texts) (map file_of_entry (map (file_entry p texts) fs)) fs
-  new-files-back [] new all = tt
-  new-files-back (f ∷ fs) new all = (
-    file_back f new (All-head (IsFileReady p texts) f _ all),
-    new-files-back fs new (All-tail (IsFileReady p texts) f _ all),
+      → All (IsOfFile IsFoundHere p texts) fs
+      → OneByOne (IsFile sections p texts) (map file_of_entry (map (file_entry at p texts) fs)) fs
+  new-files-back [] new all found = tt
+  new-files-back (f ∷ fs) new all found = (
+    file_back f new (All-head (IsFileReady p texts) f _ all) (All-head (IsOfFile IsFoundHere p texts) f _ found),
+    new-files-back fs new (All-tail (IsFileReady p texts) f _ all) (All-tail (IsOfFile IsFoundHere p texts) f _ found),
   )

@@ -1,14 +1,15 @@
 use Rattle.std.proofs.Common.{rules, ◌≡◌, false, subst}
-use Rattle.gimli_bytes.specs.Hand.{plain}
+use Rattle.gimli_bytes.specs.Hand.{plain, unplaced}
 use Rattle.gimli_bytes.specs.Written.{Appends}
 use Rattle.gimli_bytes.specs.Texts.{texts_in}
 use Rattle.gimli_build.specs.Version5Tables.{texts_after}
-use Rattle.gimli_bytes.specs.Relocations.{placed}
+use Rattle.gimli_bytes.specs.Relocations.{placed, counted}
 use Rattle.gimli_build.specs.Linked.{placed_program, SumsFit}
 use Rattle.gimli_build.specs.Unit.{unit_bytes, is_incompatible}
 use Rattle.gimli_build.proofs.building.SourceLemmas.{can-write-after}
 use Rattle.gimli_build.proofs.reading.ReadBack.{appended-back}
-use Rattle.gimli_build.proofs.linking.PlacedUnits.{placed-plain, is-built, can-write}
+use Rattle.gimli_build.proofs.linking.PlacedUnits.{placed-counted, placed-short, is-built, can-write}
+use Rattle.gimli_build.proofs.linking.FoundTexts.{written-held}
 use Rattle.std.proofs.lemmas.Result.{err_from_is_err_and}
 use Rattle.gimli_build.proofs.writing.Writes.{refused_or_memory}
 use Rattle.gimli_build.proofs.refusals.Causes.{cause-is}
@@ -35,12 +36,13 @@ returns-clause-reads_back g c = λ keeps_bytes.
     let appended : Appends (unit_bytes plain big c.args.encoding p texts) (contents c.args.w.now.0)
     (contents c.write_whole.new.w) =
     rw compatible written in
-    rw (same, line_same) (appended-back big c.args.encoding p texts _ _ whole.short
+    rw (same, line_same) (appended-back unplaced big c.args.encoding p texts _ _ whole.short
     (rw c.new-input.ensures.program at whole.built) c.requires (rw same at empty.texts)
-    (rw line_same at empty.line_texts) (rw same at empty.short) (rw line_same at empty.line_short) appended)
+    (rw line_same at empty.line_texts)
+    (λ new i d lt. written-held _ (rw same at empty.short) (rw line_same at empty.line_short) _) appended)
 
 pub returns-clause-linked : goal.returns-clause-linked
-returns-clause-linked g c = λ at completes is_placed fit zero.
+returns-clause-linked g c = λ at completes is_placed fit.
     let big = g.W.Sink.big c.args.w.now.0 in
     let p = c.args.self.now in
     let texts = texts_in c.args.strings.now c.args.line_strings.now in
@@ -56,13 +58,13 @@ returns-clause-linked g c = λ at completes is_placed fit zero.
     rw (c.new-input.ensures.program, c.new-input.ensures.texts, same, line_same, is_placed) at
     (whole.writes.completed at completes) in
     let by_hand : Appends (unit_bytes (placed at) big c.args.encoding p texts) old new = rw compatible written in
-    let appended : Appends (unit_bytes plain big c.args.encoding (placed_program at p) texts) old new =
-    subst (λ r. Appends r old new) (placed-plain at big c.args.encoding p texts sums zero) by_hand in
+    let appended : Appends (unit_bytes (counted at) big c.args.encoding (placed_program at p) texts) old new =
+    subst (λ r. Appends r old new) (placed-counted at big c.args.encoding p texts sums) by_hand in
     rw (same, line_same)
-    (appended-back big c.args.encoding (placed_program at p) texts old new (whole.completed_short at completes)
+    (appended-back at big c.args.encoding (placed_program at p) texts old new (whole.completed_short at completes)
     (is-built at p (rw c.new-input.ensures.program at whole.built)) (can-write at p texts c.requires)
-    (rw same at empty.texts) (rw line_same at empty.line_texts) (rw same at empty.short)
-    (rw line_same at empty.line_short) appended)
+    (rw same at empty.texts) (rw line_same at empty.line_texts) (placed-short at big c.args.encoding p texts sums)
+    appended)
 
 pub returns-in_err-write_whole-clause-writes : goal.returns-in_err-write_whole-clause-writes
 returns-in_err-write_whole-clause-writes g c =

@@ -1,0 +1,5 @@
+use Rattle.gimli_build.proofs.linking.FoundTexts.{placed-found, written-found}
+use Rattle.gimli_build.proofs.laws.texts_are_found.Goals as goal
+
+pub returns : goal.returns
+returns c = record { placed = placed-found; written = written-found }
