@@ -72,9 +72,5 @@ fn signed_7(bits: u8) -> i64
     requires { bits < 128 }
     ensures { result ≡ pos bits -ℤ pos (if nat_le 64 bits then 128 else 0) }
 {
-    if bits < 64 {
-        i64::from(bits)
-    } else {
-        i64::from(bits) - 128
-    }
+    i64::from((bits + 64) % 128) - 64
 }

@@ -342,11 +342,11 @@ impl LineRow {
     fn apply_line_advance(&mut self, line_advance: i64)
         ensures { self.new ≡ record self.old { line = advanced_line line_advance self.old.line } }
     {
+        let mut line = self.line.wrapping_add_signed(line_advance);
         if line_advance < 0 {
-            self.line = self.line.saturating_sub(line_advance.unsigned_abs());
-        } else {
-            self.line = self.line.wrapping_add(line_advance as u64);
+            line = self.line.saturating_sub(line_advance.unsigned_abs());
         }
+        self.line = line;
     }
 
     /// Advances address and op_index by so many operations: the operation advance of DWARF 5,
