@@ -534,8 +534,8 @@ fn can_follow(
     ensures { IsTrue result
         ↔ CanFollow line_encoding previous_offset previous_op_index offset op_index }
 {
-    if is_plain(line_encoding) {
-        return op_index == 0 && previous_offset <= offset;
+    if is_plain_at(line_encoding, op_index) {
+        return previous_offset <= offset;
     }
     let operations = u64::from(line_encoding.maximum_operations_per_instruction);
     if !is_whole(line_encoding, offset) || op_index >= operations || offset < previous_offset {
@@ -549,14 +549,25 @@ fn can_follow(
             <= (u64::MAX - op_index) / operations
 }
 
-/// Whether each byte can begin an instruction, and each instruction is one operation. Both are
-/// asked without a branch between.
-fn is_plain(line_encoding: LineEncoding) -> bool
+/// Whether each byte can begin an instruction, each instruction is one operation, and this is it.
+/// All three are asked by one branch.
+fn is_plain_at(line_encoding: LineEncoding, op_index: u64) -> bool
+    requires { CanEncode line_encoding }
+    ensures { IsTrue result ↔ (line_encoding.minimum_instruction_length ≡ 1)
+        × (line_encoding.maximum_operations_per_instruction ≡ 1) × (op_index ≡ 0) }
+{
+    let length = u64::from(line_encoding.minimum_instruction_length);
+    let operations = u64::from(line_encoding.maximum_operations_per_instruction);
+    (length + operations - 2).max(op_index) == 0
+}
+
+/// Whether each byte can begin an instruction, and each instruction is one operation.
+pub(crate) fn is_plain(line_encoding: LineEncoding) -> bool
     ensures { IsTrue result ↔ (line_encoding.minimum_instruction_length ≡ 1)
         × (line_encoding.maximum_operations_per_instruction ≡ 1) }
 {
-    (line_encoding.minimum_instruction_length == 1)
-        & (line_encoding.maximum_operations_per_instruction == 1)
+    line_encoding.minimum_instruction_length == 1
+        && line_encoding.maximum_operations_per_instruction == 1
 }
 
 /// Whether an offset is a whole number of shortest instructions.

@@ -1,6 +1,7 @@
 //! Rows and ends as instructions. Each instruction is written at once; none is kept.
 
-ghost use Rattle.std.specs.Prelude.{◌≡◌, ℕ, Bool, not, nat_eq, nat_le, if◌then◌else◌, [], ◌∷◌};
+ghost use Rattle.std.specs.Prelude.{◌≡◌, ℕ, Bool, false, not, nat_eq, nat_le, if◌then◌else◌, []};
+ghost use Rattle.std.specs.Prelude.{◌∷◌};
 ghost use Rattle.std.specs.Prelude.{◌++◌, ◌+◌, ◌*◌, ◌<◌, ◌≤◌, ◌^◌, Some, None, IfOk, OnOk, Ok, pos};
 ghost use Rattle.std.specs.Prelude.{◌-ℤ◌, unsigned_abs};
 ghost use Rattle.gimli_build.specs.Conditions.{CanBuild, AreBuilt};
@@ -22,7 +23,7 @@ ghost use Rattle.gimli_line.specs.declared.run.instruction.LineInstruction.TheVa
 };
 
 use crate::built::items::BuiltItem;
-use crate::built::line_program::instruction_count;
+use crate::built::line_program::{instruction_count, is_plain};
 use crate::built::row::LineRow;
 use crate::rows::instruction::{LineInstruction, write_if, write_instruction, write_set_address};
 use gimli_bytes::{Result, Writer};
@@ -50,13 +51,13 @@ pub(crate) fn write_items<W: Writer>(
 {
     let initial = LineRow::initial(encoding, line_encoding);
     let mut previous = &initial;
-    let mut position = (0, 0);
+    let mut place = &initial;
     for item in items {
         let next = next_row(&initial, previous, item);
-        let next_position = item.position();
-        write_item(w, encoding, line_encoding, position, previous, item)?;
+        let next_place = place_after(&initial, item);
+        write_item(w, encoding, line_encoding, place, previous, item)?;
         previous = next;
-        position = next_position;
+        place = next_place;
     }
     Ok(())
 }
@@ -76,67 +77,78 @@ fn next_row<'a>(initial: &'a LineRow, previous: &'a LineRow, item: &'a BuiltItem
     }
 }
 
-/// Appends the instructions of one item that follows `previous`, whose offset and op_index are
-/// `position`.
+/// The row whose position the next item is compared with: an item's own, else the initial one.
+#[inline(always)]
+fn place_after<'a>(initial: &'a LineRow, item: &'a BuiltItem) -> &'a LineRow
+    ensures { (version : ℕ) (is_stmt : Bool) → initial.now ≡ initial_row version is_stmt →
+        (result.now.address_offset, result.now.op_index) ≡ position_after item.now }
+{
+    match item {
+        BuiltItem::Row(row) => row,
+        _ => initial,
+    }
+}
+
+/// Appends the instructions of one item that follows `previous` at the position of `place`.
 #[inline(always)]
 fn write_item<W: Writer>(
     w: &mut W,
     encoding: Encoding,
     line_encoding: LineEncoding,
-    position: (u64, u64),
+    place: &LineRow,
     previous: &LineRow,
     item: &BuiltItem,
 ) -> Result<()>
     requires can { CanEncode line_encoding }
-    requires stands { IsPosition line_encoding position.0 position.1 }
+    requires stands { IsPosition line_encoding place.now.address_offset place.now.op_index }
     requires previous_line { previous.now.line < 2 ^ 63 }
-    requires built { CanBuild line_encoding position item.now }
+    requires built { CanBuild line_encoding (place.now.address_offset, place.now.op_index)
+        item.now }
     ensures writes { Writes W.Sink w.old w.new result
         (λ hand. item_bytes hand (W.big w.old) encoding line_encoding
-        (at_position position previous.now)
-        item.now) }
+        (at_position (place.now.address_offset, place.now.op_index) previous.now) item.now) }
     ensures fit { OnOk result (FitsItem encoding.version item.now) }
 {
     match item {
-        BuiltItem::Row(row) => write_row(w, encoding, line_encoding, position, previous, row),
+        BuiltItem::Row(row) => write_row(w, encoding, line_encoding, place, previous, row),
         BuiltItem::SetAddress(address) => write_set_address(w, address, encoding.address_size),
         BuiltItem::End {
             address_offset,
             op_index,
         } => {
-            let count = operation_advance(&line_encoding, position, *address_offset, *op_index);
+            let count = operation_advance(&line_encoding, place, *address_offset, *op_index);
             write_end(w, count)
         }
     }
 }
 
-/// Appends the instructions of a row that follows `previous`, whose offset and op_index are
-/// `position`. At the start of a sequence, and after a set address in one, both are 0.
+/// Appends the instructions of a row that follows `previous` at the position of `place`. At the
+/// start of a sequence, and after a set address in one, that is the initial row's.
 #[inline(always)]
 pub(crate) fn write_row<W: Writer>(
     w: &mut W,
     encoding: Encoding,
     line_encoding: LineEncoding,
-    position: (u64, u64),
+    place: &LineRow,
     previous: &LineRow,
     row: &LineRow,
 ) -> Result<()>
     requires can { CanEncode line_encoding }
-    requires stands { IsPosition line_encoding position.0 position.1 }
-    requires follows { CanFollow line_encoding position.0 position.1
+    requires stands { IsPosition line_encoding place.now.address_offset place.now.op_index }
+    requires follows { CanFollow line_encoding place.now.address_offset place.now.op_index
         row.now.address_offset row.now.op_index }
     requires previous_line { previous.now.line < 2 ^ 63 }
     requires line { row.now.line < 2 ^ 63 }
     ensures writes { Writes W.Sink w.old w.new result
         (always (Ok (instructions_bytes
-        (row_instructions encoding.version line_encoding (at_position position previous.now)
-        row.now)))) }
+        (row_instructions encoding.version line_encoding
+        (at_position (place.now.address_offset, place.now.op_index) previous.now) row.now)))) }
     ensures fit { OnOk result (FitsInstructions encoding.version row.now) }
 {
     write_marks(w, row)?;
     write_changes(w, encoding.version, previous, row)?;
     let opcode = write_line_advance(w, &line_encoding, line_advance(previous.line, row.line))?;
-    let count = operation_advance(&line_encoding, position, row.address_offset, row.op_index);
+    let count = operation_advance(&line_encoding, place, row.address_offset, row.op_index);
     write_operation_advance(w, &line_encoding, opcode, count)?;
     Ok(())
 }
@@ -153,10 +165,41 @@ pub(crate) fn write_end<W: Writer>(w: &mut W, count: u64) -> Result<()>
 }
 
 /// Appends what stands for the row alone.
+#[inline(always)]
 fn write_marks<W: Writer>(w: &mut W, row: &LineRow) -> Result<()>
     ensures writes { Writes W.Sink w.old w.new result
         (always (Ok (instructions_bytes (marks row.now)))) }
     ensures fit { OnOk result (row.now.discriminator < 2 ^ 64) }
+{
+    if has_marks(row) {
+        write_some_marks(w, row)
+    } else {
+        Ok(())
+    }
+}
+
+/// Whether something stands for the row alone.
+fn has_marks(row: &LineRow) -> bool
+    ensures none { result ≡ false → marks row.now ≡ [] }
+    ensures fit { row.now.discriminator < 2 ^ 64 }
+{
+    row.discriminator != 0 || row.basic_block | row.prologue_end | row.epilogue_begin
+}
+
+/// The same. It is in line, so that what the call leaves has its place in this branch alone.
+#[inline(always)]
+fn write_some_marks<W: Writer>(w: &mut W, row: &LineRow) -> Result<()>
+    ensures { Writes W.Sink w.old w.new result
+        (always (Ok (instructions_bytes (marks row.now)))) }
+{
+    write_each_mark(w, row)
+}
+
+/// The same. Few rows have marks, so it stands apart.
+#[inline(never)]
+fn write_each_mark<W: Writer>(w: &mut W, row: &LineRow) -> Result<()>
+    ensures { Writes W.Sink w.old w.new result
+        (always (Ok (instructions_bytes (marks row.now)))) }
 {
     let discriminator = LineInstruction::SetDiscriminator(row.discriminator);
     write_if(w, row.discriminator != 0, discriminator)?;
@@ -178,12 +221,12 @@ fn write_changes<W: Writer>(
     ensures fit { OnOk result ((file_number version row.now.file < 2 ^ 64)
         × (row.now.column < 2 ^ 64) × (row.now.isa < 2 ^ 64)) }
 {
-    let file = LineInstruction::SetFile(row.file.raw(version));
     write_if(
         w,
         row.is_statement != previous.is_statement,
         LineInstruction::NegateStatement,
     )?;
+    let file = LineInstruction::SetFile(row.file.raw(version));
     write_if(w, row.file != previous.file, file)?;
     write_if(
         w,
@@ -273,21 +316,27 @@ fn maker(line_encoding: &LineEncoding, opcode: u8) -> LineInstruction
     }
 }
 
-/// How many operations an offset and an op_index are after the position of the row before.
+/// How many operations an offset and an op_index are after the position of `place`. Where each
+/// byte is an operation, its bytes are counted.
 fn operation_advance(
     line_encoding: &LineEncoding,
-    position: (u64, u64),
+    place: &LineRow,
     address_offset: u64,
     op_index: u64,
 ) -> u64
     requires can { CanEncode line_encoding.now }
-    requires stands { IsPosition line_encoding.now position.0 position.1 }
-    requires follows { CanFollow line_encoding.now position.0 position.1 address_offset op_index }
-    ensures { result ≡ operations line_encoding.now position.0 position.1 address_offset op_index }
+    requires stands { IsPosition line_encoding.now place.now.address_offset place.now.op_index }
+    requires follows { CanFollow line_encoding.now place.now.address_offset place.now.op_index
+        address_offset op_index }
+    ensures { result ≡ operations line_encoding.now place.now.address_offset place.now.op_index
+        address_offset op_index }
 {
+    if is_plain(*line_encoding) {
+        return address_offset - place.address_offset;
+    }
     let operations = u64::from(line_encoding.maximum_operations_per_instruction);
-    let instructions = instruction_count(*line_encoding, address_offset - position.0);
-    instructions * operations + op_index - position.1
+    let instructions = instruction_count(*line_encoding, address_offset - place.address_offset);
+    instructions * operations + op_index - place.op_index
 }
 
 /// How far a line is after another one.

@@ -9,6 +9,7 @@ ghost use Rattle.gimli_build.specs.Conditions.{CanWrite};
 ghost use Rattle.gimli_build.specs.Cause.{item_cause, text_cause, word_cause};
 ghost use Rattle.gimli_build.specs.Refused.{FindsFirst, cause_of_directory, cause_of_file};
 ghost use Rattle.gimli_build.specs.Refused.{cause_of_item, source_cause, wanted_form};
+ghost use Rattle.gimli_build.specs.Version5Tables.{first_form, sources as sources_of};
 
 use crate::built::items::BuiltItem;
 use crate::built::line_program::LineProgram;
@@ -77,23 +78,26 @@ impl LineProgram {
         ensures { FindsFirst
             (cause_of_file self.now (texts_in strings.now line_strings.now)) result }
     {
+        let sources = source_form(self.tables());
         for index in 0..self.tables().file_count() {
-            if let Some(cause) = self.file_cause(index, line_strings, strings) {
+            if let Some(cause) = self.file_cause(index, sources, line_strings, strings) {
                 return Some((index, cause));
             }
         }
         None
     }
 
-    /// Why the file with an index is refused.
+    /// Why the file with an index is refused, where the first source has the form `sources`.
     fn file_cause(
         &self,
         index: usize,
+        sources: DwForm,
         line_strings: &LineStringTable,
         strings: &StringTable,
     ) -> Option<Error>
         requires can { CanWrite self.now (texts_in strings.now line_strings.now) }
         requires there { index < length self.now.files }
+        requires form { sources.0 ≡ first_form (sources_of self.now.files) }
         ensures { result ≡ cause_of_file self.now (texts_in strings.now line_strings.now) index }
     {
         let tables = self.tables();
@@ -101,7 +105,7 @@ impl LineProgram {
         let form = wanted_form(self.version(), path_form(tables));
         match text_cause(self.format(), form, path, line_strings, strings) {
             Some(cause) => Some(cause),
-            None => self.source_cause(&info.source, line_strings, strings),
+            None => self.source_cause(&info.source, sources, line_strings, strings),
         }
     }
 
@@ -109,11 +113,13 @@ impl LineProgram {
     fn source_cause(
         &self,
         source: &Option<LineString>,
+        sources: DwForm,
         line_strings: &LineStringTable,
         strings: &StringTable,
     ) -> Option<Error>
-        requires { IfSome source.now (λ text.
+        requires within { IfSome source.now (λ text.
             IsWithin (texts_in strings.now line_strings.now) (line_text text)) }
+        requires form { sources.0 ≡ first_form (sources_of self.now.files) }
         ensures { result ≡ source_cause self.now (texts_in strings.now line_strings.now)
             (option_map line_text source.now) }
     {
@@ -121,10 +127,7 @@ impl LineProgram {
             return None;
         }
         match source {
-            Some(text) => {
-                let form = source_form(self.tables());
-                text_cause(self.format(), form, text, line_strings, strings)
-            }
+            Some(text) => text_cause(self.format(), sources, text, line_strings, strings),
             None => None,
         }
     }

@@ -2,8 +2,8 @@ use Rattle.std.proofs.Common.{arith}
 use Rattle.gimli_build.proofs.sizes.Steps.{operations_above}
 use Rattle.gimli_build.proofs.rows.encode.operation_advance.Goals as goal
 
-pub overflow_sub-result : goal.overflow_sub-result
-overflow_sub-result c =
+pub overflow_sub-result-2 : goal.overflow_sub-result-2
+overflow_sub-result-2 c =
     let e = c.args.line_encoding.now in
     let r = c.requires in
     let h =

@@ -1,4 +1,4 @@
-use Rattle.std.proofs.Common.{◌≡◌, ap, ◌<◌, length, ◌∙◌, arith, lit<}
+use Rattle.std.proofs.Common.{◌≡◌, ℕ, ap, ◌<◌, length, ◌∙◌, arith, lit<}
 use Rattle.gimli_build.specs.Rows.{at_position}
 use Rattle.gimli_build.specs.Items.{next_previous}
 use Rattle.gimli_build.proofs.reading.ItemRuns.{start_position}
@@ -26,15 +26,19 @@ loop-item-preserved g c =
     let items = c.args.items.now in
     let item = c.item-item.result in
     let i = c.loop-item.item-index in
-    let previous = at_position c.loop-item.position c.loop-item.previous.now in
+    let place = c.loop-item.place.now in
+    let position : ℕ × ℕ = (place.address_offset, place.op_index) in
+    let previous = at_position position c.loop-item.previous.now in
     let lt : i < length items = omega arith in
     let split = next_left _ i _ lt c.item-item.is in
     let way = rw split at c.loop-item.invariant.way in
     let so = rw split at c.loop-item.invariant.so in
-    let next = c.next_row-next.ensures version e.default_is_stmt c.loop-item.position c.initial-initial.ensures in
-    let moved : at_position c.position-next_position.result c.next_row-next.result.now
+    let next = c.next_row-next.ensures version e.default_is_stmt position c.initial-initial.ensures in
+    let after = c.place_after-next_place.result.now in
+    let moved : at_position (after.address_offset, after.op_index) c.next_row-next.result.now
     ≡ next_previous version e.default_is_stmt previous item =
-    ap (λ p. at_position p c.next_row-next.result.now) c.position-next_position.ensures ∙ next in
+    ap (λ p. at_position p c.next_row-next.result.now)
+    (c.place_after-next_place.ensures version e.default_is_stmt c.initial-initial.ensures) ∙ next in
     record {
       fit =
           rw (taken_next _ i _ lt c.item-item.is)

@@ -9,7 +9,7 @@ abbrev pub invariant-loop-item : goal.invariant-loop-item
 invariant-loop-item g l =
     let big = g.W.Sink.big l.fn.w in
     let e = l.line_encoding in
-    let previous = at_position l.position l.previous in
+    let previous = at_position (l.place.address_offset, l.place.op_index) l.previous in
     let left = drop l.item-index l.items in
     record {
       fit : AreFit l.encoding.version (take l.item-index l.items);
