@@ -1,39 +1,21 @@
 -- What is answered of a unit is what was built.
-use Rattle.std.proofs.Common.{◌≡◌, ℕ, ◌<◌, ◌^◌, Bool, List, [], ◌∷◌, ◌++◌, length, drop, map, refl, sym, ap, ◌∙◌, subst}
-use Rattle.std.specs.Prelude.{Result, Option, Some, None, IfOk, IfErr}
-use Rattle.std.proofs.lemmas.List.{append-nil}
-use Rattle.std.proofs.lemmas.Result.{IfOk-weaker, MatchResult-weaker}
-use Rattle.gimli_core.specs.Notation.{Notation}
-use Rattle.gimli_core.specs.Values.{Value}
-use Rattle.gimli_core.specs.declared.error.Error.{Error}
-use Rattle.gimli_bytes.specs.Texts.{StringTables}
-use Rattle.gimli_line.specs.header.Header.{Header, UnitEntry}
-use Rattle.gimli_line.specs.header.HeaderGrammar.{SpellsUnit}
-use Rattle.gimli_line.specs.header.File.{File as ReadFile}
-use Rattle.gimli_line.specs.run.Events.{Event, row, fault, Events, program_events}
-use Rattle.gimli_line.specs.declared.run.row.LineRow.{LineRow as ReadRow}
-use Rattle.gimli_line.proofs.HeaderLaws.{one_header}
-use Rattle.gimli_line.proofs.InstructionLaws.{one_decoding}
-use Rattle.gimli_build.specs.LineText.{bytes_in}
+use Rattle.gimli_write.proofs.Common
+use Common.{◌≡◌, ℕ, ◌<◌, ◌^◌, Bool, List, [], ◌∷◌, ◌++◌, length, drop, map, refl, sym, ap, ◌∙◌, subst, Result, Option}
+use Common.{Some, None, IfOk, IfErr, append-nil, IfOk-weaker, MatchResult-weaker, Notation, Value, Error, StringTables}
+use Common.{Header, UnitEntry, SpellsUnit, ReadFile, Event, row, fault, Events, program_events, ReadRow, one_header}
+use Common.{one_decoding, bytes_in, Built, AddressesFit, RowsMatch, Sections, IsText, IsOptionalText, OneByOne}
+use Common.{ConvertError, Read, NoMemory, RoundTrip, FileAnswer, file_answer, built_file, Answers, IsFileAnswer}
+use Common.{AreAnswers, AnswersUnit, AnswersProgram, IsRunRefusal, RefusesUnit, slice_notation, unit_entry_of}
+use Common.{sections_of}
 use Rattle.gimli_build.specs.Tables.{File}
-use Rattle.gimli_build.specs.Built.{Built}
-use Rattle.gimli_build.specs.Items.{AddressesFit}
-use Rattle.gimli_build.specs.SameRow.{RowsMatch}
-use Rattle.gimli_build.specs.Texts.{Sections, IsText, IsOptionalText, OneByOne}
 use Rattle.gimli_build.specs.ReadsBack.{IsUnit, IsFile, ReadsBack, ReadsBackAs}
-use Rattle.gimli_write.specs.declared.convert_error.ConvertError.{ConvertError}
-use Rattle.gimli_write.specs.declared.convert_error.ConvertError.TheVariants.{Read, OutOfMemory as NoMemory}
-use Rattle.gimli_write.specs.declared.read_back.RoundTrip.{RoundTrip}
-use Rattle.gimli_write.specs.RoundTrip.{FileAnswer, file_answer, built_file, Answers, IsFileAnswer, AreAnswers}
-use Rattle.gimli_write.specs.RoundTrip.{AnswersUnit, AnswersProgram}
-use Rattle.gimli_write.specs.RoundTrip.{IsRunRefusal, RefusesUnit, slice_notation, unit_entry_of, sections_of}
 use Rattle.gimli_write.proofs.ReadTexts.{text_there}
 use Rattle.gimli_write.proofs.ReadUnits.{read_back, AreShort}
 
 -- ---- one text
 
 -- a value stands for one text
-text_same : (s : Sections) (v : Value) (text other : List ℕ) → IsText s v text → IsText s v other → other ≡ text
+pub text_same : (s : Sections) (v : Value) (text other : List ℕ) → IsText s v text → IsText s v other → other ≡ text
 text_same s v text other is also = let both = sym (text_there s v _ also) ∙ text_there s v _ is in cc
 
 optional_same : (s : Sections) (v : Option Value) (text other : Option (List ℕ)) → IsOptionalText s v text

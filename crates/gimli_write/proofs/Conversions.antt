@@ -1,29 +1,15 @@
 -- A conversion, one read after the other.
-use Rattle.std.proofs.Common.{◌≡◌, ℕ, true, false, not, ◌&&◌, if◌then◌else◌, List, [], ◌∷◌, refl, sym, ap, ◌∙◌, subst}
-use Rattle.std.proofs.Common.{inl, inr}
-use Rattle.std.specs.Prelude.{Option, Some, None, Result, Ok, Err, is_err, is_some}
-use Rattle.gimli_core.specs.declared.error.Error.{Error}
-use Rattle.gimli_core.specs.Values.{Value}
-use Rattle.gimli_line.specs.header.File.{File}
-use Rattle.gimli_line.specs.header.Header.{Header}
-use Rattle.gimli_line.specs.run.Instruction.{Ins}
-use Rattle.gimli_build.specs.Texts.{Sections}
-use Rattle.gimli_write.specs.declared.convert_error.ConvertError.{ConvertError}
-use Rattle.gimli_write.specs.convert.Texts.{◌>>=◌, IsRefusedBy}
-use Rattle.gimli_write.specs.convert.SourceTables.{SourceTables, TablesAndTexts, tables_with, with_path}
-use Rattle.gimli_write.specs.convert.SourceTables.{directory_added, FileParts}
-use Rattle.gimli_write.specs.convert.SourceTables.{with_parts, file_added, all_added}
-use Rattle.gimli_write.specs.convert.Preparation.{Handed, tables_of_header, start_of_tables, first_texts, encoding_of}
-use Rattle.gimli_write.specs.convert.Items.{Reading, stops, defines, offers, file_id, row_in, built_row, row_offered}
-use Rattle.gimli_write.specs.convert.Items.{row_or_end_offered, defines_first}
-use Rattle.gimli_write.specs.convert.Items.{after_definitions}
-use Rattle.gimli_write.specs.declared.convert.run.SourceRow.{SourceRow}
-use Rattle.gimli_write.specs.declared.convert.rows.ConvertLineRow.TheVariants.{Row, EndSequence}
-use Rattle.gimli_write.specs.convert.SourceRun.{SourceRun, reading_from, reading_upon, reading_left}
+use Rattle.gimli_write.proofs.Common
+use Common.{◌≡◌, ℕ, true, false, not, ◌&&◌, if◌then◌else◌, List, [], ◌∷◌, refl, sym, ap, ◌∙◌, subst, inl, inr, Option}
+use Common.{Some, None, Result, Ok, Err, is_err, is_some, Error, File, Header, Ins, Sections, ConvertError, ◌>>=◌}
+use Common.{IsRefusedBy, SourceTables, TablesAndTexts, tables_with, with_path, directory_added, FileParts, with_parts}
+use Common.{file_added, Handed, tables_of_header, start_of_tables, first_texts, encoding_of, Reading, stops, defines}
+use Common.{offers, file_id, row_in, built_row, row_offered, row_or_end_offered, defines_first, after_definitions}
+use Common.{SourceRow, Row, SourceRun, reading_from, reading_upon, reading_left, final_tables_of_source, final_tables}
+use Common.{Conversion, without_built, IsReadRefusal, file_parts, version_of, source_path}
+use Rattle.gimli_write.specs.declared.convert.rows.ConvertLineRow.TheVariants.{EndSequence}
 use Rattle.gimli_write.specs.convert.TablesAtEnd.{lacks_file, tables_after_row}
-use Rattle.gimli_write.specs.convert.KeptTables.{final_tables_of_source, final_tables}
-use Rattle.gimli_write.specs.convert.Conversion.{Conversion, without_built, IsReadRefusal}
-use Rattle.gimli_write.proofs.MappedTables.{took, same_ok, is_prepared}
+use Rattle.gimli_write.proofs.MappedTables.{took, same_ok, is_prepared, all_added_keeps}
 
 -- ---- tables without what is built
 
@@ -35,16 +21,6 @@ plain_file s tables f = by _
         → (r >>= λ parts. Ok (with_parts (without_built tables) f parts))
         ≡ ((r >>= λ parts. Ok (with_parts tables f parts)) >>= λ next. Ok (without_built next))
     by (Ok parts) = refl
-    by (Err e) = refl
-
-pub plain_directory : (s : Sections) (tables : TablesAndTexts) (v : Value)
-    → directory_added s (without_built tables) v ≡ (directory_added s tables v >>= λ next. Ok (without_built next))
-plain_directory s tables v = by _
-  where
-    by : (r : Result (List ℕ) ConvertError)
-        → (r >>= λ path. Ok (with_path (without_built tables) path))
-        ≡ ((r >>= λ path. Ok (with_path tables path)) >>= λ next. Ok (without_built next))
-    by (Ok path) = refl
     by (Err e) = refl
 
 -- ---- a file that is defined
@@ -79,22 +55,8 @@ module _ (sections : Sections) (s : SourceRun) (tables : TablesAndTexts) (f : Fi
 
 -- ---- the tables of a header have nothing built
 
-module _ {A : Type 0} (add : TablesAndTexts → A → Result TablesAndTexts ConvertError)
-    (commutes : (tables : TablesAndTexts) (x : A)
-    → add (without_built tables) x ≡ (add tables x >>= λ next. Ok (without_built next))) where
-  one_plain : (tables next : TablesAndTexts) (x : A) → without_built tables ≡ tables → add tables x ≡ Ok next
-      → without_built next ≡ next
-  one_plain tables next x is added =
-      same_ok _ _
-      (sym (commutes tables x ∙ ap (λ r. r >>= λ n. Ok (without_built n)) added)
-      ∙ ap (λ l. add l x) is ∙ added)
-
-  all_plain : (xs : List A) (tables next : TablesAndTexts) → without_built tables ≡ tables
-      → all_added add xs tables ≡ Ok next → without_built next ≡ next
-  all_plain [] tables next is added = subst (λ l. without_built l ≡ l) (same_ok _ _ added) is
-  all_plain (x ∷ xs) tables next is added =
-      let one = took _ _ _ added in
-      all_plain xs one.0 next (one_plain _ _ x is one.1) one.2
+abbrev IsPlain : TablesAndTexts → Type 0
+IsPlain tables = without_built tables ≡ tables
 
 pub prepared_plain : (sections : Sections) (h : Header) (given : Handed) (line_strings : List (List ℕ))
     (tables : TablesAndTexts)
@@ -102,12 +64,18 @@ pub prepared_plain : (sections : Sections) (h : Header) (given : Handed) (line_s
 prepared_plain sections h given line_strings tables is =
     let encoding = encoding_of h given in
     let p = is_prepared sections h given line_strings tables is in
-    let begun =
-    start_of_tables encoding p.line_encoding h (first_texts encoding.version line_strings p.directory p.file) in
-    all_plain (file_added sections) (plain_file sections) h.files p.with_directories tables
-    (all_plain (directory_added sections) (plain_directory sections) h.directories begun p.with_directories refl
-    p.directories)
-    p.files
+    all_added_keeps IsPlain (file_added sections)
+    (λ l n f added plain.
+    let t = took (file_parts (version_of l) sections l.directory_ids f) (λ parts. Ok (with_parts l f parts)) n added in
+    subst IsPlain (same_ok (with_parts l f t.0) n t.2) (ap (λ (x : TablesAndTexts). with_parts x f t.0) plain))
+    h.files p.with_directories tables p.files
+    (all_added_keeps IsPlain (directory_added sections)
+    (λ l n v added plain.
+    let t = took (source_path (version_of l) sections v) (λ path. Ok (with_path l path)) n added in
+    subst IsPlain (same_ok (with_path l t.0) n t.2) (ap (λ (x : TablesAndTexts). with_path x t.0) plain))
+    h.directories
+    (start_of_tables encoding p.line_encoding h (first_texts encoding.version line_strings p.directory p.file))
+    p.with_directories p.directories refl)
 
 -- ---- rows
 

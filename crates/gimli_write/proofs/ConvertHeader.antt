@@ -1,13 +1,7 @@
 -- The steps that a header is prepared by, one after the other.
-use Rattle.std.proofs.Common.{◌≡◌, ℕ, List, sym, ap, ◌∙◌}
-use Rattle.std.specs.Prelude.{Result, Ok}
-use Rattle.gimli_core.specs.declared.common.Encoding.{Encoding}
-use Rattle.gimli_line.specs.header.Header.{Header}
-use Rattle.gimli_build.specs.Texts.{Sections}
-use Rattle.gimli_write.specs.declared.convert_error.ConvertError.{ConvertError}
-use Rattle.gimli_write.specs.convert.Texts.{◌>>=◌, IsRefusedBy}
-use Rattle.gimli_write.specs.convert.SourceTables.{TablesAndTexts}
-use Rattle.gimli_write.specs.convert.Preparation.{Handed, encoding_of, tables_at_start, lists_added, tables_of_header}
+use Rattle.gimli_write.proofs.Common
+use Common.{◌≡◌, ℕ, List, sym, ap, ◌∙◌, Result, Ok, Encoding, Header, Sections, ConvertError, ◌>>=◌, IsRefusedBy}
+use Common.{TablesAndTexts, Handed, encoding_of, tables_at_start, lists_added, tables_of_header}
 use Rattle.gimli_write.proofs.ConvertSteps.{done_first, refused_first, refused_same}
 
 -- ---- two steps that don't ask for each other, and what follows them

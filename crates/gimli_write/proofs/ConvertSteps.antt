@@ -1,20 +1,10 @@
 -- Steps of a conversion, one after the other.
-use Rattle.std.proofs.Common.{◌≡◌, ℕ, ◌+◌, ◌<◌, List, [], ◌∷◌, ◌++◌, length, map, drop, get_or, refl, sym, ap, ◌∙◌, inl}
-use Rattle.std.proofs.Common.{inr}
-use Rattle.std.specs.Prelude.{Result, Ok, Option, Some, option_map}
-use Rattle.std.specs.Option.{option_map_or}
-use Rattle.std.proofs.lemmas.List.{at_drop_more}
-use Rattle.std.proofs.lemmas.Option.{slice_get_within, slice_get-get_or}
-use Rattle.gimli_core.specs.Values.{Value}
-use Rattle.gimli_line.specs.header.File.{File}
-use Rattle.gimli_bytes.specs.Texts.{KeepsTexts}
-use Rattle.gimli_build.specs.LineText.{LineText, made_text, made_table}
-use Rattle.gimli_build.specs.Tables.{with_directory, index_of_directory, with_file, index_of_file}
-use Rattle.gimli_build.specs.Texts.{Sections}
-use Rattle.gimli_write.specs.declared.convert_error.ConvertError.{ConvertError}
-use Rattle.gimli_write.specs.convert.Texts.{◌>>=◌, IsRefusedBy, source_path}
-use Rattle.gimli_write.specs.convert.SourceTables.{TablesAndTexts, version_of, directory_added, FileParts, with_parts}
-use Rattle.gimli_write.specs.convert.SourceTables.{all_added}
+use Rattle.gimli_write.proofs.Common
+use Common.{◌≡◌, ℕ, ◌+◌, ◌<◌, List, [], ◌∷◌, ◌++◌, length, map, drop, get_or, refl, sym, ap, ◌∙◌, inl, inr, Result, Ok}
+use Common.{Option, Some, option_map, option_map_or, at_drop_more, slice_get_within, slice_get-get_or, Value, File}
+use Common.{KeepsTexts, LineText, made_text, made_table, with_directory, index_of_directory, with_file, index_of_file}
+use Common.{Sections, ConvertError, ◌>>=◌, IsRefusedBy, source_path, TablesAndTexts, version_of, directory_added}
+use Common.{FileParts, with_parts, all_added}
 
 -- ---- one step and the next
 

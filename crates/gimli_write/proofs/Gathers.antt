@@ -1,18 +1,11 @@
 -- Sequences that are read, row by row.
-use Rattle.std.proofs.Common.{◌≡◌, ℕ, false, nat_eq, List, [], ◌∷◌, ◌++◌, length, refl, sym, ap, ◌∙◌, inl, inr}
-use Rattle.std.specs.Prelude.{Option, Some, None, Ok, Err}
-use Rattle.gimli_build.specs.Built.{Built}
-use Rattle.gimli_build.specs.declared.built.row.LineRow.{LineRow}
-use Rattle.gimli_write.specs.declared.convert.rows.ConvertLineRow.TheVariants.{SetAddress, Row}
-use Rattle.gimli_write.specs.convert.SourceTables.{TablesAndTexts}
-use Rattle.gimli_write.specs.convert.Items.{Reading, ends, stops, defines, offers, address_offered, after_definitions}
-use Rattle.gimli_write.specs.convert.Sequences.{sequence_from, sequence_with}
-use Rattle.gimli_write.specs.convert.Texts.{IsRefusedBy}
-use Rattle.gimli_write.specs.convert.Conversion.{Conversion, tables_of, version_of_source, after_held, unless_failed}
-use Rattle.gimli_write.specs.convert.Conversion.{source_left, still_to_read, IsReadRefusal}
-use Rattle.gimli_write.specs.convert.Conversion.{AddsFiles}
-use Rattle.gimli_write.specs.declared.convert_error.ConvertError.{ConvertError}
-use Rattle.gimli_write.specs.declared.convert_error.ConvertError.TheVariants.{MissingLineEndSequence}
+use Rattle.gimli_write.proofs.Common
+use Common.{◌≡◌, ℕ, false, nat_eq, List, [], ◌∷◌, ◌++◌, length, refl, sym, ap, ◌∙◌, inl, inr, Option, Some, None, Ok}
+use Common.{Err, Built, LineRow, Row, TablesAndTexts, Reading, ends, stops, defines, offers, address_offered}
+use Common.{after_definitions, sequence_from, sequence_with, IsRefusedBy, Conversion, tables_of, version_of_source}
+use Common.{after_held, unless_failed, source_left, still_to_read, IsReadRefusal, AddsFiles, ConvertError}
+use Common.{MissingLineEndSequence}
+use Rattle.gimli_write.specs.declared.convert.rows.ConvertLineRow.TheVariants.{SetAddress}
 use Rattle.gimli_write.specs.declared.convert.rows.ConvertLineSequenceEnd.TheVariants.{Address}
 
 -- files that are defined give no row

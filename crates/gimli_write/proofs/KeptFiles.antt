@@ -1,11 +1,7 @@
 -- Files that were there keep their ids and their numbers.
-use Rattle.std.proofs.Common.{◌++◌, List, [], ◌∷◌, refl, sym, ap, ◌∙◌, arith}
-use Rattle.std.specs.Prelude.{Some}
-use Rattle.std.proofs.lemmas.List.{length-append, get_or_append_left}
-use Rattle.std.proofs.lemmas.Option.{slice_get-get_or}
-use Rattle.gimli_build.specs.Tables.{Keeps}
-use Rattle.gimli_write.specs.convert.SourceTables.{SourceTables}
-use Rattle.gimli_write.specs.convert.KeptTables.{KeepsFiles}
+use Rattle.gimli_write.proofs.Common
+use Common.{◌++◌, List, [], ◌∷◌, refl, sym, ap, ◌∙◌, arith, Some, length-append, get_or_append_left, slice_get-get_or}
+use Common.{Keeps, SourceTables, KeepsFiles}
 
 module _ {A : Type 0} where
   pub keeps_self : (xs : List A) → Keeps xs xs

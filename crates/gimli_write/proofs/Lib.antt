@@ -1,8 +1,9 @@
+pub mod Common
 pub mod ReadTexts
 pub mod ReadRuns
 pub mod ReadUnits
 pub mod RoundTrips
-mod BuiltAnswers
+pub mod BuiltAnswers
 pub mod ConvertSteps
 pub mod ConvertHeader
 pub mod SourceReadings

@@ -1,19 +1,12 @@
 -- Addresses of a source by looking back: where rows stand, and from where their offsets count.
-use Rattle.std.proofs.Common.{◌≡◌, ℕ, ◌+◌, ◌-◌, ◌*◌, ◌<◌, ◌≤◌, Bool, true, false, not, ◌||◌, ◌&&◌, if◌then◌else◌, List}
-use Rattle.std.proofs.Common.{[], ◌∷◌, refl, sym, ap, ◌∙◌, arith}
-use Rattle.std.specs.Prelude.{nat_lt, nat_le, Some, None}
-use Rattle.std.proofs.lemmas.Bool.{ltb-false, leb-false, or_parts, or_left, not_from_false}
+use Rattle.gimli_write.proofs.Common
+use Common.{◌≡◌, ℕ, ◌+◌, ◌-◌, ◌*◌, ◌<◌, ◌≤◌, Bool, true, false, not, ◌||◌, ◌&&◌, if◌then◌else◌, List, [], ◌∷◌, refl}
+use Common.{sym, ap, ◌∙◌, arith, nat_lt, nat_le, Some, None, ltb-false, leb-false, or_parts, or_left, not_from_false}
+use Common.{Special, Copy, AdvancePc, ConstAddPc, FixedAddPc, EndSequence, SetAddress, Parameters, Ins, is_end}
+use Common.{makes_row, row_at, OperationPointer, address_limit, is_tombstone, is_too_large, advanced_by}
+use Common.{pointer_at_overflow, next_pointer, pointer_at, is_under_tombstone, base_at, pending_address}
 use Rattle.std.proofs.lemmas.Nat.{pow_pos}
-use Rattle.gimli_line.specs.declared.run.instruction.LineInstruction.TheVariants.{Special, Copy, AdvancePc, ConstAddPc}
-use Rattle.gimli_line.specs.declared.run.instruction.LineInstruction.TheVariants.{FixedAddPc, EndSequence, SetAddress}
-use Rattle.gimli_line.specs.header.Parameters.{Parameters}
-use Rattle.gimli_line.specs.run.Instruction.{Ins, is_end, makes_row}
-use Rattle.gimli_line.specs.run.Events.{row_at}
-use Rattle.gimli_line.specs.run.OperationPointer.{OperationPointer, address_limit, is_tombstone, is_too_large}
-use Rattle.gimli_line.specs.run.OperationPointer.{advanced_by, pointer_at_overflow, next_pointer}
-use Rattle.gimli_line.specs.run.OperationPointer.{pointer_at, is_under_tombstone}
 use Rattle.gimli_line.proofs.NonDecreasingLaws.{rises}
-use Rattle.gimli_write.specs.convert.Items.{base_at, pending_address}
 use Rattle.gimli_write.specs.convert.Mapped.{gave_row}
 
 -- ---- addresses are below their limit

@@ -1,42 +1,23 @@
 -- The directories of a conversion: each id of a directory of the source is that of its path.
-use Rattle.std.proofs.Common.{◌≡◌, ℕ, zero, suc, ◌+◌, Bool, true, false, if◌then◌else◌, List, [], ◌∷◌, ◌++◌, length}
-use Rattle.std.proofs.Common.{refl, sym, ap, subst, ◌∙◌, arith, inl, inr}
-use Rattle.std.proofs.Common.{append_assoc, length-append}
-use Rattle.std.specs.Prelude.{◌⊎◌, nat_le, Option, Some, None, option_map, slice_get, Result, Ok, Err}
-use Rattle.std.specs.List.{list_any}
-use Rattle.std.specs.Option.{option_map_or}
+use Rattle.gimli_write.proofs.Common
+use Common.{◌≡◌, ℕ, zero, suc, ◌+◌, Bool, true, false, if◌then◌else◌, List, [], ◌∷◌, ◌++◌, length, refl, sym, ap, subst}
+use Common.{◌∙◌, arith, inl, inr, append_assoc, ◌⊎◌, nat_le, Option, Some, None, option_map, slice_get, Result, Ok, Err}
+use Common.{list_any, option_map_or, Value, Error, Encoding, LineEncoding, File, Header, directory_of, from_one}
+use Common.{LineText, line_text_eq, made_text, made_table, with_directory, index_of_directory, Sections, IsText}
+use Common.{text_of, Read, MissingCompilationDirectory, InvalidAttributeValue, ◌>>=◌, without_zero, source_text}
+use Common.{source_path, TablesAndTexts, version_of, with_path, directory_added, file_parts, with_parts, file_added}
+use Common.{all_added, SourceFile, first_path, working_directory, first_texts, start_of_tables, first_ids, Handed}
+use Common.{encoding_of, needed_from_5}
+use Rattle.std.proofs.Common.{length-append}
 use Rattle.std.specs.Result.{result_map_both}
-use Rattle.std.proofs.lemmas.Bool.{or_left}
-use Rattle.gimli_core.specs.Values.{Value}
-use Rattle.gimli_core.specs.declared.error.Error.{Error}
 use Rattle.gimli_core.specs.declared.attribute_value.AttributeValue.TheVariants.{String, DebugStrRefSup}
-use Rattle.gimli_core.specs.declared.common.Encoding.{Encoding}
-use Rattle.gimli_core.specs.declared.common.LineEncoding.{LineEncoding}
-use Rattle.gimli_line.specs.header.File.{File}
-use Rattle.gimli_line.specs.header.Header.{Header, directory_of, from_one}
-use Rattle.gimli_build.specs.LineText.{LineText, line_text_eq, made_text, made_table}
-use Rattle.gimli_build.specs.Tables.{with_directory, index_of_directory}
 use Rattle.gimli_build.specs.FirstTables.{first_directories}
-use Rattle.gimli_build.specs.Texts.{Sections, IsText}
 use Rattle.gimli_build.proofs.building.TableLemmas.{directory_found}
-use Rattle.gimli_write.specs.TextReading.{text_of}
-use Rattle.gimli_write.specs.declared.convert_error.ConvertError.TheVariants.{
-  Read,
-  MissingCompilationDirectory,
-  InvalidAttributeValue,
-}
-use Rattle.gimli_write.specs.convert.Texts.{◌>>=◌, without_zero, source_text, source_path}
-use Rattle.gimli_write.specs.convert.SourceTables.{TablesAndTexts, version_of, with_path, directory_added, file_parts}
-use Rattle.gimli_write.specs.convert.SourceTables.{with_parts, file_added, all_added}
 use Rattle.gimli_write.specs.convert.Mapped.{IsDirectoryPath}
-use Rattle.gimli_write.specs.convert.Preparation.{SourceFile, first_path, working_directory, first_texts}
-use Rattle.gimli_write.specs.convert.Preparation.{start_of_tables, first_ids, Handed, encoding_of}
-use Rattle.gimli_write.specs.convert.Preparation.{needed_from_5}
 use Rattle.gimli_write.proofs.ReadTexts.{text_read}
 use Rattle.gimli_write.proofs.MappedTables.{took, same_ok, sources_table, IsPrepared}
 use Rattle.gimli_write.proofs.MappedTexts.{grown_index, grown_any, own_index, own_any, same_text, IsMade, HasMade}
-use Rattle.gimli_write.proofs.MappedTexts.{has_itself, has_then, is_made, is_same}
-use Rattle.gimli_write.proofs.MappedTexts.{table_has, made_differ}
+use Rattle.gimli_write.proofs.MappedTexts.{has_itself, has_then, is_made, is_same, table_has, made_differ}
 
 -- ---- texts of a source
 
@@ -118,23 +99,24 @@ grown_cases (z ∷ xs) x y (suc i) is =
 
 -- ---- one directory
 
+-- a directory of this text has this id
+pub record IsAt (directories : List LineText) (t : LineText) (id : ℕ) : Type 0 where
+  pub present : list_any (line_text_eq t) directories ≡ true
+  pub index : id ≡ index_of_directory directories t
+
 -- an id is that of the directory with this path
 pub record IsDirectoryId (version : ℕ) (line_strings : List (List ℕ)) (directories : List LineText) (path : List ℕ)
     (id : ℕ) : Type 0 where
   pub made : IsMade version line_strings path
-  pub present : list_any (line_text_eq (made_text version line_strings path)) directories ≡ true
-  pub index : id ≡ index_of_directory directories (made_text version line_strings path)
+  pub at : IsAt directories (made_text version line_strings path) id
 
-pub longer_texts : (version : ℕ) (old new : List (List ℕ)) (directories : List LineText) (path : List ℕ) (id : ℕ)
+longer_texts : (version : ℕ) (old new : List (List ℕ)) (directories : List LineText) (path : List ℕ) (id : ℕ)
     → HasMade version old new
     → IsDirectoryId version old directories path id → IsDirectoryId version new directories path id
-longer_texts version old new directories path id has so =
-    let same = sym (has.same path so.made) in
-    record {
-      made = has.there path so.made;
-      present = subst (λ t. list_any (line_text_eq t) directories ≡ true) same so.present;
-      index = subst (λ t. id ≡ index_of_directory directories t) same so.index;
-    }
+longer_texts version old new directories path id has so = record {
+  made = has.there path so.made;
+  at = subst (λ (t : LineText). IsAt directories t id) (sym (has.same path so.made)) so.at;
+}
 
 more_directories : (version : ℕ) (line_strings : List (List ℕ)) (directories : List LineText) (t : LineText)
     (path : List ℕ) (id : ℕ)
@@ -144,8 +126,29 @@ more_directories version line_strings directories t path id so =
     let test = line_text_eq (made_text version line_strings path) in
     record {
       made = so.made;
-      present = grown_any test _ _ t so.present;
-      index = so.index ∙ sym (grown_index test _ _ t so.present);
+      at = record {
+        present = grown_any test _ _ t so.at.present;
+        index = so.at.index ∙ sym (grown_index test _ _ t so.at.present);
+      };
+    }
+
+-- one that is added has its id
+new_id : (version : ℕ) (line_strings : List (List ℕ)) (directories : List LineText) (path : List ℕ)
+    → (let text = made_text version line_strings path in
+    IsDirectoryId version (made_table version line_strings path) (with_directory directories text) path
+    (index_of_directory directories text))
+new_id version line_strings directories path =
+    let text = made_text version line_strings path in
+    let there = list_any (line_text_eq text) directories in
+    record {
+      made = is_made version line_strings path;
+      at =
+          subst (λ (t : LineText). IsAt (with_directory directories text) t (index_of_directory directories text))
+          (sym (is_same version line_strings path))
+          (record {
+            present = own_any (line_text_eq text) there directories text refl (same_text text);
+            index = sym (own_index (line_text_eq text) there directories text refl (same_text text));
+          });
     }
 
 -- it is found there
@@ -155,9 +158,9 @@ pub directory_there : (version : ℕ) (line_strings : List (List ℕ)) (director
     → slice_get directories id ≡ Some (made_text version line_strings path)
 directory_there version line_strings directories path id so =
     let t = made_text version line_strings path in
-    ap (slice_get directories) so.index
+    ap (slice_get directories) so.at.index
     ∙ subst (λ ds. slice_get ds (index_of_directory directories t) ≡ Some t)
-    (ap (λ b. if b then directories else directories ++ t ∷ []) so.present) (directory_found _ t)
+    (ap (λ b. if b then directories else directories ++ t ∷ []) so.at.present) (directory_found _ t)
 
 -- so one id has one path
 pub one_path : (version : ℕ) (line_strings : List (List ℕ)) (directories : List LineText) (a b : List ℕ) (id : ℕ)
@@ -194,23 +197,7 @@ module _ (sections : Sections) (h : Header) where
       let path = t.0 in
       let after = made_table version tables.line_strings path in
       let text = made_text version tables.line_strings path in
-      let same : made_text version after path ≡ text = is_same version tables.line_strings path in
-      let there = list_any (line_text_eq text) tables.program.directories in
-      let new : IsDirectoryId version after (with_directory tables.program.directories text) path
-      (index_of_directory tables.program.directories text) =
-      record {
-        made = is_made version tables.line_strings path;
-        present =
-            subst (λ (x : LineText). list_any (line_text_eq x) (with_directory tables.program.directories text) ≡ true)
-            (sym same)
-            (own_any (line_text_eq text) there tables.program.directories text refl (same_text text));
-        index =
-            subst (λ (x : LineText).
-            index_of_directory tables.program.directories text
-            ≡ index_of_directory (with_directory tables.program.directories text) x)
-            (sym same)
-            (sym (own_index (line_text_eq text) there tables.program.directories text refl (same_text text)));
-      } in
+      let new = new_id version tables.line_strings tables.program.directories path in
       let read : IsText sections v path = text_read sections v path (source_path_of version sections v path t.1) in
       subst (λ (l : TablesAndTexts).
       AreDirectories sections h l × (length l.directory_ids ≡ length tables.directory_ids + 1))
@@ -288,20 +275,6 @@ module _ (sections : Sections) (h : Header) where
       own : Option LineText
       own = (first_texts encoding.version line_strings directory file).source_directory
 
-      alone : IsDirectoryId encoding.version (made_table encoding.version line_strings directory)
-          (made_text encoding.version line_strings directory ∷ [])
-          directory 0
-      alone =
-          let t = made_text encoding.version line_strings directory in
-          let same = sym (is_same encoding.version line_strings directory) in
-          let found : list_any (line_text_eq t) (t ∷ []) ≡ true = or_left _ _ (same_text t) in
-          let at : 0 ≡ index_of_directory (t ∷ []) t = rw (same_text t) refl in
-          record {
-            made = is_made encoding.version line_strings directory;
-            present = subst (λ x. list_any (line_text_eq x) (t ∷ []) ≡ true) same found;
-            index = subst (λ x. 0 ≡ index_of_directory (t ∷ []) x) same at;
-          }
-
       with_own : (last : List (List ℕ)) (working : LineText) (own : Option LineText) (old : Bool)
           → IsDirectoryId encoding.version last (working ∷ []) directory 0
           → IsDirectoryId encoding.version last
@@ -327,7 +300,7 @@ module _ (sections : Sections) (h : Header) where
                 zero_is
                 (with_own _ _ _ _
                 (longer_texts _ _ _ _ _ 0 (table_has encoding.version third file.path)
-                (longer_texts _ _ _ _ _ 0 (sources_has _ _ _) alone))),
+                (longer_texts _ _ _ _ _ 0 (sources_has _ _ _) (new_id encoding.version line_strings [] directory)))),
           )
       each true (suc d) id at = absurd cc
       each false d id at = absurd cc

@@ -1,33 +1,19 @@
 -- The files of a conversion: each id of a file of the source is that of its paths, with what is known of the last file
 -- that has them.
-use Rattle.std.proofs.Common.{◌≡◌, ◌≢◌, ℕ, zero, suc, ◌+◌, ◌<◌, Bool, true, false, not, cond, ◌||◌, if◌then◌else◌, List}
-use Rattle.std.proofs.Common.{[], ◌∷◌, ◌++◌, length, refl, sym, ap}
-use Rattle.std.proofs.Common.{subst, ◌∙◌, inl, inr, append_assoc}
-use Rattle.std.specs.Prelude.{◌⊎◌, nat_eq, Option, Some, None, option_map, slice_get, Ok, bytes_eq, IfSome}
-use Rattle.std.specs.List.{list_any, position_or_len, AllByRecursion}
-use Rattle.std.proofs.lemmas.Bool.{true≢false, eqb-true, eq-eqb}
-use Rattle.std.proofs.lemmas.List.{append-nil}
-use Rattle.std.proofs.lemmas.Option.{slice_get-map}
-use Rattle.std.proofs.lemmas.Slice.Eq.{bytes_eq-Decides}
-use Rattle.gimli_line.specs.declared.run.instruction.LineInstruction.TheVariants.{DefineFile}
-use Rattle.gimli_line.specs.header.File.{File}
-use Rattle.gimli_line.specs.header.Header.{Header}
-use Rattle.gimli_line.specs.run.Events.{defined_files}
-use Rattle.gimli_line.specs.run.Instruction.{Ins}
-use Rattle.gimli_build.specs.LineText.{LineText, made_text, made_table}
-use Rattle.gimli_build.specs.Tables.{FileKey, Details, File as BuiltFile, key_eq, has_file, index_of_file, with_details}
-use Rattle.gimli_build.specs.Tables.{with_file, keys_of}
-use Rattle.gimli_build.specs.Texts.{Sections, OneByOne}
+use Rattle.gimli_write.proofs.Common
+use Common.{◌≡◌, ◌≢◌, ℕ, zero, suc, ◌+◌, ◌<◌, Bool, true, false, not, cond, ◌||◌, if◌then◌else◌, List, [], ◌∷◌, ◌++◌}
+use Common.{length, refl, sym, ap, subst, ◌∙◌, inl, inr, append_assoc, ◌⊎◌, nat_eq, Option, Some, None, option_map}
+use Common.{slice_get, Ok, bytes_eq, IfSome, list_any, position_or_len, AllByRecursion, true≢false, eqb-true, eq-eqb}
+use Common.{append-nil, slice_get-map, bytes_eq-Decides, DefineFile, File, Header, defined_files, Ins, LineText}
+use Common.{made_text, made_table, FileKey, Details, BuiltFile, key_eq, has_file, index_of_file, with_details}
+use Common.{with_file, keys_of, Sections, OneByOne, TablesAndTexts, version_of, FileParts, file_parts, file_added}
+use Common.{all_added, tables_after_definition, tables_at, first_ids, with_parts}
 use Rattle.gimli_build.proofs.building.TableLemmas.{file_found_at, file_keeps, file_others, some_within}
-use Rattle.gimli_write.specs.convert.SourceTables.{TablesAndTexts, version_of, FileParts, file_parts, file_added}
-use Rattle.gimli_write.specs.convert.SourceTables.{all_added}
-use Rattle.gimli_write.specs.convert.Items.{tables_after_definition, tables_at}
-use Rattle.gimli_write.specs.convert.Preparation.{first_ids}
 use Rattle.gimli_write.proofs.ReadTexts.{one_by_one_push}
 use Rattle.gimli_write.proofs.MappedTables.{took, same_ok, sources_table}
 use Rattle.gimli_write.proofs.MappedTexts.{index_stays, index_new, any_stays, any_new, index_none, last_element}
-use Rattle.gimli_write.proofs.MappedTexts.{same_key, IsMade, HasMade, has_then, is_made}
-use Rattle.gimli_write.proofs.MappedTexts.{is_same, table_has, made_differ}
+use Rattle.gimli_write.proofs.MappedTexts.{same_key, IsMade, HasMade, has_then, is_made, is_same, table_has}
+use Rattle.gimli_write.proofs.MappedTexts.{made_differ}
 use Rattle.gimli_write.proofs.MappedDirectories.{sources_has}
 
 -- ---- elements one by one
@@ -84,13 +70,21 @@ details_at [] i d = refl
 details_at (f ∷ files) zero d = refl
 details_at (f ∷ files) (suc i) d = details_at files i d
 
+-- an entry with this key and these details has this index
+pub record IsEntry (files : List BuiltFile) (k : FileKey) (d : Details) (i : ℕ) : Type 0 where
+  pub present : has_file files k ≡ true
+  pub index : i ≡ index_of_file files k
+  pub there : slice_get files i ≡ Some (k, d)
+
 module _ (files : List BuiltFile) (k : FileKey) (d : Details) where
+  abbrev after : Bool → List BuiltFile
+  after b = if b then with_details files (index_of_file files k) d else files ++ (k, d) ∷ []
+
   -- a file that was there keeps its index
   old_any : (l : FileKey) → has_file files l ≡ true → has_file (with_file files k (Some d)) l ≡ true
   old_any l is = by (has_file files k)
     where
-      by : (b : Bool)
-          → has_file (if b then with_details files (index_of_file files k) d else files ++ (k, d) ∷ []) l ≡ true
+      by : (b : Bool) → has_file (after b) l ≡ true
       by true = details_any (key_eq l) _ _ d ∙ is
       by false = any_stays (λ f. key_eq l f.0) _ _ is
 
@@ -98,9 +92,7 @@ module _ (files : List BuiltFile) (k : FileKey) (d : Details) where
       → index_of_file (with_file files k (Some d)) l ≡ index_of_file files l
   old_index l is = by (has_file files k)
     where
-      by : (b : Bool)
-          → index_of_file (if b then with_details files (index_of_file files k) d else files ++ (k, d) ∷ []) l
-          ≡ index_of_file files l
+      by : (b : Bool) → index_of_file (after b) l ≡ index_of_file files l
       by true = details_index (key_eq l) _ _ d
       by false = index_stays (λ f. key_eq l f.0) _ _ is
 
@@ -108,23 +100,20 @@ module _ (files : List BuiltFile) (k : FileKey) (d : Details) where
   new_any : has_file (with_file files k (Some d)) k ≡ true
   new_any = by (has_file files k) refl
     where
-      by : (b : Bool) → has_file files k ≡ b
-          → has_file (if b then with_details files (index_of_file files k) d else files ++ (k, d) ∷ []) k ≡ true
+      by : (b : Bool) → has_file files k ≡ b → has_file (after b) k ≡ true
       by true is = details_any (key_eq k) _ _ d ∙ is
       by false is = any_new (λ f. key_eq k f.0) _ _ (same_key k)
 
   new_index : index_of_file (with_file files k (Some d)) k ≡ index_of_file files k
   new_index = by (has_file files k) refl
     where
-      by : (b : Bool) → has_file files k ≡ b
-          → index_of_file (if b then with_details files (index_of_file files k) d else files ++ (k, d) ∷ []) k
-          ≡ index_of_file files k
+      by : (b : Bool) → has_file files k ≡ b → index_of_file (after b) k ≡ index_of_file files k
       by true is = details_index (key_eq k) _ _ d
       by false is = index_new (λ f. key_eq k f.0) _ _ (same_key k) is
 
   -- with the details that are handed
-  new_entry : slice_get (with_file files k (Some d)) (index_of_file files k) ≡ Some (k, d)
-  new_entry = by (has_file files k) refl (file_found_at files k (Some d))
+  new_there : slice_get (with_file files k (Some d)) (index_of_file files k) ≡ Some (k, d)
+  new_there = by (has_file files k) refl (file_found_at files k (Some d))
     where
       there : (o : Option BuiltFile)
           → option_map (λ f. f.0) (option_map (λ f. let g : BuiltFile = (f.0, d) in g) o) ≡ Some k
@@ -133,13 +122,8 @@ module _ (files : List BuiltFile) (k : FileKey) (d : Details) where
           let same : f.0 ≡ k = cc in ap (λ (l : FileKey). let o : Option BuiltFile = Some (l, d) in o) same
       there None is = absurd cc
 
-      by : (b : Bool) → has_file files k ≡ b
-          → slice_get (keys_of (if b then with_details files (index_of_file files k) d else files ++ (k, d) ∷ []))
-          (index_of_file files k)
-          ≡ Some k
-          → slice_get (if b then with_details files (index_of_file files k) d else files ++ (k, d) ∷ [])
-          (index_of_file files k)
-          ≡ Some (k, d)
+      by : (b : Bool) → has_file files k ≡ b → slice_get (keys_of (after b)) (index_of_file files k) ≡ Some k
+          → slice_get (after b) (index_of_file files k) ≡ Some (k, d)
       by true is found =
           let n = index_of_file files k in
           details_at files n d
@@ -149,9 +133,9 @@ module _ (files : List BuiltFile) (k : FileKey) (d : Details) where
       by false is found = last_element files (k, d) (index_of_file files k) (index_none (λ f. key_eq k f.0) files is)
 
   -- another file keeps its details
-  other_entry : (l : FileKey) (e : Details) (i : ℕ) → slice_get files i ≡ Some (l, e) → l ≢ k
+  other_there : (l : FileKey) (e : Details) (i : ℕ) → slice_get files i ≡ Some (l, e) → l ≢ k
       → slice_get (with_file files k (Some d)) i ≡ Some (l, e)
-  other_entry l e i is other =
+  other_there l e i is other =
       let lt : i < length files = some_within files i (l, e) is in
       let keys : slice_get (keys_of files) i ≡ Some l = slice_get-map (λ (f : BuiltFile). f.0) files i
       ∙ ap (option_map (λ f. f.0)) is in
@@ -163,6 +147,20 @@ module _ (files : List BuiltFile) (k : FileKey) (d : Details) where
       let same : l ≡ k = cc in
       other same)
       ∙ is
+
+  entry_new : IsEntry (with_file files k (Some d)) k d (index_of_file files k)
+  entry_new = record { present = new_any; index = sym new_index; there = new_there }
+
+  entry_replaced : (e : Details) (i : ℕ) → IsEntry files k e i → IsEntry (with_file files k (Some d)) k d i
+  entry_replaced e i so = subst (IsEntry (with_file files k (Some d)) k d) (sym so.index) entry_new
+
+  entry_kept : (l : FileKey) (e : Details) (i : ℕ) → l ≢ k → IsEntry files l e i
+      → IsEntry (with_file files k (Some d)) l e i
+  entry_kept l e i other so = record {
+    present = old_any l so.present;
+    index = so.index ∙ sym (old_index l so.present);
+    there = other_there l e i so.there other;
+  }
 
 -- ---- one file of a source
 
@@ -179,10 +177,6 @@ same_paths a b = by (bytes_eq a.path b.path) (nat_eq a.directory b.directory) re
     by true false path directory = inr (λ same. true≢false (sym (eq-eqb a.directory b.directory same.1) ∙ directory))
     by false d path directory = inr (λ same. true≢false (sym ((bytes_eq-Decides _ _).1 same.0) ∙ path))
 
--- the parts of a file, in a program of this version with these ids of directories
-abbrev pub HasParts : Sections → ℕ → List ℕ → FileParts → File → Type 0
-HasParts sections version directory_ids parts f = file_parts version sections directory_ids f ≡ Ok parts
-
 -- what a built file has of a file of the source
 pub record IsKnown (version : ℕ) (line_strings : List (List ℕ)) (f : File) (source : Option (List ℕ)) (d : Details)
     : Type 0 where
@@ -192,33 +186,44 @@ pub record IsKnown (version : ℕ) (line_strings : List (List ℕ)) (f : File) (
   pub source_is : d.source ≡ option_map (made_text version line_strings) source
   pub source_made : IfSome source (IsMade version line_strings)
 
--- a file has other paths
-pub record HasOthers (sections : Sections) (version : ℕ) (directory_ids : List ℕ) (parts : FileParts) (g : File)
-    : Type 0 where
-  pub own : FileParts
-  pub own_is : HasParts sections version directory_ids own g
-  pub other : SamePaths own parts → ⊥
+module _ (sections : Sections) (version : ℕ) (directory_ids : List ℕ) where
+  -- the parts of a file, in a program of this version with these ids of directories
+  abbrev pub HasParts : FileParts → File → Type 0
+  HasParts parts f = file_parts version sections directory_ids f ≡ Ok parts
 
--- an id is that of the paths of a file; and what is known is of the last of these files that has them
-pub record IsFileOf (sections : Sections) (version : ℕ) (line_strings : List (List ℕ)) (directory_ids : List ℕ)
-    (files : List BuiltFile) (source : List File)
-    (f : File) (id : ℕ) : Type 0 where
-  pub parts : FileParts
-  pub parts_are : HasParts sections version directory_ids parts f
-  pub made : IsMade version line_strings parts.path
-  pub present : has_file files (made_text version line_strings parts.path, parts.directory) ≡ true
-  pub index : id ≡ index_of_file files (made_text version line_strings parts.path, parts.directory)
-  pub details : Details
-  pub entry : slice_get files id ≡ Some ((made_text version line_strings parts.path, parts.directory), details)
-  pub last : File
-  pub last_parts : FileParts
-  pub last_are : HasParts sections version directory_ids last_parts last
-  pub same : SamePaths last_parts parts
-  pub known : IsKnown version line_strings last last_parts.source details
-  pub before : List File
-  pub later : List File
-  pub split : source ≡ before ++ last ∷ later
-  pub none_after : AllByRecursion (HasOthers sections version directory_ids parts) later
+  -- a file has other paths
+  pub record HasOthers (parts : FileParts) (g : File) : Type 0 where
+    pub own : FileParts
+    pub own_is : HasParts own g
+    pub other : SamePaths own parts → ⊥
+
+module _ (sections : Sections) (tables : TablesAndTexts) where
+  abbrev pub Has : FileParts → File → Type 0
+  Has = HasParts sections (version_of tables) tables.directory_ids
+
+  -- what is known is of the last of these files that has the paths of these parts
+  pub record IsOfLast (source : List File) (parts : FileParts) (d : Details) : Type 0 where
+    pub last : File
+    pub last_parts : FileParts
+    pub last_are : Has last_parts last
+    pub same : SamePaths last_parts parts
+    pub known : IsKnown (version_of tables) tables.line_strings last last_parts.source d
+    pub before : List File
+    pub later : List File
+    pub split : source ≡ before ++ last ∷ later
+    pub none_after : AllByRecursion (HasOthers sections (version_of tables) tables.directory_ids parts) later
+
+  abbrev pub key_of : FileParts → FileKey
+  key_of parts = (made_text (version_of tables) tables.line_strings parts.path, parts.directory)
+
+  -- an id is that of the paths of a file
+  pub record IsFileOf (source : List File) (f : File) (id : ℕ) : Type 0 where
+    pub parts : FileParts
+    pub parts_are : Has parts f
+    pub made : IsMade (version_of tables) tables.line_strings parts.path
+    pub details : Details
+    pub entry : IsEntry tables.program.files (key_of parts) details id
+    pub of_last : IsOfLast source parts details
 
 known_longer : (version : ℕ) (old new : List (List ℕ)) (f : File) (source : Option (List ℕ)) (d : Details)
     → HasMade version old new
@@ -252,198 +257,144 @@ source_there version paths None = tt
 -- ---- one more file
 
 module _ (sections : Sections) (tables : TablesAndTexts) (g : File) (added : FileParts)
-    (added_are : HasParts sections (version_of tables) tables.directory_ids added g) where
-  abbrev paths_after : List (List ℕ)
-  paths_after = made_table (version_of tables) tables.line_strings added.path
+    (added_are : HasParts sections (version_of tables) tables.directory_ids added g) (source : List File) where
+  abbrev with_it : TablesAndTexts
+  with_it = with_parts tables g added
 
-  abbrev texts_after : List (List ℕ)
-  texts_after =
-      sources_table (version_of tables) (made_table (version_of tables) tables.line_strings added.path) added.source
-
-  abbrev key_of : FileKey
-  key_of = (made_text (version_of tables) tables.line_strings added.path, added.directory)
+  abbrev paths : List (List ℕ)
+  paths = made_table (version_of tables) tables.line_strings added.path
 
   abbrev details_of : Details
   details_of = record {
     timestamp = g.timestamp;
     size = g.size;
     md5 = g.md5;
-    source = option_map (made_text (version_of tables) paths_after) added.source;
+    source = option_map (made_text (version_of tables) paths) added.source;
   }
 
-  abbrev files_after_it : List BuiltFile
-  files_after_it = with_file tables.program.files key_of (Some details_of)
+  paths_stay : HasMade (version_of tables) paths with_it.line_strings
+  paths_stay = sources_has (version_of tables) paths added.source
 
-  texts_stay : HasMade (version_of tables) tables.line_strings texts_after
+  texts_stay : HasMade (version_of tables) tables.line_strings with_it.line_strings
   texts_stay =
-      has_then _ _ _ _ (table_has (version_of tables) tables.line_strings added.path)
-      (sources_has _ _ _)
+      has_then (version_of tables) tables.line_strings paths with_it.line_strings
+      (table_has (version_of tables) tables.line_strings added.path) paths_stay
 
-  own_made : IsMade (version_of tables) texts_after added.path
-  own_made = (sources_has _ _ _).there added.path (is_made (version_of tables) tables.line_strings added.path)
+  own_made : IsMade (version_of tables) with_it.line_strings added.path
+  own_made = paths_stay.there added.path (is_made (version_of tables) tables.line_strings added.path)
 
-  own_same : made_text (version_of tables) texts_after added.path
-      ≡ made_text (version_of tables) tables.line_strings added.path
-  own_same =
-      (sources_has _ _ _).same added.path (is_made (version_of tables) tables.line_strings added.path)
-      ∙ is_same (version_of tables) tables.line_strings added.path
+  own_key : key_of sections with_it added ≡ key_of sections tables added
+  own_key =
+      ap (λ (t : LineText). let k : FileKey = (t, added.directory) in k)
+      (paths_stay.same added.path (is_made (version_of tables) tables.line_strings added.path)
+      ∙ is_same (version_of tables) tables.line_strings added.path)
 
-  own_known : IsKnown (version_of tables) texts_after g added.source details_of
-  own_known = record {
-    timestamp = refl;
-    size = refl;
-    md5 = refl;
-    source_is = source_known _ _ _;
-    source_made = source_there _ _ _;
+  -- it is the last one with its paths
+  own_last : (parts : FileParts) → SamePaths added parts → IsOfLast sections with_it (source ++ g ∷ []) parts details_of
+  own_last parts same = record {
+    last = g;
+    last_parts = added;
+    last_are = added_are;
+    same = same;
+    known = record {
+      timestamp = refl;
+      size = refl;
+      md5 = refl;
+      source_is = source_known (version_of tables) paths added.source;
+      source_made = source_there (version_of tables) paths added.source;
+    };
+    before = source;
+    later = [];
+    split = refl;
+    none_after = tt;
   }
 
   -- the new file
-  file_new : (source : List File)
-      → IsFileOf sections (version_of tables) texts_after tables.directory_ids files_after_it (source ++ g ∷ []) g
-      (index_of_file tables.program.files key_of)
-  file_new source =
-      let to = λ (t : LineText). let k : FileKey = (t, added.directory) in k in
-      record {
-        parts = added;
-        parts_are = added_are;
-        made = own_made;
-        present =
-            subst (λ t. has_file files_after_it (to t) ≡ true) (sym own_same)
-            (new_any tables.program.files key_of details_of);
-        index =
-            subst (λ t. index_of_file tables.program.files key_of ≡ index_of_file files_after_it (to t)) (sym own_same)
-            (sym (new_index tables.program.files key_of details_of));
-        details = details_of;
-        entry =
-            subst (λ t. slice_get files_after_it (index_of_file tables.program.files key_of) ≡ Some (to t, details_of))
-            (sym own_same)
-            (new_entry tables.program.files key_of details_of);
-        last = g;
-        last_parts = added;
-        last_are = added_are;
-        same = (refl, refl);
-        known = own_known;
-        before = source;
-        later = [];
-        split = refl;
-        none_after = tt;
-      }
+  file_new : IsFileOf sections with_it (source ++ g ∷ []) g
+      (index_of_file tables.program.files (key_of sections tables added))
+  file_new = record {
+    parts = added;
+    parts_are = added_are;
+    made = own_made;
+    details = details_of;
+    entry =
+        subst (λ (k : FileKey). IsEntry with_it.program.files k details_of
+        (index_of_file tables.program.files (key_of sections tables added)))
+        (sym own_key)
+        (entry_new tables.program.files (key_of sections tables added) details_of);
+    of_last = own_last added (refl, refl);
+  }
 
   -- a file that was there
-  file_old : (source : List File) (f : File) (id : ℕ)
-      → IsFileOf sections (version_of tables) tables.line_strings tables.directory_ids tables.program.files source f id
-      → IsFileOf sections (version_of tables) texts_after tables.directory_ids files_after_it (source ++ g ∷ []) f id
-  file_old source f id so = elim (same_paths added so.parts) [ inl same ↦ taken same | inr other ↦ left other ]
+  file_old : (f : File) (id : ℕ) → IsFileOf sections tables source f id
+      → IsFileOf sections with_it (source ++ g ∷ []) f id
+  file_old f id so = elim (same_paths added so.parts) [ inl same ↦ taken same | inr other ↦ left other ]
     where
-      text_same : made_text (version_of tables) texts_after so.parts.path
-          ≡ made_text (version_of tables) tables.line_strings so.parts.path
-      text_same = texts_stay.same so.parts.path so.made
+      old_key : FileKey
+      old_key = key_of sections tables so.parts
 
-      present : has_file files_after_it (made_text (version_of tables) texts_after so.parts.path, so.parts.directory)
-          ≡ true
-      present =
-          subst (λ (t : LineText). has_file files_after_it (t, so.parts.directory) ≡ true) (sym text_same)
-          (old_any tables.program.files key_of details_of
-          (made_text (version_of tables) tables.line_strings so.parts.path, so.parts.directory) so.present)
+      key_same : key_of sections with_it so.parts ≡ old_key
+      key_same =
+          ap (λ (t : LineText). let k : FileKey = (t, so.parts.directory) in k)
+          (texts_stay.same so.parts.path so.made)
 
-      index : id
-          ≡ index_of_file files_after_it (made_text (version_of tables) texts_after so.parts.path, so.parts.directory)
-      index =
-          subst (λ (t : LineText). id ≡ index_of_file files_after_it (t, so.parts.directory)) (sym text_same)
-          (so.index
-          ∙ sym (old_index tables.program.files key_of details_of
-          (made_text (version_of tables) tables.line_strings so.parts.path, so.parts.directory)
-          so.present))
+      with_entry : (d : Details) → IsEntry with_it.program.files old_key d id
+          → IsOfLast sections with_it (source ++ g ∷ []) so.parts d
+          → IsFileOf sections with_it (source ++ g ∷ []) f id
+      with_entry d entry of_last = record {
+        parts = so.parts;
+        parts_are = so.parts_are;
+        made = texts_stay.there so.parts.path so.made;
+        details = d;
+        entry = subst (λ (k : FileKey). IsEntry with_it.program.files k d id) (sym key_same) entry;
+        of_last = of_last;
+      }
 
       -- the added file has its paths
-      taken : SamePaths added so.parts
-          → IsFileOf sections (version_of tables) texts_after tables.directory_ids files_after_it (source ++ g ∷ []) f
-          id
+      taken : SamePaths added so.parts → IsFileOf sections with_it (source ++ g ∷ []) f id
       taken same =
-          let text : made_text (version_of tables) tables.line_strings added.path
-          ≡ made_text (version_of tables) tables.line_strings so.parts.path = ap
-          (made_text (version_of tables) tables.line_strings) same.0 in
-          let key : key_of ≡ (made_text (version_of tables) texts_after so.parts.path, so.parts.directory) =
-          ap (λ (t : LineText). let k : FileKey = (t, added.directory) in k) (text ∙ sym text_same)
-          ∙ ap (λ (n : ℕ). let k : FileKey = (made_text (version_of tables) texts_after so.parts.path, n) in k)
+          let is : key_of sections tables added ≡ old_key =
+          ap (λ (path : List ℕ).
+          let k : FileKey = (made_text (version_of tables) tables.line_strings path, added.directory) in k)
+          same.0
+          ∙ ap (λ (n : ℕ).
+          let k : FileKey = (made_text (version_of tables) tables.line_strings so.parts.path, n) in k)
           same.1 in
-          let old_key : key_of ≡ (made_text (version_of tables) tables.line_strings so.parts.path, so.parts.directory) =
-          ap (λ (t : LineText). let k : FileKey = (t, added.directory) in k) text
-          ∙ ap (λ (n : ℕ). let k : FileKey = (made_text (version_of tables) tables.line_strings so.parts.path, n) in k)
-          same.1 in
-          let at : index_of_file tables.program.files key_of ≡ id = ap (index_of_file tables.program.files) old_key
-          ∙ sym so.index in
-          record {
-            parts = so.parts;
-            parts_are = so.parts_are;
-            made = texts_stay.there so.parts.path so.made;
-            present = present;
-            index = index;
-            details = details_of;
-            entry =
-                subst (λ (n : ℕ).
-                slice_get files_after_it n
-                ≡ Some ((made_text (version_of tables) texts_after so.parts.path, so.parts.directory), details_of))
-                at
-                (subst
-                (λ (k : FileKey). slice_get files_after_it (index_of_file tables.program.files key_of)
-                ≡ Some (k, details_of))
-                key
-                (new_entry tables.program.files key_of details_of));
-            last = g;
-            last_parts = added;
-            last_are = added_are;
-            same = same;
-            known = own_known;
-            before = source;
-            later = [];
-            split = refl;
-            none_after = tt;
-          }
+          with_entry details_of
+          (subst (λ (k : FileKey). IsEntry with_it.program.files k details_of id) is
+          (entry_replaced tables.program.files (key_of sections tables added) details_of so.details id
+          (subst (λ (k : FileKey). IsEntry tables.program.files k so.details id) (sym is) so.entry)))
+          (own_last so.parts same)
 
       -- the added file has others
-      left : (SamePaths added so.parts → ⊥)
-          → IsFileOf sections (version_of tables) texts_after tables.directory_ids files_after_it (source ++ g ∷ []) f
-          id
+      left : (SamePaths added so.parts → ⊥) → IsFileOf sections with_it (source ++ g ∷ []) f id
       left other =
-          let other_key : (let
-          k : FileKey = (made_text (version_of tables) tables.line_strings so.parts.path, so.parts.directory) in k)
-          ≢ key_of = λ is.
-          let text : made_text (version_of tables) texts_after so.parts.path
-          ≡ made_text (version_of tables) texts_after added.path = text_same
-          ∙ ap (λ (k : FileKey). k.0) is ∙ sym own_same in
+          let other_key : old_key ≢ key_of sections tables added = λ is.
+          let keys : key_of sections with_it so.parts ≡ key_of sections with_it added = key_same ∙ is ∙ sym own_key in
           other (
-            sym (made_differ (version_of tables) texts_after so.parts.path added.path
-                (texts_stay.there so.parts.path so.made) own_made text),
+            sym (made_differ (version_of tables) with_it.line_strings so.parts.path added.path
+                (texts_stay.there so.parts.path so.made) own_made (ap (λ (k : FileKey). k.0) keys)),
             sym (ap (λ (k : FileKey). k.1) is),
           ) in
-          record {
-            parts = so.parts;
-            parts_are = so.parts_are;
-            made = texts_stay.there so.parts.path so.made;
-            present = present;
-            index = index;
-            details = so.details;
-            entry =
-                subst (λ (t : LineText). slice_get files_after_it id ≡ Some ((t, so.parts.directory), so.details))
-                (sym text_same)
-                (other_entry tables.program.files key_of details_of
-                (made_text (version_of tables) tables.line_strings so.parts.path, so.parts.directory)
-                so.details id so.entry other_key);
-            last = so.last;
-            last_parts = so.last_parts;
-            last_are = so.last_are;
-            same = so.same;
+          let l = so.of_last in
+          with_entry so.details
+          (entry_kept tables.program.files (key_of sections tables added) details_of old_key so.details id other_key
+          so.entry)
+          (record {
+            last = l.last;
+            last_parts = l.last_parts;
+            last_are = l.last_are;
+            same = l.same;
             known =
-                known_longer (version_of tables) tables.line_strings texts_after so.last so.last_parts.source so.details
-                texts_stay so.known;
-            before = so.before;
-            later = so.later ++ g ∷ [];
-            split = ap (λ (l : List File). l ++ g ∷ []) so.split ∙ append_assoc so.before (so.last ∷ so.later) (g ∷ []);
+                known_longer (version_of tables) tables.line_strings with_it.line_strings l.last l.last_parts.source
+                so.details texts_stay l.known;
+            before = l.before;
+            later = l.later ++ g ∷ [];
+            split = ap (λ (xs : List File). xs ++ g ∷ []) l.split ∙ append_assoc l.before (l.last ∷ l.later) (g ∷ []);
             none_after =
-                all_push (HasOthers sections (version_of tables) tables.directory_ids so.parts) so.later g so.none_after
+                all_push (HasOthers sections (version_of tables) tables.directory_ids so.parts) l.later g l.none_after
                 (record { own = added; own_is = added_are; other = other });
-          }
+          })
 
 -- ---- all files
 
@@ -451,39 +402,25 @@ module _ (sections : Sections) (tables : TablesAndTexts) (g : File) (added : Fil
 pub record AreFiles (sections : Sections) (h : Header) (tables : TablesAndTexts) (source : List File) : Type 0 where
   pub ids : List ℕ
   pub ids_are : tables.file_ids ≡ first_ids h.parameters.encoding.version ++ ids
-  pub each : OneByOne
-      (IsFileOf sections (version_of tables) tables.line_strings tables.directory_ids tables.program.files source)
-      source ids
+  pub each : OneByOne (IsFileOf sections tables source) source ids
 
 pub file_next : (sections : Sections) (h : Header) (tables next : TablesAndTexts) (g : File) (source : List File)
     → file_added sections tables g ≡ Ok next
     → AreFiles sections h tables source → AreFiles sections h next (source ++ g ∷ [])
 file_next sections h tables next g source is so =
-    let version = version_of tables in
     let t = took _ _ _ is in
     let parts = t.0 in
-    let paths = made_table version tables.line_strings parts.path in
-    let after = sources_table version paths parts.source in
-    let k : FileKey = (made_text version tables.line_strings parts.path, parts.directory) in
-    let d : Details = record {
-      timestamp = g.timestamp;
-      size = g.size;
-      md5 = g.md5;
-      source = option_map (made_text version paths) parts.source;
-    } in
-    let R =
-    IsFileOf sections version after tables.directory_ids (with_file tables.program.files k (Some d))
-    (source ++ g ∷ []) in
+    let id = index_of_file tables.program.files (key_of sections tables parts) in
+    let R = IsFileOf sections (with_parts tables g parts) (source ++ g ∷ []) in
     subst (λ l. AreFiles sections h l (source ++ g ∷ [])) (same_ok _ _ t.2) (record {
-      ids = so.ids ++ index_of_file tables.program.files k ∷ [];
+      ids = so.ids ++ id ∷ [];
       ids_are =
-          ap (λ l. l ++ index_of_file tables.program.files k ∷ []) so.ids_are
-          ∙ append_assoc (first_ids h.parameters.encoding.version) so.ids (index_of_file tables.program.files k ∷ []);
+          ap (λ l. l ++ id ∷ []) so.ids_are
+          ∙ append_assoc (first_ids h.parameters.encoding.version) so.ids (id ∷ []);
       each =
           one_by_one_push R _ _ g _
-          (one_by_one_map _ R
-          (file_old sections tables g parts t.1 _) _ _ so.each)
-          (file_new sections tables g parts t.1 _);
+          (one_by_one_map _ R (file_old sections tables g parts t.1 source) _ _ so.each)
+          (file_new sections tables g parts t.1 source);
     })
 
 -- those of a header

@@ -1,62 +1,20 @@
 -- What the laws of conversions say.
-use Rattle.std.proofs.Common.{◌≡◌, ℕ, Bool, true, false, ◌&&◌, if◌then◌else◌, List, [], map, refl, sym, ap, subst, ◌∙◌}
-use Rattle.std.specs.Prelude.{nat_eq, slice_get, Option, Some, unwrap_or, option_map, Result, Ok, Err, MatchResult, All}
-use Rattle.std.proofs.lemmas.Option.{slice_get-map, slice_get_within, get_or_from_slice_get}
-use Rattle.gimli_core.specs.declared.error.Error.{Error}
-use Rattle.gimli_bytes.specs.declared.address.Address.{Address}
-use Rattle.gimli_bytes.specs.Texts.{KeepsTexts, with_text, StringTables, texts_in}
-use Rattle.gimli_bytes.proofs.TextLemmas.{with_text-KeepsTexts}
-use Rattle.gimli_line.specs.declared.run.row.LineRow.{LineRow as ReadRow}
-use Rattle.gimli_line.specs.run.Events.{row, Events, defined_files, past_at_end}
+use Rattle.gimli_write.proofs.Common
+use Common.{◌≡◌, ℕ, Bool, true, false, ◌&&◌, if◌then◌else◌, List, [], map, refl, sym, ap, subst, ◌∙◌, nat_eq, slice_get}
+use Common.{Option, Some, unwrap_or, option_map, Ok, All, slice_get-map, slice_get_within, get_or_from_slice_get, Error}
+use Common.{Address, KeepsTexts, with_text, StringTables, texts_in, with_text-KeepsTexts, ReadRow, row, Events}
+use Common.{defined_files, past_at_end, File, Ins, one_decoding, Built, CanWrite, AddressesFit, LineText, Inline}
+use Common.{InStrings, InLineStrings, IsWithin, bytes_in, RowsMatch, OneByOne, FileAnswer, built_file, IsConverted}
+use Common.{Outcome, encoding_of, Source}
 use Rattle.gimli_line.specs.run.EventsWithFiles.{FilesAtEnd}
-use Rattle.gimli_line.specs.header.File.{File}
-use Rattle.gimli_line.specs.run.Instruction.{Ins}
-use Rattle.gimli_line.proofs.InstructionLaws.{one_decoding}
-use Rattle.gimli_build.specs.Built.{Built}
-use Rattle.gimli_build.specs.Conditions.{CanWrite}
-use Rattle.gimli_build.specs.Items.{AddressesFit}
-use Rattle.gimli_build.specs.LineText.{LineText, Inline, InStrings, InLineStrings, IsWithin, bytes_in}
-use Rattle.gimli_build.specs.SameRow.{RowsMatch}
-use Rattle.gimli_build.specs.Texts.{OneByOne}
 use Rattle.gimli_build.specs.Version5Tables.{needs_empty, first_form, sources, texts_after}
-use Rattle.gimli_write.specs.RoundTrip.{FileAnswer, built_file}
-use Rattle.gimli_write.specs.declared.convert_error.ConvertError.{ConvertError}
-use Rattle.gimli_write.specs.convert.Conversion.{IsConverted}
-use Rattle.gimli_write.specs.convert.Outcome.{Outcome, outcome_of}
-use Rattle.gimli_write.specs.convert.SourceTables.{TablesAndTexts}
-use Rattle.gimli_write.specs.convert.Mapped.{CanBeFaithful, IsFaithful, IsReadAs, AreRowsMapped, HasPaths}
-use Rattle.gimli_write.specs.convert.Mapped.{AreFilesMapped, AreFilesReadAs, HasConstantAddresses}
-use Rattle.gimli_write.specs.convert.Items.{Reading, ReadsItems}
-use Rattle.gimli_write.specs.convert.Preparation.{encoding_of, tables_of_header}
-use Rattle.gimli_write.specs.convert.Sources.{Source}
+use Rattle.gimli_write.specs.convert.Mapped.{CanBeFaithful, IsFaithful, IsReadAs, HasPaths, AreFilesMapped}
+use Rattle.gimli_write.specs.convert.Mapped.{AreFilesReadAs}
 use Rattle.gimli_write.specs.convert.DoneConversions.{UnitReadBack, UnitGives}
 use Rattle.gimli_write.proofs.BuiltAnswers.{events_same, rows_same}
 use Rattle.gimli_write.proofs.ConvertSteps.{kept_self}
-use Rattle.gimli_write.proofs.MappedEnds.{can_write, encoding_kept, files_same}
+use Rattle.gimli_write.proofs.MappedEnds.{WasConverted, was_converted, can_write, encoding_kept, files_same}
 use Rattle.gimli_write.proofs.MappedPrograms.{rows_mapped, addresses_fit, constants_set, rows_again}
-
--- the parts of a conversion that was done
-record WasConverted (convert_address : ℕ → Option Address) (s : Source) (line_strings : List (List ℕ)) (c : Outcome)
-    : Type 0 where
-  reading : Reading
-  first : TablesAndTexts
-  ready : tables_of_header s.sections s.header s.given line_strings ≡ Ok first
-  reads : ReadsItems s.notation s.sections s.header first s.header.program reading
-  is : outcome_of convert_address reading first.program ≡ Ok c
-
-was_converted : (convert_address : ℕ → Option Address) (s : Source) (line_strings : List (List ℕ)) (c : Outcome)
-    → IsConverted convert_address s line_strings (Ok c) → WasConverted convert_address s line_strings c
-was_converted convert_address s line_strings c so =
-    by (tables_of_header s.sections s.header s.given line_strings) refl so.1
-  where
-    by : (r : Result TablesAndTexts ConvertError) → tables_of_header s.sections s.header s.given line_strings ≡ r
-        → MatchResult r
-        (λ first. ReadsItems s.notation s.sections s.header first s.header.program so.0
-        × (outcome_of convert_address so.0 first.program ≡ Ok c))
-        (λ e. (let o : Result Outcome ConvertError = Ok c in o) ≡ Err e)
-        → WasConverted convert_address s line_strings c
-    by (Ok first) ready m = record { reading = so.0; first = first; ready = ready; reads = m.0; is = m.1 }
-    by (Err e) ready m = absurd cc
 
 -- ---- tables that gained a text
 
@@ -81,79 +39,54 @@ element P xs i x all is = subst P (get_or_from_slice_get _ i x x is) (all i x (s
 
 module _ (convert_address : ℕ → Option Address) (s : Source) (line_strings : List (List ℕ)) (c : Outcome)
     (so : IsConverted convert_address s line_strings (Ok c)) where
+  done : WasConverted convert_address s line_strings c
+  done = was_converted convert_address s line_strings c so
+
   pub conversion_written : (strings : List (List ℕ)) → CanWrite c.program (texts_in strings c.line_strings)
-  conversion_written =
-      let w = was_converted convert_address s line_strings c so in
-      can_write s.notation s.sections s.header s.given line_strings w.first s.header.program w.reading convert_address c
-      w.ready w.reads w.is
+  conversion_written = can_write done
 
   pub conversion_encoded : c.program.encoding ≡ encoding_of s.header s.given
-  conversion_encoded =
-      let w = was_converted convert_address s line_strings c so in
-      encoding_kept s.notation s.sections s.header s.given line_strings w.first s.header.program w.reading
-      convert_address c w.ready w.reads w.is
+  conversion_encoded = encoding_kept done
+
+  -- how a row of the source is read back
+  abbrev pub IsRow : ReadRow → ReadRow → Type 0
+  IsRow = IsReadAs s.header.parameters.encoding.version c.program.encoding.version c.file_ids
 
   module _ (can : CanBeFaithful convert_address s) where
-    mapped_rows : AreRowsMapped s.notation s.header s.header.program c
-    mapped_rows =
-        let w = was_converted _ s _ c so in
-        rows_mapped s.notation s.sections s.header s.given line_strings w.first s.header.program w.reading
-        convert_address c w.ready w.reads can.itself can.wide
-        can.no_end_under_tombstone w.is
-
-    conversion_fits : AddressesFit c.program.encoding.address_size 0 (0, 0) c.program.items
-    conversion_fits =
-        let w = was_converted convert_address s line_strings c so in
-        addresses_fit s.notation s.sections s.header s.given line_strings w.first s.header.program w.reading
-        convert_address c w.ready w.reads can.itself
-        can.wide can.no_end_under_tombstone w.is
-
-    conversion_constant : HasConstantAddresses c.program
-    conversion_constant =
-        let w = was_converted _ s _ c so in
-        constants_set s.notation s.sections s.header s.given line_strings w.first s.header.program w.reading
-        convert_address c w.ready w.reads can.itself
-        can.wide can.no_end_under_tombstone w.is
-
     pub conversion_back : (rows back : List ReadRow) → Events s.notation s.header s.header.program (map row rows)
         → (AddressesFit c.program.encoding.address_size 0 (0, 0) c.program.items
         → RowsMatch c.program.encoding.version [] c.program.items back)
-        → OneByOne (IsReadAs s.header.parameters.encoding.version c.program.encoding.version c.file_ids) rows back
+        → OneByOne IsRow rows back
     conversion_back rows back events built =
-        let mapped : AreRowsMapped s.notation s.header s.header.program c = mapped_rows in
+        let mapped = rows_mapped done can in
         let same : mapped.rows
         ≡ rows = rows_same mapped.rows rows
         (events_same s.notation s.header s.header.program (map row mapped.rows) (map row rows) mapped.events events) in
-        subst
-        (λ (source : List ReadRow). OneByOne
-        (IsReadAs s.header.parameters.encoding.version c.program.encoding.version c.file_ids) source back)
-        same
+        subst (λ (source : List ReadRow). OneByOne IsRow source back) same
         (rows_again s.header.parameters.encoding.version c.program.encoding.version c.file_ids [] c.program.items
         mapped.rows back mapped.mapped
-        (built conversion_fits))
+        (built (addresses_fit done can)))
 
     pub conversion_faithful : (strings : List (List ℕ)) → IsFaithful s strings c
     conversion_faithful strings =
-        let w = was_converted convert_address s line_strings c so in
+        let reads = done.reads in
         record {
-          rows = mapped_rows;
-          source_files = defined_files s.header.files (past_at_end [] w.reads.list);
-          at_end = record { list = w.reads.list; end = w.reads.end; decoding = w.reads.decoding; given = refl };
-          files =
-              files_same s.notation s.sections s.header s.given line_strings w.first s.header.program w.reading
-              convert_address c w.ready w.reads w.is strings;
-          can_write = conversion_written strings;
-          constants = conversion_constant;
-          addresses = conversion_fits;
+          rows = rows_mapped done can;
+          source_files = defined_files s.header.files (past_at_end [] reads.list);
+          at_end = record { list = reads.list; end = reads.end; decoding = reads.decoding; given = refl };
+          files = files_same done strings;
+          can_write = can_write done strings;
+          constants = constants_set done can;
+          addresses = addresses_fit done can;
           read_back = λ rows back events built. conversion_back rows back events (λ fits. built);
         }
 
     -- the same of a unit that is read back
     pub unit_back : (rows : List ReadRow) → Events s.notation s.header s.header.program (map row rows)
         → (u : UnitReadBack c.program) → (found : List ReadRow) × UnitGives u found
-        × OneByOne (IsReadAs s.header.parameters.encoding.version c.program.encoding.version c.file_ids) rows found
+        × OneByOne IsRow rows found
     unit_back rows events u =
-        let found = u.back.rows conversion_fits in
+        let found = u.back.rows (addresses_fit done can) in
         (found.0, found.1, conversion_back rows found.0 events (λ fit. found.2))
 
   pub files_back : (strings : List (List ℕ)) (files : List File)
@@ -162,18 +95,17 @@ module _ (convert_address : ℕ → Option Address) (s : Source) (line_strings :
       AreFilesReadAs s.sections s.header files c.file_ids (map (bytes_in texts) c.program.directories)
       (map (built_file c.program texts) c.program.files))
   files_back strings files at_end =
-      let w = was_converted convert_address s line_strings c so in
+      let reads = done.reads in
       let once =
-      one_decoding s.notation s.header s.header.program w.reads.list w.reads.end w.reads.decoding
+      one_decoding s.notation s.header s.header.program reads.list reads.end reads.decoding
       ∙ sym (one_decoding s.notation s.header s.header.program at_end.list at_end.end at_end.decoding) in
-      let same : defined_files s.header.files (past_at_end [] w.reads.list)
+      let same : defined_files s.header.files (past_at_end [] reads.list)
       ≡ files = ap (λ (p : List Ins × Option Error). defined_files s.header.files (past_at_end [] p.0)) once
       ∙ sym at_end.given in
       let mapped : AreFilesMapped s.sections s.header files strings c =
       subst (λ (files : List File). AreFilesMapped s.sections s.header files strings c) same
-      (files_same s.notation s.sections s.header s.given line_strings w.first s.header.program w.reading convert_address
-      c w.ready w.reads w.is strings) in
-      let can : CanWrite c.program (texts_in strings c.line_strings) = conversion_written strings in
+      (files_same done strings) in
+      let can : CanWrite c.program (texts_in strings c.line_strings) = can_write done strings in
       let before = texts_in strings c.line_strings in
       let after = (texts_after c.program before).line_strings in
       let keeps : KeepsTexts c.line_strings after = keeps_after c.program before in

@@ -1,44 +1,26 @@
 -- The files of a conversion are those of its source.
-use Rattle.std.proofs.Common.{◌≡◌, ℕ, zero, suc, Bool, true, false, if◌then◌else◌, List, [], ◌∷◌, ◌++◌, refl, sym, ap}
-use Rattle.std.proofs.Common.{subst, ◌∙◌, arith}
-use Rattle.std.specs.Prelude.{nat_le, Option, Some, None, option_map, ok_or, slice_get, Result, Ok, IfSome}
-use Rattle.std.specs.List.{AllByRecursion}
-use Rattle.std.proofs.lemmas.List.Elements.{All-from_recursion}
-use Rattle.std.proofs.lemmas.Bool.{leb-true, le-leb, true≢false}
-use Rattle.gimli_core.specs.Values.{Value}
-use Rattle.gimli_core.specs.declared.error.Error.{Error}
-use Rattle.gimli_bytes.specs.Texts.{StringTables, texts_in}
-use Rattle.gimli_line.specs.header.File.{File}
-use Rattle.gimli_line.specs.header.Header.{Header, directory_of, from_one}
-use Rattle.gimli_build.specs.LineText.{LineText, bytes_in, made_text}
-use Rattle.gimli_build.specs.Tables.{File as BuiltFile}
-use Rattle.gimli_build.specs.Texts.{Sections, IsText, IsOptionalText, OneByOne}
-use Rattle.gimli_write.specs.declared.convert_error.ConvertError.TheVariants.{InvalidDirectoryIndex}
-use Rattle.gimli_write.specs.convert.Texts.{if_there, source_text, source_path}
-use Rattle.gimli_write.specs.convert.SourceTables.{TablesAndTexts, version_of, FileParts}
-use Rattle.gimli_write.specs.convert.Outcome.{Outcome}
+use Rattle.gimli_write.proofs.Common
+use Common.{◌≡◌, ℕ, zero, suc, Bool, true, false, if◌then◌else◌, List, [], ◌∷◌, ◌++◌, refl, sym, ap, subst, ◌∙◌, arith}
+use Common.{nat_le, Option, Some, None, option_map, ok_or, slice_get, Ok, IfSome, AllByRecursion, All-from_recursion}
+use Common.{leb-true, le-leb, true≢false, Value, StringTables, texts_in, File, Header, directory_of, from_one, LineText}
+use Common.{bytes_in, made_text, Built, Sections, IsText, IsOptionalText, OneByOne, InvalidDirectoryIndex, if_there}
+use Common.{source_text, source_path, TablesAndTexts, version_of, FileParts, Outcome, with_tables}
 use Rattle.gimli_write.specs.convert.Mapped.{IsFileId, IsDirectoryPath, HasPaths, IsLastWithPaths, IsMappedFile}
 use Rattle.gimli_write.specs.convert.Mapped.{AreFilesMapped}
-use Rattle.gimli_write.proofs.ReadTexts.{text_read, text_there}
+use Rattle.gimli_write.proofs.ReadTexts.{text_read}
+use Rattle.gimli_write.proofs.BuiltAnswers.{text_same}
 use Rattle.gimli_write.proofs.MappedTables.{took, same_ok}
 use Rattle.gimli_write.proofs.MappedTexts.{IsMade, made_bytes}
 use Rattle.gimli_write.proofs.MappedDirectories.{source_text_of, source_path_of, IsDirectoryId, directory_there}
 use Rattle.gimli_write.proofs.MappedDirectories.{one_path, AreDirectories}
 use Rattle.gimli_write.proofs.MappedFiles.{HasOthers, HasParts, IsFileOf, AreFiles, one_by_one_map, one_by_one_at}
-use Rattle.gimli_write.proofs.MappedFiles.{one_by_one_back}
+use Rattle.gimli_write.proofs.MappedFiles.{one_by_one_back, SamePaths}
 
 -- ---- one text
 
-same_read : (a b : List ℕ) → (let r : Result (List ℕ) Error = Ok a in r) ≡ Ok b → a ≡ b
-same_read a b is = cc
-
--- a value stands for one text
-one_text : (sections : Sections) (v : Value) (a b : List ℕ) → IsText sections v a → IsText sections v b → a ≡ b
-one_text sections v a b x y = same_read a b (sym (text_there _ v a x) ∙ text_there _ v b y)
-
 one_directory : (sections : Sections) (o : Option Value) (a b : List ℕ) → IsDirectoryPath sections o a
     → IsDirectoryPath sections o b → a ≡ b
-one_directory sections (Some v) a b x y = one_text _ v a b x y
+one_directory sections (Some v) a b x y = text_same _ v b a y x
 one_directory sections None a b x y = x ∙ sym y
 
 there_ok : (o : Option ℕ) (id : ℕ) → ok_or o InvalidDirectoryIndex ≡ Ok id → o ≡ Some id
@@ -83,12 +65,24 @@ source_is_text sections version texts None None is made = tt
 
 -- ---- a file that is mapped
 
+-- what a conversion answers of a program, with the tables at its end
+abbrev pub finished : TablesAndTexts → Built → Outcome
+finished tables p = record {
+  program = with_tables tables p;
+  file_ids = tables.file_ids;
+  line_strings = tables.line_strings;
+}
+
 module _ (sections : Sections) (h : Header) (strings : List (List ℕ)) (tables : TablesAndTexts)
     (directories : AreDirectories sections h tables) where
+  abbrev Has : FileParts → File → Type 0
+  Has = HasParts sections (version_of tables) tables.directory_ids
+
+  abbrev IsDirectory : List ℕ → ℕ → Type 0
+  IsDirectory = IsDirectoryId (version_of tables) tables.line_strings tables.program.directories
+
   -- the paths of a file by its parts
-  paths_of : (parts : FileParts) (f : File) (directory : List ℕ)
-      → HasParts sections (version_of tables) tables.directory_ids parts f
-      → IsDirectoryId (version_of tables) tables.line_strings tables.program.directories directory parts.directory
+  paths_of : (parts : FileParts) (f : File) (directory : List ℕ) → Has parts f → IsDirectory directory parts.directory
       → HasPaths sections h parts.path directory f
   paths_of parts f directory is at =
       let read = are_read _ _ _ _ f is in
@@ -100,24 +94,18 @@ module _ (sections : Sections) (h : Header) (strings : List (List ℕ)) (tables 
       }
 
   -- so a file with these paths has these parts
-  parts_of : (parts own : FileParts) (g : File) (directory : List ℕ)
-      → HasParts sections (version_of tables) tables.directory_ids own g
-      → IsDirectoryId (version_of tables) tables.line_strings tables.program.directories directory parts.directory
-      → HasPaths sections h parts.path directory g
-      → (own.path ≡ parts.path) × (own.directory ≡ parts.directory)
+  parts_of : (parts own : FileParts) (g : File) (directory : List ℕ) → Has own g
+      → IsDirectory directory parts.directory → HasPaths sections h parts.path directory g
+      → SamePaths own parts
   parts_of parts own g directory is at has =
       let read = are_read _ _ _ _ g is in
       let there = directories.each g.directory_index own.directory read.directory in
       let same : there.0 ≡ directory = one_directory _ _ _ _ there.1 has.of_directory in
-      let moved : IsDirectoryId (version_of tables) tables.line_strings tables.program.directories directory
-      own.directory =
-      subst
-      (λ path. IsDirectoryId (version_of tables) tables.line_strings tables.program.directories path own.directory) same
-      there.2 in
-      (one_text _ _ _ _ read.path has.own, moved.index ∙ sym at.index)
+      let moved : IsDirectory directory own.directory =
+      subst (λ (path : List ℕ). IsDirectory path own.directory) same there.2 in
+      (text_same _ _ parts.path own.path has.own read.path, moved.at.index ∙ sym at.at.index)
 
-  others_after : (parts : FileParts) (directory : List ℕ)
-      → IsDirectoryId (version_of tables) tables.line_strings tables.program.directories directory parts.directory
+  others_after : (parts : FileParts) (directory : List ℕ) → IsDirectory directory parts.directory
       → (later : List File) → AllByRecursion (HasOthers sections (version_of tables) tables.directory_ids parts) later
       → AllByRecursion (λ g. HasPaths sections h parts.path directory g → ⊥) later
   others_after parts directory at [] all = tt
@@ -126,65 +114,51 @@ module _ (sections : Sections) (h : Header) (strings : List (List ℕ)) (tables 
     others_after parts directory at later all.1,
   )
 
-  file_mapped : (source : List File) (c : Outcome) (f : File) (id : ℕ)
-      → c.program.directories ≡ tables.program.directories
-      → c.program.files ≡ tables.program.files → c.line_strings ≡ tables.line_strings
-      → IsFileOf sections (version_of tables) tables.line_strings tables.directory_ids tables.program.files source f id
-      → IsMappedFile sections h source strings c f id
-  file_mapped source c f id directories_same files_same texts_same so =
-      let version = version_of tables in
-      let read = are_read sections version tables.directory_ids so.parts f so.parts_are in
-      let d = directories.each f.directory_index so.parts.directory read.directory in
-      let text = made_text version tables.line_strings so.parts.path in
-      let directory = made_text version tables.line_strings d.0 in
-      let path_bytes : so.parts.path
-      ≡ bytes_in (texts_in strings c.line_strings) text = sym
-      (ap (λ (t : List (List ℕ)). bytes_in (texts_in strings t) text) texts_same
-      ∙ made_bytes version (texts_in strings tables.line_strings) so.parts.path so.made) in
-      let directory_bytes : d.0
-      ≡ bytes_in (texts_in strings c.line_strings) directory = sym
-      (ap (λ (t : List (List ℕ)). bytes_in (texts_in strings t) directory) texts_same
-      ∙ made_bytes version (texts_in strings tables.line_strings) d.0 d.2.made) in
-      let to =
-      λ (P : List ℕ → List ℕ → Type 0) (p : P so.parts.path d.0).
-      subst (λ (x : List ℕ). P x (bytes_in (texts_in strings c.line_strings) directory)) path_bytes
-      (subst (P so.parts.path) directory_bytes p) in
-      let last_read = are_read sections version tables.directory_ids so.last_parts so.last so.last_are in
-      let at_last : IsDirectoryId version tables.line_strings tables.program.directories d.0 so.last_parts.directory =
-      subst (IsDirectoryId version tables.line_strings tables.program.directories d.0) (sym so.same.1) d.2 in
-      let last_has : HasPaths sections h so.parts.path d.0 so.last =
-      subst (λ (path : List ℕ). HasPaths sections h path d.0 so.last) so.same.0
-      (paths_of so.last_parts so.last d.0 so.last_are at_last) in
-      let is_last : IsLastWithPaths sections h so.parts.path d.0 source so.last = record {
-        before = so.before;
-        later = so.later;
-        parts = so.split;
-        has = last_has;
-        none_after = All-from_recursion _ so.later (others_after so.parts d.0 d.2 so.later so.none_after);
-      } in
-      record {
-        built = ((text, so.parts.directory), so.details);
-        there = ap (λ (files : List BuiltFile). slice_get files id) files_same ∙ so.entry;
-        directory = directory;
-        directory_there =
-            ap (λ (ds : List LineText). slice_get ds so.parts.directory) directories_same
-            ∙ directory_there version tables.line_strings tables.program.directories d.0 so.parts.directory d.2;
-        has = to (λ path directory. HasPaths sections h path directory f) (paths_of so.parts f d.0 so.parts_are d.2);
-        last = so.last;
-        is_last = to (λ path directory. IsLastWithPaths sections h path directory source so.last) is_last;
-        timestamp = so.known.timestamp;
-        size = so.known.size;
-        md5 = so.known.md5;
-        source =
-            subst (λ (t : List (List ℕ)).
-            IsOptionalText sections so.last.source (option_map (bytes_in (texts_in strings t)) so.details.source))
-            (sym texts_same)
-            (subst (λ (o : Option LineText).
-            IsOptionalText sections so.last.source (option_map (bytes_in (texts_in strings tables.line_strings)) o))
-            (sym so.known.source_is)
-            (source_is_text sections version (texts_in strings tables.line_strings) so.last.source so.last_parts.source
-            last_read.source so.known.source_made));
-      }
+  module _ (p : Built) (source : List File) where
+    file_mapped : (f : File) (id : ℕ) → IsFileOf sections tables source f id
+        → IsMappedFile sections h source strings (finished tables p) f id
+    file_mapped f id so =
+        let version = version_of tables in
+        let texts = texts_in strings tables.line_strings in
+        let l = so.of_last in
+        let d =
+        directories.each f.directory_index so.parts.directory
+        (are_read sections version tables.directory_ids so.parts f so.parts_are).directory in
+        let text = made_text version tables.line_strings so.parts.path in
+        let directory = made_text version tables.line_strings d.0 in
+        let to =
+        λ (P : List ℕ → List ℕ → Type 0) (p : P so.parts.path d.0).
+        subst (λ (x : List ℕ). P x (bytes_in texts directory)) (sym (made_bytes version texts so.parts.path so.made))
+        (subst (P so.parts.path) (sym (made_bytes version texts d.0 d.2.made)) p) in
+        let at_last : IsDirectory d.0 l.last_parts.directory = subst (IsDirectory d.0) (sym l.same.1) d.2 in
+        let is_last : IsLastWithPaths sections h so.parts.path d.0 source l.last = record {
+          before = l.before;
+          later = l.later;
+          parts = l.split;
+          has =
+              subst (λ (path : List ℕ). HasPaths sections h path d.0 l.last) l.same.0
+              (paths_of l.last_parts l.last d.0 l.last_are at_last);
+          none_after = All-from_recursion _ l.later (others_after so.parts d.0 d.2 l.later l.none_after);
+        } in
+        record {
+          built = ((text, so.parts.directory), so.details);
+          there = so.entry.there;
+          directory = directory;
+          directory_there =
+              directory_there version tables.line_strings tables.program.directories d.0 so.parts.directory d.2;
+          has = to (λ path directory. HasPaths sections h path directory f) (paths_of so.parts f d.0 so.parts_are d.2);
+          last = l.last;
+          is_last = to (λ path directory. IsLastWithPaths sections h path directory source l.last) is_last;
+          timestamp = l.known.timestamp;
+          size = l.known.size;
+          md5 = l.known.md5;
+          source =
+              subst (λ (o : Option LineText). IsOptionalText sections l.last.source (option_map (bytes_in texts) o))
+              (sym l.known.source_is)
+              (source_is_text sections version texts l.last.source l.last_parts.source
+              (are_read sections version tables.directory_ids l.last_parts l.last l.last_are).source
+              l.known.source_made);
+        }
 
 -- ---- file numbers
 
@@ -223,25 +197,16 @@ module _ (version : ℕ) (R : File → ℕ → Type 0) (files : List File) (ids 
 
 -- ---- all files
 
-pub files_mapped : (sections : Sections) (h : Header) (strings : List (List ℕ)) (tables : TablesAndTexts)
-    (source : List File) (c : Outcome)
+pub files_mapped : (sections : Sections) (h : Header) (strings : List (List ℕ)) (tables : TablesAndTexts) (p : Built)
+    (source : List File)
     → AreDirectories sections h tables → AreFiles sections h tables source
-    → c.program.directories ≡ tables.program.directories → c.program.files ≡ tables.program.files
-    → c.file_ids ≡ tables.file_ids
-    → c.line_strings ≡ tables.line_strings
-    → AreFilesMapped sections h source strings c
-files_mapped sections h strings tables source c directories so directories_same files_same ids_same texts_same =
+    → AreFilesMapped sections h source strings (finished tables p)
+files_mapped sections h strings tables p source directories so =
     let version = h.parameters.encoding.version in
+    let R = IsMappedFile sections h source strings (finished tables p) in
     let all =
-    one_by_one_map _
-    _
-    (λ f id is. file_mapped sections h strings tables directories _ c f _ directories_same files_same texts_same is) _ _
-    so.each in
+    one_by_one_map _ R (λ f id is. file_mapped sections h strings tables directories p source f id is) _ _ so.each in
     record {
-      each =
-          each_number version (IsMappedFile sections h source strings c) source so.ids c.file_ids all _ refl
-          (ids_same ∙ so.ids_are);
-      only =
-          only_number version (IsMappedFile sections h source strings c) source so.ids c.file_ids all _ refl
-          (ids_same ∙ so.ids_are);
+      each = each_number version R source so.ids tables.file_ids all _ refl so.ids_are;
+      only = only_number version R source so.ids tables.file_ids all _ refl so.ids_are;
     }

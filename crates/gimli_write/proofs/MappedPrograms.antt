@@ -1,37 +1,15 @@
 -- A conversion of a whole program.
-use Rattle.std.proofs.Common.{◌≡◌, ℕ, ◌≤◌, List, [], ◌∷◌, ◌++◌, sym, ap, subst, ◌∙◌, arith}
-use Rattle.std.specs.Prelude.{Option, Ok}
-use Rattle.std.specs.List.{AllByRecursion}
-use Rattle.std.proofs.lemmas.List.Elements.{All-from_recursion}
-use Rattle.std.proofs.lemmas.Bool.{true≢false}
+use Rattle.gimli_write.proofs.Common
+use Common.{◌≡◌, ℕ, List, [], ◌∷◌, ◌++◌, sym, ap, subst, ◌∙◌, arith, Option, AllByRecursion, All-from_recursion}
+use Common.{true≢false, Error, Encoding, Address, ReadRow, Ins, Decodes, one_decoding, base_of, AddressesFit, RowsMatch}
+use Common.{read_row, OneByOne, LineRow, BuiltItem, encoding_of, Outcome, Source}
 use Rattle.std.proofs.Math.Pow.{pow_mono}
-use Rattle.gimli_core.specs.Notation.{Notation}
-use Rattle.gimli_core.specs.declared.error.Error.{Error}
-use Rattle.gimli_core.specs.declared.common.Encoding.{Encoding}
-use Rattle.gimli_bytes.specs.declared.address.Address.{Address}
-use Rattle.gimli_line.specs.declared.run.row.LineRow.{LineRow as ReadRow}
-use Rattle.gimli_line.specs.header.Header.{Header}
-use Rattle.gimli_line.specs.run.Instruction.{Ins}
-use Rattle.gimli_line.specs.run.InstructionGrammar.{Decodes}
-use Rattle.gimli_line.proofs.InstructionLaws.{one_decoding}
-use Rattle.gimli_build.specs.Built.{base_of}
 use Rattle.gimli_build.specs.FileNumber.{file_number}
-use Rattle.gimli_build.specs.Items.{AddressesFit}
-use Rattle.gimli_build.specs.SameRow.{RowsMatch, read_row}
-use Rattle.gimli_build.specs.Texts.{Sections, OneByOne}
-use Rattle.gimli_build.specs.declared.built.row.LineRow.{LineRow}
-use Rattle.gimli_build.specs.declared.built.items.BuiltItem.{BuiltItem}
 use Rattle.gimli_build.specs.declared.built.items.BuiltItem.TheVariants.{SetAddress, Row, End}
-use Rattle.gimli_write.specs.convert.SourceTables.{TablesAndTexts}
-use Rattle.gimli_write.specs.convert.Preparation.{Handed, encoding_of, tables_of_header}
-use Rattle.gimli_write.specs.convert.Items.{Reading, ReadsItems}
-use Rattle.gimli_write.specs.convert.Outcome.{Outcome, outcome_of}
-use Rattle.gimli_write.specs.convert.Mapped.{MapsToItself, NoSequenceEndsUnderTombstone, NoneEndsUnderTombstone}
-use Rattle.gimli_write.specs.convert.Mapped.{RowsMapped, AreRowsMapped, IsReadAs}
+use Rattle.gimli_write.specs.convert.Mapped.{CanBeFaithful, NoneEndsUnderTombstone, RowsMapped, AreRowsMapped, IsReadAs}
 use Rattle.gimli_write.specs.convert.Mapped.{SetsConstant, HasConstantAddresses}
 use Rattle.gimli_write.proofs.MappedAddresses.{follows_start}
-use Rattle.gimli_write.proofs.MappedEnds.{encoding_kept}
-use Rattle.gimli_write.proofs.MappedTables.{IsReady, prepared_ready}
+use Rattle.gimli_write.proofs.MappedEnds.{WasConverted, read_to_end, first_ready, encoding_kept}
 use Rattle.gimli_write.proofs.MappedRows.{Rest, rest_mapped}
 
 -- ---- one row
@@ -48,58 +26,43 @@ same_others source_version version base built source back mapped matches =
 
 -- ---- the whole
 
-module _ (notation : Notation) (sections : Sections) (h : Header) (given : Handed) (line_strings : List (List ℕ))
-    (first : TablesAndTexts) (bytes : List ℕ)
-    (reading : Reading)
-    (convert_address : ℕ → Option Address) (c : Outcome)
-    (ready : tables_of_header sections h given line_strings ≡ Ok first)
-    (reads : ReadsItems notation sections h first bytes reading)
-    (itself : MapsToItself convert_address)
-    (wide : h.parameters.encoding.address_size ≤ (encoding_of h given).address_size)
-    (no_end_under_tombstone : NoSequenceEndsUnderTombstone notation h bytes)
-    (is : outcome_of convert_address reading first.program ≡ Ok c) where
-  first_ready : (strings : List (List ℕ)) → IsReady strings (encoding_of h given) first
-  first_ready strings = prepared_ready strings sections h given line_strings first ready
-
-  decodes_once : (list : List Ins) (end : Option Error) → Decodes notation h bytes list end → list ≡ reads.list
+module _ {convert_address : ℕ → Option Address} {s : Source} {line_strings : List (List ℕ)} {c : Outcome}
+    (w : WasConverted convert_address s line_strings c) (can : CanBeFaithful convert_address s) where
+  decodes_once : (list : List Ins) (end : Option Error) → Decodes s.notation s.header s.header.program list end
+      → list ≡ w.reads.list
   decodes_once list end decoding =
       ap (λ p. p.0)
-      (one_decoding notation h _ _ _ decoding ∙ sym (one_decoding notation h _ _ _ reads.decoding))
+      (one_decoding s.notation s.header _ _ _ decoding ∙ sym (one_decoding s.notation s.header _ _ _ w.reads.decoding))
 
-  whole : Rest sections h.parameters first (encoding_of h given).address_size c [] reads.list reads.end 0 (0, 0)
-      first.program
+  whole : Rest s.sections s.header.parameters w.first (encoding_of s.header s.given).address_size c [] w.reads.list
+      w.reads.end 0 (0, 0) w.first.program
   whole =
-      rest_mapped sections h.parameters first convert_address itself (encoding_of h given).address_size
-      (pow_mono (omega (arith, wide))) c _ _
-      _ 0 _ _
-      (follows_start _)
-      (subst (NoneEndsUnderTombstone h.parameters []) (decodes_once _ _ no_end_under_tombstone.decoding)
-      no_end_under_tombstone.seen)
-      (ap (λ r. outcome_of convert_address r first.program) (sym reads.given) ∙ is)
+      let seen = can.no_end_under_tombstone in
+      rest_mapped s.sections s.header.parameters w.first (encoding_of s.header s.given).address_size c convert_address
+      can.itself (pow_mono (omega (arith, can.wide))) _ _ _ 0 _ _ (follows_start _)
+      (subst (NoneEndsUnderTombstone s.header.parameters []) (decodes_once _ _ seen.decoding) seen.seen)
+      (read_to_end w)
 
   -- what was built is what was built after the start
-  all_items : c.program.items ≡ whole.items
-  all_items = whole.built ∙ ap (λ (l : List BuiltItem). l ++ whole.items) (first_ready []).items
+  all_items : whole.items ≡ c.program.items
+  all_items = sym (whole.built ∙ ap (λ (l : List BuiltItem). l ++ whole.items) (first_ready w []).items)
 
-  pub rows_mapped : AreRowsMapped notation h bytes c
+  pub rows_mapped : AreRowsMapped s.notation s.header s.header.program c
   rows_mapped = record {
     rows = whole.rows;
-    events = record { list = reads.list; end = reads.end; decoding = reads.decoding; given = sym whole.events };
+    events = record { list = w.reads.list; end = w.reads.end; decoding = w.reads.decoding; given = sym whole.events };
     mapped =
-        subst (λ items. RowsMapped h.parameters.encoding.version c.file_ids 0 items whole.rows) (sym all_items)
+        subst (λ items. RowsMapped s.header.parameters.encoding.version c.file_ids 0 items whole.rows) all_items
         whole.mapped;
   }
 
   pub addresses_fit : AddressesFit c.program.encoding.address_size 0 (0, 0) c.program.items
   addresses_fit =
-      subst (λ (e : Encoding). AddressesFit e.address_size 0 (0, 0) c.program.items)
-      (sym (encoding_kept notation sections h given line_strings first bytes reading convert_address c ready reads is))
-      (subst (λ (items : List BuiltItem). AddressesFit (encoding_of h given).address_size 0 (0, 0) items)
-      (sym all_items) whole.fit)
+      subst (λ (e : Encoding). AddressesFit e.address_size 0 (0, 0) c.program.items) (sym (encoding_kept w))
+      (subst (AddressesFit (encoding_of s.header s.given).address_size 0 (0, 0)) all_items whole.fit)
 
   pub constants_set : HasConstantAddresses c.program
-  constants_set =
-      All-from_recursion _ _ (subst (λ items. AllByRecursion SetsConstant items) (sym all_items) whole.constants)
+  constants_set = All-from_recursion _ _ (subst (AllByRecursion SetsConstant) all_items whole.constants)
 
 -- ---- what is read back of it
 

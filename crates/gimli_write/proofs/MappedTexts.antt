@@ -1,17 +1,11 @@
 -- Texts that a conversion makes: the same text is made the same, however many others were made since.
-use Rattle.std.proofs.Common.{◌≡◌, ℕ, zero, suc, ◌+◌, Bool, true, false, cond, not, ◌||◌, if◌then◌else◌, List, [], ◌∷◌}
-use Rattle.std.proofs.Common.{◌++◌, length, refl, sym, ap, subst, ◌∙◌}
-use Rattle.std.proofs.Common.{arith}
-use Rattle.std.specs.Prelude.{nat_le, Some, unwrap_or, slice_get, bytes_eq}
-use Rattle.std.specs.List.{list_any, position_or_len}
-use Rattle.std.proofs.lemmas.Bool.{or_left, or_right, or_parts, eq-eqb}
+use Rattle.gimli_write.proofs.Common
+use Common.{◌≡◌, ℕ, zero, suc, ◌+◌, Bool, true, false, cond, not, ◌||◌, if◌then◌else◌, List, [], ◌∷◌, ◌++◌, length}
+use Common.{refl, sym, ap, subst, ◌∙◌, arith, nat_le, Some, unwrap_or, slice_get, bytes_eq, list_any, position_or_len}
+use Common.{or_left, or_right, or_parts, eq-eqb, bytes_eq-Decides, with_text, index_of_text, StringTables, texts_in}
+use Common.{with_text-found, with_text-there, LineText, Inline, InStrings, InLineStrings, line_text_eq, bytes_in}
+use Common.{made_text, made_table, FileKey, key_eq}
 use Rattle.std.proofs.lemmas.List.Folds.{list_any-append}
-use Rattle.std.proofs.lemmas.Slice.Eq.{bytes_eq-Decides}
-use Rattle.gimli_bytes.specs.Texts.{with_text, index_of_text, StringTables, texts_in}
-use Rattle.gimli_bytes.proofs.TextLemmas.{with_text-found, with_text-there}
-use Rattle.gimli_build.specs.LineText.{LineText, Inline, InStrings, InLineStrings, line_text_eq, bytes_in, made_text}
-use Rattle.gimli_build.specs.LineText.{made_table}
-use Rattle.gimli_build.specs.Tables.{FileKey, key_eq}
 
 -- ---- the first index that passes a test, in a list that grows at its end
 

@@ -1,35 +1,18 @@
 -- What a conversion reads, handed to the builder.
-use Rattle.std.proofs.Common.{◌≡◌, ◌⊎◌, ℕ, suc, ◌<◌, arith, false, true, Bool, if◌then◌else◌, List, refl, sym, ap, ◌∙◌}
-use Rattle.std.proofs.Common.{subst, inl, inr}
-use Rattle.std.specs.Prelude.{Option, Result, Ok, Err, MatchResult}
+use Rattle.gimli_write.proofs.Common
+use Common.{◌≡◌, ◌⊎◌, ℕ, suc, ◌<◌, arith, false, true, Bool, if◌then◌else◌, List, refl, sym, ap, ◌∙◌, subst, inl, inr}
+use Common.{Option, Result, Ok, Err, MatchResult, AddressOverflow, Address, Parameters, DefineFile, Ins, overflows}
+use Common.{Built, ConvertError, MissingLineEndSequence, Read, ConvertLineRow, Row, ◌>>=◌, IsRefusedBy, TablesAndTexts}
+use Common.{Reading, ends, stops, defines, offers, address_offered, reading_at, with_definition, after_definitions}
+use Common.{ReadsItems, tables_of_header, Source, reading_left, Outcome, after_item, with_tables, outcome_at_end}
+use Common.{outcome_of, ItemComesTo, ComesTo, without_items, Conversion, tables_of, version_of_source, after_held}
+use Common.{unless_failed, still_to_read, AddsFiles, IsReadRefusal, Progress, reading_of, built_so_far, IsConverted}
+use Common.{with_program, AnswersAs, outcome_with, RestComesTo, SourceComesTo, IsConvertRefusal, RestConvertsTo}
+use Common.{IsRestRefusal}
 use Rattle.std.specs.declared.vec.Vec.{Vec}
 use Rattle.std.specs.declared.alloc.Global.{Global}
-use Rattle.gimli_core.specs.declared.error.Error.TheVariants.{AddressOverflow}
-use Rattle.gimli_bytes.specs.declared.address.Address.{Address}
-use Rattle.gimli_line.specs.header.Parameters.{Parameters}
-use Rattle.gimli_line.specs.declared.run.instruction.LineInstruction.TheVariants.{DefineFile}
-use Rattle.gimli_line.specs.run.Instruction.{Ins}
-use Rattle.gimli_line.specs.run.OperationPointer.{overflows}
-use Rattle.gimli_build.specs.Built.{Built}
-use Rattle.gimli_write.specs.declared.convert_error.ConvertError.{ConvertError}
-use Rattle.gimli_write.specs.declared.convert_error.ConvertError.TheVariants.{MissingLineEndSequence, OutOfMemory, Read}
-use Rattle.gimli_write.specs.declared.convert.rows.ConvertLineRow.{ConvertLineRow}
-use Rattle.gimli_write.specs.declared.convert.rows.ConvertLineRow.TheVariants.{SetAddress, Row, EndSequence}
-use Rattle.gimli_write.specs.convert.Texts.{◌>>=◌, IsRefusedBy}
-use Rattle.gimli_write.specs.convert.SourceTables.{TablesAndTexts}
-use Rattle.gimli_write.specs.convert.Items.{Reading, ends, stops, defines, offers, address_offered, reading_at}
-use Rattle.gimli_write.specs.convert.Items.{with_definition, after_definitions, ReadsItems}
-use Rattle.gimli_write.specs.convert.Preparation.{tables_of_header}
-use Rattle.gimli_write.specs.convert.Sources.{Source}
-use Rattle.gimli_write.specs.convert.SourceRun.{reading_left}
-use Rattle.gimli_write.specs.convert.Outcome.{Outcome, after_item, with_tables, outcome_at_end, outcome_of, ItemComesTo}
-use Rattle.gimli_write.specs.convert.Outcome.{ComesTo, without_items}
-use Rattle.gimli_write.specs.convert.Conversion.{Conversion, tables_of, version_of_source, after_held, unless_failed}
-use Rattle.gimli_write.specs.convert.Conversion.{still_to_read, AddsFiles, IsReadRefusal}
-use Rattle.gimli_write.specs.convert.Conversion.{Progress, reading_of, built_so_far, IsConverted, with_program}
-use Rattle.gimli_write.specs.convert.Conversion.{AnswersAs, outcome_with}
-use Rattle.gimli_write.specs.convert.Conversion.{RestComesTo, SourceComesTo, IsConvertRefusal, RestConvertsTo}
-use Rattle.gimli_write.specs.convert.Conversion.{IsRestRefusal}
+use Rattle.gimli_write.specs.declared.convert_error.ConvertError.TheVariants.{OutOfMemory}
+use Rattle.gimli_write.specs.declared.convert.rows.ConvertLineRow.TheVariants.{SetAddress, EndSequence}
 
 -- how much a reading hands out
 abbrev pub offer_count : Reading → ℕ
@@ -138,11 +121,6 @@ module _ (map : ℕ → Option Address → Type 0) where
         ap (λ step. step >>= λ next. outcome_of g rest next) (sym (item_as _ _ _ is.1))
         ∙ then_as rest _ (λ next so. comes_as rest next outcome so) is.0 is.2
 
-    comes_refused : (r : Reading) (p : Built) (e : ConvertError) → (e ≡ OutOfMemory) ⊎ ComesTo map r p (Err e)
-        → IsRefusedBy (outcome_of g r p) e
-    comes_refused r p e (inl memory) = inl memory
-    comes_refused r p e (inr is) = inr (comes_as r p _ is)
-
   pub rest_converts : (old : Progress) (answer : Built × Vec ℕ Global) (new : List (List ℕ))
       → RestComesTo map old (Ok (outcome_with answer new))
       → RestConvertsTo map old answer new
@@ -155,7 +133,7 @@ module _ (map : ℕ → Option Address → Type 0) where
       → IsRestRefusal map old e
   rest_refused old e is = record {
     answers = is;
-    as_function = λ g says. comes_refused g says (reading_of old) (built_so_far old) e is;
+    as_function = λ g says. refused_then e (comes_as g says (reading_of old) (built_so_far old) (Err e)) is;
   }
 
   -- ---- reads that are handed on
@@ -193,8 +171,7 @@ module _ (map : ℕ → Option Address → Type 0) where
 
       pub feed_refused : (e : ConvertError) → (e ≡ OutOfMemory) ⊎ ItemComesTo map row mid.tables.program (Err e)
           → (e ≡ OutOfMemory) ⊎ ComesTo map (still_to_read old before) old.tables.program (Err e)
-      feed_refused e (inl memory) = inl memory
-      feed_refused e (inr item) = inr (handed_first _ _ item refl)
+      feed_refused e = refused_then e (λ item. handed_first (Err e) (Err e) item refl)
 
     pub read_refused : (e : ConvertError) → IsReadRefusal (still_to_read old before) e
         → (e ≡ OutOfMemory) ⊎ ComesTo map (still_to_read old before) old.tables.program (Err e)
@@ -264,20 +241,10 @@ module _ (map : ℕ → Option Address → Type 0) where
           → SourceComesTo map s line_strings outcome
       all_comes outcome comes = (reading, rw is (reads, comes))
 
-      refused_as : (g : ℕ → Option Address) (e : ConvertError) → IsRefusedBy (outcome_of g reading first.program) e
-          → (e ≡ OutOfMemory) ⊎ IsConverted g s line_strings (Err e)
-      refused_as g e (inl memory) = inl memory
-      refused_as g e (inr refused) = inr (all_converted g _ refused)
-
-      refused_by : (e : ConvertError) → (e ≡ OutOfMemory) ⊎ ComesTo map reading first.program (Err e)
-          → (e ≡ OutOfMemory) ⊎ SourceComesTo map s line_strings (Err e)
-      refused_by e (inl memory) = inl memory
-      refused_by e (inr comes) = inr (all_comes _ comes)
-
       pub rows_refused : (e : ConvertError) → (e ≡ OutOfMemory) ⊎ ComesTo map reading first.program (Err e)
           → ((g : ℕ → Option Address) → AnswersAs map g → IsRefusedBy (outcome_of g reading first.program) e)
           → IsConvertRefusal map s line_strings e
       rows_refused e answers as_function = record {
-        answers = refused_by e answers;
-        as_function = λ g says. refused_as g e (as_function g says);
+        answers = refused_then e (all_comes (Err e)) answers;
+        as_function = λ g says. refused_then e (all_converted g (Err e)) (as_function g says);
       }

@@ -1,22 +1,13 @@
 -- Rows that are read: they are what the program gives, or a fault comes after them.
-use Rattle.std.proofs.Common.{◌≡◌, ◌≢◌, ◌⊎◌, true, List, [], ◌∷◌, ◌++◌, map, refl, sym, ap, ◌∙◌, inl, inr}
-use Rattle.std.proofs.lemmas.List.{append-nil}
-use Rattle.gimli_core.specs.Notation.{Notation}
-use Rattle.gimli_core.specs.declared.error.Error.{Error}
-use Rattle.gimli_core.specs.declared.error.Error.TheVariants.{OutOfMemory}
+use Rattle.gimli_write.proofs.Common
+use Common.{◌≡◌, ◌≢◌, ◌⊎◌, true, List, [], ◌∷◌, ◌++◌, map, refl, sym, ap, ◌∙◌, inl, inr, append-nil, Notation, Error}
+use Common.{OutOfMemory, Header, File, row, fault, Events, live_events, FaultIs, events_left, events_of, HasFirstFault}
+use Common.{ConvertError, Read, NoMemory, IsRunRefusal}
 use Rattle.gimli_line.specs.declared.run.row.LineRow.{LineRow}
-use Rattle.gimli_line.specs.header.Header.{Header}
-use Rattle.gimli_line.specs.header.File.{File}
-use Rattle.gimli_line.specs.run.Events.{row, fault, Events}
 use Rattle.gimli_line.specs.run.RunState.{RunState}
 use Rattle.gimli_line.specs.run.Progress.{with_reset_row}
-use Rattle.gimli_line.specs.run.Rows.{live_events, FaultIs, events_left}
-use Rattle.gimli_line.specs.run.Sequences.{events_of, HasFirstFault}
 use Rattle.gimli_line.specs.run.EventsWithFiles.{EventWithFiles, EventsWithFiles}
 use Rattle.gimli_line.proofs.RunLists.{given_without_files}
-use Rattle.gimli_write.specs.declared.convert_error.ConvertError.{ConvertError}
-use Rattle.gimli_write.specs.declared.convert_error.ConvertError.TheVariants.{Read, OutOfMemory as NoMemory}
-use Rattle.gimli_write.specs.RoundTrip.{IsRunRefusal}
 
 -- ---- a run to its end
 

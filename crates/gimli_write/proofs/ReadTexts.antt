@@ -1,20 +1,13 @@
 -- Texts that are read: each is the text that its value stands for.
-use Rattle.std.proofs.Common.{◌≡◌, ◌≢◌, ℕ, ◌+◌, ◌<◌, List, [], ◌∷◌, ◌++◌, length, map, take, get_or, ◌≤◌, Ok, Err, refl}
-use Rattle.std.proofs.Common.{sym, ap, ◌∙◌, subst}
-use Rattle.std.proofs.Common.{append_assoc, add-one, arith, inl, inr}
-use Rattle.std.specs.Prelude.{All}
-use Rattle.std.proofs.lemmas.Bool.{cases_lt, le-ltb, lt-ltb}
-use Rattle.std.proofs.lemmas.List.{map-append, length-append, length-drop, length-map, get_or-map}
-use Rattle.std.proofs.lemmas.List.Elements.{All-get_or, All-from_recursion, recursion_from_All}
+use Rattle.gimli_write.proofs.Common
+use Common.{◌≡◌, ◌≢◌, ℕ, ◌+◌, ◌<◌, List, [], ◌∷◌, ◌++◌, length, map, take, get_or, ◌≤◌, Ok, Err, refl, sym, ap, ◌∙◌}
+use Common.{subst, append_assoc, add-one, arith, inl, inr, All, cases_lt, le-ltb, lt-ltb, map-append, length-append}
+use Common.{length-drop, length-map, get_or-map, All-get_or, All-from_recursion, recursion_from_All, Value, Error}
+use Common.{Sections, IsTextAt, IsText, OneByOne, text_from, text_of, HasText}
 use Rattle.std.proofs.Math.Seq.{take-suc}
-use Rattle.gimli_core.specs.Values.{Value}
 use Rattle.gimli_core.specs.Reading.{Read, skip_at, text_at}
-use Rattle.gimli_core.specs.declared.error.Error.{Error}
 use Rattle.gimli_core.specs.declared.attribute_value.AttributeValue.TheVariants.{String, DebugStrRef, DebugLineStrRef}
 use Rattle.gimli_core.proofs.ProductionLaws.{reads_text}
-use Rattle.gimli_build.specs.Texts.{Sections, IsTextAt, IsText, OneByOne}
-use Rattle.gimli_write.specs.TextReading.{text_from, text_of}
-use Rattle.gimli_write.specs.inside.TextReading.{HasText}
 
 -- ---- one text
 

@@ -1,32 +1,17 @@
 -- A unit that is read: it has one header, and no fault.
-use Rattle.std.proofs.Common.{◌≡◌, ◌≢◌, ℕ, ◌<◌, ◌^◌, Bool, List, [], ◌∷◌, length, drop, ◌+◌, refl, sym, ap, ◌∙◌, subst}
-use Rattle.std.proofs.Common.{inl, inr, arith}
-use Rattle.std.specs.Prelude.{All, Result, Option, Some, None, IfOk, IfErr}
-use Rattle.std.proofs.lemmas.List.{length-drop, append-nil}
-use Rattle.std.proofs.lemmas.List.Elements.{All-nil, All-cons}
-use Rattle.std.proofs.lemmas.Result.{IfOk-weaker, MatchResult-weaker}
-use Rattle.gimli_core.specs.Notation.{Notation}
-use Rattle.gimli_core.specs.Values.{Value}
-use Rattle.gimli_core.specs.declared.error.Error.{Error}
-use Rattle.gimli_core.specs.declared.error.Error.TheVariants.{OutOfMemory}
-use Rattle.gimli_line.specs.header.Header.{Header, UnitEntry}
-use Rattle.gimli_line.specs.header.HeaderGrammar.{SpellsUnit, HasHeaderFault}
-use Rattle.gimli_line.specs.header.File.{File as ReadFile}
-use Rattle.gimli_line.proofs.HeaderLaws.{one_header, no_fault}
-use Rattle.gimli_bytes.specs.Hand.{unplaced}
-use Rattle.gimli_bytes.specs.Texts.{byte_count, StringTables}
-use Rattle.gimli_build.specs.Texts.{Sections, IsOptionalText, OneByOne}
-use Rattle.gimli_write.specs.inside.TextReading.{HasText, HasOptionalText, HasFileTexts}
+use Rattle.gimli_write.proofs.Common
+use Common.{◌≡◌, ◌≢◌, ℕ, ◌<◌, ◌^◌, Bool, List, [], ◌∷◌, length, drop, ◌+◌, refl, sym, ap, ◌∙◌, subst, inl, inr, arith}
+use Common.{All, Result, Option, Some, None, IfOk, IfErr, length-drop, append-nil, All-nil, All-cons, IfOk-weaker}
+use Common.{MatchResult-weaker, Notation, Value, Error, OutOfMemory, Header, UnitEntry, SpellsUnit, HasHeaderFault}
+use Common.{ReadFile, one_header, no_fault, byte_count, StringTables, Sections, IsOptionalText, OneByOne}
+use Common.{HasText, HasOptionalText, HasFileTexts, Built, ConvertError}
+use Common.{NoMemory, RoundTrip, answers, AreAnswers, AnswersProgram, IsRunRefusal, RefusesUnit, slice_notation}
+use Common.{unit_entry_of, sections_of}
 use Rattle.gimli_build.specs.Tables.{File}
-use Rattle.gimli_build.specs.Built.{Built}
 use Rattle.gimli_build.specs.ReadsBack.{IsDirectory, IsFile, ReadsBack, IsReadWell, ReadsBackAs}
 use Rattle.gimli_build.specs.ReadsBack.{directories_from_zero}
+use Rattle.gimli_bytes.specs.Hand.{unplaced}
 use Rattle.gimli_build.proofs.linking.FoundTexts.{written-found, written-held}
-use Rattle.gimli_write.specs.declared.convert_error.ConvertError.{ConvertError}
-use Rattle.gimli_write.specs.declared.convert_error.ConvertError.TheVariants.{OutOfMemory as NoMemory}
-use Rattle.gimli_write.specs.declared.read_back.RoundTrip.{RoundTrip}
-use Rattle.gimli_write.specs.RoundTrip.{answers, AreAnswers, AnswersProgram, IsRunRefusal, RefusesUnit, slice_notation}
-use Rattle.gimli_write.specs.RoundTrip.{unit_entry_of, sections_of}
 use Rattle.gimli_write.specs.inside.RoundTrip.{BeginsUnit, CanRead, HasTexts, unit_entry_with}
 use Rattle.gimli_write.proofs.ReadRuns.{is_memory}
 

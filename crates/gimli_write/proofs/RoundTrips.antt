@@ -1,16 +1,12 @@
 -- A unit that is written and read again: why it is refused, and where it stands.
-use Rattle.std.proofs.Common.{◌≡◌, ◌≢◌, ◌⊎◌, ℕ, Bool, List, ◌++◌, length, drop, refl, ap, ◌∙◌, subst, inl, inr}
-use Rattle.std.specs.Prelude.{Some, None, Result, Ok, Err, IfErr}
+use Rattle.gimli_write.proofs.Common
+use Common.{◌≡◌, ◌≢◌, ◌⊎◌, ℕ, Bool, List, ◌++◌, length, drop, refl, ap, ◌∙◌, subst, inl, inr, Some, None, Result, Ok}
+use Common.{Err, IfErr, MatchResult-weaker, UnitEntry, ConvertError, Read, Write, NoMemory, RoundTrip, RefusesUnit}
+use Common.{ToWrite, WasWritten, IsRefusal, slice_notation}
 use Rattle.std.proofs.Math.Seq.{drop-append_seam}
-use Rattle.std.proofs.lemmas.Result.{MatchResult-weaker}
 use Rattle.gimli_bytes.specs.Written.{Appends}
 use Rattle.gimli_bytes.specs.declared.error.Error.{Error}
 use Rattle.gimli_bytes.specs.declared.error.Error.TheVariants.{OutOfMemory}
-use Rattle.gimli_line.specs.header.Header.{UnitEntry}
-use Rattle.gimli_write.specs.declared.convert_error.ConvertError.{ConvertError}
-use Rattle.gimli_write.specs.declared.convert_error.ConvertError.TheVariants.{Read, Write, OutOfMemory as NoMemory}
-use Rattle.gimli_write.specs.declared.read_back.RoundTrip.{RoundTrip}
-use Rattle.gimli_write.specs.RoundTrip.{RefusesUnit, ToWrite, WasWritten, IsRefusal, slice_notation}
 
 -- ---- refusals
 

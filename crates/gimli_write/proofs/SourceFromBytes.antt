@@ -1,32 +1,19 @@
 -- A step of a source: an instruction that was executed from its bytes does what it does when it is parsed.
-use Rattle.std.proofs.Common.{◌≡◌, ◌≢◌, ◌∙◌, ℕ, ◌<◌, Bool, true, false, if◌then◌else◌, List, length, refl, sym, ap}
-use Rattle.std.proofs.Common.{subst}
-use Rattle.std.specs.Prelude.{Some, None, Result, Ok, Err, OnOk, IfErr, IfOk}
-use Rattle.gimli_core.specs.declared.error.Error.{Error}
-use Rattle.gimli_core.specs.declared.error.Error.TheVariants.{AddressOverflow}
+use Rattle.gimli_write.proofs.Common
+use Common.{◌≡◌, ◌≢◌, ◌∙◌, ℕ, ◌<◌, Bool, true, false, if◌then◌else◌, List, length, refl, sym, ap, subst, Some, None}
+use Common.{Result, Ok, Err, OnOk, IfErr, IfOk, Error, AddressOverflow, SetAddress, DefineFile, Header, Ins}
+use Common.{defines_file, files_after, ins_at, is_refused, reset_row, step_of, Unread, reads_instruction, ConvertError}
+use Common.{Read, SourceStep, More, Made, address_operand, SourceRun, state_after, step_made, StepsSource}
 use Rattle.gimli_line.specs.declared.run.from_bytes.Executed.{Executed}
 use Rattle.gimli_line.specs.declared.run.from_bytes.Executed.TheVariants.{Quiet, Address, Row}
-use Rattle.gimli_line.specs.declared.run.instruction.LineInstruction.TheVariants.{SetAddress, DefineFile}
 use Rattle.gimli_line.specs.declared.run.row.LineRow.{LineRow}
-use Rattle.gimli_line.specs.header.Header.{Header}
 use Rattle.gimli_line.specs.run.Execution.{IsExecuted, RefusesNext, told_of}
-use Rattle.gimli_line.specs.run.Instruction.{Ins, defines_file, files_after}
-use Rattle.gimli_line.specs.run.InstructionReading.{ins_at}
-use Rattle.gimli_line.specs.run.Machine.{is_refused, reset_row, step_of}
 use Rattle.gimli_line.specs.run.NextInstruction.{TakesNext}
-use Rattle.gimli_line.specs.run.Unread.{Unread}
 use Rattle.gimli_line.proofs.Executions.{told_address, told_quiet, told_row}
-use Rattle.gimli_line.proofs.InstructionLaws.{reads_instruction}
-use Rattle.gimli_write.specs.declared.convert_error.ConvertError.{ConvertError}
-use Rattle.gimli_write.specs.declared.convert_error.ConvertError.TheVariants.{Read}
-use Rattle.gimli_write.specs.declared.convert.run.SourceStep.{SourceStep}
-use Rattle.gimli_write.specs.declared.convert.run.SourceStep.TheVariants.{More, Made}
-use Rattle.gimli_write.specs.convert.Items.{address_operand}
-use Rattle.gimli_write.specs.convert.SourceRun.{SourceRun, state_after}
-use Rattle.gimli_write.specs.inside.convert.SourceRun.{source_row, step_made, StepsSource}
+use Rattle.gimli_write.specs.inside.convert.SourceRun.{source_row}
 use Rattle.gimli_write.proofs.SourceSteps.{state, IsReady, address_state, executed_reading, executed_refusal}
-use Rattle.gimli_write.proofs.SourceSteps.{executed_shortens, is_shorter, made_is}
-use Rattle.gimli_write.proofs.SourceSteps.{quiet_state, ready_at_refusal, row_state, spelled_as, with_unread}
+use Rattle.gimli_write.proofs.SourceSteps.{executed_shortens, is_shorter, made_is, quiet_state, ready_at_refusal}
+use Rattle.gimli_write.proofs.SourceSteps.{row_state, spelled_as, with_unread}
 use Rattle.gimli_write.proofs.TablesAtEnd.{executed_last, executed_stop}
 
 -- nothing is added to the files

@@ -1,33 +1,14 @@
 -- What the machine reads of a source is what looking back says.
-use Rattle.std.proofs.Common.{◌≡◌, ℕ, ◌-◌, Bool, true, false, not, ◌&&◌, if◌then◌else◌, List, [], ◌∷◌, refl, sym, ap}
-use Rattle.std.proofs.Common.{◌∙◌}
-use Rattle.std.specs.Prelude.{Option, Result, Ok, Err}
-use Rattle.gimli_core.specs.Notation.{Notation}
-use Rattle.gimli_core.specs.declared.error.Error.{Error}
-use Rattle.gimli_core.specs.declared.error.Error.TheVariants.{AddressOverflow}
-use Rattle.gimli_line.specs.header.Header.{Header}
-use Rattle.gimli_line.specs.declared.run.instruction.LineInstruction.TheVariants.{EndSequence, SetAddress}
-use Rattle.gimli_line.specs.run.Instruction.{Ins, makes_row}
-use Rattle.gimli_line.specs.run.InstructionReading.{decoded_at}
-use Rattle.gimli_line.specs.run.Machine.{is_refused}
-use Rattle.gimli_line.specs.run.OperationPointer.{is_under_tombstone, overflows}
-use Rattle.gimli_line.specs.run.Machine.{registers_after}
-use Rattle.gimli_line.specs.run.Unread.{Unread}
+use Rattle.gimli_write.proofs.Common
+use Common.{◌≡◌, ℕ, ◌-◌, Bool, true, false, not, ◌&&◌, if◌then◌else◌, List, [], ◌∷◌, refl, sym, ap, ◌∙◌, Option, Result}
+use Common.{Ok, Err, Notation, Error, AddressOverflow, Header, EndSequence, SetAddress, Ins, makes_row, decoded_at}
+use Common.{is_refused, is_under_tombstone, overflows, registers_after, Unread, is_decoded, Sections, ConvertError}
+use Common.{Read, SourceRow, ◌>>=◌, TablesAndTexts, Reading, stops, reading_with, base_at, pending_address, source_row}
+use Common.{source_row_offered, reading_at, tables_after_definition, tables_at, reading_after, ReadsItems}
+use Common.{with_definition, SourceRun, start_of_source, row_made, base_after, pending_after, state_after}
+use Common.{instruction_reading, reading_from, reading_left}
 use Rattle.gimli_line.proofs.Backwards.{refused_after, tombstone_after, row_after}
-use Rattle.gimli_line.proofs.InstructionLaws.{is_decoded}
-use Rattle.gimli_build.specs.Texts.{Sections}
-use Rattle.gimli_write.specs.declared.convert_error.ConvertError.{ConvertError}
-use Rattle.gimli_write.specs.declared.convert_error.ConvertError.TheVariants.{Read}
-use Rattle.gimli_write.specs.declared.convert.run.SourceRow.{SourceRow}
-use Rattle.gimli_write.specs.convert.Texts.{◌>>=◌}
-use Rattle.gimli_write.specs.convert.SourceTables.{TablesAndTexts}
-use Rattle.gimli_write.specs.convert.Items.{Reading, stops, reading_with, base_at, pending_address, source_row}
-use Rattle.gimli_write.specs.convert.Items.{source_row_offered, reading_at}
-use Rattle.gimli_write.specs.convert.Items.{tables_after_definition, tables_at, reading_after, ReadsItems}
-use Rattle.gimli_write.specs.convert.Items.{with_definition}
-use Rattle.gimli_write.specs.convert.SourceRun.{SourceRun, start_of_source, row_made, base_after, pending_after}
-use Rattle.gimli_write.specs.convert.SourceRun.{state_after, instruction_reading, reading_from}
-use Rattle.gimli_write.specs.convert.SourceRun.{reading_left}
+use Rattle.gimli_write.proofs.SourceSteps.{state_same}
 
 -- ---- the state after a past
 
@@ -53,28 +34,8 @@ pending_is i past = refl
 state_is : (h : Header) (u : Unread) (past : List Ins) (i : Ins)
     → state_after i (state_at h past u) ≡ state_at h (i ∷ past) u
 state_is h u past i =
-    ap
-    (λ b. let s : SourceRun =
-    record {
-      header = h;
-      row = registers_after h.parameters (i ∷ past);
-      base = b;
-      pending = pending_after i (pending_address past);
-      unread = u;
-    } in
-    s)
-    (base_is i _)
-    ∙ ap
-    (λ p. let s : SourceRun =
-    record {
-      header = h;
-      row = registers_after h.parameters (i ∷ past);
-      base = base_at (i ∷ past);
-      pending = p;
-      unread = u;
-    } in
-    s)
-    (pending_is i past)
+    let row = registers_after h.parameters (i ∷ past) in
+    state_same h h row row _ _ _ _ u refl refl (base_is i past) (pending_is i past)
 
 -- ---- one point
 

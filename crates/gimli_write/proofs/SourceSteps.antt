@@ -1,41 +1,18 @@
 -- What one instruction of a source does to what is still to be read.
-use Rattle.std.proofs.Common.{◌≡◌, ◌≢◌, ℕ, ◌<◌, ◌≤◌, ◌-◌, Bool, true, false, not, ◌&&◌, ◌||◌, if◌then◌else◌, List, []}
-use Rattle.std.proofs.Common.{◌∷◌, ◌++◌, length, refl, sym, ap, ◌∙◌}
-use Rattle.std.proofs.Common.{subst, append_assoc, arith}
-use Rattle.std.specs.Prelude.{Option, Some, None, unwrap_or, Result, Ok, Err, OnOk, OnErr, IfOk, IfErr}
-use Rattle.std.proofs.lemmas.List.{length-append, append-nil}
-use Rattle.std.proofs.lemmas.Bool.{false≢true}
-use Rattle.gimli_core.specs.Notation.{Notation}
-use Rattle.gimli_core.specs.declared.error.Error.{Error}
-use Rattle.gimli_core.specs.declared.error.Error.TheVariants.{AddressOverflow, OutOfMemory}
-use Rattle.gimli_line.specs.header.Header.{Header}
-use Rattle.gimli_line.specs.header.File.{File}
-use Rattle.gimli_line.specs.header.Parameters.{Parameters}
+use Rattle.gimli_write.proofs.Common
+use Common.{◌≡◌, ◌≢◌, ℕ, ◌<◌, ◌≤◌, ◌-◌, Bool, true, false, not, ◌&&◌, ◌||◌, if◌then◌else◌, List, [], ◌∷◌, ◌++◌, length}
+use Common.{refl, sym, ap, ◌∙◌, subst, append_assoc, arith, Option, Some, None, unwrap_or, Result, Ok, Err, OnOk, OnErr}
+use Common.{IfOk, IfErr, length-append, append-nil, false≢true, Notation, Error, AddressOverflow, OutOfMemory, Header}
+use Common.{File, Parameters, Special, Copy, EndSequence, DefineFile, SetAddress, Ins, ins_seen, is_end, makes_row}
+use Common.{defines_file, files_after, SpellsInstruction, instruction_production, decoded_at, step_of, reset_row}
+use Common.{is_refused, next_registers, Unread, is_decoded, one_decoding, instructions_bounded, Sections, ConvertError}
+use Common.{Read, SourceRow, SourceStep, More, Made, TablesAndTexts, file_added, Reading, defines, with_definition}
+use Common.{ends, stops, address_operand, source_row_offered, tables_after_definition, SourceRun, row_made, base_after}
+use Common.{pending_after, state_after, instruction_reading, reading_from, reading_upon, reading_left, step_reading}
+use Common.{step_made, Shortens}
 use Rattle.gimli_line.specs.declared.run.row.LineRow.{LineRow}
 use Rattle.gimli_line.specs.declared.run.instruction.LineInstruction.{LineInstruction}
-use Rattle.gimli_line.specs.declared.run.instruction.LineInstruction.TheVariants.{Special, Copy, EndSequence}
-use Rattle.gimli_line.specs.declared.run.instruction.LineInstruction.TheVariants.{DefineFile, SetAddress}
 use Rattle.gimli_line.specs.declared.header.file_entry.FileEntry.{FileEntry}
-use Rattle.gimli_line.specs.run.Instruction.{Ins, ins_seen, is_end, makes_row, defines_file, files_after}
-use Rattle.gimli_line.specs.run.InstructionGrammar.{SpellsInstruction, instruction_production}
-use Rattle.gimli_line.specs.run.InstructionReading.{decoded_at}
-use Rattle.gimli_line.specs.run.Machine.{step_of, reset_row, is_refused}
-use Rattle.gimli_line.specs.run.Machine.{next_registers}
-use Rattle.gimli_line.specs.run.Unread.{Unread}
-use Rattle.gimli_line.proofs.InstructionLaws.{is_decoded, one_decoding, instructions_bounded}
-use Rattle.gimli_build.specs.Texts.{Sections}
-use Rattle.gimli_write.specs.declared.convert_error.ConvertError.{ConvertError}
-use Rattle.gimli_write.specs.declared.convert_error.ConvertError.TheVariants.{Read}
-use Rattle.gimli_write.specs.declared.convert.run.SourceRow.{SourceRow}
-use Rattle.gimli_write.specs.declared.convert.run.SourceStep.{SourceStep}
-use Rattle.gimli_write.specs.declared.convert.run.SourceStep.TheVariants.{More, Made}
-use Rattle.gimli_write.specs.convert.SourceTables.{TablesAndTexts, file_added}
-use Rattle.gimli_write.specs.convert.Items.{Reading, defines, with_definition, ends, stops, address_operand}
-use Rattle.gimli_write.specs.convert.Items.{source_row_offered, tables_after_definition}
-use Rattle.gimli_write.specs.convert.SourceRun.{SourceRun, row_made, base_after, pending_after, state_after}
-use Rattle.gimli_write.specs.convert.SourceRun.{instruction_reading, reading_from, reading_upon}
-use Rattle.gimli_write.specs.convert.SourceRun.{reading_left}
-use Rattle.gimli_write.specs.inside.convert.SourceRun.{step_reading, step_made, Shortens}
 
 -- ---- what a program is decoded into, by its front
 
@@ -190,6 +167,12 @@ module _ (sections : Sections) (tables : TablesAndTexts) (s : SourceRun) where
 abbrev pub state : Header → LineRow → ℕ → Option ℕ → Unread → SourceRun
 state h r b p u = record { header = h; row = r; base = b; pending = p; unread = u }
 
+pub state_same : (h k : Header) (r s : LineRow) (b c : ℕ) (p q : Option ℕ) (u : Unread) → h ≡ k → r ≡ s → b ≡ c → p ≡ q
+    → state h r b p u ≡ state k s c q u
+state_same h k r s b c p q u header row base pending =
+    ap (λ x. state x r b p u) header ∙ ap (λ x. state k x b p u) row ∙ ap (λ x. state k s x p u) base
+    ∙ ap (λ x. state k s c x u) pending
+
 -- what an instruction does to registers that a run relies on
 ends_row : (p : Parameters) (i : Ins) (r : LineRow) → r.end_sequence ≡ false → makes_row i ≡ true
     → (step_of p i r).end_sequence ≡ is_end i
@@ -280,10 +263,7 @@ module _ (i : Ins) (h h2 : Header) (r r2 : LineRow) (b : ℕ) (p : Option ℕ) (
       let registers : r2 ≡ next_registers h.parameters i r = step ∙ sym (next_is _ quiet) in
       let base : base_after i b ≡ b = rw (no_end i quiet, address) refl in
       let pends : pending_after i p ≡ p = rw (quiet, address) refl in
-      ap (λ k. state k r2 b p u) header_kept
-      ∙ ap (λ x. state h x b p u) registers
-      ∙ ap (λ n. state h (next_registers h.parameters i r) n p u) (sym base)
-      ∙ ap (λ o. state h (next_registers h.parameters i r) (base_after i b) o u) (sym pends)
+      state_same h2 h r2 _ b _ p _ u header_kept registers (sym base) (sym pends)
 
   -- where it makes one
   pub row_state : makes_row i ≡ true → r.end_sequence ≡ false → (k : Header) → k ≡ h2 → (r3 : LineRow)
@@ -299,10 +279,7 @@ module _ (i : Ins) (h h2 : Header) (r r2 : LineRow) (b : ℕ) (p : Option ℕ) (
       ≡ (if is_end i then 0 else b) = ap (λ o. if is_end i then 0 else unwrap_or o b) address in
       let base : n ≡ base_after i b = counts ∙ ap (λ x. if x then 0 else b) last_is ∙ sym of_row in
       let pends : pending_after i p ≡ None = rw loud refl in
-      ap (λ x. state x r3 n None u) header_kept
-      ∙ ap (λ x. state h x n None u) registers
-      ∙ ap (λ m. state h (next_registers h.parameters i r) m None u) base
-      ∙ ap (λ o. state h (next_registers h.parameters i r) (base_after i b) o u) (sym pends)
+      state_same h2 h r3 _ n _ None _ u header_kept registers base (sym pends)
 
   pub made_is : {R Endian Offset : Type 0} (given : SourceStep R Endian Offset) (offset : ℕ)
       → given ≡ (if r2.tombstone then More else Made (record { set_address = p; address_offset = offset; row = r2 }))
@@ -344,7 +321,7 @@ pub address_state : (a : ℕ) (h h2 : Header) (r r2 : LineRow) (b : ℕ) (p : Op
     → r2 ≡ step_of h.parameters (SetAddress a) r
     → state h2 r2 a (Some a) u ≡ state_after (SetAddress a) (state h r b p u)
 address_state a h h2 r r2 b p u header step =
-    ap (λ k. state k r2 a (Some a) u) header ∙ ap (λ x. state h x a (Some a) u) step
+    state_same h2 h r2 _ a a (Some a) (Some a) u header step refl refl
 
 -- ---- what is read from a step on
 

@@ -1,26 +1,10 @@
 -- What one instruction of a source does to the tables that the source leaves.
-use Rattle.std.proofs.Common.{◌≡◌, ◌≢◌, ℕ, Bool, true, false, not, ◌&&◌, ◌||◌, if◌then◌else◌, List, [], ◌∷◌, ◌++◌, refl}
-use Rattle.std.proofs.Common.{sym, ap, ◌∙◌}
-use Rattle.std.specs.Prelude.{Option, Some, Result, Ok, Err, OnOk, IfOk, IfErr}
-use Rattle.gimli_core.specs.Notation.{Notation}
-use Rattle.gimli_core.specs.declared.error.Error.{Error}
-use Rattle.gimli_core.specs.declared.error.Error.TheVariants.{AddressOverflow}
-use Rattle.gimli_line.specs.header.File.{File}
-use Rattle.gimli_line.specs.declared.run.instruction.LineInstruction.TheVariants.{DefineFile}
-use Rattle.gimli_line.specs.run.Instruction.{Ins, makes_row, defines_file}
-use Rattle.gimli_line.specs.run.InstructionGrammar.{SpellsInstruction, instruction_production}
-use Rattle.gimli_line.specs.run.InstructionReading.{decoded_at}
-use Rattle.gimli_line.specs.run.Machine.{is_refused}
-use Rattle.gimli_line.specs.run.Unread.{Unread}
-use Rattle.gimli_build.specs.Texts.{Sections}
-use Rattle.gimli_write.specs.declared.convert_error.ConvertError.{ConvertError}
-use Rattle.gimli_write.specs.declared.convert_error.ConvertError.TheVariants.{Read}
-use Rattle.gimli_write.specs.declared.convert.run.SourceStep.{SourceStep}
-use Rattle.gimli_write.specs.declared.convert.run.SourceStep.TheVariants.{More, Made}
-use Rattle.gimli_write.specs.convert.SourceTables.{TablesAndTexts, file_added}
-use Rattle.gimli_write.specs.convert.Items.{tables_after_definition}
-use Rattle.gimli_write.specs.convert.SourceRun.{SourceRun, row_made, state_after}
-use Rattle.gimli_write.specs.inside.convert.SourceRun.{step_made}
+use Rattle.gimli_write.proofs.Common
+use Common.{◌≡◌, ◌≢◌, ℕ, Bool, true, false, not, ◌&&◌, ◌||◌, if◌then◌else◌, List, [], ◌∷◌, ◌++◌, refl, sym, ap, ◌∙◌}
+use Common.{Option, Some, Result, Ok, Err, OnOk, IfOk, IfErr, Notation, Error, AddressOverflow, File, DefineFile, Ins}
+use Common.{makes_row, defines_file, SpellsInstruction, instruction_production, decoded_at, is_refused, Unread}
+use Common.{Sections, ConvertError, Read, SourceStep, More, Made, TablesAndTexts, file_added, tables_after_definition}
+use Common.{SourceRun, row_made, state_after, step_made}
 use Rattle.gimli_write.specs.convert.TablesAtEnd.{lacks_file, refuses, unless_refused, tables_after, tables_at_end}
 use Rattle.gimli_write.specs.convert.TablesAtEnd.{tables_after_row}
 use Rattle.gimli_write.specs.inside.convert.TablesAtEnd.{step_tables}

@@ -1,30 +1,12 @@
 -- Conversions of a few programs, worked out by hand (DWARF 4, section 6.2.5): what is read, and what is built of it.
-use Rattle.std.proofs.Common.{◌≡◌, ℕ, true, false, List, [], ◌∷◌, negsuc, refl, pos}
-use Rattle.std.specs.Prelude.{Option, Some, None, Result, Ok, Err}
+use Rattle.gimli_write.proofs.Common
+use Common.{◌≡◌, ℕ, true, false, List, [], ◌∷◌, negsuc, refl, pos, Option, Some, None, Result, Ok, Err, Address}
+use Common.{Constant, Copy, AdvancePc, AdvanceLine, SetFile, FixedAddPc, EndSequence, SetAddress, Parameters, Ins}
+use Common.{empty_built, Inline, no_details, LineRow, BuiltItem, ConvertError, InvalidFileIndex, InvalidAddress}
+use Common.{MissingLineEndSequence, UnsupportedLineInstruction, TablesAndTexts, Reading, reading_after, outcome_of}
 use Rattle.gimli_core.specs.declared.common.Format.TheVariants.{Dwarf32}
-use Rattle.gimli_bytes.specs.declared.address.Address.{Address}
-use Rattle.gimli_bytes.specs.declared.address.Address.TheVariants.{Constant}
-use Rattle.gimli_line.specs.declared.run.instruction.LineInstruction.TheVariants.{Copy, AdvancePc, AdvanceLine, SetFile}
-use Rattle.gimli_line.specs.declared.run.instruction.LineInstruction.TheVariants.{FixedAddPc, EndSequence, SetAddress}
-use Rattle.gimli_line.specs.header.Parameters.{Parameters}
-use Rattle.gimli_line.specs.run.Instruction.{Ins}
-use Rattle.gimli_build.specs.Built.{empty_built}
-use Rattle.gimli_build.specs.LineText.{Inline}
-use Rattle.gimli_build.specs.Tables.{no_details}
-use Rattle.gimli_build.specs.declared.built.row.LineRow.{LineRow}
-use Rattle.gimli_build.specs.declared.built.items.BuiltItem.{BuiltItem}
-use Rattle.gimli_build.specs.declared.built.items.BuiltItem.TheVariants as item
-use Rattle.gimli_write.specs.declared.convert_error.ConvertError.{ConvertError}
-use Rattle.gimli_write.specs.declared.convert_error.ConvertError.TheVariants.{
-  InvalidFileIndex,
-  InvalidAddress,
-  MissingLineEndSequence,
-}
-use Rattle.gimli_write.specs.declared.convert_error.ConvertError.TheVariants.{UnsupportedLineInstruction}
-use Rattle.gimli_write.specs.convert.SourceTables.{TablesAndTexts}
 use Rattle.gimli_write.specs.convert.Mapped.{NoneEndsUnderTombstone}
-use Rattle.gimli_write.specs.convert.Items.{Reading, reading_after}
-use Rattle.gimli_write.specs.convert.Outcome.{outcome_of}
+use Rattle.gimli_build.specs.declared.built.items.BuiltItem.TheVariants as item
 
 -- a source of version 4 with addresses of 4 bytes, whose instructions have this length at least
 abbrev source : ℕ → Parameters

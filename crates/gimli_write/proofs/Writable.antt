@@ -1,49 +1,60 @@
 -- A program can be written still, with longer tables and with more files.
-use Rattle.std.proofs.Common.{◌≡◌, ℕ, ◌≤◌, true, false, List, sym, subst}
-use Rattle.std.specs.Prelude.{Option, Some, None, IfSome, All, option_map}
-use Rattle.std.proofs.lemmas.List.Elements.{All-weaker}
-use Rattle.gimli_bytes.specs.Texts.{KeepsTexts, StringTables, texts_in}
-use Rattle.gimli_build.specs.Built.{Built}
-use Rattle.gimli_build.specs.Calls.{after_file}
-use Rattle.gimli_build.specs.Conditions.{CanWrite}
-use Rattle.gimli_build.specs.LineText.{LineText, IsWithin, HasNoZero}
-use Rattle.gimli_build.specs.Tables.{Details, File as BuiltFile}
-use Rattle.gimli_write.specs.convert.SourceTables.{SourceTables}
-use Rattle.gimli_write.specs.convert.Outcome.{without_items}
-use Rattle.gimli_write.specs.convert.KeptTables.{StaysWritable}
+use Rattle.gimli_write.proofs.Common
+use Common.{◌≡◌, ℕ, ◌≤◌, true, false, List, sym, subst, Option, Some, None, IfSome, All, option_map, All-weaker}
+use Common.{KeepsTexts, StringTables, texts_in, Built, after_file, CanWrite, LineText, IsWithin, HasNoZero, Details}
+use Common.{BuiltFile, SourceTables, without_items, StaysWritable, Bool, zero, suc, [], ◌∷◌, ◌++◌, if◌then◌else◌}
+use Common.{Inline, InStrings, InLineStrings, FileKey, with_details, with_file, has_file, index_of_file, All-cons}
+use Common.{All-head, All-tail, All-push}
 use Rattle.gimli_write.proofs.ConvertSteps.{kept_then, still_there}
-use Rattle.gimli_write.proofs.MappedTables.{within_where, if_some_where, files_with}
 
 -- with more texts after the others
 module _ (strings old new : List (List ℕ)) (kept : KeepsTexts old new) where
-  within_kept : (t : LineText) → IsWithin (texts_in strings old) t → IsWithin (texts_in strings new) t
-  within_kept = within_where strings old new (λ i lt. still_there _ _ i kept lt)
+  pub within_kept : (t : LineText) → IsWithin (texts_in strings old) t → IsWithin (texts_in strings new) t
+  within_kept (Inline bytes) so = tt
+  within_kept (InStrings i) so = so
+  within_kept (InLineStrings i) so = still_there _ _ i kept so
+
+  pub source_kept : (t : Option LineText) → IfSome t (IsWithin (texts_in strings old))
+      → IfSome t (IsWithin (texts_in strings new))
+  source_kept (Some t) so = within_kept t so
+  source_kept None so = tt
 
   pub written_later : (p : Built) → CanWrite p (texts_in strings old) → CanWrite p (texts_in strings new)
   written_later p can = record {
     program = can.program;
     directories = All-weaker (IsWithin (texts_in strings old)) _ within_kept _ can.directories;
-    paths =
-        All-weaker (λ f. IsWithin (texts_in strings old) f.0.0) _
-        (λ f so. within_kept _ so) _ can.paths;
+    paths = All-weaker (λ f. IsWithin (texts_in strings old) f.0.0) _ (λ f so. within_kept _ so) _ can.paths;
     sources =
-        All-weaker (λ f. IfSome f.1.source (IsWithin (texts_in strings old))) _
-        (λ f so. if_some_where strings old new (λ i lt. still_there _ _ i kept lt) _ so) _ can.sources;
+        All-weaker (λ f. IfSome f.1.source (IsWithin (texts_in strings old))) _ (λ f so. source_kept _ so) _
+        can.sources;
     sources_end = can.sources_end;
   }
 
+module _ (Q : BuiltFile → Type 0) (d : Details) (other : (k : FileKey) (e : Details) → Q (k, e) → Q (k, d)) where
+  details_with : (files : List BuiltFile) (i : ℕ) → All Q files → All Q (with_details files i d)
+  details_with [] i all = all
+  details_with (f ∷ files) zero all = All-cons Q _ _ (other f.0 f.1 (All-head Q f _ all)) (All-tail Q f _ all)
+  details_with (f ∷ files) (suc i) all = All-cons Q f _ (All-head Q f _ all) (details_with files i (All-tail Q f _ all))
+
+  files_with : (files : List BuiltFile) (k : FileKey) → All Q files → Q (k, d) → All Q (with_file files k (Some d))
+  files_with files k all one = by (has_file files k)
+    where
+      by : (b : Bool) → All Q (if b then with_details files (index_of_file files k) d else files ++ (k, d) ∷ [])
+      by true = details_with _ _ all
+      by false = All-push Q _ _ all one
+
 -- with a file whose texts are there
-written_with_file : (p : Built) (texts : StringTables) (path : LineText) (directory : ℕ) (d : Details)
+pub written_with_file : (p : Built) (texts : StringTables) (path : LineText) (directory : ℕ) (d : Details)
     → IsWithin texts path
-    → IfSome d.source (IsWithin texts) → IfSome d.source HasNoZero → CanWrite p texts
+    → IfSome d.source (IsWithin texts) → (5 ≤ p.encoding.version → IfSome d.source HasNoZero) → CanWrite p texts
     → CanWrite (after_file (path, directory) (Some d) p) texts
 written_with_file p texts path directory d within source ends can = record {
   program = can.program;
   directories = can.directories;
   paths = files_with (λ f. IsWithin texts f.0.0) d (λ k e so. so) _ _ can.paths within;
   sources = files_with (λ f. IfSome f.1.source (IsWithin texts)) d (λ k e so. source) _ _ can.sources source;
-  sources_end =
-      λ new has. files_with (λ f. IfSome f.1.source HasNoZero) d (λ k e so. ends) _ _ (can.sources_end new has) ends;
+  sources_end = λ new has.
+      files_with (λ f. IfSome f.1.source HasNoZero) d (λ k e so. ends new) _ _ (can.sources_end new has) (ends new);
 }
 
 -- what is so of a source that was made is so of its text
@@ -76,7 +87,7 @@ module _ {A : Type 0} (text : A → LineText) where
       written_with_file p _ _ _ _
       (within_kept strings between new second _ (within strings))
       (source_within _ _ _ source_there)
-      (source_so HasNoZero source ends)
+      (λ new. source_so HasNoZero source ends)
       (written_later strings old new (kept_then _ _ _ first second) p can)
 
 pub writable_then : {a b c : SourceTables} {first second third : List (List ℕ)} → StaysWritable a first b second

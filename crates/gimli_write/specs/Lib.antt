@@ -1,3 +1,4 @@
+pub mod Prelude
 pub mod convert
 pub mod TextReading
 pub mod RoundTrip

@@ -1,33 +1,18 @@
 -- What is answered of a unit that was written and read again.
-use Rattle.std.specs.Prelude.{◌≡◌, ℕ, ◌^◌, List, [], ◌++◌, map, slice_get, Option, Some, None}
-use Rattle.std.specs.Prelude.{option_map, Result, Ok, Bool}
-use Rattle.gimli_core.specs.Notation.{Notation}
-use Rattle.gimli_core.specs.declared.common.Encoding.{Encoding}
-use Rattle.gimli_line.specs.header.Header.{Header, UnitEntry}
-use Rattle.gimli_line.specs.header.File.{File as ReadFile}
-use Rattle.gimli_line.specs.run.Events.{Events, row}
+use Rattle.gimli_write.specs.Prelude
+use Prelude.{◌≡◌, ℕ, ◌^◌, List, [], ◌++◌, map, slice_get, Option, Some, None, option_map, Result}
+use Prelude.{Ok, Bool, Notation, Encoding, Header, UnitEntry, ReadFile, Events, row, ReadRow}
+use Prelude.{table_bytes, StringTables, bytes_in, Sections, IsText, IsOptionalText, OneByOne}
+use Prelude.{IsUnit, directories_from_zero, Built, texts_after, RowsMatch, ConvertError, Read}
+use Prelude.{Write, OutOfMemory}
 use Rattle.gimli_line.specs.run.Sequences.{HasFirstFault}
-use Rattle.gimli_line.specs.declared.run.row.LineRow.{LineRow as ReadRow}
 use Rattle.gimli_bytes.specs.Hand.{plain}
-use Rattle.gimli_bytes.specs.Texts.{table_bytes, StringTables}
 use Rattle.gimli_bytes.specs.declared.error.Error.{Error}
-use Rattle.gimli_build.specs.LineText.{bytes_in}
 use Rattle.gimli_build.specs.Tables.{File}
 use Rattle.gimli_build.specs.Stored.{stored_details}
-use Rattle.gimli_build.specs.Texts.{Sections, IsText, IsOptionalText, OneByOne}
-use Rattle.gimli_build.specs.ReadsBack.{IsUnit, directories_from_zero}
-use Rattle.gimli_build.specs.Built.{Built}
-use Rattle.gimli_build.specs.Version5Tables.{texts_after}
 use Rattle.gimli_build.specs.Unit.{unit_bytes}
 use Rattle.gimli_build.specs.Cause.{first_cause}
 use Rattle.gimli_build.specs.Items.{AddressesFit}
-use Rattle.gimli_build.specs.SameRow.{RowsMatch}
-use Rattle.gimli_write.specs.declared.convert_error.ConvertError.{ConvertError}
-use Rattle.gimli_write.specs.declared.convert_error.ConvertError.TheVariants.{
-  Read,
-  Write,
-  OutOfMemory,
-}
 use Rattle.gimli_write.specs.declared.read_back.RoundTrip.{RoundTrip}
 use Rattle.gimli_write.specs.declared.read_back.RoundTripFile.{RoundTripFile}
 

@@ -82,19 +82,26 @@ fn started<R: Reader>(alloc: Global, header: &LineProgramHeader<R>) -> ConvertRe
 /// source.
 fn add_files(alloc: Global, program: &mut LineProgram, count: usize) -> ConvertResult<Vec<FileId>> {
     let mut files = Vec::new(alloc);
-    let mut name = Vec::new(alloc);
-    name.resize(usize::from(program.version() <= 4), b'f')?;
-    for _number in 0..count {
-        let path = LineString::String(name.clone()?);
+    for number in 0..count {
+        let name = name_of(alloc, program.version(), number)?;
         let is_empty = program.version() <= 4 && name.is_empty();
+        let path = LineString::String(name);
         if program.is_none() || is_empty || !path.has_no_zero() {
             return Err(ConvertError::InvalidFileIndex);
         }
         let id = program.add_file(path, program.default_directory(), None);
         files.push(id.map_err(ConvertError::Write)?)?;
-        name.push(b'f')?;
     }
     Ok(files)
+}
+
+/// The name of the file of a number. The first one of version 5 has the path that the program
+/// began with.
+fn name_of(alloc: Global, version: u16, number: usize) -> ConvertResult<Vec<u8>> {
+    if version > 4 && number == 0 {
+        return Ok(Vec::new(alloc));
+    }
+    Ok(format!(in alloc; "{number}")?.into_bytes())
 }
 
 /// The rows of a source.

@@ -1,21 +1,9 @@
 -- A conversion, as far as it got, and what it has still to read.
-use Rattle.std.specs.Prelude.{◌≡◌, ◌⊎◌, ℕ, true, List, Option, Some, None, Result, Ok, Err, IfErr}
-use Rattle.std.specs.Prelude.{OnOk, MatchResult}
-use Rattle.std.specs.declared.vec.Vec.{Vec}
-use Rattle.std.specs.declared.alloc.Global.{Global}
-use Rattle.gimli_bytes.specs.declared.address.Address.{Address}
-use Rattle.gimli_build.specs.Built.{Built, previous_position}
-use Rattle.gimli_build.specs.Conditions.{CanBuild}
-use Rattle.gimli_build.specs.declared.built.row.LineRow.{LineRow}
-use Rattle.gimli_build.specs.declared.built.items.BuiltItem.TheVariants.{Row}
-use Rattle.gimli_build.specs.Texts.{Sections}
-use Rattle.gimli_write.specs.declared.convert_error.ConvertError.{ConvertError}
-use Rattle.gimli_write.specs.declared.convert_error.ConvertError.TheVariants.{
-  OutOfMemory,
-  UnsupportedLineInstruction,
-}
-use Rattle.gimli_write.specs.declared.convert.run.SourceRow.{SourceRow}
-use Rattle.gimli_write.specs.declared.convert.rows.ConvertLineRow.{ConvertLineRow}
+use Rattle.gimli_write.specs.Prelude
+use Prelude.{◌≡◌, ◌⊎◌, ℕ, true, List, Option, Some, None, Result, Ok, Err, IfErr, OnOk}
+use Prelude.{MatchResult, Vec, Global, Address, Built, previous_position, CanBuild, LineRow, Row}
+use Prelude.{Sections, ConvertError, OutOfMemory, UnsupportedLineInstruction, SourceRow}
+use Prelude.{ConvertLineRow}
 use Rattle.gimli_write.specs.convert.SourceTables.{SourceTables, TablesAndTexts, tables_with}
 use Rattle.gimli_write.specs.convert.Items.{Reading, ends, stops, offers, address_offered}
 use Rattle.gimli_write.specs.convert.Items.{row_or_end_offered, defines_first, after_definitions}

@@ -1,18 +1,8 @@
 -- A conversion that was done, and what is read back of it.
-use Rattle.std.specs.Prelude.{ℕ, true, List, map, Option, Ok}
-use Rattle.gimli_core.specs.Notation.{Notation}
-use Rattle.gimli_bytes.specs.declared.address.Address.{Address}
-use Rattle.gimli_bytes.specs.Texts.{StringTables, texts_in}
-use Rattle.gimli_line.specs.declared.run.row.LineRow.{LineRow as ReadRow}
-use Rattle.gimli_line.specs.header.Header.{UnitEntry}
-use Rattle.gimli_line.specs.header.File.{File}
-use Rattle.gimli_line.specs.run.Events.{Events, row}
-use Rattle.gimli_line.specs.run.EventsWithFiles.{FilesAtEnd}
-use Rattle.gimli_build.specs.Built.{Built}
-use Rattle.gimli_build.specs.LineText.{bytes_in}
-use Rattle.gimli_build.specs.ReadsBack.{ReadsBack}
-use Rattle.gimli_build.specs.Texts.{Sections, OneByOne}
-use Rattle.gimli_build.specs.Version5Tables.{texts_after}
+use Rattle.gimli_write.specs.Prelude
+use Prelude.{ℕ, true, List, map, Option, Ok, Notation, Address, StringTables, texts_in, ReadRow}
+use Prelude.{UnitEntry, File, Events, row, FilesAtEnd, Built, bytes_in, ReadsBack, Sections}
+use Prelude.{OneByOne, texts_after}
 use Rattle.gimli_write.specs.RoundTrip.{built_file}
 use Rattle.gimli_write.specs.convert.Conversion.{IsConverted}
 use Rattle.gimli_write.specs.convert.Outcome.{Outcome}

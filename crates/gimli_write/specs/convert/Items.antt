@@ -1,39 +1,21 @@
 -- What a conversion reads of a line program: rows and ends, each at its point, found by looking
 -- back (DWARF 5, sections 6.2.2 and 6.2.5). The past of a point is the list of the instructions
 -- before it, the nearest first.
-use Rattle.std.specs.Prelude.{◌≡◌, ℕ, Bool, true, false, ◌-◌, not, ◌&&◌, if◌then◌else◌, nat_eq}
-use Rattle.std.specs.Prelude.{nat_le, List, [], ◌∷◌, slice_get, Option, Some, None, ok_or, Result}
-use Rattle.std.specs.Prelude.{Ok, Err}
-use Rattle.gimli_core.specs.Notation.{Notation}
-use Rattle.gimli_core.specs.declared.error.Error.{Error}
+use Rattle.gimli_write.specs.Prelude
+use Prelude.{◌≡◌, ℕ, Bool, true, false, ◌-◌, not, ◌&&◌, if◌then◌else◌, nat_eq, nat_le, List, []}
+use Prelude.{◌∷◌, slice_get, Option, Some, None, ok_or, Result, Ok, Err, Notation, Error, Header}
+use Prelude.{Parameters, Ins, makes_row, Decodes, is_under_tombstone, overflows, row_at, Sections}
+use Prelude.{LineRow, ConvertError, Read, InvalidFileIndex, SourceRow, ConvertLineRow, SetAddress}
+use Prelude.{EndSequence}
 use Rattle.gimli_core.specs.declared.error.Error.TheVariants.{AddressOverflow}
-use Rattle.gimli_line.specs.header.Header.{Header}
-use Rattle.gimli_line.specs.header.Parameters.{Parameters}
-use Rattle.gimli_line.specs.run.Instruction.{Ins, makes_row}
-use Rattle.gimli_line.specs.run.InstructionGrammar.{Decodes}
 use Rattle.gimli_line.specs.run.Registers.{sequence, nearest}
-use Rattle.gimli_line.specs.run.OperationPointer.{is_under_tombstone, overflows}
-use Rattle.gimli_line.specs.run.Events.{row_at}
+use Rattle.gimli_line.specs.declared.run.instruction.LineInstruction.TheVariants.{DefineFile}
 use Rattle.gimli_line.specs.declared.run.instruction.LineInstruction.TheVariants.{
-  DefineFile,
   SetAddress as SetAddressIns,
 }
-use Rattle.gimli_build.specs.Texts.{Sections}
-use Rattle.gimli_build.specs.declared.built.row.LineRow.{LineRow}
 use Rattle.gimli_write.specs.convert.Texts.{◌>>=◌}
 use Rattle.gimli_write.specs.convert.SourceTables.{TablesAndTexts, file_added}
-use Rattle.gimli_write.specs.declared.convert_error.ConvertError.{ConvertError}
-use Rattle.gimli_write.specs.declared.convert_error.ConvertError.TheVariants.{
-  Read,
-  InvalidFileIndex,
-}
-use Rattle.gimli_write.specs.declared.convert.run.SourceRow.{SourceRow}
-use Rattle.gimli_write.specs.declared.convert.rows.ConvertLineRow.{ConvertLineRow}
-use Rattle.gimli_write.specs.declared.convert.rows.ConvertLineRow.TheVariants.{
-  SetAddress,
-  Row,
-  EndSequence,
-}
+use Rattle.gimli_write.specs.declared.convert.rows.ConvertLineRow.TheVariants.{Row}
 
 -- ---- set addresses
 

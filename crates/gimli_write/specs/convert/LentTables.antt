@@ -1,7 +1,7 @@
 -- The two tables of strings that a conversion is lent.
-use Rattle.std.specs.Prelude.{◌≡◌, ℕ, List}
+use Rattle.gimli_write.specs.Prelude
+use Prelude.{◌≡◌, ℕ, List, KeepsTexts}
 use Rattle.std.specs.Borrow.{MutBor}
-use Rattle.gimli_bytes.specs.Texts.{KeepsTexts}
 
 -- both, as they are lent
 pub record LentTables : Type 0 where

@@ -1,35 +1,16 @@
 -- What it means that a converted program says what its source says, and what is asked of the source
 -- for it.
-use Rattle.std.specs.Prelude.{◌≡◌, ◌≢◌, ℕ, ◌+◌, ◌≤◌, Bool, true, false, not, ◌&&◌, ◌||◌}
-use Rattle.std.specs.Prelude.{if◌then◌else◌, List, [], ◌∷◌, ◌++◌, map, slice_get, Option, Some}
-use Rattle.std.specs.Prelude.{None, option_map, All, Ok}
-use Rattle.std.specs.declared.vec.Vec.{Vec}
-use Rattle.std.specs.declared.alloc.Global.{Global}
-use Rattle.gimli_core.specs.Notation.{Notation}
-use Rattle.gimli_core.specs.Values.{Value}
-use Rattle.gimli_core.specs.declared.error.Error.{Error}
-use Rattle.gimli_bytes.specs.declared.address.Address.{Address}
+use Rattle.gimli_write.specs.Prelude
+use Prelude.{◌≡◌, ◌≢◌, ℕ, ◌+◌, ◌≤◌, Bool, true, false, not, ◌&&◌, ◌||◌, if◌then◌else◌, List, []}
+use Prelude.{◌∷◌, ◌++◌, map, slice_get, Option, Some, None, option_map, All, Ok, Vec, Global}
+use Prelude.{Notation, Value, Error, Address, StringTables, texts_in, ReadRow, File, Header}
+use Prelude.{directory_of, entry_of, Parameters, Events, row, FilesAtEnd, Ins, is_end, makes_row}
+use Prelude.{Decodes, is_under_tombstone, Built, address_value, file_number, LineText, bytes_in}
+use Prelude.{CanWrite, read_row, RowsMatch, Sections, IsText, IsOptionalText, OneByOne, LineRow}
+use Prelude.{BuiltItem, Row, End}
 use Rattle.gimli_bytes.specs.declared.address.Address.TheVariants.{Constant}
-use Rattle.gimli_bytes.specs.Texts.{StringTables, texts_in}
-use Rattle.gimli_line.specs.declared.run.row.LineRow.{LineRow as ReadRow}
-use Rattle.gimli_line.specs.header.File.{File}
-use Rattle.gimli_line.specs.header.Header.{Header, directory_of, entry_of}
-use Rattle.gimli_line.specs.header.Parameters.{Parameters}
-use Rattle.gimli_line.specs.run.Events.{Events, row}
-use Rattle.gimli_line.specs.run.EventsWithFiles.{FilesAtEnd}
-use Rattle.gimli_line.specs.run.Instruction.{Ins, is_end, makes_row}
-use Rattle.gimli_line.specs.run.InstructionGrammar.{Decodes}
-use Rattle.gimli_line.specs.run.OperationPointer.{is_under_tombstone}
-use Rattle.gimli_build.specs.Built.{Built, address_value}
-use Rattle.gimli_build.specs.FileNumber.{file_number}
-use Rattle.gimli_build.specs.LineText.{LineText, bytes_in}
-use Rattle.gimli_build.specs.Conditions.{CanWrite}
-use Rattle.gimli_build.specs.SameRow.{read_row, RowsMatch}
 use Rattle.gimli_build.specs.Tables.{File as BuiltFile}
-use Rattle.gimli_build.specs.Texts.{Sections, IsText, IsOptionalText, OneByOne}
-use Rattle.gimli_build.specs.declared.built.row.LineRow.{LineRow}
-use Rattle.gimli_build.specs.declared.built.items.BuiltItem.{BuiltItem}
-use Rattle.gimli_build.specs.declared.built.items.BuiltItem.TheVariants.{SetAddress, Row, End}
+use Rattle.gimli_build.specs.declared.built.items.BuiltItem.TheVariants.{SetAddress}
 use Rattle.gimli_write.specs.RoundTrip.{FileAnswer, HasFittingAddresses}
 use Rattle.gimli_write.specs.convert.Outcome.{Outcome}
 use Rattle.gimli_write.specs.convert.Preparation.{encoding_of}

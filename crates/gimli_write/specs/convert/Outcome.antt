@@ -1,26 +1,18 @@
 -- What `convert` does with what is read of a source: addresses, rows and ends are handed to the
 -- builder in order, each before the next is read. It is a function, so what comes of a reading is
 -- told exactly.
-use Rattle.std.specs.Prelude.{ℕ, ◌+◌, ◌-◌, ◌*◌, ◌/◌, ◌%◌, ◌^◌, Bool, true, false, not, ◌&&◌, ◌||◌}
-use Rattle.std.specs.Prelude.{if◌then◌else◌, nat_eq, nat_lt, nat_le, List, [], Option, None, ok_or}
-use Rattle.std.specs.Prelude.{◌≡◌, Result, Ok, Err, MatchResult}
-use Rattle.gimli_core.specs.declared.common.LineEncoding.{LineEncoding}
-use Rattle.gimli_bytes.specs.declared.address.Address.{Address}
+use Rattle.gimli_write.specs.Prelude
+use Prelude.{ℕ, ◌+◌, ◌-◌, ◌*◌, ◌/◌, ◌%◌, ◌^◌, Bool, true, false, not, ◌&&◌, ◌||◌, if◌then◌else◌}
+use Prelude.{nat_eq, nat_lt, nat_le, List, [], Option, None, ok_or, ◌≡◌, Result, Ok, Err}
+use Prelude.{MatchResult, LineEncoding, Address, Built, previous_position, BuiltItem, Row, End}
+use Prelude.{ConvertError, InvalidAddress, MissingLineEndSequence, UnsupportedLineInstruction}
+use Prelude.{ConvertLineRow}
 use Rattle.gimli_build.specs.Calls.{after_address, after_row, after_end}
-use Rattle.gimli_build.specs.Built.{Built, previous_position}
 use Rattle.gimli_build.specs.Rows.{initial_row}
-use Rattle.gimli_build.specs.declared.built.items.BuiltItem.{BuiltItem}
-use Rattle.gimli_build.specs.declared.built.items.BuiltItem.TheVariants.{SetAddress, Row, End}
+use Rattle.gimli_build.specs.declared.built.items.BuiltItem.TheVariants.{SetAddress}
 use Rattle.gimli_write.specs.convert.Texts.{◌>>=◌}
 use Rattle.gimli_write.specs.convert.SourceTables.{TablesAndTexts}
 use Rattle.gimli_write.specs.convert.Items.{Reading, ends, stops, defines, offers}
-use Rattle.gimli_write.specs.declared.convert_error.ConvertError.{ConvertError}
-use Rattle.gimli_write.specs.declared.convert_error.ConvertError.TheVariants.{
-  InvalidAddress,
-  MissingLineEndSequence,
-  UnsupportedLineInstruction,
-}
-use Rattle.gimli_write.specs.declared.convert.rows.ConvertLineRow.{ConvertLineRow}
 use Rattle.gimli_write.specs.declared.convert.rows.ConvertLineRow.TheVariants as offer
 
 -- ---- the builder's conditions, as tests

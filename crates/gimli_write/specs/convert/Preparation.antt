@@ -1,26 +1,14 @@
 -- What is made of the header of a source, before its program is read.
-use Rattle.std.specs.Prelude.{ℕ, ◌||◌, List, [], ◌∷◌, Bool, false, Option, Some, None, option_map}
-use Rattle.std.specs.Prelude.{ok_or, unwrap_or, Result, Ok, Err, nat_eq, nat_le, nat_lt, pos, ◌+ℤ◌}
-use Rattle.std.specs.Prelude.{int_lt, int_le, if◌then◌else◌}
-use Rattle.std.specs.Option.{option_map_or}
-use Rattle.gimli_core.specs.declared.common.Encoding.{Encoding}
-use Rattle.gimli_core.specs.declared.common.LineEncoding.{LineEncoding}
-use Rattle.gimli_core.specs.Values.{Value}
+use Rattle.gimli_write.specs.Prelude
+use Prelude.{ℕ, ◌||◌, List, [], ◌∷◌, Bool, false, Option, Some, None, option_map, ok_or, unwrap_or}
+use Prelude.{Result, Ok, Err, nat_eq, nat_le, nat_lt, pos, ◌+ℤ◌, int_lt, int_le, if◌then◌else◌}
+use Prelude.{option_map_or, Encoding, LineEncoding, Value, File, Header, directory_of, file_of}
+use Prelude.{has_content, LineText, made_text, made_table, Built, empty_built, Sections}
+use Prelude.{ConvertError, MissingCompilationDirectory, MissingCompilationName}
+use Prelude.{InvalidDirectoryIndex, InvalidLineBase}
 use Rattle.gimli_line.specs.LineNumbers.{DW_LNCT_timestamp, DW_LNCT_size, DW_LNCT_MD5}
 use Rattle.gimli_line.specs.LineNumbers.{DW_LNCT_LLVM_source}
-use Rattle.gimli_line.specs.header.File.{File}
-use Rattle.gimli_line.specs.header.Header.{Header, directory_of, file_of, has_content}
-use Rattle.gimli_build.specs.LineText.{LineText, made_text, made_table}
-use Rattle.gimli_build.specs.Built.{Built, empty_built}
 use Rattle.gimli_build.specs.FirstTables.{first_directories, first_files}
-use Rattle.gimli_build.specs.Texts.{Sections}
-use Rattle.gimli_write.specs.declared.convert_error.ConvertError.{ConvertError}
-use Rattle.gimli_write.specs.declared.convert_error.ConvertError.TheVariants.{
-  MissingCompilationDirectory,
-  MissingCompilationName,
-  InvalidDirectoryIndex,
-  InvalidLineBase,
-}
 use Rattle.gimli_write.specs.convert.Texts.{◌>>=◌, without_zero, source_text, source_path}
 use Rattle.gimli_write.specs.convert.SourceTables.{TablesAndTexts, directory_added, file_added}
 use Rattle.gimli_write.specs.convert.SourceTables.{all_added}

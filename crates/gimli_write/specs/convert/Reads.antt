@@ -1,8 +1,7 @@
 -- What each read of a conversion keeps, and where it leaves the files of its source.
-use Rattle.std.specs.Prelude.{◌≡◌, ◌≢◌, Option, Some, None, Result, Err, IfErr, IfOk, OnOk}
-use Rattle.gimli_bytes.specs.Texts.{KeepsTexts}
-use Rattle.gimli_write.specs.declared.convert_error.ConvertError.{ConvertError}
-use Rattle.gimli_write.specs.declared.convert_error.ConvertError.TheVariants.{OutOfMemory}
+use Rattle.gimli_write.specs.Prelude
+use Prelude.{◌≡◌, ◌≢◌, Option, Some, None, Result, Err, IfErr, IfOk, OnOk, KeepsTexts}
+use Prelude.{ConvertError, OutOfMemory}
 use Rattle.gimli_write.specs.convert.Conversion.{Progress, AddsFiles, built_so_far}
 use Rattle.gimli_write.specs.convert.KeptTables.{KeepsFiles, StaysWritable, HasFinalTables}
 use Rattle.gimli_write.specs.convert.KeptTables.{KeepsFinalTables}

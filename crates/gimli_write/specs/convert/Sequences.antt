@@ -1,22 +1,12 @@
 -- The sequences of what a conversion reads.
-use Rattle.std.specs.Prelude.{◌≡◌, ℕ, List, [], ◌∷◌, ◌++◌, Option, Some, None, option_map, Result}
-use Rattle.std.specs.Prelude.{Ok, Err}
-use Rattle.gimli_build.specs.declared.built.row.LineRow.{LineRow}
-use Rattle.gimli_write.specs.declared.convert_error.ConvertError.{ConvertError}
-use Rattle.gimli_write.specs.declared.convert_error.ConvertError.TheVariants.{
-  MissingLineEndSequence,
-}
-use Rattle.gimli_write.specs.declared.convert.rows.ConvertLineRow.TheVariants.{
-  SetAddress,
-  Row,
-  EndSequence,
-}
+use Rattle.gimli_write.specs.Prelude
+use Prelude.{◌≡◌, ℕ, List, [], ◌∷◌, ◌++◌, Option, Some, None, option_map, Result, Ok, Err, LineRow}
+use Prelude.{ConvertError, MissingLineEndSequence, SetAddress, EndSequence}
+use Rattle.gimli_write.specs.declared.convert.rows.ConvertLineRow.TheVariants.{Row}
 use Rattle.gimli_write.specs.declared.convert.rows.ConvertLineSequence.{ConvertLineSequence}
 use Rattle.gimli_write.specs.declared.convert.rows.ConvertLineSequenceEnd.{ConvertLineSequenceEnd}
-use Rattle.gimli_write.specs.declared.convert.rows.ConvertLineSequenceEnd.TheVariants.{
-  Length,
-  Address,
-}
+use Rattle.gimli_write.specs.declared.convert.rows.ConvertLineSequenceEnd.TheVariants.{Length}
+use Rattle.gimli_write.specs.declared.convert.rows.ConvertLineSequenceEnd.TheVariants.{Address}
 use Rattle.gimli_write.specs.convert.SourceTables.{TablesAndTexts}
 use Rattle.gimli_write.specs.convert.Items.{Reading, ends, stops, defines, offers}
 use Rattle.gimli_write.specs.convert.Texts.{IsRefusedBy}

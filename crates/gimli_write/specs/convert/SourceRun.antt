@@ -1,19 +1,12 @@
 -- What a run over a source has still to read.
-use Rattle.std.specs.Prelude.{ℕ, ◌-◌, not, ◌&&◌, if◌then◌else◌, List, [], ◌∷◌, Option, Some, None}
-use Rattle.std.specs.Prelude.{unwrap_or, Result, Ok}
-use Rattle.gimli_core.specs.declared.error.Error.{Error}
+use Rattle.gimli_write.specs.Prelude
+use Prelude.{ℕ, ◌-◌, not, ◌&&◌, if◌then◌else◌, List, [], ◌∷◌, Option, Some, None, unwrap_or}
+use Prelude.{Result, Ok, Error, Header, Ins, is_end, makes_row, decoded_at, Sections, ConvertError}
+use Prelude.{Read, SourceRow}
 use Rattle.gimli_core.specs.declared.error.Error.TheVariants.{AddressOverflow}
-use Rattle.gimli_line.specs.header.Header.{Header}
 use Rattle.gimli_line.specs.declared.run.row.LineRow.{LineRow}
-use Rattle.gimli_line.specs.run.Instruction.{Ins, is_end, makes_row}
-use Rattle.gimli_line.specs.run.InstructionReading.{decoded_at}
-use Rattle.gimli_line.specs.run.Machine.{initial, step_of, is_refused}
-use Rattle.gimli_line.specs.run.Machine.{next_registers}
+use Rattle.gimli_line.specs.run.Machine.{initial, step_of, is_refused, next_registers}
 use Rattle.gimli_line.specs.run.Unread.{Unread}
-use Rattle.gimli_build.specs.Texts.{Sections}
-use Rattle.gimli_write.specs.declared.convert_error.ConvertError.{ConvertError}
-use Rattle.gimli_write.specs.declared.convert_error.ConvertError.TheVariants.{Read}
-use Rattle.gimli_write.specs.declared.convert.run.SourceRow.{SourceRow}
 use Rattle.gimli_write.specs.convert.SourceTables.{TablesAndTexts}
 use Rattle.gimli_write.specs.convert.Items.{Reading, stops, address_operand, source_row_offered}
 use Rattle.gimli_write.specs.convert.Items.{end_reading, reading_with, tables_after_definition}

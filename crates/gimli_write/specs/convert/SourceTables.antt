@@ -1,16 +1,10 @@
 -- The directories and files of a source, as they are added to the program that is built of it.
-use Rattle.std.specs.Prelude.{ℕ, List, [], ◌∷◌, ◌++◌, Option, Some, option_map, ok_or, slice_get}
-use Rattle.std.specs.Prelude.{Result, Ok}
-use Rattle.std.specs.Option.{option_map_or}
-use Rattle.gimli_core.specs.Values.{Value}
-use Rattle.gimli_line.specs.header.File.{File}
-use Rattle.gimli_build.specs.LineText.{made_text, made_table}
+use Rattle.gimli_write.specs.Prelude
+use Prelude.{ℕ, List, [], ◌∷◌, ◌++◌, Option, Some, option_map, ok_or, slice_get, Result, Ok}
+use Prelude.{option_map_or, Value, File, made_text, made_table, Built, Sections, ConvertError}
+use Prelude.{InvalidDirectoryIndex}
 use Rattle.gimli_build.specs.Tables.{FileKey, with_directory, index_of_directory, with_file}
 use Rattle.gimli_build.specs.Tables.{index_of_file}
-use Rattle.gimli_build.specs.Built.{Built}
-use Rattle.gimli_build.specs.Texts.{Sections}
-use Rattle.gimli_write.specs.declared.convert_error.ConvertError.{ConvertError}
-use Rattle.gimli_write.specs.declared.convert_error.ConvertError.TheVariants.{InvalidDirectoryIndex}
 use Rattle.gimli_write.specs.convert.Texts.{◌>>=◌, if_there, source_text, source_path}
 
 -- the program that is built, and where it has the directories and files of its source

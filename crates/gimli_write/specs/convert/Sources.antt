@@ -1,10 +1,7 @@
 -- A source that is converted, with what is handed for it.
-use Rattle.std.specs.Prelude.{ℕ, List, Option, option_map}
-use Rattle.gimli_core.specs.Notation.{Notation}
-use Rattle.gimli_core.specs.declared.common.Encoding.{Encoding}
-use Rattle.gimli_core.specs.declared.common.LineEncoding.{LineEncoding}
-use Rattle.gimli_line.specs.header.Header.{Header, SeenHeader}
-use Rattle.gimli_build.specs.Texts.{Sections}
+use Rattle.gimli_write.specs.Prelude
+use Prelude.{ℕ, List, Option, option_map, Notation, Encoding, LineEncoding, Header, SeenHeader}
+use Prelude.{Sections}
 use Rattle.gimli_write.specs.convert.Preparation.{Handed, handed_of}
 
 -- a source: its notation and its header, the sections that hold its texts, and what is handed for

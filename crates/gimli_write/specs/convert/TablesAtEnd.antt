@@ -1,13 +1,9 @@
 -- The tables that a source leaves: the files that it defines are added, up to its end or to what is
 -- refused.
-use Rattle.std.specs.Prelude.{ℕ, Bool, not, ◌&&◌, ◌||◌, if◌then◌else◌, List, [], ◌∷◌, Option, Some}
-use Rattle.std.specs.Prelude.{None, Result, Ok, Err, is_err}
-use Rattle.gimli_line.specs.run.Instruction.{Ins, makes_row}
-use Rattle.gimli_line.specs.run.InstructionReading.{decoded_at}
+use Rattle.gimli_write.specs.Prelude
+use Prelude.{ℕ, Bool, not, ◌&&◌, ◌||◌, if◌then◌else◌, List, [], ◌∷◌, Option, Some, None, Result}
+use Prelude.{Ok, Err, is_err, Ins, makes_row, decoded_at, Sections, ConvertError, SourceRow}
 use Rattle.gimli_line.specs.run.Machine.{is_refused}
-use Rattle.gimli_build.specs.Texts.{Sections}
-use Rattle.gimli_write.specs.declared.convert_error.ConvertError.{ConvertError}
-use Rattle.gimli_write.specs.declared.convert.run.SourceRow.{SourceRow}
 use Rattle.gimli_write.specs.convert.SourceTables.{TablesAndTexts}
 use Rattle.gimli_write.specs.convert.Items.{file_id, tables_after_definition}
 use Rattle.gimli_write.specs.convert.SourceRun.{SourceRun, row_made, state_after}

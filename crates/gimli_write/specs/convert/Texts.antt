@@ -1,19 +1,12 @@
 -- The texts of a source that is converted.
-use Rattle.std.specs.Prelude.{◌≡◌, ◌⊎◌, ℕ, ◌&&◌, List, Option, Some, None, Result, Ok, Err, length}
-use Rattle.std.specs.Prelude.{nat_eq, nat_le, if◌then◌else◌}
+use Rattle.gimli_write.specs.Prelude
+use Prelude.{◌≡◌, ◌⊎◌, ℕ, ◌&&◌, List, Option, Some, None, Result, Ok, Err, length, nat_eq, nat_le}
+use Prelude.{if◌then◌else◌, Value, Sections, ConvertError, Read, InvalidAttributeValue}
+use Prelude.{UnsupportedLineStringForm, OutOfMemory}
 use Rattle.std.specs.List.{list_any}
 use Rattle.std.specs.Result.{result_map_both}
-use Rattle.gimli_core.specs.Values.{Value}
 use Rattle.gimli_core.specs.declared.attribute_value.AttributeValue.TheVariants.{DebugStrRefSup}
-use Rattle.gimli_build.specs.Texts.{Sections}
 use Rattle.gimli_write.specs.TextReading.{text_of}
-use Rattle.gimli_write.specs.declared.convert_error.ConvertError.{ConvertError}
-use Rattle.gimli_write.specs.declared.convert_error.ConvertError.TheVariants.{
-  Read,
-  InvalidAttributeValue,
-  UnsupportedLineStringForm,
-  OutOfMemory,
-}
 
 -- one step after another, to the first refusal
 infixl 10 ◌>>=◌

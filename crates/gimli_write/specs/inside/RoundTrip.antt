@@ -1,11 +1,9 @@
 -- What is answered of a unit that was written and read again.
-use Rattle.std.specs.Prelude.{ℕ, List, Some, None, All}
-use Rattle.gimli_core.specs.Notation.{Notation}
-use Rattle.gimli_line.specs.header.Header.{Header, UnitEntry}
+use Rattle.gimli_write.specs.Prelude
+use Prelude.{ℕ, List, Some, None, All, Notation, Header, UnitEntry, Sections}
+use Prelude.{directories_from_zero}
 use Rattle.gimli_line.specs.header.HeaderGrammar.{SpellsUnit}
-use Rattle.gimli_build.specs.Texts.{Sections}
 use Rattle.gimli_write.specs.inside.TextReading.{HasText, HasFileTexts}
-use Rattle.gimli_build.specs.ReadsBack.{directories_from_zero}
 
 -- with this address size and working directory, and no name
 abbrev pub unit_entry_with : ℕ → List ℕ → UnitEntry

@@ -1,8 +1,6 @@
 -- The text that a value stands for, as it is read.
-use Rattle.std.specs.Prelude.{ℕ, List, Option, Some, None}
-use Rattle.gimli_core.specs.Values.{Value}
-use Rattle.gimli_line.specs.header.File.{File}
-use Rattle.gimli_build.specs.Texts.{Sections, IsText}
+use Rattle.gimli_write.specs.Prelude
+use Prelude.{ℕ, List, Option, Some, None, Value, File, Sections, IsText}
 
 -- a value stands for a text
 abbrev pub HasText : Sections → Value → Type 0

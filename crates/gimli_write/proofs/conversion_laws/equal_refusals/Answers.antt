@@ -1,8 +1,8 @@
-use Rattle.std.proofs.Common.{ap}
-use denote.Enum.Declared.{values_one}
-use Rattle.gimli_core.proofs.Variants.{or, end, none, one}
+use Rattle.gimli_write.proofs.Common
+use Common.{ap, or, end, none, one}
 use Rattle.gimli_write.specs.contracts.convert_error.ConvertError.{as_values, enum}
 use Rattle.gimli_write.proofs.conversion_laws.equal_refusals.Goals as goal
+use denote.Enum.Declared.{values_one}
 
 pub returns : goal.returns
 returns c x y =

@@ -1,18 +1,14 @@
-use Rattle.std.proofs.Common.{◌≡◌, ℕ, refl, ap}
-use Rattle.std.specs.Prelude.{Option, Some, None, nat_eq}
+use Rattle.gimli_write.proofs.Common
+use Common.{◌≡◌, ℕ, refl, ap, Option, Some, None, nat_eq, option_eq, slice_eq-Decides, or, end, one, sequence_with}
 use Rattle.std.specs.Bool.{Decides}
 use Rattle.std.specs.Cmp.{unsigned_Decides}
-use Rattle.std.specs.Option.{option_eq}
-use Rattle.std.proofs.lemmas.Slice.Eq.{slice_eq-Decides}
-use denote.Enum.Declared.{values_one}
 use Rattle.gimli_line.proofs.Equality.{both, whole}
-use Rattle.gimli_core.proofs.Variants.{or, end, one}
 use Rattle.gimli_build.proofs.building.Equality.{row-Decides}
 use Rattle.gimli_write.specs.contracts.convert.rows.ConvertLineSequenceEnd.{as_values, enum}
 use Rattle.gimli_write.specs.contracts.convert.rows.ConvertLineSequenceEndPartialEq.TheImpl.{ghosts as the_ends}
 use Rattle.gimli_write.specs.declared.convert.rows.ConvertLineSequenceEnd.{ConvertLineSequenceEnd}
-use Rattle.gimli_write.specs.convert.Sequences.{sequence_with}
 use Rattle.gimli_write.proofs.conversion_laws.equal_rows_and_sequences.Goals as goal
+use denote.Enum.Declared.{values_one}
 
 starts : (x y : Option ℕ) → Decides (option_eq nat_eq x y) (x ≡ y)
 starts (Some a) (Some b) = (λ e. ap Some ((unsigned_Decides a b).0 e), λ e. (unsigned_Decides a b).1 cc)

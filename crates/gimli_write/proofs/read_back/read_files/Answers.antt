@@ -1,7 +1,5 @@
-use Rattle.std.proofs.Common.{◌<◌, length, arith}
-use Rattle.gimli_line.specs.header.File.{file_seen}
-use Rattle.gimli_write.specs.inside.TextReading.{HasFileTexts}
-use Rattle.gimli_write.specs.RoundTrip.{IsFileAnswer, file_answer}
+use Rattle.gimli_write.proofs.Common
+use Common.{◌<◌, length, arith, file_seen, HasFileTexts, IsFileAnswer, file_answer}
 use Rattle.gimli_write.proofs.ReadTexts.{mapped_at, one_by_one_more}
 use Rattle.gimli_write.proofs.read_back.read_files.Goals as goal
 

@@ -1,7 +1,5 @@
-use Rattle.std.proofs.Common.{map, take}
-use Rattle.gimli_line.specs.header.File.{file_seen}
-use Rattle.gimli_build.specs.Texts.{OneByOne}
-use Rattle.gimli_write.specs.RoundTrip.{IsFileAnswer, file_answer}
+use Rattle.gimli_write.proofs.Common
+use Common.{map, take, file_seen, OneByOne, IsFileAnswer, file_answer}
 use Rattle.gimli_write.proofs.read_back.read_files.Given as goal
 
 abbrev pub invariant-loop-file : goal.invariant-loop-file

@@ -1,9 +1,6 @@
-use Rattle.std.proofs.Common.{map, ap, ◌∙◌}
-use Rattle.std.proofs.lemmas.List.Elements.{All-same}
-use Rattle.gimli_core.specs.Values.{value_seen}
-use Rattle.gimli_line.specs.header.File.{file_seen}
+use Rattle.gimli_write.proofs.Common
+use Common.{map, ap, ◌∙◌, All-same, value_seen, file_seen, HasText, HasFileTexts}
 use Rattle.gimli_build.specs.ReadsBack.{directories_from_zero}
-use Rattle.gimli_write.specs.inside.TextReading.{HasText, HasFileTexts}
 use Rattle.gimli_write.proofs.read_back.read_program.Goals as goal
 
 pub texts-requires : goal.texts-requires

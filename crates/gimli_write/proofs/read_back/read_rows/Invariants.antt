@@ -1,7 +1,5 @@
-use Rattle.std.proofs.Common.{◌≡◌, ◌++◌, length, map}
-use Rattle.gimli_line.specs.run.Events.{row}
-use Rattle.gimli_line.specs.run.Rows.{events_left}
-use Rattle.gimli_line.specs.run.Sequences.{events_of}
+use Rattle.gimli_write.proofs.Common
+use Common.{◌≡◌, ◌++◌, length, map, row, events_left, events_of}
 use Rattle.gimli_write.proofs.read_back.read_rows.Given as goal
 
 abbrev pub invariant-rows : goal.invariant-rows

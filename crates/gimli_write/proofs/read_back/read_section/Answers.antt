@@ -1,9 +1,8 @@
-use Rattle.std.proofs.Common.{◌∙◌, drop}
-use Rattle.gimli_write.specs.RoundTrip.{slice_notation}
+use Rattle.gimli_write.proofs.Common
+use Common.{◌∙◌, drop, slice_notation}
 use Rattle.gimli_write.specs.inside.RoundTrip.{unit_entry_with}
 use Rattle.gimli_write.proofs.ReadUnits.{same_unit, same_fault, same_sections, same_notation, same_header, texts_there}
-use Rattle.gimli_write.proofs.ReadUnits.{header_refused, same_answers}
-use Rattle.gimli_write.proofs.ReadUnits.{same_refusal}
+use Rattle.gimli_write.proofs.ReadUnits.{header_refused, same_answers, same_refusal}
 use Rattle.gimli_write.proofs.read_back.read_section.Goals as goal
 
 pub read_program-requires : goal.read_program-requires

@@ -1,11 +1,9 @@
-use Rattle.std.proofs.Common.{drop, refl, subst}
-use Rattle.std.specs.Prelude.{Result, Ok, Err, OnOk, IfErr}
-use Rattle.gimli_bytes.specs.Texts.{texts_in}
+use Rattle.gimli_write.proofs.Common
+use Common.{drop, refl, subst, Result, Ok, Err, OnOk, IfErr, texts_in, RefusesUnit, slice_notation, unit_entry_of}
 use Rattle.gimli_build.specs.Version5Tables.{texts_after}
 use Rattle.gimli_bytes.specs.Hand.{plain}
 use Rattle.gimli_build.specs.Unit.{unit_bytes}
 use Rattle.gimli_build.proofs.refusals.Causes.{no-cause, refused-for}
-use Rattle.gimli_write.specs.RoundTrip.{RefusesUnit, slice_notation, unit_entry_of}
 use Rattle.gimli_write.proofs.RoundTrips.{write_refused, unit_not_answered}
 use Rattle.gimli_build.proofs.building.SourceLemmas.{can-write-after}
 use Rattle.gimli_write.proofs.read_back.round_trip.Goals as goal

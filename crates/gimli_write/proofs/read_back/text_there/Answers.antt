@@ -1,6 +1,5 @@
-use Rattle.std.proofs.Common.{inl, inr}
-use Rattle.std.proofs.lemmas.Result.{IfOk-weaker, MatchResult-weaker}
-use Rattle.gimli_core.specs.Values.{value_seen}
+use Rattle.gimli_write.proofs.Common
+use Common.{inl, inr, IfOk-weaker, MatchResult-weaker, value_seen}
 use Rattle.gimli_write.proofs.ReadTexts.{text_read, text_not_refused}
 use Rattle.gimli_write.proofs.read_back.text_there.Goals as goal
 

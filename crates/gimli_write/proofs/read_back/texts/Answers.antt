@@ -1,7 +1,5 @@
-use Rattle.std.proofs.Common.{◌<◌, length, arith}
-use Rattle.gimli_core.specs.Values.{value_seen}
-use Rattle.gimli_build.specs.Texts.{IsText}
-use Rattle.gimli_write.specs.inside.TextReading.{HasText}
+use Rattle.gimli_write.proofs.Common
+use Common.{◌<◌, length, arith, value_seen, IsText, HasText}
 use Rattle.gimli_write.proofs.ReadTexts.{mapped_at, one_by_one_more}
 use Rattle.gimli_write.proofs.read_back.texts.Goals as goal
 

@@ -1,6 +1,5 @@
-use Rattle.std.proofs.Common.{map, take}
-use Rattle.gimli_core.specs.Values.{value_seen}
-use Rattle.gimli_build.specs.Texts.{IsText, OneByOne}
+use Rattle.gimli_write.proofs.Common
+use Common.{map, take, value_seen, IsText, OneByOne}
 use Rattle.gimli_write.proofs.read_back.texts.Given as goal
 
 abbrev pub invariant-loop-value : goal.invariant-loop-value

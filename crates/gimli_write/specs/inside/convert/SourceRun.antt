@@ -1,14 +1,9 @@
 -- What a run over a source has still to read.
-use Rattle.std.specs.Prelude.{◌≡◌, ◌<◌, ◌-◌, ℕ, not, ◌&&◌, if◌then◌else◌, List, [], length, IfErr}
-use Rattle.std.specs.Prelude.{IfOk, Result}
-use Rattle.gimli_line.specs.header.File.{file_seen}
-use Rattle.gimli_line.specs.run.Instruction.{Ins, makes_row}
+use Rattle.gimli_write.specs.Prelude
+use Prelude.{◌≡◌, ◌<◌, ◌-◌, ℕ, not, ◌&&◌, if◌then◌else◌, List, [], length, IfErr, IfOk, Result}
+use Prelude.{file_seen, Ins, makes_row, Sections, ConvertError, SourceRow, SourceStep, Done, More}
+use Prelude.{Defines, Made}
 use Rattle.gimli_line.specs.declared.run.row.LineRow.{LineRow}
-use Rattle.gimli_build.specs.Texts.{Sections}
-use Rattle.gimli_write.specs.declared.convert_error.ConvertError.{ConvertError}
-use Rattle.gimli_write.specs.declared.convert.run.SourceRow.{SourceRow}
-use Rattle.gimli_write.specs.declared.convert.run.SourceStep.{SourceStep}
-use Rattle.gimli_write.specs.declared.convert.run.SourceStep.TheVariants.{Done, More, Defines, Made}
 use Rattle.gimli_write.specs.convert.SourceTables.{TablesAndTexts, file_added}
 use Rattle.gimli_write.specs.convert.Items.{Reading, ends, defines, source_row_offered, stops}
 use Rattle.gimli_write.specs.convert.TablesAtEnd.{tables_at_end}

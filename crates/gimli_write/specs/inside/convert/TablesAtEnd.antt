@@ -1,10 +1,7 @@
 -- The tables that a source leaves: the files that it defines are added, up to its end or to what is
 -- refused.
-use Rattle.std.specs.Prelude.{ℕ, List, Some}
-use Rattle.gimli_line.specs.header.File.{file_seen}
-use Rattle.gimli_build.specs.Texts.{Sections}
-use Rattle.gimli_write.specs.declared.convert.run.SourceStep.{SourceStep}
-use Rattle.gimli_write.specs.declared.convert.run.SourceStep.TheVariants.{Done, More, Defines, Made}
+use Rattle.gimli_write.specs.Prelude
+use Prelude.{ℕ, List, Some, file_seen, Sections, SourceStep, Done, More, Defines, Made}
 use Rattle.gimli_write.specs.convert.SourceTables.{TablesAndTexts, file_added}
 use Rattle.gimli_write.specs.convert.SourceRun.{SourceRun}
 use Rattle.gimli_write.specs.convert.TablesAtEnd.{unless_refused, tables_at_end, tables_after_row}

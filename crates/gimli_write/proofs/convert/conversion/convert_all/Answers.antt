@@ -1,5 +1,5 @@
-use Rattle.std.proofs.lemmas.Result.{err_from_is_err_and}
-use Rattle.gimli_write.specs.convert.Conversion.{beside}
+use Rattle.gimli_write.proofs.Common
+use Common.{err_from_is_err_and, beside}
 use Rattle.gimli_write.proofs.Outcomes.{rest_converts, rest_refused}
 use Rattle.gimli_write.proofs.convert.conversion.convert_all.Goals as goal
 

@@ -1,8 +1,5 @@
-use Rattle.std.proofs.Common.{ap, ◌∙◌}
-use Rattle.std.specs.Prelude.{option_map, unwrap_or}
-use Rattle.std.proofs.lemmas.Result.{err_from_is_err_and}
-use Rattle.gimli_write.specs.convert.SourceTables.{tables_with}
-use Rattle.gimli_write.specs.convert.Preparation.{handed_of}
+use Rattle.gimli_write.proofs.Common
+use Common.{ap, ◌∙◌, option_map, unwrap_or, err_from_is_err_and, tables_with, handed_of}
 use Rattle.gimli_write.proofs.ConvertSteps.{kept_then}
 use Rattle.gimli_write.proofs.ConvertHeader.{refused_at_start, refused_at_listed}
 use Rattle.gimli_write.proofs.convert.header.prepare.Goals as goal

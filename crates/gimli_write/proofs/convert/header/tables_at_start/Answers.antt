@@ -1,12 +1,6 @@
-use Rattle.std.proofs.Common.{ℕ, List, ◌∙◌}
-use Rattle.std.specs.Prelude.{Result, Ok, option_map}
-use Rattle.std.proofs.lemmas.Result.{IfOk-weaker}
-use Rattle.gimli_core.specs.declared.common.LineEncoding.{LineEncoding}
-use Rattle.gimli_write.specs.declared.convert_error.ConvertError.{ConvertError}
-use Rattle.gimli_write.specs.convert.Texts.{◌>>=◌}
-use Rattle.gimli_write.specs.convert.SourceTables.{TablesAndTexts}
-use Rattle.gimli_write.specs.convert.Preparation.{working_directory, SourceFile, source_file, line_encoding_of}
-use Rattle.gimli_write.specs.convert.Preparation.{first_texts, start_of_tables}
+use Rattle.gimli_write.proofs.Common
+use Common.{ℕ, List, ◌∙◌, Result, Ok, option_map, IfOk-weaker, LineEncoding, ConvertError, ◌>>=◌, TablesAndTexts}
+use Common.{working_directory, SourceFile, source_file, line_encoding_of, first_texts, start_of_tables}
 use Rattle.gimli_write.proofs.ConvertHeader.{at_third}
 use Rattle.gimli_write.proofs.convert.header.tables_at_start.Goals as goal
 

@@ -1,5 +1,5 @@
-use Rattle.std.proofs.Common.{◌≡◌, ℕ, ◌<◌}
-use Rattle.std.specs.Prelude.{IfSome}
+use Rattle.gimli_write.proofs.Common
+use Common.{◌≡◌, ℕ, ◌<◌, IfSome}
 use Rattle.gimli_write.specs.convert.FileNumbers.{written_number}
 use Rattle.gimli_write.proofs.convert.numbers.keeps_numbers.Given as goal
 

@@ -1,7 +1,5 @@
-use Rattle.std.proofs.lemmas.Result.{err_from_is_err_and, IfOk-weaker, IfErr-weaker}
-use Rattle.gimli_write.specs.convert.SourceTables.{tables_with}
-use Rattle.gimli_write.specs.convert.Sources.{Source, source_of}
-use Rattle.gimli_write.specs.convert.Conversion.{still_to_read}
+use Rattle.gimli_write.proofs.Common
+use Common.{err_from_is_err_and, IfOk-weaker, IfErr-weaker, tables_with, Source, source_of, still_to_read}
 use Rattle.gimli_write.proofs.ConvertSteps.{kept_then}
 use Rattle.gimli_write.proofs.Outcomes.{all_converted, all_comes, header_refused, rows_refused}
 use Rattle.gimli_write.proofs.MappedLaws.{conversion_faithful}

@@ -1,6 +1,5 @@
-use Rattle.std.proofs.Common.{sym, ◌∙◌, inr}
-use Rattle.std.specs.Prelude.{Err}
-use Rattle.std.proofs.lemmas.Result.{err_from_is_err_and}
+use Rattle.gimli_write.proofs.Common
+use Common.{sym, ◌∙◌, inr, Err, err_from_is_err_and}
 use Rattle.gimli_write.proofs.ConvertSteps.{kept_then}
 use Rattle.gimli_write.proofs.Outcomes.{fed_next, fed_fewer, feed_refused, read_refused, left_open, converted_all}
 use Rattle.gimli_write.proofs.Outcomes.{refused_then}

@@ -1,9 +1,5 @@
-use Rattle.std.specs.Prelude.{Result}
-use Rattle.gimli_bytes.specs.Texts.{KeepsTexts}
-use Rattle.gimli_write.specs.declared.convert_error.ConvertError.{ConvertError}
-use Rattle.gimli_write.specs.convert.Outcome.{Outcome, ComesTo}
-use Rattle.gimli_write.specs.convert.Conversion.{still_to_read}
-use Rattle.gimli_write.specs.convert.KeptTables.{StaysWritable}
+use Rattle.gimli_write.proofs.Common
+use Common.{Result, KeepsTexts, ConvertError, Outcome, ComesTo, still_to_read, StaysWritable}
 use Rattle.gimli_write.proofs.Outcomes.{offer_count}
 use Rattle.gimli_write.proofs.convert.conversion.Conversion.feed_all.Given as goal
 

@@ -1,14 +1,9 @@
-use Rattle.std.proofs.Common.{ℕ, nat_eq, [], refl, sym, ap, ◌∙◌, inr}
-use Rattle.std.specs.Prelude.{Option, None, Some, Ok, Result}
-use Rattle.std.proofs.lemmas.Bool.{eqb-true}
-use Rattle.std.proofs.lemmas.List.{nil_from_length}
-use Rattle.std.proofs.lemmas.Result.{err_from_is_err_and}
-use Rattle.gimli_write.specs.declared.convert_error.ConvertError.{ConvertError}
-use Rattle.gimli_write.specs.declared.convert.rows.ConvertLineRow.TheVariants.{SetAddress, Row, EndSequence}
+use Rattle.gimli_write.proofs.Common
+use Common.{ℕ, nat_eq, [], refl, sym, ap, ◌∙◌, inr, Option, None, Some, Ok, Result, eqb-true, nil_from_length}
+use Common.{err_from_is_err_and, ConvertError, Row, Reading, offers, SequenceRead, sequence_with, sequence_from}
+use Common.{tables_of, still_to_read}
+use Rattle.gimli_write.specs.declared.convert.rows.ConvertLineRow.TheVariants.{SetAddress, EndSequence}
 use Rattle.gimli_write.specs.declared.convert.rows.ConvertLineSequenceEnd.TheVariants.{Address}
-use Rattle.gimli_write.specs.convert.Items.{Reading, offers}
-use Rattle.gimli_write.specs.convert.Sequences.{SequenceRead, sequence_with, sequence_from}
-use Rattle.gimli_write.specs.convert.Conversion.{tables_of, still_to_read}
 use Rattle.gimli_write.proofs.ConvertSteps.{refused_same}
 use Rattle.gimli_write.proofs.Outcomes.{one_fewer}
 use Rattle.gimli_write.proofs.ReadLemmas.{reads_then, reads_kept}

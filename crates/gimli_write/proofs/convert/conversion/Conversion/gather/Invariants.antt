@@ -1,9 +1,5 @@
-use Rattle.std.proofs.Common.{◌≡◌, []}
-use Rattle.std.specs.Prelude.{None}
-use Rattle.gimli_write.specs.convert.KeptTables.{KeepsFinalTables}
-use Rattle.gimli_write.specs.convert.Conversion.{beside, still_to_read}
-use Rattle.gimli_write.specs.convert.Reads.{ReadsOn}
-use Rattle.gimli_write.specs.convert.Sequences.{sequence_from}
+use Rattle.gimli_write.proofs.Common
+use Common.{◌≡◌, [], None, KeepsFinalTables, beside, still_to_read, ReadsOn, sequence_from}
 use Rattle.gimli_write.proofs.Outcomes.{offer_count}
 use Rattle.gimli_write.proofs.convert.conversion.Conversion.gather.Given as goal
 

@@ -1,7 +1,5 @@
-use Rattle.std.proofs.Common.{◌≡◌, refl, sym, subst}
-use Rattle.std.specs.Prelude.{None}
-use Rattle.std.proofs.lemmas.Result.{err_from_is_err_and}
-use Rattle.gimli_write.specs.convert.Conversion.{Conversion}
+use Rattle.gimli_write.proofs.Common
+use Common.{◌≡◌, refl, sym, subst, None, err_from_is_err_and, Conversion}
 use Rattle.gimli_write.proofs.Conversions.{held_last, held_stops}
 use Rattle.gimli_write.proofs.convert.conversion.Conversion.next_row.Goals as goal
 

@@ -1,10 +1,7 @@
-use Rattle.std.proofs.Common.{sym, ap, ◌∙◌}
-use Rattle.std.proofs.lemmas.Result.{err_from_is_err_and}
-use Rattle.gimli_line.specs.header.File.{file_seen}
-use Rattle.gimli_write.specs.convert.SourceTables.{tables_with}
+use Rattle.gimli_write.proofs.Common
+use Common.{sym, ap, ◌∙◌, err_from_is_err_and, file_seen, tables_with, defines, defines_first, after_definitions}
+use Common.{without_built, source_left}
 use Rattle.gimli_write.specs.convert.TablesAtEnd.{unless_refused, tables_at_end}
-use Rattle.gimli_write.specs.convert.Items.{defines, defines_first, after_definitions}
-use Rattle.gimli_write.specs.convert.Conversion.{without_built, source_left}
 use Rattle.gimli_write.proofs.SourceSteps.{none_left}
 use Rattle.gimli_write.proofs.TablesAtEnd.{none_last}
 use Rattle.gimli_write.proofs.ReadLemmas.{reads_then}

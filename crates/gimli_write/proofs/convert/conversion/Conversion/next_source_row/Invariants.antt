@@ -1,8 +1,6 @@
-use Rattle.std.proofs.Common.{◌≡◌, true, length}
-use Rattle.gimli_write.specs.convert.KeptTables.{final_tables_of_source}
-use Rattle.gimli_write.specs.convert.Items.{defines_first, after_definitions}
-use Rattle.gimli_write.specs.convert.Conversion.{beside, version_of_source, source_left}
-use Rattle.gimli_write.specs.convert.Reads.{ReadsOn}
+use Rattle.gimli_write.proofs.Common
+use Common.{◌≡◌, true, length, final_tables_of_source, defines_first, after_definitions, beside, version_of_source}
+use Common.{source_left, ReadsOn}
 use Rattle.gimli_write.proofs.Conversions.{conversion}
 use Rattle.gimli_write.proofs.convert.conversion.Conversion.next_source_row.Given as goal
 

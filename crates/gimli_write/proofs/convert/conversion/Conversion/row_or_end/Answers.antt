@@ -1,8 +1,5 @@
-use Rattle.std.proofs.Common.{ℕ, sym, ap, ◌∙◌}
-use Rattle.std.proofs.lemmas.Result.{err_from_is_err_and}
-use Rattle.gimli_write.specs.convert.SourceTables.{tables_with}
-use Rattle.gimli_write.specs.convert.Items.{ends, file_id}
-use Rattle.gimli_write.specs.convert.Conversion.{without_built}
+use Rattle.gimli_write.proofs.Common
+use Common.{ℕ, sym, ap, ◌∙◌, err_from_is_err_and, tables_with, ends, file_id, without_built}
 use Rattle.gimli_write.proofs.Conversions.{row_taken, row_refused, file_found, file_lacks}
 use Rattle.gimli_write.proofs.convert.conversion.Conversion.row_or_end.Goals as goal
 

@@ -1,12 +1,6 @@
-use Rattle.std.proofs.Common.{◌≡◌, refl, sym, subst}
-use Rattle.std.specs.Prelude.{option_map}
-use Rattle.std.proofs.lemmas.Result.{err_from_is_err_and}
-use Rattle.gimli_build.specs.Texts.{Sections}
-use Rattle.gimli_write.specs.convert.SourceTables.{TablesAndTexts, tables_with}
-use Rattle.gimli_write.specs.convert.Preparation.{handed_of, encoding_of}
-use Rattle.gimli_write.specs.convert.Items.{ReadsItems}
-use Rattle.gimli_write.specs.convert.SourceRun.{start_of_source, reading_left}
-use Rattle.gimli_write.specs.convert.Conversion.{without_built}
+use Rattle.gimli_write.proofs.Common
+use Common.{◌≡◌, refl, sym, subst, option_map, err_from_is_err_and, Sections, TablesAndTexts, tables_with, handed_of}
+use Common.{encoding_of, ReadsItems, start_of_source, reading_left, without_built}
 use Rattle.gimli_write.proofs.SourceReadings.{start_reads}
 use Rattle.gimli_write.proofs.Conversions.{prepared_plain}
 use Rattle.gimli_write.proofs.MappedTables.{prepared_ready, ready_written}

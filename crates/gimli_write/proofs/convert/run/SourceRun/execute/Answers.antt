@@ -1,12 +1,7 @@
-use Rattle.std.proofs.Common.{◌≡◌, true, false, refl, sym, ap, ◌∙◌, subst}
-use Rattle.gimli_line.specs.run.Machine.{is_refused, reset_row}
-use Rattle.gimli_write.specs.convert.SourceRun.{state_after}
-use Rattle.gimli_write.specs.inside.convert.SourceRun.{step_made}
-use Rattle.gimli_line.specs.run.Instruction.{ins_seen}
-use Rattle.gimli_write.specs.declared.convert_error.ConvertError.TheVariants.{Read}
+use Rattle.gimli_write.proofs.Common
+use Common.{◌≡◌, true, false, refl, sym, ap, ◌∙◌, subst, is_refused, reset_row, state_after, step_made, ins_seen, Read}
 use Rattle.gimli_write.proofs.SourceSteps.{state, is_overflow, ready_at_refusal, ready_when_quiet, header_kept}
-use Rattle.gimli_write.proofs.SourceSteps.{quiet_state, row_state}
-use Rattle.gimli_write.proofs.SourceSteps.{made_is}
+use Rattle.gimli_write.proofs.SourceSteps.{quiet_state, row_state, made_is}
 use Rattle.gimli_write.proofs.convert.run.SourceRun.execute.Goals as goal
 
 pub invariant_of-self : goal.invariant_of-self

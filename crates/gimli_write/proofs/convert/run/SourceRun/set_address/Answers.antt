@@ -1,7 +1,5 @@
-use Rattle.std.proofs.Common.{◌≡◌, subst}
-use Rattle.std.specs.Prelude.{Some}
-use Rattle.gimli_line.specs.declared.run.instruction.LineInstruction.TheVariants.{SetAddress}
-use Rattle.gimli_write.specs.convert.SourceRun.{SourceRun, state_after}
+use Rattle.gimli_write.proofs.Common
+use Common.{◌≡◌, subst, Some, SetAddress, SourceRun, state_after}
 use Rattle.gimli_write.proofs.SourceSteps.{state, address_done, address_ready, address_header, address_state}
 use Rattle.gimli_write.proofs.convert.run.SourceRun.set_address.Goals as goal
 

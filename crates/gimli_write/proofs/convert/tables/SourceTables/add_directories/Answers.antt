@@ -1,6 +1,6 @@
-use Rattle.std.proofs.Common.{◌<◌, ◌+◌, length, map, drop, arith, sym, ◌∙◌}
-use Rattle.gimli_core.specs.Values.{value_seen}
-use Rattle.gimli_write.specs.convert.SourceTables.{TablesAndTexts, tables_with, directory_added, all_added}
+use Rattle.gimli_write.proofs.Common
+use Common.{◌<◌, ◌+◌, length, map, drop, arith, sym, ◌∙◌, value_seen, TablesAndTexts, tables_with, directory_added}
+use Common.{all_added}
 use Rattle.gimli_write.proofs.ConvertSteps.{done_first, next_added, kept_then}
 use Rattle.gimli_write.proofs.convert.tables.SourceTables.add_directories.Goals as goal
 

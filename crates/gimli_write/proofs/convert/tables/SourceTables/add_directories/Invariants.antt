@@ -1,7 +1,5 @@
-use Rattle.std.proofs.Common.{◌≡◌, map, drop}
-use Rattle.gimli_core.specs.Values.{value_seen}
-use Rattle.gimli_bytes.specs.Texts.{KeepsTexts}
-use Rattle.gimli_write.specs.convert.SourceTables.{tables_with, directory_added, all_added}
+use Rattle.gimli_write.proofs.Common
+use Common.{◌≡◌, map, drop, value_seen, KeepsTexts, tables_with, directory_added, all_added}
 use Rattle.gimli_write.proofs.convert.tables.SourceTables.add_directories.Given as goal
 
 -- what is left to be added gives what all gave

@@ -1,5 +1,5 @@
-use Rattle.gimli_core.specs.Values.{value_seen}
-use Rattle.gimli_write.specs.convert.SourceTables.{TablesAndTexts}
+use Rattle.gimli_write.proofs.Common
+use Common.{value_seen, TablesAndTexts}
 use Rattle.gimli_write.proofs.ConvertSteps.{directory_is_added}
 use Rattle.gimli_write.proofs.convert.tables.SourceTables.add_directory.Goals as goal
 

@@ -1,7 +1,5 @@
-use Rattle.std.proofs.Common.{◌≡◌, map, drop}
-use Rattle.gimli_line.specs.header.File.{file_seen}
-use Rattle.gimli_bytes.specs.Texts.{KeepsTexts}
-use Rattle.gimli_write.specs.convert.SourceTables.{tables_with, file_added, all_added}
+use Rattle.gimli_write.proofs.Common
+use Common.{◌≡◌, map, drop, file_seen, KeepsTexts, tables_with, file_added, all_added}
 use Rattle.gimli_write.proofs.convert.tables.SourceTables.add_files.Given as goal
 
 -- what is left to be added gives what all gave

@@ -1,8 +1,5 @@
-use Rattle.std.proofs.Common.{refl}
-use Rattle.std.specs.Prelude.{option_map}
-use Rattle.gimli_line.specs.header.File.{file_seen}
-use Rattle.gimli_build.specs.LineText.{line_text}
-use Rattle.gimli_write.specs.convert.SourceTables.{TablesAndTexts, FileParts}
+use Rattle.gimli_write.proofs.Common
+use Common.{refl, option_map, file_seen, line_text, TablesAndTexts, FileParts}
 use Rattle.gimli_write.proofs.ConvertSteps.{parts_are_added, kept_then}
 use Rattle.gimli_write.proofs.KeptFiles.{keeps_more}
 use Rattle.gimli_write.proofs.Writable.{written_later, written_with_parts}
