@@ -33,12 +33,12 @@ use Rattle.gimli_line.proofs.HeaderLaws.{reads_file, given_ok, given_err, answer
 
 -- ---- the bytes of a production
 
-module _ {A : Type 0} (l : Production A) (read : List ℕ → Read A) (r : Reads l read) where
-  -- what stands in front of the rest
-  front_is : (front rest : List ℕ) → take (length (front ++ rest) - length rest) (front ++ rest) ≡ front
-  front_is front rest =
-      take_at front rest (length (front ++ rest) - length rest) (omega (arith, length-append front rest))
+-- what stands in front of the rest
+pub front_at : (bytes front rest : List ℕ) → bytes ≡ front ++ rest → take (length bytes - length rest) bytes ≡ front
+front_at bytes front rest parts =
+    rw parts (take_at front rest (length (front ++ rest) - length rest) (omega (arith, length-append front rest)))
 
+module _ {A : Type 0} (l : Production A) (read : List ℕ → Read A) (r : Reads l read) where
   abbrev as_bytes : List ℕ → A → List ℕ → Read (List ℕ)
   as_bytes bytes x rest = (Ok (take (length bytes - length rest) bytes), rest)
 
@@ -49,10 +49,7 @@ module _ {A : Type 0} (l : Production A) (read : List ℕ → Read A) (r : Reads
       let p = ok_parts (take (length bytes - length a.1) bytes) xs a.1 rest a.3 in
       let f = r.found bytes a.0 a.1 a.2 in
       let whole : bytes ≡ f.0 ++ rest = f.1 ∙ ap (λ (ys : List ℕ). f.0 ++ ys) p.1 in
-      let taken : take (length bytes - length a.1) bytes
-      ≡ f.0 = ap (λ (ys : List ℕ). take (length ys - length a.1) ys) f.1
-      ∙ front_is f.0 a.1 in
-      (f.0, whole, (sym p.0 ∙ taken, (a.0, f.2)))
+      (f.0, whole, (sym p.0 ∙ front_at bytes f.0 a.1 f.1, (a.0, f.2)))
 
   bytes_fault : (bytes : List ℕ) (e : Error) → (bytes_at read bytes).0 ≡ Err e → l.Fault bytes e
   bytes_fault bytes e is = elim (bind_fault (read bytes) (as_bytes bytes) e is) [
@@ -63,7 +60,7 @@ module _ {A : Type 0} (l : Production A) (read : List ℕ → Read A) (r : Reads
   pub reads_bytes_of : Reads (bytes_of l) (bytes_at read)
   reads_bytes_of = record {
     found = bytes_found;
-    only = λ front xs rest s. rw (r.only front s.1.0 rest s.1.1, front_is front rest, s.0) refl;
+    only = λ front xs rest s. rw (r.only front s.1.0 rest s.1.1, front_at (front ++ rest) front rest refl, s.0) refl;
     fault = bytes_fault;
     refused = λ bytes e f. bind_refused (read bytes) (as_bytes bytes) e (r.refused bytes e f);
   }

@@ -45,18 +45,10 @@ module _ (notation : Notation) where
   text_known = record { known = λ bytes e f. rw f.1 tt }
 
   unsigned_known : IsKnown notation unsigned
-  unsigned_known = record { known = at_fault }
-    where
-      at_fault : (bytes : List ℕ) (e : Error) → unsigned.Fault bytes e → IsInstructionRefusal notation e
-      at_fault bytes e (inl f) = rw f.2 tt
-      at_fault bytes e (inr f) = rw f.7 tt
+  unsigned_known = record { known = λ bytes e f. elim f [ inl p ↦ rw p.2 tt | inr p ↦ rw p.7 tt ] }
 
   signed_known : IsKnown notation signed
-  signed_known = record { known = at_fault }
-    where
-      at_fault : (bytes : List ℕ) (e : Error) → signed.Fault bytes e → IsInstructionRefusal notation e
-      at_fault bytes e (inl f) = rw f.2 tt
-      at_fault bytes e (inr f) = rw f.7 tt
+  signed_known = record { known = λ bytes e f. elim f [ inl p ↦ rw p.2 tt | inr p ↦ rw p.7 tt ] }
 
   done_known : {A : Type 0} (x : A) → IsKnown notation (done x)
   done_known x = record { known = λ bytes e f. elim f [ ] }
@@ -66,11 +58,9 @@ module _ (notation : Notation) where
   then_known : {A B : Type 0} (l : Production A) (next : A → Production B) → IsKnown notation l
       → ((x : A) → IsKnown notation (next x))
       → IsKnown notation (l >>= next)
-  then_known l next first after = record { known = at_fault }
-    where
-      at_fault : (bytes : List ℕ) (e : Error) → (l >>= next).Fault bytes e → IsInstructionRefusal notation e
-      at_fault bytes e (inl f) = first.known bytes e f
-      at_fault bytes e (inr f) = (after f.0).known f.2 e f.5
+  then_known l next first after = record {
+    known = λ bytes e f. elim f [ inl p ↦ first.known bytes e p | inr p ↦ (after p.0).known p.2 e p.5 ];
+  }
 
   choose_known : {A : Type 0} (b : Bool) (l m : Production A) → IsKnown notation l → IsKnown notation m
       → IsKnown notation (choose b l m)
@@ -91,18 +81,16 @@ module _ (notation : Notation) where
 
   -- a number that the reader's offsets don't hold is below 2 ^ 64
   limit_known : IsKnown notation (below_limit notation unsigned)
-  limit_known = record { known = at_fault }
+  limit_known = record {
+    known = λ bytes e f.
+        elim f [ inl p ↦ unsigned_known.known bytes e p | inr p ↦ at_check p.0 p.1 p.4 p.2 e p.5 ];
+  }
     where
       at_check : (n : ℕ) (front : List ℕ) → SpellsUleb128 64 front n → (rest : List ℕ) (e : Error)
           → (check (nat_lt n notation.limit) UnsupportedOffset >>= λ fits. done n).Fault rest e
           → IsInstructionRefusal notation e
       at_check n front s rest e (inl f) = rw f.1 (omega (arith, ltb-false n notation.limit f.0, s.fits))
       at_check n front s rest e (inr f) = elim f.5 [ ]
-
-      at_fault : (bytes : List ℕ) (e : Error) → (below_limit notation unsigned).Fault bytes e
-          → IsInstructionRefusal notation e
-      at_fault bytes e (inl f) = unsigned_known.known bytes e f
-      at_fault bytes e (inr f) = at_check f.0 f.1 f.4 f.2 e f.5
 
   -- ---- instructions
 

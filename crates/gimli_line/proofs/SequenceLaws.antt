@@ -4,7 +4,7 @@ use Rattle.std.proofs.Common.{take, map, Option, Some, None, refl, sym}
 use Rattle.std.proofs.Common.{ap, ◌∙◌, subst, append_assoc, arith, ◌≢◌, inl, inr}
 use Rattle.std.specs.List.{AllByRecursion, list_any, flat_map}
 use Rattle.std.specs.Option.{unwrap_or}
-use Rattle.std.proofs.lemmas.List.{length-append, append-nil, map-append, take_at}
+use Rattle.std.proofs.lemmas.List.{length-append, append-nil, map-append}
 use Rattle.gimli_core.specs.Notation.{Notation}
 use Rattle.gimli_core.specs.Production.{Each}
 use Rattle.gimli_core.specs.declared.error.Error.{Error}
@@ -31,7 +31,7 @@ use Rattle.gimli_line.specs.run.Sequences.{HasFirstFault}
 use Rattle.gimli_line.specs.inside.run.SequenceSplit.{SequenceSplit, with_row, RowSplit, with_kept_row}
 use Rattle.gimli_line.proofs.Backwards.{starts, files_from_start}
 use Rattle.gimli_line.proofs.RunLists.{given_joined, given_from_start}
-use Rattle.gimli_line.proofs.InstructionLaws.{is_decoded, takes_bytes}
+use Rattle.gimli_line.proofs.InstructionLaws.{front_at, is_decoded, takes_bytes}
 use Rattle.gimli_line.proofs.Sources.{fits_less, keeps_same, keeps_both}
 use Rattle.gimli_line.proofs.Runs.{decodes_on, bare_decoding, passes_still, passes_both}
 
@@ -213,10 +213,6 @@ first_is (q ∷ rows) start is = rw is refl
 anew_at_end : (parameters : Parameters) (r : LineRow) → r.end_sequence ≡ true
     → reset_row parameters r ≡ initial parameters
 anew_at_end parameters r e = rw e refl
-
-front_at : (bytes front rest : List ℕ) → bytes ≡ front ++ rest → take (length bytes - length rest) bytes ≡ front
-front_at bytes front rest parts =
-    rw parts (take_at front rest (length (front ++ rest) - length rest) (omega (arith, length-append front rest)))
 
 module _ (h : Header) (k : SequenceSplit) (done : List LineRow) (point next : RunState) (c : Splitting h k done point)
     (p : Progress point (with_reset_row next) (row next.row ∷ [])) where

@@ -1,6 +1,6 @@
 -- A step of a run: what an instruction does to its state, and steps after one another.
 use Rattle.std.proofs.Common.{◌≡◌, ◌≢◌, ◌∙◌, Bool, true, false, [], ap, arith, inl, inr, length, refl, sym, subst}
-use Rattle.std.proofs.Common.{Result, Some, Ok, Err}
+use Rattle.std.proofs.Common.{Result, Some, Ok, Err, if◌then◌else◌}
 use Rattle.std.proofs.lemmas.List.{length-append}
 use Rattle.gimli_core.specs.declared.error.Error.{Error}
 use Rattle.gimli_core.specs.declared.error.Error.TheVariants.{AddressOverflow, OutOfMemory}
@@ -148,10 +148,10 @@ module _ (a : Bool) (h k : Header) (same : k ≡ h) (old new : RunState) (from :
   -- h2 is the header after it
   module _ (i : Ins) (taken : TakesNext k old.unread new.unread (Some i))
       (notation : new.unread.notation ≡ old.unread.notation) (h2 : Header) where
-    pub step_quiet : h2 ≡ header_after a i h → is_refused h.parameters i old.row ≡ false → makes_row i ≡ false
-        → new.row ≡ step_of h.parameters i old.row
-        → Has a h2 new → KeepsRun old new → StepsTo old new (Ok More)
-    step_quiet after fits made row to keeps = record {
+    pub step_goes : h2 ≡ header_after a i h → is_refused h.parameters i old.row ≡ false
+        → (made : Bool) → makes_row i ≡ made → new.row ≡ step_of h.parameters i old.row
+        → Has a h2 new → KeepsRun old new → StepsTo old new (Ok (if made then Made else More))
+    step_goes after fits false made row to keeps = record {
       ok = by_headers a h h2 old new from to (λ x y. StepIs x y More) (
         after_quiet a h k same old.source new.source old.row old.unread new.unread notation i taken.0 taken.1
             taken.2 h2 new.row after fits made row,
@@ -163,11 +163,7 @@ module _ (a : Bool) (h k : Header) (same : k ≡ h) (old new : RunState) (from :
       err = tt;
       keeps = keeps;
     }
-
-    pub step_made : h2 ≡ header_after a i h → is_refused h.parameters i old.row ≡ false → makes_row i ≡ true
-        → new.row ≡ step_of h.parameters i old.row
-        → Has a h2 new → KeepsRun old new → StepsTo old new (Ok Made)
-    step_made after fits made row to keeps = record {
+    step_goes after fits true made row to keeps = record {
       ok = by_headers a h h2 old new from to (λ x y. StepIs x y Made) (
         after_made a h k same old.source new.source old.row old.unread new.unread notation i taken.0 taken.1
             taken.2 h2 new.row after fits made row,
@@ -213,15 +209,15 @@ none_executed k old row unread same = reads_none old (with_rest old row unread) 
 module _ (a : Bool) (h k : Header) (same : k ≡ h) (old : RunState) (row : LineRow) (unread : Unread)
     (from : Has a h old)
     (notation : unread.notation ≡ old.unread.notation) where
-  executed_quiet : (x : IsExecuted k.parameters (ins_at old.unread.notation k old.unread.bytes) unread.bytes old.row row
+  executed_step : (x : IsExecuted k.parameters (ins_at old.unread.notation k old.unread.bytes) unread.bytes old.row row
       false)
-      → makes_row x.instruction ≡ false
-      → StepsTo old (with_rest old row unread) (Ok More)
-  executed_quiet x quiet =
-      step_quiet a h k same old (with_rest old row unread) from x.instruction
+      → (made : Bool) → makes_row x.instruction ≡ made
+      → StepsTo old (with_rest old row unread) (Ok (if made then Made else More))
+  executed_step x made makes =
+      step_goes a h k same old (with_rest old row unread) from x.instruction
       ((reads_instruction old.unread.notation k).found old.unread.bytes x.instruction unread.bytes x.reading) notation h
       (files_kept a h x.instruction x.defines)
-      (subst (λ (j : Header). is_refused j.parameters x.instruction old.row ≡ false) same x.refusal) quiet
+      (subst (λ (j : Header). is_refused j.parameters x.instruction old.row ≡ false) same x.refusal) made makes
       (subst (λ (j : Header). row ≡ step_of j.parameters x.instruction old.row) same x.registers) from
       (keeps_rest old row unread notation)
 
@@ -229,19 +225,12 @@ module _ (a : Bool) (h k : Header) (same : k ≡ h) (old : RunState) (row : Line
       → StepsTo old (with_rest old row unread) (Ok More)
   executed_more No x some quiet = absurd (some refl)
   executed_more Row x some quiet = absurd (quiet refl)
-  executed_more Quiet x some quiet = executed_quiet x.0 (told_quiet x.0.instruction x.1)
-  executed_more (Address b) x some quiet = executed_quiet x.0 (ap makes_row (told_address x.0.instruction b x.1))
+  executed_more Quiet x some quiet = executed_step x.0 false (told_quiet x.0.instruction x.1)
+  executed_more (Address b) x some quiet =
+      executed_step x.0 false (ap makes_row (told_address x.0.instruction b x.1))
 
   pub executed_row : ExecutesNext k old.unread unread old.row row Row → StepsTo old (with_rest old row unread) (Ok Made)
-  executed_row executed =
-      let x = executed.0 in
-      step_made a h k same old (with_rest old row unread) from x.instruction
-      ((reads_instruction old.unread.notation k).found old.unread.bytes x.instruction unread.bytes x.reading) notation h
-      (files_kept a h x.instruction x.defines)
-      (subst (λ (j : Header). is_refused j.parameters x.instruction old.row ≡ false) same x.refusal)
-      (told_row x.instruction executed.1)
-      (subst (λ (j : Header). row ≡ step_of j.parameters x.instruction old.row) same x.registers) from
-      (keeps_rest old row unread notation)
+  executed_row x = executed_step x.0 true (told_row x.0.instruction x.1)
 
   pub executed_refused : (e : Error) → RefusesNext k old.unread unread old.row row e
       → StepsTo old (with_rest old row unread) (Err e)

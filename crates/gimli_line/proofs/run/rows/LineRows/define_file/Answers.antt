@@ -1,17 +1,17 @@
-use Rattle.std.proofs.Common.{refl, ap, ◌∙◌}
+use Rattle.std.proofs.Common.{refl, ap, ◌∙◌, false}
 use Rattle.gimli_line.specs.header.File.{FileHasOrder}
 use Rattle.gimli_line.specs.header.Header.{without_files}
 use Rattle.gimli_line.specs.run.Unread.{Unread}
 use Rattle.gimli_line.proofs.InstructionLaws.{reads_instruction}
-use Rattle.gimli_line.proofs.Steps.{keeps_run, step_quiet, step_wants}
+use Rattle.gimli_line.proofs.Steps.{keeps_run, step_goes, step_wants}
 use Rattle.gimli_line.proofs.run.rows.LineRows.define_file.Goals as goal
 
 pub returns-in-Ok : goal.returns-in-Ok
 returns-in-Ok g c =
     let n = (reads_instruction _ c.header-header.result.now.meaning).found _ _ _ c.in-Some.ensures.read in
-    rw (← c.self.view_is) (step_quiet _ _ _ c.header-header.ensures.meaning _ _ (refl, refl, refl) _ n
-    c.in-Some.ensures.notation _ c.in-Ok.ensures.ok refl refl
-    refl (refl, refl, refl)
+    rw (← c.self.view_is) (step_goes _ _ _ c.header-header.ensures.meaning _ _ (refl, refl, refl) _ n
+    c.in-Some.ensures.notation _ c.in-Ok.ensures.ok refl false
+    refl refl (refl, refl, refl)
     (keeps_run _ _ _ _ _ (refl, refl, refl) (refl, refl, refl) (ap without_files c.in-Ok.ensures.ok)
     c.in-Some.ensures.notation
     (λ big. FileHasOrder g.R.Reader.big big c.in-Some.file) c.in-Ok.ensures.source c.in-Some.ensures.order))

@@ -1,10 +1,10 @@
-use Rattle.std.proofs.Common.{◌≡◌, refl, sym, ap, ◌∙◌}
+use Rattle.std.proofs.Common.{◌≡◌, refl, sym, ap, ◌∙◌, true, false}
 use Rattle.gimli_line.specs.header.Header.{without_files}
 use Rattle.gimli_line.specs.run.Instruction.{InsHasOrder}
 use Rattle.gimli_line.specs.run.Unread.{Unread}
 use Rattle.gimli_line.proofs.Runs.{only_overflow, source_same}
-use Rattle.gimli_line.proofs.Steps.{keeps_rest, keeps_run, step_done, step_faults, step_made, step_overflows}
-use Rattle.gimli_line.proofs.Steps.{step_quiet, step_wants}
+use Rattle.gimli_line.proofs.Steps.{keeps_rest, keeps_run, step_done, step_faults, step_goes, step_overflows}
+use Rattle.gimli_line.proofs.Steps.{step_wants}
 use Rattle.gimli_line.proofs.run.rows.LineRows.execute_parsed.Goals as goal
 
 pub returns-in-Err : goal.returns-in-Err
@@ -25,8 +25,8 @@ returns-then-not-made g c =
     let n = rw c.in-Ok-Some.field-0-is at c.in-Ok-Some.ensures.next in
     let operands = rw c.in-Ok-Some.field-0-is at c.in-Ok-Some.ensures.operands in
     rw (← c.self.view_is)
-    (step_quiet _ _ _ c.header.ensures.meaning _ _ (refl, refl, refl) _ n c.in-Ok-Some.ensures.notation _
-    c.in-Ok.ensures.files c.in-Ok.ensures.fits
+    (step_goes _ _ _ c.header.ensures.meaning _ _ (refl, refl, refl) _ n c.in-Ok-Some.ensures.notation _
+    c.in-Ok.ensures.files c.in-Ok.ensures.fits false
     (sym c.in-Ok.ensures.made ∙ c.if-not-made.true) c.in-Ok.ensures.step (refl, refl, refl)
     (keeps_run _ _ _ _ _ (refl, refl, refl) (refl, refl, refl) (ap without_files c.in-Ok.ensures.files)
     c.in-Ok-Some.ensures.notation
@@ -37,8 +37,8 @@ returns g c =
     let n = rw c.in-Ok-Some.field-0-is at c.in-Ok-Some.ensures.next in
     let operands = rw c.in-Ok-Some.field-0-is at c.in-Ok-Some.ensures.operands in
     rw (← c.self.view_is)
-    (step_made _ _ _ c.header.ensures.meaning _ _ (refl, refl, refl) _ n c.in-Ok-Some.ensures.notation _
-    c.in-Ok.ensures.files c.in-Ok.ensures.fits
+    (step_goes _ _ _ c.header.ensures.meaning _ _ (refl, refl, refl) _ n c.in-Ok-Some.ensures.notation _
+    c.in-Ok.ensures.files c.in-Ok.ensures.fits true
     (sym c.in-Ok.ensures.made ∙ c.if-not-made.false) c.in-Ok.ensures.step (refl, refl, refl)
     (keeps_run _ _ _ _ _ (refl, refl, refl) (refl, refl, refl) (ap without_files c.in-Ok.ensures.files)
     c.in-Ok-Some.ensures.notation
