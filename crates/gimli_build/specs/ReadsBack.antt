@@ -136,12 +136,12 @@ pub record IsReadWell (at : Placement) (notation : Notation) (unit_entry : UnitE
       → All (λ t. IsOffsetHeld notation.limit at texts t.1) (emitted_texts p texts)
 
 -- whoever reads these bytes well, with the offsets of texts so placed, reads the program back
-abbrev pub ReadsBackPlaced : Placement → Bool → Built → StringTables → List ℕ → Type 0
-ReadsBackPlaced at big p texts unit =
+abbrev pub ReadsBackAt : Placement → Bool → Built → StringTables → List ℕ → Type 0
+ReadsBackAt at big p texts unit =
     (notation : Notation) (unit_entry : UnitEntry) (sections : Sections)
     → IsReadWell at notation unit_entry sections big p texts unit
     → ReadsBack notation unit_entry sections p texts unit
 
 -- or as they are written
 abbrev pub ReadsBackAs : Bool → Built → StringTables → List ℕ → Type 0
-ReadsBackAs = ReadsBackPlaced unplaced
+ReadsBackAs = ReadsBackAt unplaced

@@ -10,7 +10,7 @@ ghost use Rattle.gimli_build.specs.inside.Conditions.{IsBuilt};
 ghost use Rattle.gimli_build.specs.Unit.{version_bytes, opening_bytes, inside_bytes};
 ghost use Rattle.gimli_build.specs.Unit.{whole_bytes, is_incompatible, unit_bytes};
 ghost use Rattle.gimli_build.specs.Cause.{first_cause, refusal};
-ghost use Rattle.gimli_build.specs.ReadsBack.{ReadsBackAs, ReadsBackPlaced};
+ghost use Rattle.gimli_build.specs.ReadsBack.{ReadsBackAs, ReadsBackAt};
 ghost use Rattle.gimli_build.specs.Linked.{placed_program, SumsFit};
 ghost use Rattle.gimli_build.specs.WrittenTables.{HaveEmptySource, KeepTables};
 ghost use Rattle.gimli_build.specs.Writes.{WritesOr, OfMemoryOr};
@@ -63,7 +63,8 @@ impl LineProgram {
             (W.contents w.old.0) (W.contents w.new.0)) }
         ensures linked { (at : Placement) → IsTrue (W.completes w.old.0) → W.hand at ≡ placed at →
             SumsFit at self.now (texts_in strings.new line_strings.new) →
-            OnOk result (AppendsThat (ReadsBackPlaced at (W.big w.old.0) (placed_program at self.now)
+            OnOk result
+            (AppendsThat (ReadsBackAt at (W.big w.old.0) (placed_program at self.now)
             (texts_in strings.new line_strings.new))
             (W.completed at w.old.0) (W.completed at w.new.0)) }
         ensures cause { first_cause (W.big w.old.0) encoding self.now

@@ -1,5 +1,6 @@
 -- Texts that are found: in sections that hold the bytes of their tables.
-use Rattle.std.proofs.Common.{◌≡◌, ℕ, ◌+◌, ◌<◌, ◌≤◌, ◌^◌, List, [], ◌∷◌, ◌++◌, length, drop, Option, Some, None, refl, sym}
+use Rattle.std.proofs.Common.{◌≡◌, ℕ, ◌+◌, ◌<◌, ◌≤◌, ◌^◌, List, [], ◌∷◌, ◌++◌, length, drop, Option, Some, None, refl}
+use Rattle.std.proofs.Common.{sym}
 use Rattle.std.proofs.Common.{ap, ◌∙◌, arith, append_assoc}
 use Rattle.std.specs.Prelude.{slice_get, IfSome}
 use Rattle.std.proofs.lemmas.List.{append-nil, drop-append-le, drop-drop, drop_at}
@@ -31,12 +32,12 @@ table_found section placed texts i has = by (slice_get texts i) refl
         let short = offset_within texts i in (
           rest ++ has.after,
           ap (λ n. drop n section) (has.counted offset)
-          ∙ ap (drop (length has.before + offset)) has.whole
-          ∙ sym (drop-drop offset (length has.before) (has.before ++ (table ++ has.after)))
-          ∙ ap (drop offset) (drop_at has.before (table ++ has.after) (length has.before) refl)
-          ∙ drop-append-le offset table has.after (omega (arith, long, short))
-          ∙ ap (λ l. l ++ has.after) (table_bytes-at texts i text is)
-          ∙ append_assoc text (0 ∷ rest) has.after,
+              ∙ ap (drop (length has.before + offset)) has.whole
+              ∙ sym (drop-drop offset (length has.before) (has.before ++ (table ++ has.after)))
+              ∙ ap (drop offset) (drop_at has.before (table ++ has.after) (length has.before) refl)
+              ∙ drop-append-le offset table has.after (omega (arith, long, short))
+              ∙ ap (λ l. l ++ has.after) (table_bytes-at texts i text is)
+              ∙ append_assoc text (0 ∷ rest) has.after,
         )
 
 pub placed-found : (at : Placement) (sections : Sections) (texts : StringTables)

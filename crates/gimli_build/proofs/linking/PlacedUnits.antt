@@ -1,9 +1,10 @@
 -- A unit once a linker has placed its symbols and sections.
-use Rattle.std.proofs.Common.{arith, ◌≡◌, ℕ, ◌+◌, ◌<◌, ◌≤◌, ◌^◌, Bool, List, [], ◌∷◌, ◌++◌, map, if◌then◌else◌, Ok, Err, refl}
+use Rattle.std.proofs.Common.{arith, ◌≡◌, ℕ, ◌+◌, ◌<◌, ◌≤◌, ◌^◌, Bool, List, [], ◌∷◌, ◌++◌, map, if◌then◌else◌, Ok, Err}
+use Rattle.std.proofs.Common.{refl}
 use Rattle.std.proofs.Common.{sym, ap, ◌∙◌}
 use Rattle.std.specs.Prelude.{Result, All}
 use Rattle.std.proofs.Math.Nat.{mod-eq_of_lt}
-use Rattle.std.proofs.lemmas.List.Elements.{All-head, All-tail, All-nil, All-cons}
+use Rattle.std.proofs.lemmas.List.Elements.{All-head, All-tail, All-weaker}
 use Rattle.gimli_core.specs.Numbers.{word_size}
 use Rattle.gimli_core.specs.Reading.{result_map}
 use Rattle.gimli_core.specs.declared.common.Encoding.{Encoding}
@@ -64,10 +65,6 @@ module _ (at : Placement) (big : Bool) (encoding : Encoding) (e : LineEncoding) 
 
 -- ---- texts
 
-all_from : {A : Type 0} (P Q : A → Type 0) → ((x : A) → P x → Q x) → (xs : List A) → All P xs → All Q xs
-all_from P Q f [] all = All-nil Q
-all_from P Q f (x ∷ xs) all = All-cons Q x _ (f x (All-head P x _ all)) (all_from P Q f xs (All-tail P x _ all))
-
 module _ (at : Placement) (big : Bool) (p : Built) (texts : StringTables) where
   -- an offset that fits, as does what it becomes
   offset_counted : (section : SectionId) (n size : ℕ) → n < 256 ^ size → at.section section n < 256 ^ size
@@ -115,16 +112,15 @@ module _ (at : Placement) (big : Bool) (unit : Encoding) (p : Built) (texts : St
   program_placed : program_bytes (placed at) big p ≡ program_bytes plain big (placed_program at p)
   program_placed = items_placed at big p.encoding p.line_encoding _ _ fit.addresses
 
-  placed_by : (hand : Hand) → program_bytes plain big (placed_program at p) ≡ program_bytes hand big (placed_program at p)
+  placed_by : (hand : Hand)
+      → program_bytes plain big (placed_program at p) ≡ program_bytes hand big (placed_program at p)
       → ((t : LineText) → OffsetFits at p.encoding.format (texts_after p texts) t
       → IsAlike (placed at) hand big p (texts_after p texts) t)
       → unit_bytes (placed at) big unit p texts ≡ unit_bytes hand big unit (placed_program at p) texts
   placed_by hand numbers alike =
       unit_alike (placed at) hand _ unit p (placed_program at p) texts refl
       (whole-alike (placed at) hand big p (texts_after p texts) (map (placed_item at) p.items)
-      (λ new. all_from _
-      _
-      (λ t fits. alike t.1 fits) _ (fit.offsets new))
+      (λ new. All-weaker _ _ (λ t fits. alike t.1 fits) _ (fit.offsets new))
       (program_placed ∙ numbers))
 
   pub placed-counted : unit_bytes (placed at) big unit p texts
@@ -141,7 +137,7 @@ module _ (at : Placement) (big : Bool) (unit : Encoding) (p : Built) (texts : St
   pub placed-short : 5 ≤ p.encoding.version
       → All (λ t. IsOffsetHeld (2 ^ 64) at (texts_after p texts) t.1) (emitted_texts p (texts_after p texts))
   placed-short new =
-      all_from (λ t. OffsetFits at p.encoding.format (texts_after p texts) t.1) _
+      All-weaker (λ t. OffsetFits at p.encoding.format (texts_after p texts) t.1) _
       (λ t fits. text_short p.encoding.format t.1 fits.1) _ (fit.offsets new)
     where
       wide : (format : Format) (n : ℕ) → n < 256 ^ word_size format → n < 2 ^ 64

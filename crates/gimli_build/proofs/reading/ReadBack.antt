@@ -14,7 +14,7 @@ use Rattle.gimli_build.specs.Conditions.{CanWrite}
 use Rattle.gimli_build.specs.inside.Conditions.{IsBuilt}
 use Rattle.gimli_build.specs.Texts.{Sections}
 use Rattle.gimli_build.specs.Version5Tables.{texts_after}
-use Rattle.gimli_build.specs.ReadsBack.{ReadsBack, ReadsBackPlaced, IsReadWell}
+use Rattle.gimli_build.specs.ReadsBack.{ReadsBack, ReadsBackAt, IsReadWell}
 use Rattle.gimli_build.specs.Unit.{whole_bytes, unit_bytes}
 use Rattle.gimli_build.proofs.writing.Joined.{appended_bytes}
 use Rattle.gimli_build.proofs.writing.WrittenParts.{before_written}
@@ -24,7 +24,8 @@ use Rattle.gimli_build.proofs.reading.UnitHeader.{AreShort, whole_written, heade
 use Rattle.gimli_build.proofs.reading.EventsBack.{cut-back, rows-back}
 
 -- a unit that is written has a known version
-unit_known : (at : Placement) (big : Bool) (p : Built) (texts : StringTables) (unit : List ℕ) → whole_bytes (counted at) big p texts ≡ Ok unit
+unit_known : (at : Placement) (big : Bool) (p : Built) (texts : StringTables) (unit : List ℕ)
+    → whole_bytes (counted at) big p texts ≡ Ok unit
     → p.encoding.version ≤ 5
 unit_known at big p texts unit is =
     let w = unit_written (counted at) _ p texts _ is in
@@ -63,13 +64,14 @@ reads-back at notation unit_entry sections big unit_encoding p old_texts unit sm
     }
 
 -- what is appended is read back so
-pub appended-back : (at : Placement) (big : Bool) (unit_encoding : Encoding) (p : Built) (old_texts : StringTables) (old new : List ℕ)
+pub appended-back : (at : Placement) (big : Bool) (unit_encoding : Encoding) (p : Built) (old_texts : StringTables)
+    (old new : List ℕ)
     → length new < 2 ^ 64 → IsBuilt p
     → CanWrite p old_texts → AreTexts (texts_after p old_texts).strings
     → AreTexts (texts_after p old_texts).line_strings
     → AreShort at p (texts_after p old_texts)
     → Appends (unit_bytes (counted at) big unit_encoding p old_texts) old new
-    → AppendsThat (ReadsBackPlaced at big p (texts_after p old_texts)) old new
+    → AppendsThat (ReadsBackAt at big p (texts_after p old_texts)) old new
 appended-back at big unit_encoding p old_texts old new short built can are_texts are_line_texts held written =
     let a = appended_bytes (unit_bytes (counted at) big unit_encoding p old_texts) old new written in
     let long = ap length a.2 ∙ length-append old a.0 in

@@ -180,7 +180,8 @@ module _ (at : Placement) (notation : Notation) (unit_entry : UnitEntry) (sectio
         second-chosen (nat_le p.encoding.version 4) _ _ bytes _ new
         ((map read_format (directory_formats p), entries), bytes, [], sym (append-nil bytes), spelled, (refl, refl))
 
-    new_files_spelled : (bytes : List ℕ) → file_table_bytes (counted at) notation.big p.encoding.format texts p ≡ Ok bytes
+    new_files_spelled : (bytes : List ℕ)
+        → file_table_bytes (counted at) notation.big p.encoding.format texts p ≡ Ok bytes
         → length bytes < 2 ^ 64
         → (file_table notation p.encoding).Spells bytes
         (map read_format (file_formats p), map file_of_entry (map (file_entry at p texts) p.files))

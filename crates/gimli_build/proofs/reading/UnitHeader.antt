@@ -1,5 +1,6 @@
 -- What is read of the header of a written unit.
-use Rattle.std.proofs.Common.{◌≡◌, ℕ, ◌-◌, ◌<◌, ◌≤◌, ◌^◌, Bool, true, false, List, length, if◌then◌else◌, Ok, refl, ap, ◌∙◌}
+use Rattle.std.proofs.Common.{◌≡◌, ℕ, ◌-◌, ◌<◌, ◌≤◌, ◌^◌, Bool, true, false, List, length, if◌then◌else◌, Ok, refl, ap}
+use Rattle.std.proofs.Common.{◌∙◌}
 use Rattle.std.proofs.Common.{arith, sym}
 use Rattle.std.specs.Prelude.{Result, Err, nat_le, All}
 use Rattle.std.proofs.lemmas.Bool.{leb-true, leb-false}
@@ -47,7 +48,8 @@ abbrev pub AreShort : Placement → Built → StringTables → Type 0
 AreShort at p texts = 5 ≤ p.encoding.version → All (λ t. IsOffsetHeld (2 ^ 64) at texts t.1) (emitted_texts p texts)
 
 -- a unit that is written is written whole
-pub whole_written : (at : Placement) (big : Bool) (unit_encoding : Encoding) (p : Built) (old_texts : StringTables) (unit : List ℕ)
+pub whole_written : (at : Placement) (big : Bool) (unit_encoding : Encoding) (p : Built) (old_texts : StringTables)
+    (unit : List ℕ)
     → unit_bytes (counted at) big unit_encoding p old_texts ≡ Ok unit
     → whole_bytes (counted at) big p (texts_after p old_texts) ≡ Ok unit
 whole_written at big unit_encoding p old_texts unit is =

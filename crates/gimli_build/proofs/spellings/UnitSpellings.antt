@@ -112,7 +112,8 @@ fields_written hand big p texts fields is =
     }
 
 -- what is written of a unit is no longer than the unit
-pub inside-short : (hand : Hand) (big : Bool) (p : Built) (texts : StringTables) (unit : List ℕ) (w : UnitWritten hand big p texts unit)
+pub inside-short : (hand : Hand) (big : Bool) (p : Built) (texts : StringTables) (unit : List ℕ)
+    (w : UnitWritten hand big p texts unit)
     → length w.inside ≤ length unit
 inside-short hand big p texts unit w =
     let whole = ap (λ l. length l) w.whole in
@@ -129,7 +130,8 @@ length_wide big Dwarf64 n word wide is =
     let eight = ap length (same_written _ _ is) ∙ size_8 big n in
     omega (arith, whole, escape, eight)
 
-inside-wide : (hand : Hand) (big : Bool) (p : Built) (texts : StringTables) (unit : List ℕ) (w : UnitWritten hand big p texts unit)
+inside-wide : (hand : Hand) (big : Bool) (p : Built) (texts : StringTables) (unit : List ℕ)
+    (w : UnitWritten hand big p texts unit)
     → p.encoding.format ≡ Dwarf64
     → length w.inside + 12 ≡ length unit
 inside-wide hand big p texts unit w wide =
@@ -137,7 +139,8 @@ inside-wide hand big p texts unit w wide =
     let front = length_wide _ _ _ _ wide w.length_is in
     omega (arith, whole, front, length-append (escape_bytes big p.encoding.format ++ w.length_bytes) w.inside)
 
-pub fields-short : (hand : Hand) (big : Bool) (p : Built) (texts : StringTables) (unit : List ℕ) (w : UnitWritten hand big p texts unit)
+pub fields-short : (hand : Hand) (big : Bool) (p : Built) (texts : StringTables) (unit : List ℕ)
+    (w : UnitWritten hand big p texts unit)
     → length w.fields ≤ length w.inside
 fields-short hand big p texts unit w =
     let whole = ap (λ l. length l) w.inside_is in
@@ -257,7 +260,8 @@ module _ (hand : Hand) (notation : Notation) (unit_entry : UnitEntry) (sections 
         ),
       )
 
-  module _ (unit : List ℕ) (w : UnitWritten hand notation.big p texts unit) (v : FieldsWritten hand notation.big p texts w.fields)
+  module _ (unit : List ℕ) (w : UnitWritten hand notation.big p texts unit)
+      (v : FieldsWritten hand notation.big p texts w.fields)
       (t : Tables v.tables)
       (same : unit_entry.address_size ≡ p.encoding.address_size)
       (holds : p.encoding.format ≡ Dwarf64 → length unit - 12 < notation.limit)

@@ -136,7 +136,8 @@ module _ (at : Placement) (notation : Notation) (p : Built) (texts : StringTable
       (λ i d lt. (ready.directories i d lt, held.directories i d lt)) is small
 
   -- the bytes of a source, where it is written
-  source_written : (f : File) (bytes : List ℕ) → source_bytes (counted at) notation.big p.encoding.format texts p f ≡ Ok bytes
+  source_written : (f : File) (bytes : List ℕ)
+      → source_bytes (counted at) notation.big p.encoding.format texts p f ≡ Ok bytes
       → (p.file_has_source ≡ true → text_written (first_form (sources p.files)) (source_of p texts f) ≡ Ok bytes)
       × (p.file_has_source ≡ false → bytes ≡ [])
   source_written f bytes is = by _ _ is
@@ -173,7 +174,8 @@ module _ (at : Placement) (notation : Notation) (p : Built) (texts : StringTable
       subst (λ l. IsSpelled notation p.encoding.format list l entry) (sym whole) spelled in
       subst (λ l. IsSpelled notation p.encoding.format l bytes entry) (sym (formats-same p)) same
 
-  file_long : (f : File) (bytes : List ℕ) → file_entry_bytes (counted at) notation.big p.encoding.format texts p f ≡ Ok bytes
+  file_long : (f : File) (bytes : List ℕ)
+      → file_entry_bytes (counted at) notation.big p.encoding.format texts p f ≡ Ok bytes
       → 0 < length bytes
   file_long f bytes is =
       let form = first_form (path_texts p.files) in
@@ -185,7 +187,8 @@ module _ (at : Placement) (notation : Notation) (p : Built) (texts : StringTable
       let long = text-long at notation.big p.encoding.format texts form f.0.0 a.first a.first_is in
       omega (arith, whole, long)
 
-  pub new-files-spelled : (bytes : List ℕ) → file_table_bytes (counted at) notation.big p.encoding.format texts p ≡ Ok bytes
+  pub new-files-spelled : (bytes : List ℕ)
+      → file_table_bytes (counted at) notation.big p.encoding.format texts p ≡ Ok bytes
       → length bytes < 2 ^ 64
       → (table_production notation p.encoding.format).Spells bytes
       (map read_format (file_formats p), map (file_entry at p texts) p.files)
