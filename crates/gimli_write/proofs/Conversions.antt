@@ -9,7 +9,7 @@ use Common.{SourceRow, Row, SourceRun, reading_from, reading_upon, reading_left,
 use Common.{Conversion, without_built, IsReadRefusal, file_parts, version_of, source_path}
 use Rattle.gimli_write.specs.declared.convert.rows.ConvertLineRow.TheVariants.{EndSequence}
 use Rattle.gimli_write.specs.convert.TablesAtEnd.{lacks_file, tables_after_row}
-use Rattle.gimli_write.proofs.MappedTables.{took, same_ok, is_prepared, all_added_keeps}
+use Rattle.gimli_write.proofs.MappedFiles.{took, same_ok, is_prepared, all_added_keeps}
 
 -- ---- tables without what is built
 

@@ -9,16 +9,9 @@ pub mod ConvertHeader
 pub mod SourceReadings
 pub mod SourceSteps
 pub mod SourceFromBytes
-pub mod MappedAddresses
 pub mod MappedRows
-pub mod MappedTables
-pub mod MappedPrograms
-pub mod MappedTexts
-pub mod MappedDirectories
 pub mod MappedFiles
-pub mod MappedNames
 pub mod OutcomeLemmas
-pub mod MappedEnds
 pub mod Conversions
 mod TablesAtEnd
 mod KeptFiles

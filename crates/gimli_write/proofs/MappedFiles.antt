@@ -1,20 +1,810 @@
--- The files of a conversion: each id of a file of the source is that of its paths, with what is known of the last file
--- that has them.
+-- The tables of a conversion: each id of a directory or a file of the source is that of its paths,
+-- with what is known of the last file that has them; and the program can be written.
 use Rattle.gimli_write.proofs.Common
-use Common.{◌≡◌, ◌≢◌, ℕ, zero, suc, ◌+◌, ◌<◌, Bool, true, false, not, cond, ◌||◌, if◌then◌else◌, List, [], ◌∷◌, ◌++◌}
-use Common.{length, refl, sym, ap, subst, ◌∙◌, inl, inr, append_assoc, ◌⊎◌, nat_eq, Option, Some, None, option_map}
-use Common.{slice_get, Ok, bytes_eq, IfSome, list_any, position_or_len, AllByRecursion, true≢false, eqb-true, eq-eqb}
-use Common.{append-nil, slice_get-map, bytes_eq-Decides, DefineFile, File, Header, defined_files, Ins, LineText}
-use Common.{made_text, made_table, FileKey, Details, BuiltFile, key_eq, has_file, index_of_file, with_details}
-use Common.{with_file, keys_of, Sections, OneByOne, TablesAndTexts, version_of, FileParts, file_parts, file_added}
-use Common.{all_added, tables_after_definition, tables_at, first_ids, with_parts}
-use Rattle.gimli_build.proofs.building.TableLemmas.{file_found_at, file_keeps, file_others, some_within}
-use Rattle.gimli_write.proofs.ReadTexts.{one_by_one_push}
-use Rattle.gimli_write.proofs.MappedTables.{took, same_ok, sources_table}
-use Rattle.gimli_write.proofs.MappedTexts.{index_stays, index_new, any_stays, any_new, index_none, last_element}
-use Rattle.gimli_write.proofs.MappedTexts.{same_key, IsMade, HasMade, has_then, is_made, is_same, table_has}
-use Rattle.gimli_write.proofs.MappedTexts.{made_differ}
-use Rattle.gimli_write.proofs.MappedDirectories.{sources_has}
+use Common.{◌≡◌, ℕ, zero, suc, ◌+◌, Bool, true, false, cond, not, ◌||◌, if◌then◌else◌, List, [], ◌∷◌, ◌++◌, length}
+use Common.{refl, sym, ap, subst, ◌∙◌, arith, nat_le, Some, unwrap_or, slice_get, bytes_eq, list_any, position_or_len}
+use Common.{or_left, or_right, or_parts, eq-eqb, bytes_eq-Decides, with_text, index_of_text, StringTables, texts_in}
+use Common.{with_text-found, with_text-there, LineText, Inline, InStrings, InLineStrings, line_text_eq, bytes_in}
+use Common.{made_text, made_table, FileKey, key_eq, ◌≤◌, Option, None, option_map, IfSome, Result, Ok, Err, All}
+use Common.{option_map_or, lt-leb, All-nil, All-cons, All-push, slice_get_within, Value, Encoding, LineEncoding}
+use Common.{DefineFile, File, Header, Ins, Built, CanWrite, IsWithin, HasNoZero, Details, BuiltFile, with_directory}
+use Common.{Sections, ConvertError, ◌>>=◌, source_path, TablesAndTexts, version_of, with_path, directory_added}
+use Common.{file_parts, with_parts, file_added, all_added, tables_after_definition, tables_at, SourceFile}
+use Common.{working_directory, source_file, line_encoding_of, first_texts, start_of_tables, Handed, encoding_of}
+use Common.{lists_added, tables_of_header, KeepsTexts, with_text-KeepsTexts, with_tables, index_of_directory}
+use Common.{no_details, inl, inr, append_assoc, ◌⊎◌, Error, directory_of, from_one, IsText, text_of, Read}
+use Common.{MissingCompilationDirectory, InvalidAttributeValue, without_zero, source_text, first_path, first_ids}
+use Common.{needed_from_5, ◌≢◌, ◌<◌, nat_eq, AllByRecursion, true≢false, eqb-true, append-nil, slice_get-map}
+use Common.{defined_files, has_file, index_of_file, with_details, with_file, keys_of, OneByOne, FileParts, ok_or}
+use Common.{All-from_recursion, leb-true, le-leb, IsOptionalText, InvalidDirectoryIndex, if_there, Outcome}
+use Rattle.std.proofs.lemmas.List.Folds.{list_any-append}
+use Rattle.gimli_write.proofs.ConvertSteps.{kept_self, kept_then}
+use Rattle.gimli_write.proofs.Writable.{within_kept, source_kept, written_later, written_with_file}
+use Rattle.std.proofs.Common.{length-append}
+use Rattle.std.specs.Result.{result_map_both}
+use Rattle.gimli_core.specs.declared.attribute_value.AttributeValue.TheVariants.{String, DebugStrRefSup}
+use Rattle.gimli_build.specs.FirstTables.{first_directories}
+use Rattle.gimli_build.proofs.building.TableLemmas.{directory_found, file_found_at, file_keeps, file_others}
+use Rattle.gimli_build.proofs.building.TableLemmas.{some_within}
+use Rattle.gimli_write.specs.convert.Mapped.{IsDirectoryPath, IsFileId, HasPaths, IsLastWithPaths, IsMappedFile}
+use Rattle.gimli_write.specs.convert.Mapped.{AreFilesMapped}
+use Rattle.gimli_write.proofs.ReadTexts.{text_read, one_by_one_push}
+use Rattle.gimli_write.proofs.BuiltAnswers.{text_same}
+
+-- ---- the first index that passes a test, in a list that grows at its end
+
+-- the list after an element is added that may be there
+abbrev pub grown : {A : Type 0} → Bool → List A → A → List A
+grown there xs x = if there then xs else xs ++ x ∷ []
+
+module _ {A : Type 0} (p : A → Bool) where
+  pub index_stays : (xs ys : List A) → list_any p xs ≡ true → position_or_len p (xs ++ ys) ≡ position_or_len p xs
+  index_stays [] ys any = absurd cc
+  index_stays (x ∷ xs) ys any = by (p x) (index_stays xs ys) any
+    where
+      by : (b : Bool) → (list_any p xs ≡ true → position_or_len p (xs ++ ys) ≡ position_or_len p xs)
+          → (b || list_any p xs) ≡ true
+          → cond (not b) (1 + position_or_len p (xs ++ ys)) 0 ≡ cond (not b) (1 + position_or_len p xs) 0
+      by true rest any = refl
+      by false rest any = ap (λ n. 1 + n) (rest any)
+
+  pub index_new : (xs : List A) (x : A) → p x ≡ true → list_any p xs ≡ false
+      → position_or_len p (xs ++ x ∷ []) ≡ position_or_len p xs
+  index_new [] x passes none = rw passes refl
+  index_new (y ∷ xs) x passes none =
+      let parts = or_parts (p y) (list_any p xs) none in
+      rw parts.0 (ap (λ n. 1 + n) (index_new xs x passes parts.1))
+
+  pub any_stays : (xs ys : List A) → list_any p xs ≡ true → list_any p (xs ++ ys) ≡ true
+  any_stays xs ys any = list_any-append p _ _ ∙ or_left _ _ any
+
+  pub any_new : (xs : List A) (x : A) → p x ≡ true → list_any p (xs ++ x ∷ []) ≡ true
+  any_new xs x passes = list_any-append p xs (x ∷ []) ∙ or_right (list_any p xs) _ (or_left _ false passes)
+
+  -- another element was there before this one came
+  pub grown_index : (there : Bool) (xs : List A) (x : A) → list_any p xs ≡ true
+      → position_or_len p (grown there xs x) ≡ position_or_len p xs
+  grown_index true xs x any = refl
+  grown_index false xs x any = index_stays _ _ any
+
+  pub grown_any : (there : Bool) (xs : List A) (x : A) → list_any p xs ≡ true → list_any p (grown there xs x) ≡ true
+  grown_any true xs x any = any
+  grown_any false xs x any = any_stays _ _ any
+
+  -- this one came, or was there
+  pub own_index : (there : Bool) (xs : List A) (x : A) → list_any p xs ≡ there → p x ≡ true
+      → position_or_len p (grown there xs x) ≡ position_or_len p xs
+  own_index true xs x is passes = refl
+  own_index false xs x is passes = index_new _ x passes is
+
+  pub own_any : (there : Bool) (xs : List A) (x : A) → list_any p xs ≡ there → p x ≡ true
+      → list_any p (grown there xs x) ≡ true
+  own_any true xs x is passes = is
+  own_any false xs x is passes = any_new _ x passes
+
+  -- where none passes, the index is the end
+  pub index_none : (xs : List A) → list_any p xs ≡ false → position_or_len p xs ≡ length xs
+  index_none [] none = refl
+  index_none (x ∷ xs) none =
+      let parts = or_parts (p x) (list_any p xs) none in
+      let rest = index_none xs parts.1 in
+      rw parts.0 (omega arith)
+
+pub last_element : {A : Type 0} (xs : List A) (x : A) (i : ℕ) → i ≡ length xs → slice_get (xs ++ x ∷ []) i ≡ Some x
+last_element [] x zero is = refl
+last_element [] x (suc i) is = absurd (omega arith)
+last_element (y ∷ xs) x zero is = absurd (omega arith)
+last_element (y ∷ xs) x (suc i) is = last_element xs x i (omega arith)
+
+-- ---- tests of equality
+
+same_bytes : (text : List ℕ) → bytes_eq text text ≡ true
+same_bytes text = (bytes_eq-Decides text _).1 refl
+
+pub same_text : (t : LineText) → line_text_eq t t ≡ true
+same_text (Inline bytes) = same_bytes bytes
+same_text (InStrings i) = eq-eqb i i refl
+same_text (InLineStrings i) = eq-eqb i i refl
+
+pub same_key : (k : FileKey) → key_eq k k ≡ true
+same_key k = rw (same_text k.0, eq-eqb k.1 k.1 refl) refl
+
+-- ---- texts
+
+-- a text of a program of this version is there, in a table of line strings
+pub record IsMade (version : ℕ) (line_strings : List (List ℕ)) (text : List ℕ) : Type 0 where
+  pub any : nat_le version 4 ≡ false → list_any (bytes_eq text) line_strings ≡ true
+
+-- a table has the texts of another, at their indices
+pub record HasMade (version : ℕ) (old new : List (List ℕ)) : Type 0 where
+  pub there : (text : List ℕ) → IsMade version old text → IsMade version new text
+  pub same : (text : List ℕ) → IsMade version old text → made_text version new text ≡ made_text version old text
+
+pub has_itself : (version : ℕ) (line_strings : List (List ℕ)) → HasMade version line_strings line_strings
+has_itself version line_strings = record { there = λ text so. so; same = λ text so. refl }
+
+pub has_then : (version : ℕ) (old between new : List (List ℕ)) → HasMade version old between
+    → HasMade version between new → HasMade version old new
+has_then version old between new a b = record {
+  there = λ text so. b.there text (a.there text so);
+  same = λ text so. b.same text (a.there text so) ∙ a.same text so;
+}
+
+module _ (version : ℕ) (line_strings : List (List ℕ)) (text : List ℕ) where
+  -- the table has it
+  made_any : (old : Bool) → old ≡ false
+      → list_any (bytes_eq text) (if old then line_strings else with_text line_strings text) ≡ true
+  made_any true is = absurd cc
+  made_any false is =
+      own_any (bytes_eq text) (list_any (bytes_eq text) line_strings) line_strings text refl (same_bytes text)
+
+  pub is_made : IsMade version (made_table version line_strings text) text
+  is_made = record { any = λ new. made_any _ new }
+
+  made_same : (old : Bool)
+      → (if old then Inline text
+      else InLineStrings (index_of_text (if old then line_strings else with_text line_strings text) text))
+      ≡ (if old then Inline text else InLineStrings (index_of_text line_strings text))
+  made_same true = refl
+  made_same false =
+      ap InLineStrings
+      (own_index (bytes_eq text) (list_any (bytes_eq text) line_strings) line_strings text refl (same_bytes text))
+
+  -- at the index at which it was made
+  pub is_same : made_text version (made_table version line_strings text) text ≡ made_text version line_strings text
+  is_same = made_same _
+
+  -- and those that were there
+  others_any : (other : List ℕ) (old : Bool) → list_any (bytes_eq other) line_strings ≡ true
+      → list_any (bytes_eq other) (if old then line_strings else with_text line_strings text) ≡ true
+  others_any other true any = any
+  others_any other false any = grown_any (bytes_eq other) _ _ _ any
+
+  others_same : (other : List ℕ) (old : Bool) → (old ≡ false → list_any (bytes_eq other) line_strings ≡ true)
+      → (if old then Inline other
+      else InLineStrings (index_of_text (if old then line_strings else with_text line_strings text) other))
+      ≡ (if old then Inline other else InLineStrings (index_of_text line_strings other))
+  others_same other true any = refl
+  others_same other false any = ap InLineStrings (grown_index (bytes_eq other) _ _ _ (any refl))
+
+  pub table_has : HasMade version line_strings (made_table version line_strings text)
+  table_has = record {
+    there = λ other so. record { any = λ new. others_any _ _ (so.any new) };
+    same = λ other so. others_same _ _ so.any;
+  }
+
+-- the bytes of a text that is there
+pub made_bytes : (version : ℕ) (texts : StringTables) (text : List ℕ) → IsMade version texts.line_strings text
+    → bytes_in texts (made_text version texts.line_strings text) ≡ text
+made_bytes version texts text so = by (nat_le version 4) so.any
+  where
+    by : (old : Bool) → (old ≡ false → list_any (bytes_eq text) texts.line_strings ≡ true)
+        → bytes_in texts (if old then Inline text else InLineStrings (index_of_text texts.line_strings text)) ≡ text
+    by true any = refl
+    by false any =
+        let found =
+        subst (λ ts. slice_get ts (index_of_text texts.line_strings text) ≡ Some text)
+        (with_text-there _ _ (any refl)) (with_text-found _ _) in
+        ap (λ o. unwrap_or o []) found
+
+-- so texts that are made the same are the same
+pub made_differ : (version : ℕ) (line_strings : List (List ℕ)) (a b : List ℕ) → IsMade version line_strings a
+    → IsMade version line_strings b
+    → made_text version line_strings a ≡ made_text version line_strings b → a ≡ b
+made_differ version line_strings a b x y is =
+    sym (made_bytes _ (texts_in [] line_strings) a x) ∙ ap (bytes_in (texts_in [] line_strings)) is
+    ∙ made_bytes _ (texts_in [] line_strings) b y
+
+-- ---- steps that were done
+
+-- of two steps one after the other both were done
+pub took : {A B : Type 0} (r : Result A ConvertError) (f : A → Result B ConvertError) (y : B) → (r >>= f) ≡ Ok y
+    → (x : A) × (r ≡ Ok x) × (f x ≡ Ok y)
+took (Ok x) f y is = (x, refl, is)
+took (Err e) f y is = absurd cc
+
+pub same_ok : {A : Type 0} (x y : A) → (let r : Result A ConvertError = Ok x in r) ≡ Ok y → x ≡ y
+same_ok x y is = cc
+
+-- a header was prepared: its steps one by one
+pub record IsPrepared (sections : Sections) (h : Header) (given : Handed) (line_strings : List (List ℕ))
+    (tables : TablesAndTexts) : Type 0 where
+  pub directory : List ℕ
+  pub directory_is : working_directory (encoding_of h given).version sections h ≡ Ok directory
+  pub file : SourceFile
+  pub file_is : source_file (encoding_of h given).version sections h given.name ≡ Ok file
+  pub line_encoding : LineEncoding
+  pub with_directories : TablesAndTexts
+  pub directories : all_added (directory_added sections) h.directories
+      (start_of_tables (encoding_of h given) line_encoding h
+      (first_texts (encoding_of h given).version line_strings directory file))
+      ≡ Ok with_directories
+  pub files : all_added (file_added sections) h.files with_directories ≡ Ok tables
+
+pub is_prepared : (sections : Sections) (h : Header) (given : Handed) (line_strings : List (List ℕ))
+    (tables : TablesAndTexts)
+    → tables_of_header sections h given line_strings ≡ Ok tables
+    → IsPrepared sections h given line_strings tables
+is_prepared sections h given line_strings tables is =
+    let encoding = encoding_of h given in
+    let begin =
+    λ (directory : List ℕ) (file : SourceFile) (line_encoding : LineEncoding).
+    start_of_tables encoding line_encoding h (first_texts encoding.version line_strings directory file) in
+    let start = took _ _ _ is in
+    let a = took _ _ _ start.1 in
+    let b = took _ _ _ a.2 in
+    let l = took (line_encoding_of h.parameters.line_encoding given.line_encoding) _ start.0 b.2 in
+    let listed : lists_added sections h (begin a.0 b.0 l.0) ≡ Ok tables =
+    subst (λ t. lists_added sections h t ≡ Ok tables) (sym (same_ok _ _ l.2)) start.2 in
+    let d = took _ _ _ listed in
+    record {
+      directory = a.0;
+      directory_is = a.1;
+      file = b.0;
+      file_is = b.1;
+      line_encoding = l.0;
+      with_directories = d.0;
+      directories = d.1;
+      files = d.2;
+    }
+
+-- ---- what each step keeps
+
+module _ (P : TablesAndTexts → Type 0) where
+  pub all_added_keeps : {A : Type 0} (add : TablesAndTexts → A → Result TablesAndTexts ConvertError)
+      → ((tables next : TablesAndTexts) (x : A) → add tables x ≡ Ok next → P tables → P next)
+      → (xs : List A) (tables last : TablesAndTexts) → all_added add xs tables ≡ Ok last → P tables → P last
+  all_added_keeps add step [] tables last is p = subst P (same_ok _ _ is) p
+  all_added_keeps add step (x ∷ xs) tables last is p =
+      let t = took _ _ _ is in
+      all_added_keeps add step xs t.0 last t.2 (step tables t.0 x t.1 p)
+
+  pub lists_at_keeps : (sections : Sections) (first : TablesAndTexts)
+      → ((tables next : TablesAndTexts) (f : File) → file_added sections tables f ≡ Ok next → P tables → P next)
+      → (past : List Ins) (tables : TablesAndTexts) → tables_at sections first past ≡ Ok tables → P first → P tables
+  lists_at_keeps sections first step [] tables is p = subst P (same_ok _ _ is) p
+  lists_at_keeps sections first step (i ∷ past) tables is p =
+      let t = took _ _ _ is in
+      one i t.0 t.2 (lists_at_keeps sections first step past t.0 t.1 p)
+    where
+      one : (i : Ins) (before : TablesAndTexts) → tables_after_definition sections before i ≡ Ok tables → P before
+          → P tables
+      one (DefineFile f) before so q = step before tables f so q
+      one i before so q = subst P (same_ok _ _ so) q
+
+-- ---- texts are there
+
+pub made_keeps : (version : ℕ) (line_strings : List (List ℕ)) (text : List ℕ)
+    → KeepsTexts line_strings (made_table version line_strings text)
+made_keeps version line_strings text = by (nat_le version 4)
+  where
+    by : (old : Bool) → KeepsTexts line_strings (if old then line_strings else with_text line_strings text)
+    by true = kept_self line_strings
+    by false = with_text-KeepsTexts line_strings text
+
+-- the line strings after a text that may be there
+abbrev pub sources_table : ℕ → List (List ℕ) → Option (List ℕ) → List (List ℕ)
+sources_table version paths source = option_map_or (made_table version paths) source paths
+
+sources_keep : (version : ℕ) (paths : List (List ℕ)) (source : Option (List ℕ))
+    → KeepsTexts paths (sources_table version paths source)
+sources_keep version paths (Some text) = made_keeps version paths text
+sources_keep version paths None = kept_self paths
+
+module _ (strings : List (List ℕ)) (version : ℕ) (line_strings : List (List ℕ)) where
+  made_within : (text : List ℕ)
+      → IsWithin (texts_in strings (made_table version line_strings text)) (made_text version line_strings text)
+  made_within text = by (nat_le version 4)
+    where
+      by : (old : Bool)
+          → IsWithin (texts_in strings (if old then line_strings else with_text line_strings text))
+          (if old then Inline text else InLineStrings (index_of_text line_strings text))
+      by true = tt
+      by false =
+          slice_get_within (with_text line_strings text) (index_of_text line_strings text) text (with_text-found _ _)
+
+  source_within : (source : Option (List ℕ))
+      → IfSome (option_map (made_text version line_strings) source)
+      (IsWithin (texts_in strings (sources_table version line_strings source)))
+  source_within (Some text) = made_within text
+  source_within None = tt
+
+-- from version 5 on no text lies in the program, so none can have a zero byte there
+source_ends : (version : ℕ) (line_strings : List (List ℕ)) (source : Option (List ℕ)) → 5 ≤ version
+    → IfSome (option_map (made_text version line_strings) source) HasNoZero
+source_ends version line_strings (Some text) new = rw (lt-leb version 4 new) tt
+source_ends version line_strings None new = tt
+
+-- ---- tables that can be written
+
+-- a program whose sources are written
+abbrev pub with_sources : Built → Built
+with_sources p = record p { file_has_source = true }
+
+-- nothing is built yet; and the program can be written, its sources too
+pub record IsReady (strings : List (List ℕ)) (encoding : Encoding) (tables : TablesAndTexts) : Type 0 where
+  pub items : tables.program.items ≡ []
+  pub encoding_is : tables.program.encoding ≡ encoding
+  pub can : CanWrite (with_sources tables.program) (texts_in strings tables.line_strings)
+
+-- so can one of the same encoding that has these tables
+pub written_with_tables : (p : Built) (texts : StringTables) (tables : TablesAndTexts) → p.is_none ≡ false
+    → tables.program.encoding ≡ p.encoding → CanWrite (with_sources tables.program) texts
+    → CanWrite (with_tables tables p) texts
+written_with_tables p texts tables program encoding can = record {
+  program = program;
+  directories = can.directories;
+  paths = can.paths;
+  sources = can.sources;
+  sources_end = λ new has. can.sources_end (subst (λ (e : Encoding). 5 ≤ e.version) (sym encoding) new) refl;
+}
+
+pub ready_written : (strings : List (List ℕ)) (encoding : Encoding) (tables : TablesAndTexts)
+    → IsReady strings encoding tables
+    → CanWrite tables.program (texts_in strings tables.line_strings)
+ready_written strings encoding tables so = record {
+  program = so.can.program;
+  directories = so.can.directories;
+  paths = so.can.paths;
+  sources = so.can.sources;
+  sources_end = λ new has. so.can.sources_end new refl;
+}
+
+directories_with : (texts : StringTables) (ds : List LineText) (t : LineText) → All (IsWithin texts) ds
+    → IsWithin texts t
+    → All (IsWithin texts) (with_directory ds t)
+directories_with texts ds t all one = by (list_any _ ds)
+  where
+    by : (b : Bool) → All (IsWithin texts) (if b then ds else ds ++ t ∷ [])
+    by true = all
+    by false = All-push (IsWithin texts) _ t all one
+
+-- ---- a directory, and a file
+
+module _ (strings : List (List ℕ)) (encoding : Encoding) (sections : Sections) (tables next : TablesAndTexts) where
+  pub directory_ready : (v : Value) → directory_added sections tables v ≡ Ok next
+      → IsReady strings encoding tables → IsReady strings encoding next
+  directory_ready v is so =
+      let version = version_of tables in
+      let t = took (source_path version sections v) (λ path. Ok (with_path tables path)) _ is in
+      let path = t.0 in
+      let after = made_table version tables.line_strings path in
+      let can =
+      written_later strings tables.line_strings after (made_keeps version tables.line_strings path)
+      (with_sources tables.program) so.can in
+      subst (IsReady strings encoding) (same_ok (with_path tables path) next t.2) (record {
+        items = so.items;
+        encoding_is = so.encoding_is;
+        can = record {
+          program = can.program;
+          directories =
+              directories_with (texts_in strings after) tables.program.directories
+              (made_text version tables.line_strings path) can.directories
+              (made_within strings version tables.line_strings path);
+          paths = can.paths;
+          sources = can.sources;
+          sources_end = can.sources_end;
+        };
+      })
+
+  pub file_ready : (f : File) → file_added sections tables f ≡ Ok next
+      → IsReady strings encoding tables → IsReady strings encoding next
+  file_ready f is so =
+      let version = version_of tables in
+      let t =
+      took (file_parts version sections tables.directory_ids f) (λ parts. Ok (with_parts tables f parts)) next is in
+      let parts = t.0 in
+      let paths = made_table version tables.line_strings parts.path in
+      let after = sources_table version paths parts.source in
+      let details : Details = record {
+        timestamp = f.timestamp;
+        size = f.size;
+        md5 = f.md5;
+        source = option_map (made_text version paths) parts.source;
+      } in
+      let first = made_keeps version tables.line_strings parts.path in
+      let second = sources_keep version paths parts.source in
+      subst (IsReady strings encoding) (same_ok (with_parts tables f parts) next t.2) (record {
+        items = so.items;
+        encoding_is = so.encoding_is;
+        can =
+            written_with_file (with_sources tables.program) (texts_in strings after)
+            (made_text version tables.line_strings parts.path) parts.directory details
+            (within_kept strings paths after second _ (made_within strings version tables.line_strings parts.path))
+            (source_within strings version paths parts.source) (source_ends version paths parts.source)
+            (written_later strings tables.line_strings after (kept_then _ _ _ first second)
+            (with_sources tables.program) so.can);
+      })
+
+-- ---- the tables of a header
+
+started_ready : (strings : List (List ℕ)) (encoding : Encoding) (line_encoding : LineEncoding) (h : Header)
+    (line_strings : List (List ℕ)) (directory : List ℕ)
+    (file : SourceFile)
+    → IsReady strings encoding
+    (start_of_tables encoding line_encoding h (first_texts encoding.version line_strings directory file))
+started_ready strings encoding line_encoding h line_strings directory file =
+    let texts = first_texts encoding.version line_strings directory file in
+    let second = made_table encoding.version line_strings directory in
+    let third = sources_table encoding.version second file.directory in
+    let last = made_table encoding.version third file.path in
+    let second_keeps = sources_keep encoding.version second file.directory in
+    let third_keeps = made_keeps encoding.version third file.path in
+    let working : IsWithin (texts_in strings last) texts.working_directory =
+    within_kept strings second last (kept_then second third last second_keeps third_keeps) texts.working_directory
+    (made_within strings encoding.version line_strings directory) in
+    let own : IfSome texts.source_directory (IsWithin (texts_in strings last)) =
+    source_kept strings third last third_keeps texts.source_directory
+    (source_within strings encoding.version second file.directory) in
+    let old = nat_le encoding.version 4 in
+    let first : BuiltFile = (
+      (
+        texts.source_file,
+        option_map_or (index_of_directory (texts.working_directory ∷ [])) texts.source_directory 0,
+      ),
+      no_details,
+    ) in
+    record {
+      items = refl;
+      encoding_is = refl;
+      can = record {
+        program = refl;
+        directories = both (texts_in strings last) texts.working_directory texts.source_directory old working own;
+        paths =
+            one (λ f. IsWithin (texts_in strings last) f.0.0) first old
+            (made_within strings encoding.version third file.path);
+        sources = one (λ f. IfSome f.1.source (IsWithin (texts_in strings last))) first old tt;
+        sources_end = λ new has. one (λ f. IfSome f.1.source HasNoZero) first old tt;
+      };
+    }
+  where
+    alone : (texts : StringTables) (t : LineText) → IsWithin texts t → All (IsWithin texts) (t ∷ [])
+    alone texts t w = All-cons (IsWithin texts) t [] w (All-nil (IsWithin texts))
+
+    both : (texts : StringTables) (working : LineText) (own : Option LineText) (old : Bool) → IsWithin texts working
+        → IfSome own (IsWithin texts)
+        → All (IsWithin texts)
+        (if old then working ∷ [] else option_map_or (with_directory (working ∷ [])) own (working ∷ []))
+    both texts working own true w o = alone texts working w
+    both texts working (Some t) false w o = directories_with texts (working ∷ []) t (alone texts working w) o
+    both texts working None false w o = alone texts working w
+
+    one : (Q : BuiltFile → Type 0) (f : BuiltFile) (old : Bool) → Q f → All Q (if old then [] else f ∷ [])
+    one Q f true q = All-nil Q
+    one Q f false q = All-cons Q f [] q (All-nil Q)
+
+-- what `new` makes of a header can be written, and nothing is built in it
+pub prepared_ready : (strings : List (List ℕ)) (sections : Sections) (h : Header) (given : Handed)
+    (line_strings : List (List ℕ)) (tables : TablesAndTexts)
+    → tables_of_header sections h given line_strings ≡ Ok tables → IsReady strings (encoding_of h given) tables
+prepared_ready strings sections h given line_strings tables is =
+    let p = is_prepared sections h given line_strings tables is in
+    let encoding = encoding_of h given in
+    all_added_keeps (IsReady strings encoding) (file_added sections)
+    (λ l n f a so. file_ready strings encoding sections l n f a so) h.files p.with_directories tables p.files
+    (all_added_keeps (IsReady strings encoding) (directory_added sections)
+    (λ l n v a so. directory_ready strings encoding sections l n v a so) h.directories _
+    p.with_directories p.directories
+    (started_ready strings encoding p.line_encoding h line_strings p.directory p.file))
+
+-- ---- texts of a source
+
+-- bytes that have no zero byte are kept
+kept_bytes : (bytes text : List ℕ) → without_zero bytes ≡ Ok text → bytes ≡ text
+kept_bytes bytes text is = by (list_any _ bytes) is
+  where
+    by : (b : Bool) → (if b then Err InvalidAttributeValue else Ok bytes) ≡ Ok text → bytes ≡ text
+    by true so = absurd cc
+    by false so = cc
+
+source_read : (r : Result (List ℕ) Error) (text : List ℕ)
+    → (result_map_both (λ text. text) Read r >>= without_zero) ≡ Ok text → r ≡ Ok text
+source_read (Ok bytes) text is = ap Ok (kept_bytes _ _ is)
+source_read (Err e) text is = absurd cc
+
+pub source_text_of : (sections : Sections) (v : Value) (text : List ℕ) → source_text sections v ≡ Ok text
+    → text_of sections v ≡ Ok text
+source_text_of sections (DebugStrRefSup offset) text is = absurd cc
+source_text_of sections v text is = source_read _ _ is
+
+pub source_path_of : (version : ℕ) (sections : Sections) (v : Value) (path : List ℕ)
+    → source_path version sections v ≡ Ok path → text_of sections v ≡ Ok path
+source_path_of version sections v path is =
+    let t = took _ _ _ is in
+    source_text_of _ v _ (t.1 ∙ ap Ok (by t.0 _ t.2))
+  where
+    by : (text : List ℕ) (b : Bool) → (if b then Err InvalidAttributeValue else Ok text) ≡ Ok path → text ≡ path
+    by text true so = absurd cc
+    by text false so = cc
+
+first_path_of : (version : ℕ) (sections : Sections) (h : Header) (v : Value) (path : List ℕ)
+    → first_path version sections h v ≡ Ok path
+    → text_of sections v ≡ Ok path
+first_path_of version sections h v path is = by (nat_le h.parameters.encoding.version 4) is
+  where
+    by : (old : Bool) → (if old then source_text sections v else source_path version sections v) ≡ Ok path
+        → text_of sections v ≡ Ok path
+    by true so = source_text_of _ v _ so
+    by false so = source_path_of _ _ v _ so
+
+-- ---- entries of tables
+
+pub at_seam : {A : Type 0} (done rest : List A) (x : A) (i : ℕ) → i ≡ length done
+    → slice_get (done ++ x ∷ rest) i ≡ Some x
+at_seam [] rest x zero is = refl
+at_seam [] rest x (suc i) is = absurd (omega arith)
+at_seam (y ∷ done) rest x zero is = absurd (omega arith)
+at_seam (y ∷ done) rest x (suc i) is = at_seam done rest x i (omega arith)
+
+-- where the numbers of a table begin: up to version 4 at 1
+abbrev pub begins_at : Bool → ℕ
+begins_at true = 1
+begins_at false = 0
+
+-- an entry after others, in a table that begins there
+pub entry_at : {A : Type 0} (old : Bool) (handed : Option A) (done rest : List A) (x : A) (i : ℕ)
+    → i ≡ begins_at old + length done
+    → (if old then from_one handed (done ++ x ∷ rest) i else slice_get (done ++ x ∷ rest) i) ≡ Some x
+entry_at true handed done rest x zero is = absurd (omega arith)
+entry_at true handed done rest x (suc i) is = at_seam _ _ x i (omega arith)
+entry_at false handed done rest x i is = at_seam _ _ x i (omega arith)
+
+pub first_count : (version : ℕ) → length (first_ids version) ≡ begins_at (nat_le version 4)
+first_count version = by (nat_le version 4)
+  where
+    by : (old : Bool) → length {A = ℕ} (if old then 0 ∷ [] else []) ≡ begins_at old
+    by true = refl
+    by false = refl
+
+-- an element of a list that grew is an old one, or the new one
+pub grown_cases : {A : Type 0} (xs : List A) (x y : A) (i : ℕ) → slice_get (xs ++ x ∷ []) i ≡ Some y
+    → (slice_get xs i ≡ Some y) ⊎ ((i ≡ length xs) × (x ≡ y))
+grown_cases [] x y zero is = inr (refl, cc)
+grown_cases [] x y (suc i) is = absurd cc
+grown_cases (z ∷ xs) x y zero is = inl is
+grown_cases (z ∷ xs) x y (suc i) is =
+    elim (grown_cases xs x y i is) [ inl so ↦ inl so | inr so ↦ inr (omega (arith, so.0), so.1) ]
+
+-- ---- one directory
+
+-- a directory of this text has this id
+pub record IsAt (directories : List LineText) (t : LineText) (id : ℕ) : Type 0 where
+  pub present : list_any (line_text_eq t) directories ≡ true
+  pub index : id ≡ index_of_directory directories t
+
+-- an id is that of the directory with this path
+pub record IsDirectoryId (version : ℕ) (line_strings : List (List ℕ)) (directories : List LineText) (path : List ℕ)
+    (id : ℕ) : Type 0 where
+  pub made : IsMade version line_strings path
+  pub at : IsAt directories (made_text version line_strings path) id
+
+longer_texts : (version : ℕ) (old new : List (List ℕ)) (directories : List LineText) (path : List ℕ) (id : ℕ)
+    → HasMade version old new
+    → IsDirectoryId version old directories path id → IsDirectoryId version new directories path id
+longer_texts version old new directories path id has so = record {
+  made = has.there path so.made;
+  at = subst (λ (t : LineText). IsAt directories t id) (sym (has.same path so.made)) so.at;
+}
+
+more_directories : (version : ℕ) (line_strings : List (List ℕ)) (directories : List LineText) (t : LineText)
+    (path : List ℕ) (id : ℕ)
+    → IsDirectoryId version line_strings directories path id
+    → IsDirectoryId version line_strings (with_directory directories t) path id
+more_directories version line_strings directories t path id so =
+    let test = line_text_eq (made_text version line_strings path) in
+    record {
+      made = so.made;
+      at = record {
+        present = grown_any test _ _ t so.at.present;
+        index = so.at.index ∙ sym (grown_index test _ _ t so.at.present);
+      };
+    }
+
+-- one that is added has its id
+new_id : (version : ℕ) (line_strings : List (List ℕ)) (directories : List LineText) (path : List ℕ)
+    → (let text = made_text version line_strings path in
+    IsDirectoryId version (made_table version line_strings path) (with_directory directories text) path
+    (index_of_directory directories text))
+new_id version line_strings directories path =
+    let text = made_text version line_strings path in
+    let there = list_any (line_text_eq text) directories in
+    record {
+      made = is_made version line_strings path;
+      at =
+          subst (λ (t : LineText). IsAt (with_directory directories text) t (index_of_directory directories text))
+          (sym (is_same version line_strings path))
+          (record {
+            present = own_any (line_text_eq text) there directories text refl (same_text text);
+            index = sym (own_index (line_text_eq text) there directories text refl (same_text text));
+          });
+    }
+
+-- it is found there
+pub directory_there : (version : ℕ) (line_strings : List (List ℕ)) (directories : List LineText) (path : List ℕ)
+    (id : ℕ)
+    → IsDirectoryId version line_strings directories path id
+    → slice_get directories id ≡ Some (made_text version line_strings path)
+directory_there version line_strings directories path id so =
+    let t = made_text version line_strings path in
+    ap (slice_get directories) so.at.index
+    ∙ subst (λ ds. slice_get ds (index_of_directory directories t) ≡ Some t)
+    (ap (λ b. if b then directories else directories ++ t ∷ []) so.at.present) (directory_found _ t)
+
+-- so one id has one path
+pub one_path : (version : ℕ) (line_strings : List (List ℕ)) (directories : List LineText) (a b : List ℕ) (id : ℕ)
+    → IsDirectoryId version line_strings directories a id → IsDirectoryId version line_strings directories b id → a ≡ b
+one_path version line_strings directories a b id x y =
+    let first = directory_there _ _ _ a _ x in
+    let second = directory_there _ _ _ b _ y in
+    let same : made_text version line_strings a ≡ made_text version line_strings b = cc in
+    made_differ _ _ a b x.made y.made same
+
+-- the texts that were there are there after a source, if one is made
+pub sources_has : (version : ℕ) (paths : List (List ℕ)) (source : Option (List ℕ))
+    → HasMade version paths (sources_table version paths source)
+sources_has version paths (Some text) = table_has version paths text
+sources_has version paths None = has_itself _ _
+
+-- ---- all directories
+
+-- each id of a directory of the source is that of its path
+pub record AreDirectories (sections : Sections) (h : Header) (tables : TablesAndTexts) : Type 0 where
+  pub each : (d id : ℕ) → slice_get tables.directory_ids d ≡ Some id
+      → (path : List ℕ) × IsDirectoryPath sections (directory_of h d) path
+      × IsDirectoryId (version_of tables) tables.line_strings tables.program.directories path id
+
+module _ (sections : Sections) (h : Header) where
+  -- the next directory of a header is added
+  directory_next : (tables next : TablesAndTexts) (v : Value) → directory_of h (length tables.directory_ids) ≡ Some v
+      → directory_added sections tables v ≡ Ok next
+      → AreDirectories sections h tables
+      → AreDirectories sections h next × (length next.directory_ids ≡ length tables.directory_ids + 1)
+  directory_next tables next v here is so =
+      let version = version_of tables in
+      let t = took (source_path version sections v) (λ path. Ok (with_path tables path)) next is in
+      let path = t.0 in
+      let after = made_table version tables.line_strings path in
+      let text = made_text version tables.line_strings path in
+      let new = new_id version tables.line_strings tables.program.directories path in
+      let read : IsText sections v path = text_read sections v path (source_path_of version sections v path t.1) in
+      subst (λ (l : TablesAndTexts).
+      AreDirectories sections h l × (length l.directory_ids ≡ length tables.directory_ids + 1))
+      (same_ok (with_path tables path) next t.2) (
+        record {
+          each =
+              λ d id at.
+              elim (grown_cases tables.directory_ids (index_of_directory tables.program.directories text) id d at) [
+                | inl old ↦
+                    let before = so.each d id old in (
+                      before.0,
+                      before.1,
+                      longer_texts version tables.line_strings after (with_directory tables.program.directories text)
+                          before.0 id
+                          (table_has version tables.line_strings path)
+                          (more_directories version tables.line_strings tables.program.directories text before.0 id
+                          before.2),
+                    )
+                | inr here_it_is ↦ (
+                  path,
+                  subst (λ (o : Option Value). IsDirectoryPath sections o path)
+                      (sym (ap (directory_of h) here_it_is.0 ∙ here)) read,
+                  subst (IsDirectoryId version after (with_directory tables.program.directories text) path) here_it_is.1
+                      new,
+                )
+              ];
+        },
+        length-append tables.directory_ids (index_of_directory tables.program.directories text ∷ []),
+      )
+
+  directories_next : (done rest : List Value) (tables last : TablesAndTexts) → h.directories ≡ done ++ rest
+      → length tables.directory_ids ≡ begins_at (nat_le h.parameters.encoding.version 4) + length done
+      → all_added (directory_added sections) rest tables ≡ Ok last → AreDirectories sections h tables
+      → AreDirectories sections h last
+  directories_next done [] tables last parts count is so = subst (AreDirectories sections h) (same_ok _ _ is) so
+  directories_next done (v ∷ rest) tables last parts count is so =
+      let t = took _ _ _ is in
+      let here : directory_of h (length tables.directory_ids) ≡ Some v =
+      ap
+      (λ ds. if nat_le h.parameters.encoding.version 4
+      then from_one (option_map String h.comp_dir) ds (length tables.directory_ids)
+      else slice_get ds (length tables.directory_ids))
+      parts
+      ∙ entry_at _ _ _ _ v _ count in
+      let next = directory_next _ _ v here t.1 so in
+      directories_next (done ++ v ∷ []) rest t.0 last (parts ∙ sym (append_assoc done (v ∷ []) rest))
+      (omega (arith, next.1, count, length-append done (v ∷ []))) t.2 next.0
+
+  -- the working directory, up to version 4 of the source
+  working_read : (version : ℕ) (directory : List ℕ) → working_directory version sections h ≡ Ok directory
+      → IsDirectoryPath sections (directory_of h 0) directory
+  working_read version directory is = by (directory_of h 0) is
+    where
+      none : (b : Bool) → (if b then Ok [] else Err MissingCompilationDirectory) ≡ Ok directory → directory ≡ []
+      none true so = cc
+      none false so = absurd cc
+
+      by : (o : Option Value)
+          → option_map_or (first_path version sections h) o (needed_from_5 version [] MissingCompilationDirectory)
+          ≡ Ok directory
+          → IsDirectoryPath sections o directory
+      by (Some v) so = text_read _ v _ (first_path_of _ _ h v _ so)
+      by None so = none _ so
+
+  directories_first : (encoding : Encoding) (line_encoding : LineEncoding) (line_strings : List (List ℕ))
+      (directory : List ℕ) (file : SourceFile)
+      → IsDirectoryPath sections (directory_of h 0) directory
+      → AreDirectories sections h
+      (start_of_tables encoding line_encoding h (first_texts encoding.version line_strings directory file))
+  directories_first encoding line_encoding line_strings directory file read = record { each = each _ }
+    where
+      working : LineText
+      working = made_text encoding.version line_strings directory
+
+      own : Option LineText
+      own = (first_texts encoding.version line_strings directory file).source_directory
+
+      with_own : (last : List (List ℕ)) (working : LineText) (own : Option LineText) (old : Bool)
+          → IsDirectoryId encoding.version last (working ∷ []) directory 0
+          → IsDirectoryId encoding.version last
+          (if old then working ∷ [] else option_map_or (with_directory (working ∷ [])) own (working ∷ [])) directory 0
+      with_own last working own true so = so
+      with_own last working (Some t) false so = more_directories _ _ _ t _ 0 so
+      with_own last working None false so = so
+
+      each : (old : Bool) (d id : ℕ) → slice_get (if old then 0 ∷ [] else []) d ≡ Some id
+          → (path : List ℕ) × IsDirectoryPath sections (directory_of h d) path
+          × IsDirectoryId encoding.version (first_texts encoding.version line_strings directory file).line_strings
+          (first_directories encoding.version (made_text encoding.version line_strings directory)
+          (first_texts encoding.version line_strings directory file).source_directory)
+          path id
+      each true zero id at =
+          let second = made_table encoding.version line_strings directory in
+          let third = sources_table encoding.version second file.directory in
+          let last = made_table encoding.version third file.path in
+          let zero_is : 0 ≡ id = cc in (
+            directory,
+            read,
+            subst (IsDirectoryId encoding.version last (first_directories encoding.version working own) directory)
+                zero_is
+                (with_own _ _ _ _
+                (longer_texts _ _ _ _ _ 0 (table_has encoding.version third file.path)
+                (longer_texts _ _ _ _ _ 0 (sources_has _ _ _) (new_id encoding.version line_strings [] directory)))),
+          )
+      each true (suc d) id at = absurd cc
+      each false d id at = absurd cc
+
+  -- those of a header
+  pub directories_prepared : (given : Handed) (line_strings : List (List ℕ)) (tables : TablesAndTexts)
+      (p : IsPrepared sections h given line_strings tables)
+      → AreDirectories sections h p.with_directories
+  directories_prepared given line_strings tables p =
+      directories_next [] h.directories _ p.with_directories refl
+      (first_count h.parameters.encoding.version ∙ omega arith) p.directories
+      (directories_first (encoding_of h given) p.line_encoding line_strings p.directory p.file
+      (working_read (encoding_of h given).version p.directory p.directory_is))
+
+  -- a file changes none of them
+  pub directories_stay : (tables next : TablesAndTexts) (f : File) → file_added sections tables f ≡ Ok next
+      → AreDirectories sections h tables
+      → AreDirectories sections h next
+  directories_stay tables next f is so =
+      let version = version_of tables in
+      let t =
+      took (file_parts version sections tables.directory_ids f) (λ parts. Ok (with_parts tables f parts)) next is in
+      let parts = t.0 in
+      let paths = made_table version tables.line_strings parts.path in
+      let after = sources_table version paths parts.source in
+      let has : HasMade version tables.line_strings after =
+      has_then version tables.line_strings paths after (table_has version tables.line_strings parts.path)
+      (sources_has version paths parts.source) in
+      subst (AreDirectories sections h) (same_ok (with_parts tables f parts) next t.2) (record {
+        each = λ d id at.
+            let before = so.each d id at in (
+              before.0,
+              before.1,
+              longer_texts version tables.line_strings after tables.program.directories before.0 id has before.2,
+            );
+      })
 
 -- ---- elements one by one
 
@@ -450,3 +1240,196 @@ files_defined sections h first (i ∷ past) tables is so =
         → AreFiles sections h tables (defined_files h.files (i ∷ past))
     one (DefineFile f) before at q = file_next _ h _ _ f _ at q
     one i before at q = subst (λ l. AreFiles sections h l (defined_files h.files past)) (same_ok _ _ at) q
+
+-- ---- one text
+
+one_directory : (sections : Sections) (o : Option Value) (a b : List ℕ) → IsDirectoryPath sections o a
+    → IsDirectoryPath sections o b → a ≡ b
+one_directory sections (Some v) a b x y = text_same _ v b a y x
+one_directory sections None a b x y = x ∙ sym y
+
+there_ok : (o : Option ℕ) (id : ℕ) → ok_or o InvalidDirectoryIndex ≡ Ok id → o ≡ Some id
+there_ok (Some n) id is = ap Some (same_ok n _ is)
+there_ok None id is = absurd cc
+
+-- ---- the parts of a file
+
+-- what they are read of
+record AreRead (sections : Sections) (directory_ids : List ℕ) (parts : FileParts) (f : File) : Type 0 where
+  path : IsText sections f.path_name parts.path
+  directory : slice_get directory_ids f.directory_index ≡ Some parts.directory
+  source : if_there (source_text sections) f.source ≡ Ok parts.source
+
+are_read : (sections : Sections) (version : ℕ) (directory_ids : List ℕ) (parts : FileParts) (f : File)
+    → HasParts sections version directory_ids parts f
+    → AreRead sections directory_ids parts f
+are_read sections version directory_ids parts f is =
+    let a = took (source_path version sections f.path_name) _ parts is in
+    let b = took (ok_or (slice_get directory_ids f.directory_index) InvalidDirectoryIndex) _ parts a.2 in
+    let c = took (if_there (source_text sections) f.source) _ parts b.2 in
+    let same = same_ok _ _ c.2 in
+    subst (λ p. AreRead sections directory_ids p f) same (record {
+      path = text_read _ _ _ (source_path_of version sections f.path_name _ a.1);
+      directory = there_ok _ _ b.1;
+      source = c.1;
+    })
+
+-- a source that is known stands for the text of the source
+source_is_text : (sections : Sections) (version : ℕ) (texts : StringTables) (o : Option Value)
+    (source : Option (List ℕ))
+    → if_there (source_text sections) o ≡ Ok source → IfSome source (IsMade version texts.line_strings)
+    → IsOptionalText sections o (option_map (bytes_in texts) (option_map (made_text version texts.line_strings) source))
+source_is_text sections version texts (Some v) (Some text) is made =
+    let t = took _ _ _ is in
+    let same : t.0 ≡ text = cc in
+    subst (IsText sections v) (same ∙ sym (made_bytes _ _ _ made)) (text_read _ v _ (source_text_of _ v _ t.1))
+source_is_text sections version texts (Some v) None is made =
+    let t = took (source_text sections v) _ None is in absurd cc
+source_is_text sections version texts None (Some text) is made = absurd cc
+source_is_text sections version texts None None is made = tt
+
+-- ---- a file that is mapped
+
+-- what a conversion answers of a program, with the tables at its end
+abbrev pub finished : TablesAndTexts → Built → Outcome
+finished tables p = record {
+  program = with_tables tables p;
+  file_ids = tables.file_ids;
+  line_strings = tables.line_strings;
+}
+
+module _ (sections : Sections) (h : Header) (strings : List (List ℕ)) (tables : TablesAndTexts)
+    (directories : AreDirectories sections h tables) where
+  abbrev IsDirectory : List ℕ → ℕ → Type 0
+  IsDirectory = IsDirectoryId (version_of tables) tables.line_strings tables.program.directories
+
+  -- the paths of a file by its parts
+  paths_of : (parts : FileParts) (f : File) (directory : List ℕ) → Has sections tables parts f
+      → IsDirectory directory parts.directory
+      → HasPaths sections h parts.path directory f
+  paths_of parts f directory is at =
+      let read = are_read _ _ _ _ f is in
+      let own = directories.each f.directory_index parts.directory read.directory in
+      let same : own.0 ≡ directory = one_path _ _ _ _ _ _ own.2 at in
+      record {
+        own = read.path;
+        of_directory = subst (IsDirectoryPath sections (directory_of h f.directory_index)) same own.1;
+      }
+
+  -- so a file with these paths has these parts
+  parts_of : (parts own : FileParts) (g : File) (directory : List ℕ) → Has sections tables own g
+      → IsDirectory directory parts.directory → HasPaths sections h parts.path directory g
+      → SamePaths own parts
+  parts_of parts own g directory is at has =
+      let read = are_read _ _ _ _ g is in
+      let there = directories.each g.directory_index own.directory read.directory in
+      let same : there.0 ≡ directory = one_directory _ _ _ _ there.1 has.of_directory in
+      let moved : IsDirectory directory own.directory =
+      subst (λ (path : List ℕ). IsDirectory path own.directory) same there.2 in
+      (text_same _ _ parts.path own.path has.own read.path, moved.at.index ∙ sym at.at.index)
+
+  others_after : (parts : FileParts) (directory : List ℕ) → IsDirectory directory parts.directory
+      → (later : List File) → AllByRecursion (HasOthers sections (version_of tables) tables.directory_ids parts) later
+      → AllByRecursion (λ g. HasPaths sections h parts.path directory g → ⊥) later
+  others_after parts directory at [] all = tt
+  others_after parts directory at (g ∷ later) all = (
+    λ has. all.0.other (parts_of parts all.0.own g directory all.0.own_is at has),
+    others_after parts directory at later all.1,
+  )
+
+  module _ (p : Built) (source : List File) where
+    file_mapped : (f : File) (id : ℕ) → IsFileOf sections tables source f id
+        → IsMappedFile sections h source strings (finished tables p) f id
+    file_mapped f id so =
+        let version = version_of tables in
+        let texts = texts_in strings tables.line_strings in
+        let l = so.of_last in
+        let d =
+        directories.each f.directory_index so.parts.directory
+        (are_read sections version tables.directory_ids so.parts f so.parts_are).directory in
+        let text = made_text version tables.line_strings so.parts.path in
+        let directory = made_text version tables.line_strings d.0 in
+        let to =
+        λ (P : List ℕ → List ℕ → Type 0) (p : P so.parts.path d.0).
+        subst (λ (x : List ℕ). P x (bytes_in texts directory)) (sym (made_bytes version texts so.parts.path so.made))
+        (subst (P so.parts.path) (sym (made_bytes version texts d.0 d.2.made)) p) in
+        let at_last : IsDirectory d.0 l.last_parts.directory = subst (IsDirectory d.0) (sym l.same.1) d.2 in
+        let is_last : IsLastWithPaths sections h so.parts.path d.0 source l.last = record {
+          before = l.before;
+          later = l.later;
+          parts = l.split;
+          has =
+              subst (λ (path : List ℕ). HasPaths sections h path d.0 l.last) l.same.0
+              (paths_of l.last_parts l.last d.0 l.last_are at_last);
+          none_after = All-from_recursion _ l.later (others_after so.parts d.0 d.2 l.later l.none_after);
+        } in
+        record {
+          built = ((text, so.parts.directory), so.details);
+          there = so.entry.there;
+          directory = directory;
+          directory_there =
+              directory_there version tables.line_strings tables.program.directories d.0 so.parts.directory d.2;
+          has = to (λ path directory. HasPaths sections h path directory f) (paths_of so.parts f d.0 so.parts_are d.2);
+          last = l.last;
+          is_last = to (λ path directory. IsLastWithPaths sections h path directory source l.last) is_last;
+          timestamp = l.known.timestamp;
+          size = l.known.size;
+          md5 = l.known.md5;
+          source =
+              subst (λ (o : Option LineText). IsOptionalText sections l.last.source (option_map (bytes_in texts) o))
+              (sym l.known.source_is)
+              (source_is_text sections version texts l.last.source l.last_parts.source
+              (are_read sections version tables.directory_ids l.last_parts l.last l.last_are).source
+              l.known.source_made);
+        }
+
+-- ---- file numbers
+
+module _ (version : ℕ) (R : File → ℕ → Type 0) (files : List File) (ids file_ids : List ℕ)
+    (all : OneByOne R files ids) where
+  -- each number has an id
+  each_number : (old : Bool) → nat_le version 4 ≡ old → file_ids ≡ (if old then 0 ∷ [] else []) ++ ids
+      → (n : ℕ) (f : File) → (if old then from_one None files n else slice_get files n) ≡ Some f
+      → (id : ℕ) × IsFileId version file_ids n id × R f id
+  each_number true is ids_are zero f at = absurd cc
+  each_number true is ids_are (suc i) f at =
+      let found = one_by_one_at R _ _ i f all at in (
+        found.0,
+        record { from_one = λ old zero. absurd (omega arith); there = ap (λ l. slice_get l (suc i)) ids_are ∙ found.1 },
+        found.2,
+      )
+  each_number false is ids_are n f at =
+      let found = one_by_one_at R _ _ n f all at in (
+        found.0,
+        record {
+          from_one = λ old. absurd (true≢false (sym (le-leb version 4 old) ∙ is));
+          there = ap (λ l. slice_get l n) ids_are ∙ found.1;
+        },
+        found.2,
+      )
+
+  -- and no other
+  only_number : (old : Bool) → nat_le version 4 ≡ old → file_ids ≡ (if old then 0 ∷ [] else []) ++ ids
+      → (n id : ℕ) → IsFileId version file_ids n id
+      → (f : File) × ((if old then from_one None files n else slice_get files n) ≡ Some f)
+  only_number true is ids_are zero id so = absurd (so.from_one (leb-true version 4 is) refl)
+  only_number true is ids_are (suc i) id so =
+      one_by_one_back R _ _ i _ all (sym (ap (λ l. slice_get l (suc i)) ids_are) ∙ so.there)
+  only_number false is ids_are n id so =
+      one_by_one_back R _ _ n _ all (sym (ap (λ l. slice_get l n) ids_are) ∙ so.there)
+
+-- ---- all files
+
+pub files_mapped : (sections : Sections) (h : Header) (strings : List (List ℕ)) (tables : TablesAndTexts) (p : Built)
+    (source : List File)
+    → AreDirectories sections h tables → AreFiles sections h tables source
+    → AreFilesMapped sections h source strings (finished tables p)
+files_mapped sections h strings tables p source directories so =
+    let version = h.parameters.encoding.version in
+    let R = IsMappedFile sections h source strings (finished tables p) in
+    let all =
+    one_by_one_map _ R (λ f id is. file_mapped sections h strings tables directories p source f id is) _ _ so.each in
+    record {
+      each = each_number version R source so.ids tables.file_ids all _ refl so.ids_are;
+      only = only_number version R source so.ids tables.file_ids all _ refl so.ids_are;
+    }

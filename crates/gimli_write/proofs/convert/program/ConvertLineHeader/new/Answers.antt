@@ -3,7 +3,7 @@ use Common.{◌≡◌, refl, sym, subst, option_map, err_from_is_err_and, Sectio
 use Common.{encoding_of, ReadsItems, start_of_source, reading_left, without_built}
 use Rattle.gimli_write.proofs.SourceReadings.{start_reads}
 use Rattle.gimli_write.proofs.Conversions.{prepared_plain}
-use Rattle.gimli_write.proofs.MappedTables.{prepared_ready, ready_written}
+use Rattle.gimli_write.proofs.MappedFiles.{prepared_ready, ready_written}
 use Rattle.gimli_write.proofs.convert.program.ConvertLineHeader.new.Goals as goal
 
 pub returns-in_err-tables-clause-err : goal.returns-in_err-tables-clause-err
