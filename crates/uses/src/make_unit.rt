@@ -97,8 +97,12 @@ fn with_digest(program: &mut LineProgram, line_strings: &mut LineStringTable) ->
     if program.is_none() {
         return Err(Error::InvalidRange);
     }
-    let mut info = FileInfo::default();
-    info.md5 = *b"\x90\x01\x50\x98\x3c\xd2\x4f\xb0\xd6\x96\x3f\x7d\x28\xe1\x7f\x72";
+    let info = FileInfo {
+        timestamp: 0,
+        size: 0,
+        md5: *b"\x90\x01\x50\x98\x3c\xd2\x4f\xb0\xd6\x96\x3f\x7d\x28\xe1\x7f\x72",
+        source: None,
+    };
     let path = line_strings.add(b"a.c")?;
     let directory = program.default_directory();
     program.add_file(LineString::LineStringRef(path), directory, Some(info))
@@ -109,8 +113,12 @@ fn add_header(program: &mut LineProgram, line_strings: &mut LineStringTable) -> 
     if program.is_none() {
         return Err(Error::InvalidRange);
     }
-    let mut info = FileInfo::default();
-    info.md5 = *b"\xd4\x1d\x8c\xd9\x8f\0\xb2\x04\xe9\x80\x09\x98\xec\xf8\x42\x7e";
+    let info = FileInfo {
+        timestamp: 0,
+        size: 0,
+        md5: *b"\xd4\x1d\x8c\xd9\x8f\0\xb2\x04\xe9\x80\x09\x98\xec\xf8\x42\x7e",
+        source: None,
+    };
     let include = line_strings.add(b"inc")?;
     let path = line_strings.add(b"a.h")?;
     let directory = program.add_directory(LineString::LineStringRef(include))?;
