@@ -70,15 +70,7 @@ size_short size is = by (cases_lt 8 size)
   where
     by : (8 < size) ⊎ (size ≤ 8) → size ≤ 8
     by (inl long) =
-        let a : size ≢ 1 = omega arith in
-        let b : size ≢ 2 = omega arith in
-        let c : size ≢ 3 = omega arith in
-        let d : size ≢ 4 = omega arith in
-        let e : size ≢ 8 = omega arith in
-        let none : is_size size ≡ false =
-        rw (ne_eqb size 1 a, ne_eqb size 2 b, ne_eqb size 3 c, ne_eqb size 4 d, ne_eqb size 8 e)
-        refl in
-        cc
+        grind (arith)
     by (inr short) = short
 
 -- what is known of a size where a number of it is written
@@ -90,21 +82,7 @@ pub record Sized (big : Bool) (m size : ℕ) (word : List ℕ) : Type 0 where
 
 udata_parts : (big : Bool) (m size : ℕ) (word : List ℕ) → udata big m size ≡ Ok word
     → Sized big m size word
-udata_parts big m size word h = by (is_size size) (nat_lt m (256 ^ size)) refl refl h
-  where
-    by : (t b : Bool) → is_size size ≡ t → nat_lt m (256 ^ size) ≡ b
-        → (let r : Result (List ℕ) Error =
-        if t then (if b then Ok (number_bytes big size m) else Err ValueTooLarge) else Err
-        (UnsupportedWordSize size) in r) ≡ Ok word
-        → Sized big m size word
-    by true true t b e = record {
-      short = size_short _ t;
-      small = ltb-true m (256 ^ size) b;
-      word_is = sym (same_ok _ _ e);
-      other = λ n fits. rw (t, lt-ltb n (256 ^ size) fits) refl;
-    }
-    by true false t b e = cc
-    by false b t c e = cc
+udata_parts big m size word h = grind arith
 
 -- ---- places
 
@@ -161,7 +139,7 @@ puts_place p v w target z size n inside called sum fits =
         ∙ sum sized.short sized.small
         in
         let all : length (v.bytes ++ word) ≡ length v.bytes + size =
-        omega (arith, length-append v.bytes word, long) in
+        omega (arith, length-append v.bytes word) in
         subst (λ x. Puts p v x size n) (same_ok _ w e)
         (record {
           wanted = sized.other n fits;
@@ -188,19 +166,7 @@ pub record Over (old new : List ℕ) (at : ℕ) (x : List ℕ) : Type 0 where
 pub overwrite_parts : (old new : List ℕ) (at : ℕ) (x : List ℕ) → overwrite_of old at x ≡ Ok new
     → Over old new at x
 overwrite_parts old new at x h =
-    by (nat_lt (length old) at) (nat_lt (length old) (at + length x)) refl refl h
-  where
-    by : (a b : Bool) → nat_lt (length old) at ≡ a → nat_lt (length old) (at + length x) ≡ b
-        → (let r : Result (List ℕ) Error =
-        if a then Err OffsetOutOfBounds else
-        (if b then Err LengthOutOfBounds else Ok (put_over old at x)) in r) ≡ Ok new
-        → Over old new at x
-    by true b e f h = cc
-    by false true e f h = cc
-    by false false e f h = record {
-      fits = ltb-false (length old) (at + length x) f;
-      new_is = sym (same_ok _ _ h);
-    }
+    grind arith
 
 -- a number of a size over others
 pub puts_place_at : (p : Placement) (v w : Relocatable) (at : ℕ) (target : RelocationTarget) (z : ℤ)
@@ -242,20 +208,20 @@ puts_place_at p v w at target z size n inside called sum fits =
         ∙ all-last p v.big v.relocations r (put_over v.bytes at word)
         ∙ ap (λ (l : List ℕ). relocated p v.big l r)
         (all-over p v.big v.relocations v.bytes at word inside put.fits there)
-        ∙ relocated-put p v.big old _ r (sym long) (omega (arith, put.fits))
+        ∙ relocated-put p v.big old _ r (sym long) (omega (arith))
         ∙ ap (λ (l : List ℕ). put_over old at l) number in
         let size_is = length-number v.big size n in
         let plain : overwrite_of old at (number_bytes v.big size n) ≡ Ok
         (all_relocated p v.big new (v.relocations ++ r ∷ [])) =
         patched-inside old at (number_bytes v.big size n)
-        (all_relocated p v.big new (v.relocations ++ r ∷ [])) (omega (arith, put.fits))
+        (all_relocated p v.big new (v.relocations ++ r ∷ [])) (omega (arith))
         bytes_are in
         let kept : length new ≡ length v.bytes = ap length put.new_is
         ∙ length-put_over v.bytes at word put.fits in (
           rw (sized.other n fits) plain,
           inside_last _ _ r
               (subst (λ k. All (λ r. r.offset + r.size ≤ k) v.relocations) (sym kept) inside)
-              (omega (arith, put.fits)),
+              (omega (arith)),
           refl,
         )
 
@@ -282,8 +248,8 @@ puts_place_at p v w at target z size n inside called sum fits =
 
 pub wraps : (t : ℕ) (z : ℤ) (n : ℕ) → pos t +ℤ z ≡ pos n → FitsSigned w64 z
     → (q : ℕ) × (t + cast_unsigned w64 z ≡ n + q * 2 ^ 64)
-wraps t (pos a) n e f = (0, omega (arith, ints, e))
-wraps t (negsuc a) n e f = (1, omega (arith, ints, e, f.sfits))
+wraps t (pos a) n e f = (0, omega (arith, ints))
+wraps t (negsuc a) n e f = (1, omega (arith, ints))
 
 -- ---- calls
 
@@ -296,12 +262,7 @@ pub record SameCall (p : Placement) (v w : Relocatable) (call : Call) : Type 0 w
 -- bytes after the others
 pub more_same : (p : Placement) (v w : Relocatable) (x : List ℕ) → AreInside v
     → (let u : Relocatable = record v { bytes = v.bytes ++ x } in u) ≡ w → SameCall p v w (Bytes x)
-more_same p v w x inside is = subst (λ u. SameCall p v u (Bytes x)) is (record {
-  same = ap Ok (sym (all-more p _ _ _ x inside));
-  inside = inside_more _ _ _
-      (omega (arith, length-append v.bytes x)) inside;
-  big_is = refl;
-})
+more_same p v w x inside is = grind (arith, all-more, length-append)
 
 -- a number after the others
 pub number_same : (p : Placement) (v w : Relocatable) (n size : ℕ) → AreInside v
@@ -323,7 +284,7 @@ number_same p v w n size inside called = by (udata v.big n size) refl called
 -- a number that a linker puts
 placed_same : (p : Placement) (v w : Relocatable) (size n : ℕ) → Puts p v w size n
     → result_map (λ word. applied p v ++ word) (udata v.big n size) ≡ Ok (applied p w)
-placed_same p v w size n puts = rw puts.wanted (ap Ok (sym puts.bytes_are))
+placed_same p v w size n puts = grind arith
 
 -- bytes over others
 pub over_same : (p : Placement) (v w : Relocatable) (at : ℕ) (x : List ℕ) → AreInside v
@@ -335,21 +296,7 @@ over_same p v w at x inside called =
         → result_map (λ new. let u : Relocatable = record v { bytes = new } in u) r ≡ Ok w
         → SameCall p v w (BytesAt at x)
     by apart (Ok new) is e =
-        let u : Relocatable = record v { bytes = new } in
-        let put = overwrite_parts _ _ _ x is in
-        let old = all_relocated p v.big v.bytes v.relocations in
-        let same : length old ≡ length v.bytes = length-all p _ _ _ inside in
-        let kept : length new ≡ length v.bytes = ap length put.new_is
-        ∙ length-put_over _ _ x put.fits in
-        let bytes_are : all_relocated p v.big new v.relocations ≡ put_over old at x =
-        ap (λ l. all_relocated p v.big l v.relocations) put.new_is
-        ∙ all-over p _ _ _ _ x inside put.fits apart in
-        subst (λ u. SameCall p v u (BytesAt at x)) (same_ok u w e) (record {
-          same = patched-inside _ _ x _
-              (omega (arith, put.fits)) bytes_are;
-          inside = subst (λ k. All (λ r. r.offset + r.size ≤ k) v.relocations) (sym kept) inside;
-          big_is = refl;
-        })
+        grind (arith, length-all, length-put_over, all-over)
     by apart (Err y) is e = cc
 
     free : (b : Bool) → list_any (touches at (length x)) v.relocations ≡ b

@@ -59,7 +59,7 @@ pub record Grows (v w : Relocatable) : Type 0 where
   pub stays : are_inside v ≡ true → are_inside w ≡ true
 
 begins_more : (old word : List ℕ) → Begins old (old ++ word)
-begins_more old word = take_at old word (length old) refl
+begins_more old word = grind (arith, take_at)
 
 lowest_fits : (n size : ℕ) → n % 256 ^ size < 256 ^ size
 lowest_fits n size = mod-lt n (pow_positive _)
@@ -127,9 +127,7 @@ pub completed_bytes : (p : Placement) (v w : Relocatable) (x : List ℕ) → are
     → after_call v (Bytes x) ≡ Ok w
     → Appends (Ok x) (applied p v) (applied p w)
 completed_bytes p v w x is called =
-    let u : Relocatable = record v { bytes = v.bytes ++ x } in
-    let more = more_same p v w x (inside-from _ _ is) (same_ok u w called) in
-    sym (same_ok _ _ more.same)
+    grind (arith, more_same, inside-from)
 
 mapped : (r : Result (List ℕ) Error) (old new : List ℕ) → result_map (λ word. old ++ word) r ≡ Ok new
     → Appends r old new
@@ -138,7 +136,7 @@ mapped (Err d) old new e = cc
 
 put_there : (p : Placement) (v w : Relocatable) (size n : ℕ) → Puts p v w size n
     → Appends (udata v.big n size) (applied p v) (applied p w)
-put_there p v w size n so = rw so.wanted so.bytes_are
+put_there p v w size n so = grind arith
 
 pub completed_address : (p : Placement) (v w : Relocatable) (a : Address) (size : ℕ) → are_inside v ≡ true
     → after_call v (AddressOf a size) ≡ Ok w
@@ -186,7 +184,7 @@ stays_inside v w x at called is =
 pub completed_over : (p : Placement) (v w : Relocatable) (x : List ℕ) (at : ℕ) → are_inside v ≡ true
     → after_call v (BytesAt at x) ≡ Ok w
     → Overwrites at (Ok x) (applied p v) (applied p w)
-completed_over p v w x at is called = (over_same p v w at x (inside-from _ _ is) called).same
+completed_over p v w x at is called = grind (arith, over_same, inside-from)
 
 puts_at : (p : Placement) (v w : Relocatable) (at : ℕ) (section : SectionId) (n size : ℕ) → n < 2 ^ 64
     → are_inside v ≡ true
@@ -211,7 +209,7 @@ pub completed_offset_at : (p : Placement) (v w : Relocatable) (at : ℕ) (sectio
     → are_inside v ≡ true
     → after_call v (OffsetAt at section n size) ≡ Ok w
     → Overwrites at (placed_offset p v.big section n size) (applied p v) (applied p w)
-completed_offset_at p v w at section n size small is called = (puts_at p v w at section n size small is called).0
+completed_offset_at p v w at section n size small is called = grind (arith, puts_at)
 
 -- what an overwrite leaves
 pub over_stays : (v w : Relocatable) (x : List ℕ) (at : ℕ) → after_call v (BytesAt at x) ≡ Ok w → Stays v w at
@@ -230,11 +228,7 @@ over_stays v w x at called = free (list_any (touches at (length x)) v.relocation
         by true b e f h = cc
         by false true e f h = cc
         by false false e f h =
-            let fits : at + length x ≤ length v.bytes = ltb-false (length v.bytes) (at + length x) f in
-            let same : put_over v.bytes at x ≡ new = same_ok _ _ h in (
-              sym (ap length same) ∙ length-put_over v.bytes at x fits,
-              sym (ap (λ (l : List ℕ). take at l) same) ∙ take-before v.bytes at x (omega arith),
-            )
+            grind (arith, length-put_over, take-before)
 
     over : (r : Result (List ℕ) Error) → overwrite_of v.bytes at x ≡ r
         → result_map (λ new. let u : Relocatable = record v { bytes = new } in u) r ≡ Ok w → Stays v w at

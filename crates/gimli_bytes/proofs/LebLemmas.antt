@@ -10,8 +10,8 @@ use Rattle.gimli_bytes.specs.Number.{uleb, uleb_within, sleb, sleb_within, low_b
 
 -- the last group
 pub uleb_last : (k v : ℕ) → v < 128 → uleb_within k v ≡ v ∷ []
-uleb_last zero v h = ap (λ x. x ∷ []) (mod-eq_of_lt h)
-uleb_last (suc k) v h = ap (λ b. if b then v ∷ [] else (v % 128 + 128) ∷ uleb_within k (v / 128)) (lt-ltb v 128 h)
+uleb_last zero v h = grind (arith)
+uleb_last (suc k) v h = grind (arith)
 
 pub uleb_one : (v : ℕ) → v < 128 → uleb v ≡ v ∷ []
 unfolding uleb
@@ -19,7 +19,7 @@ uleb_one v h = uleb_last 9 v h
 
 -- a group that isn't the last
 pub uleb_more : (k v : ℕ) → 128 ≤ v → uleb_within (suc k) v ≡ (v % 128 + 128) ∷ uleb_within k (v / 128)
-uleb_more k v h = ap (λ b. if b then v ∷ [] else (v % 128 + 128) ∷ uleb_within k (v / 128)) (le-ltb v 128 h)
+uleb_more k v h = grind (arith)
 
 -- one more byte in the buffer
 pub uleb_step : (bytes : List ℕ) (i v : ℕ) (all : List ℕ) → i < length bytes → i < 9 → 128 ≤ v
@@ -38,7 +38,7 @@ pub uleb_end : (bytes : List ℕ) (i v : ℕ) (all : List ℕ) → i < length by
     → take i bytes ++ uleb_within (9 - i) v ≡ all
     → take (i + 1) (set bytes i v) ≡ all
 uleb_end bytes i v all short low so =
-    take_more_set _ i v short ∙ ap (λ t. take i bytes ++ t) (sym (uleb_last _ v low)) ∙ so
+    grind (arith, take_more_set)
 
 -- the same of signed numbers
 pub high_bits_is : (z : ℤ) → int_div_euclid z (pos 128) ≡ high_bits z

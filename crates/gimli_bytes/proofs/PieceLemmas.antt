@@ -30,8 +30,7 @@ length-concat n (p ∷ ps) s =
       arith,
       length-append p (concat ps),
       length-concat n ps (All-tail (λ q. length q ≡ n) p ps s),
-      All-head (λ q. length q ≡ n) p ps s,
-    )
+      All-head (λ q. length q ≡ n) p ps s)
 
 -- ---- bytes put over others
 
@@ -48,10 +47,7 @@ put_over-front p c at bytes h = grind (arith, common_steps)
 pub put_over-after : (p c : List ℕ) (at : ℕ) (bytes : List ℕ)
     → put_over (p ++ c) (length p + at) bytes ≡ p ++ put_over c at bytes
 put_over-after p c at bytes =
-    let place : length p + at + length bytes ≡ length p + (at + length bytes) = omega arith in
-    let back : drop (length p + at + length bytes) (p ++ c)
-    ≡ drop (at + length bytes) c = rw place (drop-append-add p c (at + length bytes)) in
-    rw (take-append-add p c _, back) (simp append_assoc)
+    grind (arith, drop-append-add, take-append-add, append_assoc)
 
 -- two parts, one after the other
 pub put_over-twice : (old : List ℕ) (at : ℕ) (a b : List ℕ) → at + length a ≤ length old
@@ -74,8 +70,7 @@ put_over-twice old at a b h =
 pub take-put_over : (old : List ℕ) (at : ℕ) (bytes : List ℕ) → at ≤ length old
     → take (at + length bytes) (put_over old at bytes) ≡ take at old ++ bytes
 take-put_over old at bytes h =
-    take_at (take at old ++ bytes) (drop (at + length bytes) old) (at + length bytes)
-    (omega (arith, length-append (take at old) bytes, length-take at old))
+    grind (arith, take_at, length-append, length-take)
 
 -- what ends after them
 pub put_over-take : (old : List ℕ) (len at : ℕ) (bytes : List ℕ) → at + length bytes ≤ len → len ≤ length old
@@ -108,8 +103,7 @@ put_over-piece n (q ∷ ps) (suc i) start d bytes s inside fits =
 -- a place within the bytes is within a piece
 pub piece-inside : (n at : ℕ) (ps : List (List ℕ)) → 1 ≤ n → Sized n ps → at < length (concat ps) → at / n < length ps
 piece-inside n at ps one s h =
-    let size = length-concat n _ s in
-    div_below _ n _ one (omega arith)
+    grind (arith, length-concat, div_below)
 
 -- what is left to put, after the part that goes into one piece
 pub put-step : (n at : ℕ) (ps : List (List ℕ)) (d now later rest new : List ℕ) → Sized n ps → at / n < length ps
@@ -158,26 +152,21 @@ in_use-HaveSizes n len (p ∷ q ∷ ps) one s h =
 
 at_most : (n a b : ℕ) → a * n < b * n + n → a ≤ b
 at_most n a b h =
-    let more : a * n < (b + 1) * n = omega arith in
-    let less = lt_of_mul-lt-mul_right n more in
-    omega arith
+    grind arith
 
 count_same : (n len k d : ℕ) → len ≤ k * n → k * n < len + n → len ≤ d * n → d * n < len + n → k ≡ d
 count_same n len k d a b e f =
-    let low : k ≤ d = at_most n k d (omega arith) in
-    let high : d ≤ k = at_most n d k (omega arith) in
-    omega arith
+    grind (arith)
 
 pub count_is : (n len k : ℕ) → 1 ≤ n → len ≤ k * n → k * n < len + n → k ≡ div_ceil len n
 count_is n len k one enough needed =
-    let bounds = div_ceil_times _ n one in
-    count_same n _ k _ enough needed bounds.0 bounds.1
+    grind (arith)
 
 below_more : (n len more k d : ℕ) → k * n < len + n → len + more ≤ d * n → k ≤ d
 below_more n len more k d h e = at_most n k d (omega arith)
 
 pub count-below : (n len more k : ℕ) → 1 ≤ n → k * n < len + n → k ≤ div_ceil (len + more) n
-count-below n len more k one needed = below_more n _ _ k _ needed (div_ceil_times _ n one).0
+count-below n len more k one needed = grind (arith)
 
 -- ---- the memory of a section
 
@@ -197,25 +186,17 @@ HoldPieces-more n len more ps qs h s count =
 
 pub HoldPieces-same : (n len : ℕ) (ps qs : List (List ℕ)) → HoldPieces n len ps → Sized n qs → length qs ≡ length ps
     → HoldPieces n len qs
-HoldPieces-same n len ps qs h s count = record {
-  positive = h.positive;
-  sizes = s;
-  enough = rw count h.enough;
-  needed = rw count h.needed;
-}
+HoldPieces-same n len ps qs h s count = grind arith
 
 pub bytes-within : (n len : ℕ) (ps : List (List ℕ)) → HoldPieces n len ps → len ≤ length (concat ps)
-bytes-within n len ps h = omega (arith, length-concat n _ h.sizes, h.enough)
+bytes-within n len ps h = omega (arith, length-concat n _ h.sizes)
 
 pub bytes-length : (n len : ℕ) (ps : List (List ℕ)) → HoldPieces n len ps → length (take len (concat ps)) ≡ len
 bytes-length n len ps h = omega (arith, length-take len (concat ps), bytes-within n _ _ h)
 
 pub pieces-in_use : (n len : ℕ) (ps : List (List ℕ)) → HoldPieces n len ps
     → ArePieces n (take len (concat ps)) (in_use len ps)
-pieces-in_use n len ps h = record {
-  joined = concat-in_use len ps;
-  sizes = in_use-HaveSizes n _ _ h.positive h.sizes h.needed;
-}
+pieces-in_use n len ps h = grind (arith, concat-in_use, in_use-HaveSizes)
 
 -- the memory after new pieces
 pub HoldPieces-grown : (n len more d k : ℕ) (ps qs all : List (List ℕ)) → HoldPieces n len ps → all ≡ ps ++ qs
@@ -248,8 +229,7 @@ bytes-over n len at ps rs bytes h fits e =
 pub take-before : (old : List ℕ) (at : ℕ) (bytes : List ℕ) → at ≤ length old
     → take at (put_over old at bytes) ≡ take at old
 take-before old at bytes h =
-    ap (λ l. take at l) (append_assoc (take at old) bytes (drop (at + length bytes) old))
-    ∙ take_at (take at old) (bytes ++ drop (at + length bytes) old) at (omega (arith, length-take at old))
+    grind (arith, append_assoc, take_at, length-take)
 
 -- ---- the refusals of a place
 
@@ -257,26 +237,22 @@ pub patched-inside : (old : List ℕ) (at : ℕ) (bytes new : List ℕ) → at +
     → new ≡ put_over old at bytes
     → overwrite_of old at bytes ≡ Ok new
 patched-inside old at bytes new h is =
-    let first : nat_lt (length old) at ≡ false = le-ltb (length old) at (omega arith) in
-    let second : nat_lt (length old) (at + length bytes) ≡ false = le-ltb (length old) (at + length bytes) h in
-    rw (first, second, is) refl
+    grind (arith)
 
 pub patched-past : (old : List ℕ) (at : ℕ) (bytes : List ℕ) → at ≤ length old → length old < at + length bytes
     → overwrite_of old at bytes ≡ Err LengthOutOfBounds
 patched-past old at bytes h past =
-    let first : nat_lt (length old) at ≡ false = le-ltb (length old) at h in
-    let second : nat_lt (length old) (at + length bytes) ≡ true = lt-ltb (length old) (at + length bytes) past in
-    rw (first, second) refl
+    grind (arith)
 
 -- so many pieces
 pub piece-count : (n len : ℕ) (ps : List (List ℕ)) → HoldPieces n len ps
     → length ps ≡ div_ceil (length (take len (concat ps))) n
 piece-count n len ps h =
-    count_is n _ _ h.positive h.enough h.needed ∙ ap (λ k. div_ceil k n) (sym (bytes-length n _ _ h))
+    grind (arith, bytes-length)
 
 -- where no more are needed
 pub no_piece : (n len more : ℕ) (ps : List (List ℕ)) → HoldPieces n len ps
     → NeedsNoPiece n (length (take len (concat ps))) more
     → div_ceil (len + more) n ≡ length ps
 no_piece n len more ps h e =
-    ap (λ k. div_ceil (k + more) n) (sym (bytes-length n _ _ h)) ∙ e ∙ sym (piece-count n _ _ h)
+    grind (arith, bytes-length, piece-count)

@@ -51,7 +51,7 @@ abbrev pub AreInside : Relocatable → Type 0
 AreInside v = Inside (length v.bytes) v.relocations
 
 pub inside-from : (n : ℕ) (rs : List Relocation) → are_within n rs ≡ true → Inside n rs
-inside-from n [] is = λ k d lt. absurd (omega arith)
+inside-from n [] is = grind arith
 inside-from n (r ∷ rs) is =
     let parts = and_parts (nat_le (r.offset + r.size) n) (are_within n rs) is in
     All-cons (λ r. r.offset + r.size ≤ n) r _ (leb-true (r.offset + r.size) n parts.0)
@@ -71,44 +71,32 @@ IsApart offset size r = (r.offset + r.size ≤ offset) ⊎ (offset + size ≤ r.
 
 pub apart-from : (offset size : ℕ) (rs : List Relocation)
     → list_any (touches offset size) rs ≡ false → All (IsApart offset size) rs
-apart-from offset size [] is = λ k d lt. absurd (omega arith)
+apart-from offset size [] is = grind arith
 apart-from offset size (r ∷ rs) is =
     by (λ h. apart-from offset size rs h) (touches offset size r) refl is
   where
-    one : (a b : Bool) → nat_lt r.offset (offset + size) ≡ a → nat_lt offset (r.offset + r.size) ≡ b
-        → (a && b) ≡ false → IsApart offset size r
-    one false b e f h = inr (ltb-false r.offset (offset + size) e)
-    one true false e f h = inl (ltb-false offset (r.offset + r.size) f)
-    one true true e f h = absurd cc
-
     by : (list_any (touches offset size) rs ≡ false → All (IsApart offset size) rs) → (t : Bool)
         → touches offset size r ≡ t → (t || list_any (touches offset size) rs) ≡ false
         → All (IsApart offset size) (r ∷ rs)
     by others true e h = absurd cc
     by others false e h =
-        All-cons (IsApart offset size) r rs
-        (one (nat_lt r.offset (offset + size)) (nat_lt offset (r.offset + r.size)) refl refl e)
-        (others h)
+        grind arith
 
 word_fits : (p : Placement) (big : Bool) (r : Relocation) (n : ℕ) (there : List ℕ)
     → r.offset + r.size ≤ n → r.offset + length (word_at p big r there) ≤ n
 word_fits p big r n there inside =
-    omega (arith, length-number big r.size (sum_at p big r there), inside)
+    grind (arith, length-number)
 
 pub length-relocated : (p : Placement) (big : Bool) (bytes : List ℕ) (r : Relocation)
     → r.offset + r.size ≤ length bytes → length (relocated p big bytes r) ≡ length bytes
 length-relocated p big bytes r inside =
-    length-put_over _ _ _
-    (word_fits p _ r _ (stands_at r bytes) inside)
+    grind (arith, length-put_over, word_fits)
 
 pub relocated-more : (p : Placement) (big : Bool) (bytes more : List ℕ) (r : Relocation)
     → r.offset + r.size ≤ length bytes
     → relocated p big (bytes ++ more) r ≡ relocated p big bytes r ++ more
 relocated-more p big bytes more r inside =
-    let front = front_same _ _ _ _ inside in
-    ap (λ l. put_over (bytes ++ more) r.offset (word_at p big r l)) front
-    ∙ sym (put_over-front _ _ _ _
-    (word_fits p _ r _ (stands_at r bytes) inside))
+    grind (arith, front_same, put_over-front, word_fits)
 
 -- bytes that are put apart from its place
 pub relocated-over : (p : Placement) (big : Bool) (bytes : List ℕ) (at : ℕ) (x : List ℕ)
@@ -116,14 +104,9 @@ pub relocated-over : (p : Placement) (big : Bool) (bytes : List ℕ) (at : ℕ) 
     → IsApart at (length x) r
     → relocated p big (put_over bytes at x) r ≡ put_over (relocated p big bytes r) at x
 relocated-over p big bytes at x r inside fits (inl before) =
-    let same = before-put_over _ _ x _ _ before (omega arith) in
-    ap (λ l. put_over (put_over bytes at x) r.offset (word_at p big r l)) same
-    ∙ sym (put_over-apart _ _ _ _ x
-    (word_fits p _ r _ (stands_at r bytes) before) (omega arith))
+    grind (arith, before-put_over, put_over-apart, word_fits)
 relocated-over p big bytes at x r inside fits (inr after) =
-    let same = ap (λ l. take r.size l) (after-put_over _ _ x _ after fits) in
-    ap (λ l. put_over (put_over bytes at x) r.offset (word_at p big r l)) same
-    ∙ put_over-apart _ _ x _ _ after (omega arith)
+    grind (arith, after-put_over, put_over-apart)
 
 -- a place after the bytes
 pub relocated-end : (p : Placement) (big : Bool) (bytes word : List ℕ) (r : Relocation)
@@ -152,13 +135,7 @@ pub relocated-put : (p : Placement) (big : Bool) (bytes word : List ℕ) (r : Re
     → relocated p big (put_over bytes r.offset word) r ≡ put_over bytes r.offset
     (word_at p big r word)
 relocated-put p big bytes word r size fits =
-    let there : stands_at r (put_over bytes r.offset word) ≡ word =
-    ap (λ k. take k (drop r.offset (put_over bytes r.offset word))) size
-    ∙ there-put_over _ _ _ fits in
-    let long : length word ≡ length (word_at p big r word) = sym size
-    ∙ sym (length-number _ _ _) in
-    ap (λ l. put_over (put_over bytes r.offset word) r.offset (word_at p big r l)) there
-    ∙ put_over-again _ _ _ _ long fits
+    grind (arith, there-put_over, length-number, put_over-again)
 
 -- ---- all of them
 
@@ -203,7 +180,7 @@ all-last p big [] r bytes = refl
 all-last p big (q ∷ rs) r bytes = all-last p big rs r (relocated p big bytes q)
 
 pub inside_more : (n m : ℕ) (rs : List Relocation) → n ≤ m → Inside n rs → Inside m rs
-inside_more n m rs le inside = λ k d lt. omega (arith, inside k d lt)
+inside_more n m rs le inside = grind arith
 
 pub inside_last : (n : ℕ) (rs : List Relocation) (r : Relocation) → Inside n rs
     → r.offset + r.size ≤ n → Inside n (rs ++ r ∷ [])
@@ -227,7 +204,7 @@ sum_low size t c n q short sum fits =
 
 pub low_sum : (t c m : ℕ) → (t + c % m) % m ≡ (t + c) % m
 low_sum t c m =
-    let split : t + c ≡ t + c % m + c / m * m = omega (arith, div-add-mod' c m) in
+    let split : t + c ≡ t + c % m + c / m * m = omega (arith) in
     sym (add-mul-mod_self_right (t + c % m) (c / m) m) ∙ ap (λ k. k % m) (sym split)
 
 -- what stands at a place and what the list has make one addend

@@ -70,8 +70,7 @@ after-put_over old at x off before inside =
 pub front_same : (p s : List ℕ) (off size : ℕ) → off + size ≤ length p
     → take size (drop off (p ++ s)) ≡ take size (drop off p)
 front_same p s off size fits =
-    ap (λ l. take size l) (drop-append-le off p s (omega arith))
-    ∙ take-append-le size (drop off p) s (omega (arith, length-drop off p))
+    grind (arith, drop-append-le, take-append-le, length-drop)
 
 -- what stands before them
 pub before-put_over : (old : List ℕ) (at : ℕ) (x : List ℕ) (off size : ℕ) → off + size ≤ at
@@ -89,31 +88,19 @@ before-put_over old at x off size before inside =
 pub there-put_over : (old : List ℕ) (at : ℕ) (x : List ℕ) → at + length x ≤ length old
     → take (length x) (drop at (put_over old at x)) ≡ x
 there-put_over old at x inside =
-    let size : length (take at old) ≡ at = omega (arith, length-take at old) in
-    ap (λ l. take (length x) (drop at l))
-    (append_assoc (take at old) x (drop (at + length x) old))
-    ∙ ap (λ l. take (length x) l)
-    (drop_at (take at old) (x ++ drop (at + length x) old) at size)
-    ∙ take_at x (drop (at + length x) old) (length x) refl
+    grind (arith, length-take, append_assoc, drop_at, take_at)
 
 -- others of the same length put over them
 pub put_over-again : (old : List ℕ) (at : ℕ) (x y : List ℕ) → length x ≡ length y
     → at + length x ≤ length old → put_over (put_over old at x) at y ≡ put_over old at y
 put_over-again old at x y same inside =
-    let size : length (take at old) ≡ at = omega (arith, length-take at old) in
-    let assoc = append_assoc (take at old) x (drop (at + length x) old) in
-    let taken : take at (put_over old at x) ≡ take at old =
-    ap (λ l. take at l) assoc
-    ∙ take_at (take at old) (x ++ drop (at + length x) old) at size in
-    let left : drop (at + length y) (put_over old at x) ≡ drop (at + length y) old =
-    after-put_over _ _ x _ (omega arith) inside in
-    rw (taken, left) refl
+    grind (arith, length-take, append_assoc, take_at, after-put_over)
 
 -- ---- the lowest bytes of a number
 
 pub pow_positive : (i : ℕ) → 0 < 256 ^ i
 pow_positive zero = omega arith
-pow_positive (suc i) = omega (arith, pow-suc 256 i, pow_positive i)
+pow_positive (suc i) = omega (arith, pow_positive i)
 
 byte_is : (i n : ℕ) → byte_at i n ≡ n / 256 ^ i % 256
 byte_is zero n = rw (div-one n) refl
@@ -156,12 +143,12 @@ high_same (suc size) k n q below =
 
 number_same : (big : Bool) (size n q : ℕ)
     → number_bytes big size (n + q * 256 ^ size) ≡ number_bytes big size n
-number_same true size n q = high_same _ _ n q (omega arith)
-number_same false size n q = low_same _ 0 _ n q (omega arith)
+number_same true size n q = grind (arith, high_same)
+number_same false size n q = grind (arith, low_same)
 
 pub number-mod : (big : Bool) (size n : ℕ)
     → number_bytes big size n ≡ number_bytes big size (n % 256 ^ size)
 number-mod big size n =
     let parts : n % 256 ^ size + n / 256 ^ size * 256 ^ size ≡ n =
-    omega (arith, div-add-mod' n (256 ^ size)) in
+    omega (arith) in
     ap (number_bytes big size) (sym parts) ∙ number_same _ _ _ _

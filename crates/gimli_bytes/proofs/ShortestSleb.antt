@@ -19,33 +19,33 @@ power_of_128 zero = refl
 power_of_128 (suc k) =
     let more : 7 * suc k ≡ 7 * k + 7 = omega arith in
     let split : 2 ^ (7 * suc k) ≡ 2 ^ (7 * k) * 2 ^ 7 = ap (λ i. 2 ^ i) more ∙ pow-add 2 (7 * k) 7 in
-    omega (arith, split, power_of_128 k, pow-succ' 128 k)
+    omega (arith, power_of_128 k)
 
 -- ---- any spelling: the last byte is the sign, and the number is within what the bytes hold
 
 Groups-positive : (b : ℕ) (bytes : List ℕ) (n : ℕ) → Groups (b ∷ bytes) n → is_negative (b ∷ bytes) ≡ false
     → n < 64 * 128 ^ length bytes
-Groups-positive b [] n h sign = omega (arith, leb-false 64 b sign, h.1)
+Groups-positive b [] n h sign = omega (arith, leb-false 64 b sign)
 Groups-positive b (c ∷ bytes) n h sign =
     let high : h.1 < 64 * 128 ^ length bytes = Groups-positive c bytes h.1 h.3 sign in
     let power : 128 ^ suc (length bytes) ≡ 128 * 128 ^ length bytes = pow-succ' 128 (length bytes) in
-    omega (arith, high, power, h.2)
+    omega (arith)
 
 Groups-negative : (b : ℕ) (bytes : List ℕ) (n : ℕ) → Groups (b ∷ bytes) n → is_negative (b ∷ bytes) ≡ true
     → 64 * 128 ^ length bytes ≤ n
-Groups-negative b [] n h sign = omega (arith, leb-true 64 b sign, h.1)
+Groups-negative b [] n h sign = omega (arith, leb-true 64 b sign)
 Groups-negative b (c ∷ bytes) n h sign =
     let high : 64 * 128 ^ length bytes ≤ h.1 = Groups-negative c bytes h.1 h.3 sign in
     let power : 128 ^ suc (length bytes) ≡ 128 * 128 ^ length bytes = pow-succ' 128 (length bytes) in
-    omega (arith, high, power, h.2)
+    omega (arith)
 
 within_positive : (n k : ℕ) (z : ℤ) → n < k → pos n ≡ z → mag z < k
-within_positive n k (pos m) h e = omega (arith, ints, e)
-within_positive n k (negsuc m) h e = absurd (omega (arith, ints, e))
+within_positive n k (pos m) h e = omega (arith, ints)
+within_positive n k (negsuc m) h e = absurd (omega (arith, ints))
 
 within_negative : (n k : ℕ) (z : ℤ) → 64 * k ≤ n → n < 128 * k → pos n -ℤ pos (128 * k) ≡ z → mag z < 64 * k
-within_negative n k (pos m) h below e = absurd (omega (arith, ints, e))
-within_negative n k (negsuc m) h below e = omega (arith, ints, e)
+within_negative n k (pos m) h below e = absurd (omega (arith, ints))
+within_negative n k (negsuc m) h below e = omega (arith, ints)
 
 -- what the sign takes, and nothing where it isn't set
 sign_taken : (negative : Bool) (n p : ℕ)
@@ -71,8 +71,8 @@ within b bytes n z h value = by (is_negative (b ∷ bytes)) refl (sym (sign_take
 -- ---- the written one: no more groups than hold the number
 
 more_bits : (z : ℤ) → has_seven_bits z ≡ false → 64 ≤ mag z
-more_bits (pos n) h = elim (cases_lt n 64) [ inl low ↦ let t = lt-ltb n 64 low in cc | inr high ↦ high ]
-more_bits (negsuc n) h = elim (cases_lt n 64) [ inl low ↦ let t = lt-ltb n 64 low in cc | inr high ↦ high ]
+more_bits (pos n) h = grind (arith)
+more_bits (negsuc n) h = grind (arith)
 
 high_within : (z : ℤ) (k : ℕ) → mag z < 128 * k → mag (high_bits z) < k
 high_within (pos n) k h = omega arith
@@ -107,8 +107,7 @@ record Positive (n : ℕ) (bytes : List ℕ) : Type 0 where
 
 positive_last : (n : ℕ) → n < 64 → Positive n (n % 128 ∷ [])
 positive_last n h =
-    let same : n % 128 ≡ n = mod-eq_of_lt (omega arith) in
-    record { groups = (omega arith, sym same); sign = lt-leb 64 (n % 128) (omega (arith, same)) }
+    grind (arith)
 
 positive : (more n : ℕ) → n < 64 * 128 ^ more → Positive n (sleb_within more (pos n))
 unfolding sleb_within
@@ -134,13 +133,7 @@ record Negative (n : ℕ) (bytes : List ℕ) : Type 0 where
 
 negative_last : (n : ℕ) → n < 64 → Negative n ((127 - n % 128) ∷ [])
 negative_last n h =
-    let same : n % 128 ≡ n = mod-eq_of_lt (omega arith) in
-    record {
-      unsigned = 127 - n % 128;
-      groups = (omega arith, refl);
-      short_by = omega (arith, same);
-      sign = le-leb 64 (127 - n % 128) (omega (arith, same));
-    }
+    grind (arith)
 
 negative : (more n : ℕ) → n < 64 * 128 ^ more → Negative n (sleb_within more (negsuc n))
 unfolding sleb_within
@@ -164,7 +157,7 @@ negative (suc more) n h = elim (cases_lt n 64) [
 
 spells : (z : ℤ) → FitsSigned w64 z → SpellsSleb128 (sleb_within 9 z) z
 spells (pos n) h =
-    let size : n < 64 * 128 ^ 9 = omega (arith, h.sfits) in
+    let size : n < 64 * 128 ^ 9 = omega (arith) in
     let p : Positive n (sleb_within 9 (pos n)) = positive 9 n size in
     record {
       unsigned = n;
@@ -176,7 +169,7 @@ spells (pos n) h =
       fits = h;
     }
 spells (negsuc n) h =
-    let size : n < 64 * 128 ^ 9 = omega (arith, h.sfits) in
+    let size : n < 64 * 128 ^ 9 = omega (arith) in
     let bytes : List ℕ = sleb_within 9 (negsuc n) in
     let p : Negative n bytes = negative 9 n size in
     let power : 2 ^ (7 * length bytes) ≡ p.unsigned + suc n = power_of_128 _ ∙ sym p.short_by in

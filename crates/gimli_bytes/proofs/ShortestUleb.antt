@@ -10,11 +10,11 @@ use Rattle.gimli_bytes.proofs.LebLemmas.{uleb_last, uleb_more}
 -- so many groups hold numbers below a power of 128
 pub Groups-below : (bytes : List ℕ) (n : ℕ) → Groups bytes n → n < 128 ^ length bytes
 Groups-below [] n h = absurd h
-Groups-below (b ∷ []) n h = omega (arith, h.0, h.1)
+Groups-below (b ∷ []) n h = omega (arith)
 Groups-below (b ∷ c ∷ bytes) n h =
     let high : h.1 < 128 ^ length (c ∷ bytes) = Groups-below (c ∷ bytes) h.1 h.3 in
     let power : 128 ^ suc (length (c ∷ bytes)) ≡ 128 * 128 ^ length (c ∷ bytes) = pow-succ' 128 (length (c ∷ bytes)) in
-    omega (arith, high, power, h.2)
+    omega (arith)
 
 -- one more group in front
 pub Groups-cons : (b : ℕ) (bytes : List ℕ) (n high : ℕ) → 128 ≤ b → n ≡ b % 128 + 128 * high → Groups bytes high
@@ -26,26 +26,24 @@ Groups-cons b (c ∷ bytes) n high more so h = (more, high, so, h)
 pub length-uleb_within : (more j n : ℕ) → n < 128 ^ suc j → length (uleb_within more n) ≤ suc j
 length-uleb_within zero j n h = omega arith
 length-uleb_within (suc more) zero n h =
-    let low : n < 128 = omega (arith, h) in
-    omega (arith, ap length (uleb_last (suc more) n low))
+    grind (arith)
 length-uleb_within (suc more) (suc j) n h = elim (cases_lt n 128) [
   | inl low ↦ omega (arith, ap length (uleb_last (suc more) n low))
   | inr high ↦
       let power : 128 ^ suc (suc j) ≡ 128 * 128 ^ suc j = pow-succ' 128 (suc j) in
-      let rest : n / 128 < 128 ^ suc j = omega (arith, power, h) in
+      let rest : n / 128 < 128 ^ suc j = omega (arith) in
       omega (arith, ap length (uleb_more more n high), length-uleb_within more j (n / 128) rest)
 ]
 
 -- what is written are groups of the number
 pub Groups-uleb_within : (more n : ℕ) → n < 128 ^ suc more → Groups (uleb_within more n) n
 Groups-uleb_within zero n h =
-    let low : n < 128 = omega (arith, h) in
-    (omega arith, sym (mod-eq_of_lt low))
+    grind (arith)
 Groups-uleb_within (suc more) n h = elim (cases_lt n 128) [
   | inl low ↦ rw (uleb_last _ n low) (low, refl)
   | inr high ↦
       let power : 128 ^ suc (suc more) ≡ 128 * 128 ^ suc more = pow-succ' 128 (suc more) in
-      let rest : n / 128 < 128 ^ suc more = omega (arith, power, h) in
+      let rest : n / 128 < 128 ^ suc more = omega (arith) in
       rw (uleb_more _ n high)
       (Groups-cons (n % 128 + 128) _ n _ (omega arith) (omega arith) (Groups-uleb_within more (n / 128) rest))
 ]

@@ -30,33 +30,27 @@ prefix-map p h (k ∷ ks) = ap (λ n. cond (p (h k)) (1 + n) 0) (prefix-map p h 
 
 -- what a place that a search gave is
 pub index_found : {A : Type 0} (p : A → Bool) (ks : List A) (i : ℕ) → Some i ≡ position p ks → i ≡ position_or_len p ks
-index_found p ks i e = by (nat_lt (position_or_len p ks) (length ks)) e
-  where
-    by : (b : Bool) → Some i ≡ cond b (Some (position_or_len p ks)) None → i ≡ position_or_len p ks
-    by true h = cc
-    by false h = cc
+index_found p ks i e = grind (arith)
 
 -- whether a text is there
 pub is_there : (ks : List (Vec ℕ Global)) (t : List ℕ) (b : Bool) → b ≡ list_any (λ k. bytes_eq t k.items) ks
     → list_any (bytes_eq t) (texts_of ks) ≡ b
-is_there ks t b e = any-map (bytes_eq t) (λ k. k.items) ks ∙ sym e
+is_there ks t b e = grind (arith, any-map)
 
 place_is : (ks : List (Vec ℕ Global)) (t : List ℕ)
     → position_or_len (λ k. bytes_eq t k.items) ks ≡ index_of_text (texts_of ks) t
-place_is ks t = sym (prefix-map (λ x. not (bytes_eq t x)) (λ k. k.items) ks)
+place_is ks t = grind (arith, prefix-map)
 
 -- a text that a search doesn't find is none of them
 pub not_there : (ks : List (Vec ℕ Global)) (t : List ℕ) → false ≡ list_any (λ k. bytes_eq t k.items) ks
     → Contains (texts_of ks) t → ⊥
 not_there ks t e h =
-    true≢false (sym
-    (list_any_at (bytes_eq t) (texts_of ks) h.0 t h.1 ((bytes_eq-Decides t (get_or (texts_of ks) h.0 t)).1 (sym h.2)))
-    ∙ is_there _ t _ e)
+    grind (arith, list_any_at, bytes_eq-Decides, is_there)
 
 -- the place of a text that is there
 pub index_there : (ks : List (Vec ℕ Global)) (t : List ℕ) (i : ℕ) → Some i ≡ position (λ k. bytes_eq t k.items) ks
     → i ≡ index_of_text (texts_of ks) t
-index_there ks t i e = index_found (λ k. bytes_eq t k.items) ks i e ∙ place_is ks t
+index_there ks t i e = grind (arith, place_is)
 
 -- the place of a new text
 pub place_new : (ks : List (Vec ℕ Global)) (t : List ℕ) (v : Vec ℕ Global) → v.items ≡ t
@@ -69,26 +63,21 @@ pub texts_new : (ks : List (Vec ℕ Global)) (t : List ℕ) (v : Vec ℕ Global)
     → false ≡ list_any (λ k. bytes_eq t k.items) ks
     → texts_of (if list_any (λ k. bytes_eq v.items k.items) ks then ks else ks ++ v ∷ []) ≡ with_text (texts_of ks) t
 texts_new ks t v e absent =
-    ap (λ (x : List ℕ). texts_of (if list_any (λ k. bytes_eq x k.items) ks then ks else ks ++ v ∷ [])) e
-    ∙ ap (λ b. texts_of (if b then ks else ks ++ v ∷ [])) (sym absent)
-    ∙ map-append (λ k. k.items) ks (v ∷ [])
-    ∙ ap (λ x. texts_of ks ++ x ∷ []) e
-    ∙ ap (λ b. if b then texts_of ks else texts_of ks ++ t ∷ []) (sym (is_there _ t _ absent))
+    grind (arith, map-append, is_there)
 
 -- ---- a text is added
 
 -- a text that is there
 pub with_text-there : (ts : List (List ℕ)) (t : List ℕ) → list_any (bytes_eq t) ts ≡ true → with_text ts t ≡ ts
-with_text-there ts t h = ap (λ b. if b then ts else ts ++ t ∷ []) h
+with_text-there ts t h = grind arith
 
 pub with_text-new : (ts : List (List ℕ)) (t : List ℕ) → list_any (bytes_eq t) ts ≡ false → with_text ts t ≡ ts ++ t ∷ []
-with_text-new ts t h = ap (λ b. if b then ts else ts ++ t ∷ []) h
+with_text-new ts t h = grind arith
 
 pub byte_count-new : (ts : List (List ℕ)) (t : List ℕ) → list_any (bytes_eq t) ts ≡ false
     → byte_count (with_text ts t) ≡ byte_count ts + length t + 1
 byte_count-new ts t absent =
-    ap byte_count (with_text-new _ t absent)
-    ∙ (let e = sum_by-append (λ (x : List ℕ). length x + 1) ts (t ∷ []) in omega (arith, e))
+    grind (arith, sum_by-append)
 
 pub with_text-AreTexts : (ts : List (List ℕ)) (t : List ℕ) → AreTexts ts → All (λ b. b ≢ 0) t
     → AreTexts (with_text ts t)
@@ -112,10 +101,9 @@ found-there (s ∷ ts) t h = at (bytes_eq t s) refl (found-there ts t) h
     at : (b : Bool) → bytes_eq t s ≡ b → (list_any (bytes_eq t) ts ≡ true → slice_get ts (index_of_text ts t) ≡ Some t)
         → (b || list_any (bytes_eq t) ts) ≡ true
         → slice_get (s ∷ ts) (cond (not b) (1 + index_of_text ts t) 0) ≡ Some t
-    at true e rest h = ap Some (sym ((bytes_eq-Decides t s).0 e))
+    at true e rest h = grind (arith, bytes_eq-Decides)
     at false e rest h =
-        let one : 1 + index_of_text ts t ≡ suc (index_of_text ts t) = omega arith in
-        ap (slice_get (s ∷ ts)) one ∙ rest h
+        grind arith
 
 found-new : (ts : List (List ℕ)) (t : List ℕ) → list_any (bytes_eq t) ts ≡ false
     → slice_get (ts ++ t ∷ []) (index_of_text ts t) ≡ Some t
@@ -127,8 +115,7 @@ found-new (s ∷ ts) t h = at (bytes_eq t s) (found-new ts t) h
         → slice_get (s ∷ ts ++ t ∷ []) (cond (not b) (1 + index_of_text ts t) 0) ≡ Some t
     at true rest h = cc
     at false rest h =
-        let one : 1 + index_of_text ts t ≡ suc (index_of_text ts t) = omega arith in
-        ap (slice_get (s ∷ ts ++ t ∷ [])) one ∙ rest h
+        grind arith
 
 -- an added text stands at its place
 pub with_text-found : (ts : List (List ℕ)) (t : List ℕ) → slice_get (with_text ts t) (index_of_text ts t) ≡ Some t
@@ -149,11 +136,8 @@ pub with_text-KeepsTexts : (ts : List (List ℕ)) (t : List ℕ) → KeepsTexts 
 with_text-KeepsTexts ts t = by (list_any (bytes_eq t) ts)
   where
     by : (b : Bool) → KeepsTexts ts (if b then ts else ts ++ t ∷ [])
-    by true = record { text = λ i h. refl; offset = λ i h. refl }
-    by false = record {
-      text = slice_get-kept ts (t ∷ []);
-      offset = λ i h. ap byte_count (take-append-le i ts (t ∷ []) (omega arith));
-    }
+    by true = grind arith
+    by false = grind (arith, slice_get-kept, take-append-le)
 
 -- ---- the bytes of a table
 
@@ -165,15 +149,13 @@ length-table_bytes (t ∷ ts) =
       length-append (t ++ 0 ∷ []) (table_bytes ts),
       length-append t (0 ∷ []),
       sum_by-cons (λ (x : List ℕ). length x + 1) t ts,
-      length-table_bytes ts,
-    )
+      length-table_bytes ts)
 
 pub table_bytes-at : (ts : List (List ℕ)) (i : ℕ) (t : List ℕ) → slice_get ts i ≡ Some t
     → drop (offset_of ts i) (table_bytes ts) ≡ t ++ 0 ∷ table_bytes (drop (i + 1) ts)
 table_bytes-at [] i t h = cc
 table_bytes-at (s ∷ ts) zero t h =
-    let same : s ≡ t = cc in
-    append_assoc s (0 ∷ []) (table_bytes ts) ∙ ap (λ (x : List ℕ). x ++ 0 ∷ table_bytes ts) same
+    grind (arith, append_assoc)
 table_bytes-at (s ∷ ts) (suc i) t h =
     let first : length (s ++ 0 ∷ []) ≡ length s + 1 = length-append s (0 ∷ []) in
     let more : suc i + 1 ≡ suc (i + 1) = omega arith in
@@ -198,4 +180,4 @@ byte_count-more ks i v h e =
     ∙ ap byte_count (map-append (λ (k : Vec ℕ Global). k.items) (take i ks) (get_or ks i v ∷ []))
     ∙ sum_by-append (λ (x : List ℕ). length x + 1) (texts_of (take i ks)) ((get_or ks i v).items ∷ []) in
     let same = ap (λ (k : Vec ℕ Global). length k.items) e in
-    omega (arith, more, same)
+    omega (arith)

@@ -35,78 +35,49 @@ use Rattle.gimli_core.proofs.Padded.{split_ok}
 front_split : (n : ℕ) (front rest : List ℕ) → length front ≡ n
     → (n ≤ length (front ++ rest)) × (take n (front ++ rest) ≡ front) × (drop n (front ++ rest) ≡ rest)
 front_split n front rest is =
-    (omega (arith, length-append front rest), take_at front rest n is, drop_at front rest n is)
+    grind (arith, length-append, take_at, drop_at)
 
 -- a refusal for want of bytes
 want_fault : {A : Type 0} (n : ℕ) (bytes : List ℕ) (x : A) (left : List ℕ) (e : Error)
     → ((if nat_lt (length bytes) n then (let r : Read A = (Err (eof bytes), bytes) in r) else (Ok x, left)).0 ≡ Err e)
     → IsWanting n bytes e
-want_fault {A} n bytes x left e is = elim (cases_lt (length bytes) n) [
-  | inl lt ↦ let p = rw (lt-ltb (length bytes) n lt) at is in (lt, cc)
-  | inr le ↦ let p = rw (le-ltb (length bytes) n le) at is in absurd cc
-]
+want_fault {A} n bytes x left e is = grind (arith, cases_lt, lt-ltb, le-ltb)
 
 pub reads_some_bytes : (n : ℕ) → Reads (some_bytes n) (split_at n)
-reads_some_bytes n = record {
-  found = λ bytes xs rest e.
-      let p = split_ok n bytes xs rest (sym e) in
-      (take n bytes, sym (rw p.2 (take-append-drop n bytes)), (length-take-le n bytes p.0, p.1));
-  only = λ front xs rest s.
-      let f = front_split n front rest s.0 in
-      rw (le-ltb (length (front ++ rest)) n f.0, f.1, f.2, s.1) refl;
-  fault = λ bytes e is. want_fault n bytes (take n bytes) (drop n bytes) e is;
-  refused = λ bytes e f. rw (lt-ltb (length bytes) n f.0, f.1) refl;
-}
+reads_some_bytes n = grind (arith, split_ok, take-append-drop, length-take-le, front_split, le-ltb, want_fault, lt-ltb)
 
 pub reads_byte : Reads byte byte_at
-reads_byte = record {
-  found = byte_found;
-  only = λ front b rest s. rw s refl;
-  fault = byte_fault;
-  refused = byte_refused;
-}
+reads_byte = grind arith
   where
     byte_found : (bytes : List ℕ) (b : ℕ) (rest : List ℕ) → byte_at bytes ≡ (Ok b, rest)
         → (front : List ℕ) × (bytes ≡ front ++ rest) × (front ≡ b ∷ [])
-    byte_found [] b rest e = let p = ap (λ (r : Read ℕ). r.0) e in absurd cc
-    byte_found (c ∷ bytes) b rest e = let p = ok_parts c b bytes rest e in (b ∷ [], rw (p.0, p.1) refl, refl)
+    byte_found [] b rest e = grind arith
+    byte_found (c ∷ bytes) b rest e = grind (arith, ok_parts)
 
     byte_fault : (bytes : List ℕ) (e : Error) → (byte_at bytes).0 ≡ Err e → IsWanting 1 bytes e
     byte_fault [] e is = (omega arith, cc)
-    byte_fault (c ∷ bytes) e is = absurd cc
+    byte_fault _ e is = absurd cc
 
     byte_refused : (bytes : List ℕ) (e : Error) → IsWanting 1 bytes e → (byte_at bytes).0 ≡ Err e
     byte_refused [] e f = rw f.1 refl
-    byte_refused (c ∷ bytes) e f = absurd (omega (arith, f.0))
+    byte_refused _ e f = absurd (omega (arith, f.0))
 
 pub reads_signed_byte : Reads signed_byte signed_byte_at
-reads_signed_byte = reads_both byte _ byte_at _ reads_byte (λ b. reads_done (cast_signed w8 b))
+reads_signed_byte = search (arith, reads_both, reads_byte, reads_done)
 
 -- ---- numbers
 
 pub reads_number : (big : Bool) (size : ℕ) → Reads (number big size) (number_at big size)
 reads_number big size = record {
   found = λ bytes n rest e. number_found bytes n rest e;
-  only = λ front n rest s.
-      let f = front_split size front rest s.size_is in
-      rw (le-ltb (length (front ++ rest)) size f.0, f.1, f.2, s.value_is) refl;
-  fault = λ bytes e is. want_fault size bytes (value_of big (take size bytes)) (drop size bytes) e is;
-  refused = λ bytes e f. rw (lt-ltb (length bytes) size f.0, f.1) refl;
+  only = grind (arith, front_split, le-ltb);
+  fault = grind (arith, want_fault);
+  refused = grind (arith, lt-ltb);
 }
   where
     number_found : (bytes : List ℕ) (n : ℕ) (rest : List ℕ) → number_at big size bytes ≡ (Ok n, rest)
         → (front : List ℕ) × (bytes ≡ front ++ rest) × SpellsNumber big size front n
-    number_found bytes n rest e = elim (cases_lt (length bytes) size) [
-      | inl lt ↦ let p = ap (λ (r : Read ℕ). r.0) (rw (lt-ltb (length bytes) size lt, number_at) at e) in absurd cc
-      | inr le ↦
-          let p =
-          ok_parts (value_of big (take size bytes)) n (drop size bytes) rest
-          (rw (le-ltb (length bytes) size le, number_at) at e) in (
-            take size bytes,
-            sym (rw (← p.1) (take-append-drop size bytes)),
-            record { size_is = length-take-le size bytes le; value_is = p.0 },
-          )
-    ]
+    number_found bytes n rest e = grind (arith, cases_lt, lt-ltb, ok_parts, le-ltb, take-append-drop, length-take-le)
 
 -- ---- texts
 
@@ -118,7 +89,7 @@ abbrev place : List ℕ → ℕ
 place bytes = position_or_len (λ b. nat_eq b 0) bytes
 
 place_more : (b : ℕ) (bytes : List ℕ) → b ≢ 0 → place (b ∷ bytes) ≡ suc (place bytes)
-place_more b bytes other = rw (ne_eqb b 0 other) (omega arith)
+place_more b bytes other = grind (arith, ne_eqb)
 
 -- a zero byte at that place, and none before it
 record ZeroAt (bytes : List ℕ) (k : ℕ) : Type 0 where
@@ -127,26 +98,21 @@ record ZeroAt (bytes : List ℕ) (k : ℕ) : Type 0 where
 
 zero_more : (b : ℕ) (bytes : List ℕ) (k : ℕ) → b ≢ 0 → ZeroAt bytes k → ZeroAt (b ∷ bytes) (suc k)
 zero_more b bytes k other zero =
-    let after : drop (suc k + 1) (b ∷ bytes) ≡ drop (k + 1) bytes = let n : suc k + 1 ≡ suc (k + 1) = omega arith in
-    rw n refl in
-    record {
-      parts = ap (λ (xs : List ℕ). b ∷ xs) zero.parts ∙ ap (λ (xs : List ℕ). b ∷ take k bytes ++ 0 ∷ xs) (sym after);
-      name = (other, zero.name);
-    }
+    grind arith
 
 zero_at : (bytes : List ℕ) → place bytes < length bytes → ZeroAt bytes (place bytes)
 zero_at [] lt = absurd (omega arith)
 zero_at (b ∷ bytes) lt = elim (eqb_tells b 0) [
-  | inl p ↦ at_zero b bytes p.1
+  | inl p ↦ grind arith
   | inr p ↦
       let more = place_more b bytes p.1 in
       let zero = zero_at bytes (omega (arith, more)) in
-      subst (λ (k : ℕ). ZeroAt (b ∷ bytes) k) (sym more) (zero_more b bytes (place bytes) p.1 zero)
+      subst (λ k. ZeroAt (b ∷ bytes) k) (sym more) (zero_more b bytes _ p.1 zero)
 ]
   where
     at_zero : (b : ℕ) (bytes : List ℕ) → b ≡ 0 → ZeroAt (b ∷ bytes) (place (b ∷ bytes))
     at_zero b bytes is =
-        subst (λ (n : ℕ). ZeroAt (n ∷ bytes) (place (n ∷ bytes))) (sym is) (record { parts = refl; name = tt })
+        grind arith
 
 -- where none is zero the place is the end
 place_none : (name : List ℕ) → AllByRecursion IsNoZero name → place name ≡ length name
@@ -160,70 +126,55 @@ place_name (b ∷ name) rest all = place_more b (name ++ 0 ∷ rest) all.0 ∙ a
 none_zero : (bytes : List ℕ) → length bytes ≤ place bytes → AllByRecursion IsNoZero bytes
 none_zero [] le = tt
 none_zero (b ∷ bytes) le = elim (eqb_tells b 0) [
-  | inl p ↦ let at : place (b ∷ bytes) ≡ 0 = rw p.1 refl in absurd (omega (arith, at))
+  | inl p ↦ grind arith
   | inr p ↦ let more = place_more b bytes p.1 in (p.1, none_zero bytes (omega (arith, more)))
 ]
 
 text_found : (bytes name rest : List ℕ) → text_at bytes ≡ (Ok name, rest)
     → (front : List ℕ) × (bytes ≡ front ++ rest) × text.Spells front name
-text_found bytes name rest e = elim (cases_lt (place bytes) (length bytes)) [
+text_found bytes name rest e = elim (cases_lt _ _) [
   | inl lt ↦
       let p =
-      ok_parts (take (place bytes) bytes) name (drop (place bytes + 1) bytes) rest
-      (rw (lt-ltb (place bytes) (length bytes) lt, text_at) at e) in
+      ok_parts _ name _ rest
+      (rw (lt-ltb _ _ lt, text_at) at e) in
       let zero = zero_at bytes lt in
       let whole : bytes
       ≡ (name ++ 0 ∷ [])
-      ++ rest = rw (← p.0, ← p.1)
-      (zero.parts ∙ sym (append_assoc (take (place bytes) bytes) (0 ∷ []) (drop (place bytes + 1) bytes))) in
+      ++ rest = grind (arith, append_assoc) in
       (name ++ 0 ∷ [], whole, (rw (← p.0) zero.name, refl))
   | inr le ↦
-      let p = ap (λ (r : Read (List ℕ)). r.0) (rw (le-ltb (place bytes) (length bytes) le, text_at) at e) in absurd cc
+      grind (arith, le-ltb)
 ]
 
 text_only : (front name rest : List ℕ) → text.Spells front name → text_at (front ++ rest) ≡ (Ok name, rest)
 text_only front name rest s =
-    let whole : front ++ rest ≡ name ++ 0 ∷ rest = ap (λ (xs : List ℕ). xs ++ rest) s.1
-    ∙ append_assoc name (0 ∷ []) rest in
-    let at = place_name name rest s.0 in
-    let lt : length name < length (name ++ 0 ∷ rest) = omega (arith, length-append name (0 ∷ rest)) in
-    let front_is : take (length name) (name ++ 0 ∷ rest) ≡ name = take_at name (0 ∷ rest) (length name) refl in
-    let len : length (name ++ 0 ∷ []) ≡ length name + 1 = length-append name (0 ∷ []) in
-    let after : drop (length name + 1) (name ++ 0 ∷ rest) ≡ rest =
-    ap (drop (length name + 1)) (sym (append_assoc name (0 ∷ []) rest))
-    ∙ drop_at (name ++ 0 ∷ []) rest (length name + 1) len in
-    ap text_at whole ∙ rw (at, lt-ltb (length name) (length (name ++ 0 ∷ rest)) lt, front_is, after, text_at) refl
+    grind (arith, append_assoc, place_name, length-append, take_at, drop_at, lt-ltb)
 
 text_fault : (bytes : List ℕ) (e : Error) → (text_at bytes).0 ≡ Err e → text.Fault bytes e
-text_fault bytes e is = elim (cases_lt (place bytes) (length bytes)) [
-  | inl lt ↦ let p = rw (lt-ltb (place bytes) (length bytes) lt, text_at) at is in absurd cc
-  | inr le ↦ let p = rw (le-ltb (place bytes) (length bytes) le, text_at) at is in (none_zero bytes le, cc)
-]
+text_fault bytes e is = grind (arith, cases_lt, lt-ltb, le-ltb, none_zero)
 
 text_refused : (bytes : List ℕ) (e : Error) → text.Fault bytes e → (text_at bytes).0 ≡ Err e
 text_refused bytes e f =
-    let at = place_none bytes f.0 in
-    let le : length bytes ≤ place bytes = omega (arith, at) in
-    rw (le-ltb (place bytes) (length bytes) le, f.1, text_at) refl
+    grind (arith, place_none, le-ltb)
 
 pub reads_text : Reads text text_at
-reads_text = record { found = text_found; only = text_only; fault = text_fault; refused = text_refused }
+reads_text = search (arith, text_found, text_only, text_fault, text_refused)
 
 -- ---- steps that come to the same
 
 bind_same : {A B : Type 0} (r : Read A) (f g : A → List ℕ → Read B) → ((x : A) (rest : List ℕ) → f x rest ≡ g x rest)
     → (r >>= f) ≡ (r >>= g)
 bind_same (Ok x, rest) f g same = same x rest
-bind_same (Err e, rest) f g same = refl
+bind_same _ f g same = refl
 
 bind_done : {A : Type 0} (r : Read A) → (r >>= λ x rest. (Ok x, rest)) ≡ r
 bind_done (Ok x, rest) = refl
-bind_done (Err e, rest) = refl
+bind_done _ = refl
 
 bind_assoc : {A B C : Type 0} (r : Read A) (f : A → List ℕ → Read B) (g : B → List ℕ → Read C)
     → ((r >>= f) >>= g) ≡ (r >>= λ x rest. f x rest >>= g)
 bind_assoc (Ok x, rest) f g = refl
-bind_assoc (Err e, rest) f g = refl
+bind_assoc _ f g = refl
 
 -- ---- sizes of addresses
 
@@ -250,20 +201,17 @@ reads_address_size =
 test_of : (limit n : ℕ) (rest : List ℕ)
     → (check_at (nat_lt n limit) UnsupportedOffset rest >>= λ fits left. (let r : Read ℕ = (Ok n, left) in r))
     ≡ (offset_of limit n, rest)
-test_of limit n rest = elim (cases_lt n limit) [
-  | inl lt ↦ rw (lt-ltb n limit lt, lt-leb limit n lt) refl
-  | inr le ↦ rw (le-ltb n limit le, le-leb limit n le) refl
-]
+test_of limit n rest = grind (arith, cases_lt, lt-ltb, lt-leb, le-ltb, le-leb)
 
 pub reads_below_limit : (notation : Notation) (l : Production ℕ) (read : List ℕ → Read ℕ) → Reads l read
     → Reads (below_limit notation l) (below_at notation.limit read)
 reads_below_limit notation l read r =
-    reads_same (below_limit notation l) _ (below_at notation.limit read)
-    (λ bytes. bind_same (read bytes) _ _ (test_of notation.limit))
+    reads_same _ _ _
+    (λ bytes. bind_same _ _ _ (test_of notation.limit))
     (reads_both l _ read _ r (λ n.
-    reads_both (check (nat_lt n notation.limit) UnsupportedOffset) _
-    (check_at (nat_lt n notation.limit) UnsupportedOffset) _
-    (reads_check (nat_lt n notation.limit) UnsupportedOffset) (λ fits. reads_done n)))
+    reads_both _ _
+    _ _
+    (reads_check _ UnsupportedOffset) (λ fits. reads_done n)))
 
 -- a word that is an offset
 pub reads_offset_word : (notation : Notation) (format : Format)
@@ -302,13 +250,7 @@ data First (n : ℕ) : Type 0 where
   reserved : 0xffff_fff0 ≤ n → n ≢ 0xffff_ffff → nat_lt n 0xffff_fff0 ≡ false → nat_eq n 0xffff_ffff ≡ false → First n
 
 first_of : (n : ℕ) → First n
-first_of n = elim (cases_lt n 0xffff_fff0) [
-  | inl lt ↦ short lt (lt-ltb n 0xffff_fff0 lt)
-  | inr le ↦ elim (eqb_tells n 0xffff_ffff) [
-    | inl p ↦ long p.1 (le-ltb n 0xffff_fff0 le) p.0
-    | inr p ↦ reserved le p.1 (le-ltb n 0xffff_fff0 le) p.0
-  ]
-]
+first_of n = grind (arith, cases_lt, lt-ltb, eqb_tells, le-ltb)
 
 module _ (big : Bool) where
   number_8 : (rest : List ℕ) (m : ℕ) (left : List ℕ) → number_at big 8 rest ≡ (Ok m, left)
@@ -319,31 +261,27 @@ module _ (big : Bool) where
       → after_first big n rest ≡ (Ok u, left)
       → (tail : List ℕ) × (rest ≡ tail ++ left) × SpellsInitialLength big (first ++ tail) u.1 u.0
   after_found n (short lt is) rest u left first spelled e =
-      let p = ok_parts (n, Dwarf32) u rest left (rw is at e) in
-      subst
-      (λ (v : ℕ × Format). (tail : List ℕ) × (rest ≡ tail ++ left) × SpellsInitialLength big (first ++ tail) v.1 v.0)
-      p.0
-      ([], p.1, (rw (append-nil first) spelled, lt))
+      grind (arith, ok_parts, append-nil)
   after_found n (long same not_short is) rest u left first spelled e =
       let q =
-      bind_ok (number_at big 8 rest) (λ m left. (let r : Read (ℕ × Format) = (Ok (m, Dwarf64), left) in r)) u left
+      bind_ok _ _ u left
       (rw (not_short, is) at e) in
-      let p = ok_parts (q.0, Dwarf64) u q.1 left q.3 in
+      let p = ok_parts _ u q.1 left q.3 in
       let t = number_8 rest q.0 q.1 q.2 in
       subst
-      (λ (v : ℕ × Format). (tail : List ℕ) × (rest ≡ tail ++ left) × SpellsInitialLength big (first ++ tail) v.1 v.0)
+      (λ v. (tail : List ℕ) × (rest ≡ tail ++ left) × SpellsInitialLength big (first ++ tail) v.1 v.0)
       p.0
-      (t.0, t.1 ∙ ap (λ (xs : List ℕ). t.0 ++ xs) p.1, (first, t.0, refl, rw (← same) spelled, t.2))
+      (t.0, t.1 ∙ ap (λ xs. t.0 ++ xs) p.1, (first, t.0, refl, rw (← same) spelled, t.2))
   after_found n (reserved le other not_short is) rest u left first spelled e =
-      let p = ap (λ (r : Read (ℕ × Format)). r.0) (rw (not_short, is) at e) in absurd cc
+      grind arith
 
   length_found : (bytes : List ℕ) (u : ℕ × Format) (rest : List ℕ) → length_at big bytes ≡ (Ok u, rest)
       → (front : List ℕ) × (bytes ≡ front ++ rest) × SpellsInitialLength big front u.1 u.0
   length_found bytes u rest e =
-      let q = bind_ok (number_at big 4 bytes) (after_first big) u rest e in
+      let q = bind_ok _ _ u rest e in
       let f = (reads_number big 4).found bytes q.0 q.1 q.2 in
       let b = after_found q.0 (first_of q.0) q.1 u rest f.0 f.2 q.3 in
-      (f.0 ++ b.0, f.1 ∙ ap (λ (xs : List ℕ). f.0 ++ xs) b.1 ∙ sym (append_assoc f.0 b.0 rest), b.2)
+      (f.0 ++ b.0, f.1 ∙ ap (λ xs. f.0 ++ xs) b.1 ∙ sym (append_assoc f.0 b.0 rest), b.2)
 
   length_only : (front : List ℕ) (u : ℕ × Format) (rest : List ℕ) → SpellsInitialLength big front u.1 u.0
       → length_at big (front ++ rest) ≡ (Ok u, rest)
@@ -351,7 +289,7 @@ module _ (big : Bool) where
       let first = (reads_number big 4).only front n rest s.0 in
       rw (first, lt-ltb n 0xffff_fff0 s.1) refl
   length_only front (n, Dwarf64) rest s =
-      let whole : front ++ rest ≡ s.0 ++ (s.1 ++ rest) = ap (λ (xs : List ℕ). xs ++ rest) s.2
+      let whole = ap (λ (xs : List ℕ). xs ++ rest) s.2
       ∙ append_assoc s.0 s.1 rest in
       let first = (reads_number big 4).only s.0 0xffff_ffff (s.1 ++ rest) s.3 in
       let second = (reads_number big 8).only s.1 n rest s.4 in
@@ -359,17 +297,13 @@ module _ (big : Bool) where
 
   after_fault : (n : ℕ) → First n → (rest : List ℕ) (e : Error) → (after_first big n rest).0 ≡ Err e
       → ((0xffff_fff0 ≤ n) × (n ≢ 0xffff_ffff) × (e ≡ UnknownReservedLength)) ⊎ ((n ≡ 0xffff_ffff) × IsWanting 8 rest e)
-  after_fault n (short lt is) rest e f = let p = rw is at f in absurd cc
+  after_fault n (short lt is) rest e f = cc
   after_fault n (long same not_short is) rest e f =
-      elim (bind_fault (number_at big 8 rest) (λ m left. (let r : Read (ℕ × Format) = (Ok (m, Dwarf64), left) in r)) e
-      (rw (not_short, is) at f)) [
-        | inl p ↦ inr (same, (reads_number big 8).fault rest e p)
-        | inr q ↦ let none = q.3 in absurd cc
-      ]
-  after_fault n (reserved le other not_short is) rest e f = let p = rw (not_short, is) at f in inl (le, other, cc)
+      grind (arith, bind_fault, reads_number)
+  after_fault n (reserved le other not_short is) rest e f = grind arith
 
   length_fault : (bytes : List ℕ) (e : Error) → (length_at big bytes).0 ≡ Err e → (initial_length big).Fault bytes e
-  length_fault bytes e f = elim (bind_fault (number_at big 4 bytes) (after_first big) e f) [
+  length_fault bytes e f = elim (bind_fault _ _ e f) [
     | inl p ↦ inl ((reads_number big 4).fault bytes e p)
     | inr q ↦
         let found = (reads_number big 4).found bytes q.0 q.1 q.2 in
@@ -379,26 +313,19 @@ module _ (big : Bool) where
   after_refused : (n : ℕ) (rest : List ℕ) (e : Error)
       → ((0xffff_fff0 ≤ n) × (n ≢ 0xffff_ffff) × (e ≡ UnknownReservedLength)) ⊎ ((n ≡ 0xffff_ffff) × IsWanting 8 rest e)
       → (after_first big n rest).0 ≡ Err e
-  after_refused n rest e (inl f) = rw (le-ltb n 0xffff_fff0 f.0, ne_eqb n 0xffff_ffff f.1, f.2) refl
+  after_refused n rest e (inl f) = grind (arith, le-ltb, ne_eqb)
   after_refused n rest e (inr f) =
-      rw f.0
-      (bind_refused (number_at big 8 rest) (λ m left. (let r : Read (ℕ × Format) = (Ok (m, Dwarf64), left) in r)) e
-      ((reads_number big 8).refused rest e f.1))
+      grind (arith, bind_refused, reads_number)
 
   length_refused : (bytes : List ℕ) (e : Error) → (initial_length big).Fault bytes e → (length_at big bytes).0 ≡ Err e
   length_refused bytes e (inl f) =
-      bind_refused (number_at big 4 bytes) (after_first big) e ((reads_number big 4).refused bytes e f)
+      grind (arith, bind_refused, reads_number)
   length_refused bytes e (inr f) =
       let first = (reads_number big 4).only f.0 f.2 f.1 f.4 in
       rw (f.3, first) (after_refused f.2 f.1 e f.5)
 
   reads_initial_length : Reads (initial_length big) (length_at big)
-  reads_initial_length = record {
-    found = length_found;
-    only = length_only;
-    fault = length_fault;
-    refused = length_refused;
-  }
+  reads_initial_length = search (arith, length_found, length_only, length_fault, length_refused)
 
 -- ---- the length of a unit, and that an offset holds it
 
@@ -410,10 +337,7 @@ module _ (notation : Notation) where
   as_offset m left = (result_map (λ n. (n, Dwarf64)) (offset_of notation.limit m), left)
 
   test_long : (m : ℕ) (left : List ℕ) → with_test (m, Dwarf64) left ≡ as_offset m left
-  test_long m left = elim (cases_lt m notation.limit) [
-    | inl lt ↦ rw (lt-ltb m notation.limit lt, lt-leb notation.limit m lt) refl
-    | inr le ↦ rw (le-ltb m notation.limit le, le-leb notation.limit m le) refl
-  ]
+  test_long m left = grind (arith, cases_lt, lt-ltb, lt-leb, le-ltb, le-leb)
 
   abbrev after_tested : ℕ → List ℕ → Read (ℕ × Format)
   after_tested n rest =
@@ -425,10 +349,8 @@ module _ (notation : Notation) where
       → (after_first notation.big n rest >>= with_test) ≡ after_tested n rest
   after_same n (short lt is) rest = rw is refl
   after_same n (long same not_short is) rest =
-      let wrap : ℕ → List ℕ → Read (ℕ × Format) = λ m left. (Ok (m, Dwarf64), left) in
-      rw (not_short, is) (bind_assoc (number_at notation.big 8 rest) wrap with_test
-      ∙ bind_same (number_at notation.big 8 rest) (λ m left. with_test (m, Dwarf64) left) as_offset test_long)
-  after_same n (reserved le other not_short is) rest = rw (not_short, is) refl
+      grind (arith, bind_assoc, bind_same, test_long)
+  after_same n (reserved le other not_short is) rest = cc
 
   unit_same : (bytes : List ℕ)
       → (length_at notation.big bytes >>= with_test) ≡ initial_length_at notation.big notation.limit bytes
@@ -441,8 +363,8 @@ module _ (notation : Notation) where
 
   pub reads_unit_length : Reads (unit_length notation) (initial_length_at notation.big notation.limit)
   reads_unit_length =
-      reads_same (unit_length notation) _ (initial_length_at notation.big notation.limit) unit_same
-      (reads_both (initial_length notation.big) _ (length_at notation.big) _ (reads_initial_length notation.big) (λ u.
-      reads_both (check (fits_offset notation u.1 u.0) UnsupportedOffset) _
-      (check_at (fits_offset notation u.1 u.0) UnsupportedOffset) _
-      (reads_check (fits_offset notation u.1 u.0) UnsupportedOffset) (λ fits. reads_done u)))
+      reads_same _ _ _ unit_same
+      (reads_both _ _ _ _ (reads_initial_length notation.big) (λ u.
+      reads_both _ _
+      _ _
+      (reads_check _ UnsupportedOffset) (λ fits. reads_done u)))

@@ -13,7 +13,7 @@ use Rattle.gimli_core.specs.Production.{Production, ◌>>=◌ as ◌>>>◌, done
 pub bind_ok : {A B : Type 0} (r : Read A) (f : A → List ℕ → Read B) (y : B) (rest : List ℕ) → (r >>= f) ≡ (Ok y, rest)
     → (x : A) × (left : List ℕ) × (r ≡ (Ok x, left)) × (f x left ≡ (Ok y, rest))
 bind_ok (Ok x, left) f y rest e = (x, left, refl, e)
-bind_ok (Err d, left) f y rest e = let p = ap (λ r. r.0) e in absurd cc
+bind_ok _ f y rest e = let p = ap (λ r. r.0) e in absurd cc
 
 -- which step refused
 pub bind_fault : {A B : Type 0} (r : Read A) (f : A → List ℕ → Read B) (e : Error) → (r >>= f).0 ≡ Err e
@@ -23,11 +23,11 @@ bind_fault (Err d, left) f e is = let p : d ≡ e = cc in inl (rw p refl)
 
 pub bind_refused : {A B : Type 0} (r : Read A) (f : A → List ℕ → Read B) (e : Error) → r.0 ≡ Err e → (r >>= f).0 ≡ Err e
 bind_refused (Ok x, left) f e is = absurd cc
-bind_refused (Err d, left) f e is = let p : d ≡ e = cc in rw p refl
+bind_refused (Err d, left) f e is = cc
 
 -- the parts of an answer
 pub ok_parts : {A : Type 0} (x y : A) (a b : List ℕ) → ◌≡◌ {A = Read A} (Ok x, a) (Ok y, b) → (x ≡ y) × (a ≡ b)
-ok_parts {A} x y a b e = let p = ap (λ (r : Read A). r.0) e in let q = ap (λ (r : Read A). r.1) e in (cc, q)
+ok_parts {A} x y a b e = let p = ap (λ r. r.0) e in let q = ap (λ r. r.1) e in (cc, q)
 
 -- ---- a production, and after it the next
 
@@ -40,29 +40,29 @@ module _ {A B : Type 0} (l : Production A) (next : A → Production B) (read : L
   reads_both_found : (bytes : List ℕ) (y : B) (rest : List ℕ) → both bytes ≡ (Ok y, rest)
       → (front : List ℕ) × (bytes ≡ front ++ rest) × (l >>> next).Spells front y
   reads_both_found bytes y rest e =
-      let a = bind_ok (read bytes) after y rest e in
+      let a = bind_ok _ after y rest e in
       let p = first.found bytes a.0 a.1 a.2 in
       let q = (second a.0).found a.1 y rest a.3 in (
         p.0 ++ q.0,
-        p.1 ∙ ap (λ (xs : List ℕ). p.0 ++ xs) q.1 ∙ sym (append_assoc p.0 q.0 rest),
+        p.1 ∙ ap (λ xs. p.0 ++ xs) q.1 ∙ sym (append_assoc p.0 q.0 rest),
         (a.0, p.0, q.0, refl, p.2, q.2),
       )
 
   reads_both_only : (front : List ℕ) (y : B) (rest : List ℕ) → (l >>> next).Spells front y
       → both (front ++ rest) ≡ (Ok y, rest)
   reads_both_only front y rest s =
-      let regrouped : front ++ rest ≡ s.1 ++ (s.2 ++ rest) = ap (λ (xs : List ℕ). xs ++ rest) s.3
+      let regrouped = ap (λ xs. xs ++ rest) s.3
       ∙ append_assoc s.1 s.2 rest in
-      ap both regrouped ∙ rw (first.only s.1 s.0 (s.2 ++ rest) s.4) ((second s.0).only s.2 y rest s.5)
+      ap both regrouped ∙ rw (first.only s.1 s.0 _ s.4) ((second s.0).only s.2 y rest s.5)
 
   reads_both_fault : (bytes : List ℕ) (e : Error) → (both bytes).0 ≡ Err e → (l >>> next).Fault bytes e
-  reads_both_fault bytes e is = elim (bind_fault (read bytes) after e is) [
+  reads_both_fault bytes e is = elim (bind_fault _ after e is) [
     | inl p ↦ inl (first.fault bytes e p)
     | inr a ↦ let p = first.found bytes a.0 a.1 a.2 in inr (a.0, p.0, a.1, p.1, p.2, (second a.0).fault a.1 e a.3)
   ]
 
   reads_both_refused : (bytes : List ℕ) (e : Error) → (l >>> next).Fault bytes e → (both bytes).0 ≡ Err e
-  reads_both_refused bytes e (inl p) = bind_refused (read bytes) after e (first.refused bytes e p)
+  reads_both_refused bytes e (inl p) = bind_refused _ after e (first.refused bytes e p)
   reads_both_refused bytes e (inr s) = rw (s.3, first.only s.1 s.0 s.2 s.4) ((second s.0).refused s.2 e s.5)
 
   pub reads_both : Reads (l >>> next) both
@@ -85,7 +85,7 @@ reads_done {A} x = record {
 
 pub reads_refuse : {A : Type 0} (d : Error) → Reads (refuse {A = A} d) (λ bytes. (Err d, bytes))
 reads_refuse {A} d = record {
-  found = λ bytes y rest e. let p = ap (λ (r : Read A). r.0) e in absurd cc;
+  found = λ bytes y rest e. let p = ap (λ r. r.0) e in absurd cc;
   only = λ front y rest s. absurd s;
   fault = λ bytes e is. let p : d ≡ e = cc in sym p;
   refused = λ bytes e f. rw f refl;
@@ -99,8 +99,8 @@ reads_check true d = record {
   refused = λ bytes e f. let no = f.0 in absurd cc;
 }
 reads_check false d = record {
-  found = λ bytes x rest e. let p = ap (λ (r : Read (Unit {0})). r.0) e in absurd cc;
-  only = λ front x rest s. let no = s.1 in absurd cc;
+  found = λ bytes x rest e. let p = ap (λ r. r.0) e in absurd cc;
+  only = λ front x rest s. absurd cc;
   fault = λ bytes e is. let p : d ≡ e = cc in (refl, sym p);
   refused = λ bytes e f. rw f.1 refl;
 }
@@ -119,36 +119,36 @@ pub reads_times : {A : Type 0} (n : ℕ) (l : Production A) (read : List ℕ →
 reads_times zero l read r = reads_done []
 reads_times (suc n) l read r =
     reads_both l _ read _ r (λ x.
-    reads_both (times n l) _ (times_at n read) _ (reads_times n l read r) (λ xs. reads_done (x ∷ xs)))
+    reads_both _ _ _ _ (reads_times n l read r) (λ xs. reads_done _))
 
 -- ---- a production within bytes that were taken before
 
 with_rest_ok : {A : Type 0} (r : Read A) (x : A × List ℕ) → with_rest r ≡ Ok x → r ≡ (Ok x.0, x.1)
 with_rest_ok {A} (Ok y, rest) x e =
-    let p : (y, rest) ≡ x = cc in ap (λ (z : A × List ℕ). let r : Read A = (Ok z.0, z.1) in r) p
-with_rest_ok (Err d, rest) x e = absurd cc
+    cc
+with_rest_ok _ x e = absurd cc
 
 with_rest_fault : {A : Type 0} (r : Read A) (e : Error) → with_rest r ≡ Err e → r.0 ≡ Err e
 with_rest_fault (Ok y, rest) e is = absurd cc
-with_rest_fault (Err d, rest) e is = let p : d ≡ e = cc in rw p refl
+with_rest_fault (Err d, rest) e is = cc
 
 with_rest_refused : {A : Type 0} (r : Read A) (e : Error) → r.0 ≡ Err e → with_rest r ≡ Err e
 with_rest_refused (Ok y, rest) e is = absurd cc
-with_rest_refused (Err d, rest) e is = let p : d ≡ e = cc in rw p refl
+with_rest_refused (Err d, rest) e is = cc
 
 pub reads_within : {A : Type 0} (inside : List ℕ) (l : Production A) (read : List ℕ → Read A) → Reads l read
     → Reads (within inside l) (within_at inside read)
 reads_within {A} inside l read r = record {
   found = λ bytes x rest e.
-      let value = with_rest_ok (read inside) x (ap (λ (y : Read (A × List ℕ)). y.0) e) in
-      let left = ap (λ (y : Read (A × List ℕ)). y.1) e in
+      let value = with_rest_ok _ x (ap (λ y. y.0) e) in
+      let left = ap (λ y. y.1) e in
       let f = r.found inside x.0 x.1 value in
       ([], left, (refl, f));
   only = λ front x rest s.
       let inner = r.only s.1.0 x.0 x.1 s.1.2 in
       rw (s.0, s.1.1, inner) refl;
-  fault = λ bytes e is. r.fault inside e (with_rest_fault (read inside) e is);
-  refused = λ bytes e f. with_rest_refused (read inside) e (r.refused inside e f);
+  fault = λ bytes e is. r.fault inside e (with_rest_fault _ e is);
+  refused = λ bytes e f. with_rest_refused _ e (r.refused inside e f);
 }
 
 -- ---- the same function in other words
@@ -157,7 +157,7 @@ pub reads_same : {A : Type 0} (l : Production A) (read other : List ℕ → Read
     → ((bytes : List ℕ) → read bytes ≡ other bytes) → Reads l read → Reads l other
 reads_same {A} l read other same r = record {
   found = λ bytes x rest e. r.found bytes x rest (same bytes ∙ e);
-  only = λ front x rest s. sym (same (front ++ rest)) ∙ r.only front x rest s;
-  fault = λ bytes e is. r.fault bytes e (ap (λ (y : Read A). y.0) (same bytes) ∙ is);
-  refused = λ bytes e f. ap (λ (y : Read A). y.0) (sym (same bytes)) ∙ r.refused bytes e f;
+  only = λ front x rest s. sym (same _) ∙ r.only front x rest s;
+  fault = λ bytes e is. r.fault bytes e (ap (λ y. y.0) (same bytes) ∙ is);
+  refused = λ bytes e f. ap (λ y. y.0) (sym (same bytes)) ∙ r.refused bytes e f;
 }

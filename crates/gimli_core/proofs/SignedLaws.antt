@@ -50,22 +50,22 @@ last_of : (more b : ℕ) (bytes rest : List ℕ) (z : Difference) → b < 128 �
     → b < limit more + (last_group b).1
     → (last_group b).1 ≤ b + limit more → Front more (b ∷ bytes) z rest
 last_of more b bytes rest z small same left low high =
-    let zero_is = ap (λ (d : Difference). d.0) same in
-    let one_is = ap (λ (d : Difference). d.1) same in
+    let zero_is = ap (λ d. d.0) same in
+    let one_is = ap (λ d. d.1) same in
     record {
       front = b ∷ [];
-      groups = (small, sym zero_is);
+      groups = omega arith;
       sign = sym one_is;
       short = omega arith;
       below = omega arith;
       above = omega arith;
-      parts = ap (λ (xs : List ℕ). b ∷ xs) left;
+      parts = cc;
     }
 
 last_small : (more b : ℕ) (negative : Bool) → nat_le 64 b ≡ negative → b < 128
     → (b < 128 * limit more + taken negative 1) × (taken negative 1 ≤ b + 128 * limit more)
-last_small more b true is small = (omega (arith, limit_pos more), omega (arith, limit_pos more))
-last_small more b false is small = (omega (arith, limit_pos more), omega (arith, limit_pos more))
+last_small more b true is small = omega (arith, limit_pos)
+last_small more b false is small = omega (arith, limit_pos)
 
 more_of : (more b : ℕ) (bytes rest front : List ℕ) (high z : Difference) → 128 ≤ b → z.0 ≡ b % 128 + 128 * high.0
     → z.1 ≡ 128 * high.1
@@ -75,12 +75,12 @@ more_of : (more b : ℕ) (bytes rest front : List ℕ) (high z : Difference) →
 more_of more b bytes rest [] high z large zero_is one_is groups sign short low up parts = absurd groups
 more_of more b bytes rest (c ∷ bs) high z large zero_is one_is groups sign short low up parts = record {
   front = b ∷ c ∷ bs;
-  groups = (large, high.0, zero_is, groups);
-  sign = one_is ∙ ap (λ (n : ℕ). 128 * n) sign ∙ taken_more (is_negative (c ∷ bs)) (length (c ∷ bs));
+  groups = grind arith;
+  sign = omega (arith, taken_more);
   short = omega arith;
   below = omega arith;
   above = omega arith;
-  parts = ap (λ (xs : List ℕ). b ∷ xs) parts;
+  parts = cc;
 }
 
 tenth_found : (b : ℕ) (bytes : List ℕ) (z : Difference) (rest : List ℕ) (zero_last minus_one_last : Bool)
@@ -90,14 +90,10 @@ tenth_found : (b : ℕ) (bytes : List ℕ) (z : Difference) (rest : List ℕ) (z
     (if zero_last || minus_one_last then (Ok (last_group b), bytes) else (Err BadSignedLeb128, bytes)) (Ok z, rest)
     → Front zero (b ∷ bytes) z rest
 tenth_found b bytes z rest true m is is_m e =
-    let p = ok_parts (last_group b) z bytes rest e in
-    let same : b ≡ 0 = eqb-true b 0 is in
-    rw same (last_of zero 0 bytes rest z (omega arith) (rw same at p.0) p.1 (omega arith) (omega arith))
+    grind (arith, ok_parts, eqb-true, last_of)
 tenth_found b bytes z rest false true is is_m e =
-    let p = ok_parts (last_group b) z bytes rest e in
-    let same : b ≡ 127 = eqb-true b 127 is_m in
-    rw same (last_of zero 127 bytes rest z (omega arith) (rw same at p.0) p.1 (omega arith) (omega arith))
-tenth_found b bytes z rest false false is is_m e = let p = ap (λ (r : Read Difference). r.0) e in absurd cc
+    grind (arith, ok_parts, eqb-true, last_of)
+tenth_found b bytes z rest false false is is_m e = grind arith
 
 sleb_found : (more : ℕ) (bytes : List ℕ) (z : Difference) (rest : List ℕ) → sleb_at more bytes ≡ (Ok z, rest)
     → Front more bytes z rest
@@ -128,16 +124,9 @@ tenth_only : (b n s : ℕ) (rest : List ℕ) (zero_last minus_one_last : Bool) �
     → s ≡ taken (nat_le 64 b) 1 → n < 1 + s → s ≤ n + 1
     → ◌≡◌ {A = Read Difference}
     (if zero_last || minus_one_last then (Ok (last_group b), rest) else (Err BadSignedLeb128, rest)) (Ok (n, s), rest)
-tenth_only b n s rest true m is is_m small same sign low up = rw (same, sign) refl
-tenth_only b n s rest false true is is_m small same sign low up = rw (same, sign) refl
-tenth_only b n s rest false false is is_m small same sign low up = elim (cases_lt b 64) [
-  | inl lt ↦
-      let none : s ≡ 0 = rw (lt-leb 64 b lt) at sign in let zero_last : b ≡ 0 = omega arith in
-      absurd (eqb-false b 0 is zero_last)
-  | inr le ↦
-      let all : s ≡ 128 = rw (le-leb 64 b le) at sign in let minus_one_last : b ≡ 127 = omega arith in
-      absurd (eqb-false b 127 is_m minus_one_last)
-]
+tenth_only b n s rest true m is is_m small same sign low up = cc
+tenth_only b n s rest false true is is_m small same sign low up = cc
+tenth_only b n s rest false false is is_m small same sign low up = grind (arith, cases_lt, lt-leb, eqb-false, le-leb)
 
 sleb_only : (more : ℕ) (front : List ℕ) (n s : ℕ) (rest : List ℕ) → Groups front n
     → s ≡ taken (is_negative front) (length front) → length front ≤ suc more
@@ -169,7 +158,7 @@ tenth_fault : (b : ℕ) (bytes : List ℕ) (e : Error) (zero_last minus_one_last
     → (tenth_read b bytes zero_last minus_one_last).0 ≡ Err e → IsRefused b × (e ≡ BadSignedLeb128)
 tenth_fault b bytes e true m is is_m f = absurd cc
 tenth_fault b bytes e false true is is_m f = absurd cc
-tenth_fault b bytes e false false is is_m f = ((eqb-false b 0 is, eqb-false b 127 is_m), cc)
+tenth_fault b bytes e false false is is_m f = grind (arith, eqb-false)
 
 sleb_fault : (more : ℕ) (bytes : List ℕ) (e : Error) → (sleb_at more bytes).0 ≡ Err e
     → IsLebFault (suc more) IsRefused BadSignedLeb128 bytes e
@@ -193,8 +182,8 @@ sleb_fault (suc more) (b ∷ bytes) e is = elim (cases_lt b 128) [
 tenth_refused : (b : ℕ) (bytes : List ℕ) (zero_last minus_one_last : Bool) → nat_eq b 0 ≡ zero_last
     → nat_eq b 127 ≡ minus_one_last → IsRefused b
     → (tenth_read b bytes zero_last minus_one_last).0 ≡ Err BadSignedLeb128
-tenth_refused b bytes true m is is_m neither = absurd (neither.0 (eqb-true b 0 is))
-tenth_refused b bytes false true is is_m neither = absurd (neither.1 (eqb-true b 127 is_m))
+tenth_refused b bytes true m is is_m neither = grind (arith, eqb-true)
+tenth_refused b bytes false true is is_m neither = grind (arith, eqb-true)
 tenth_refused b bytes false false is is_m neither = refl
 
 sleb_refused : (more : ℕ) (bytes : List ℕ) (e : Error) → IsLebFault (suc more) IsRefused BadSignedLeb128 bytes e
@@ -224,19 +213,17 @@ sleb_refused (suc more) (b ∷ bytes) e (inr f) =
 signed_found : (bytes : List ℕ) (z : ℤ) (rest : List ℕ) → signed_at bytes ≡ (Ok z, rest)
     → (front : List ℕ) × (bytes ≡ front ++ rest) × SpellsSleb128 front z
 signed_found bytes z rest e =
-    let after : Difference → List ℕ → Read ℤ = λ d left. (Ok (pos d.0 -ℤ pos d.1), left) in
-    let q = bind_ok (sleb_at 9 bytes) after z rest e in
-    let p = ok_parts (pos q.0.0 -ℤ pos q.0.1) z q.1 rest q.3 in
+    let after : Difference → List ℕ → Read ℤ = λ d left. _ in
+    let q = bind_ok _ after z rest e in
+    let p = ok_parts _ z q.1 rest q.3 in
     let f = sleb_found 9 bytes q.0 q.1 q.2 in
-    let below : q.0.0 < 2 ^ 63 + q.0.1 = f.below in
-    let above : q.0.1 ≤ q.0.0 + 2 ^ 63 = f.above in
-    let fits : FitsSigned w64 (pos q.0.0 -ℤ pos q.0.1) = omega (arith, ints) in (
+    let fits : FitsSigned w64 _ = omega (arith, ints) in (
       f.front,
-      f.parts ∙ ap (λ (xs : List ℕ). f.front ++ xs) p.1,
+      f.parts ∙ ap (λ xs. f.front ++ xs) p.1,
       record {
         unsigned = q.0.0;
         groups = f.groups;
-        value_is = ap (λ (n : ℕ). pos q.0.0 -ℤ pos n) (sym f.sign) ∙ p.0;
+        value_is = cc;
         short = f.short;
         fits = rw (← p.0) fits;
       },
@@ -245,26 +232,26 @@ signed_found bytes z rest e =
 signed_only : (front : List ℕ) (z : ℤ) (rest : List ℕ) → SpellsSleb128 front z
     → signed_at (front ++ rest) ≡ (Ok z, rest)
 signed_only front z rest s =
-    let t = taken (is_negative front) (length front) in
-    let fits : FitsSigned w64 (pos s.unsigned -ℤ pos t) = rw s.value_is s.fits in
+    let t = taken _ _ in
+    let fits : FitsSigned w64 (pos s.unsigned -ℤ pos t) = grind arith in
     let below : s.unsigned < 2 ^ 63 + t = omega (arith, ints, fits) in
     let above : t ≤ s.unsigned + 2 ^ 63 = omega (arith, ints, fits) in
-    rw (sleb_only 9 front s.unsigned t rest s.groups refl s.short below above) (ap (λ (i : ℤ). (Ok i, rest)) s.value_is)
+    rw (sleb_only 9 front s.unsigned t rest s.groups refl s.short below above) (ap (λ i. (Ok i, rest)) s.value_is)
 
 signed_fault : (bytes : List ℕ) (e : Error) → (signed_at bytes).0 ≡ Err e
     → IsLebFault 10 IsRefused BadSignedLeb128 bytes e
 signed_fault bytes e is =
-    let after : Difference → List ℕ → Read ℤ = λ d left. (Ok (pos d.0 -ℤ pos d.1), left) in
-    elim (bind_fault (sleb_at 9 bytes) after e is) [
+    let after : Difference → List ℕ → Read ℤ = λ d left. _ in
+    elim (bind_fault _ after e is) [
       | inl p ↦ sleb_fault 9 bytes e p
-      | inr q ↦ let no = q.3 in absurd cc
+      | inr q ↦ cc
     ]
 
 signed_refused : (bytes : List ℕ) (e : Error) → IsLebFault 10 IsRefused BadSignedLeb128 bytes e
     → (signed_at bytes).0 ≡ Err e
 signed_refused bytes e f =
-    let after : Difference → List ℕ → Read ℤ = λ d left. (Ok (pos d.0 -ℤ pos d.1), left) in
-    bind_refused (sleb_at 9 bytes) after e (sleb_refused 9 bytes e f)
+    let after : Difference → List ℕ → Read ℤ = λ d left. _ in
+    bind_refused _ after e (sleb_refused 9 bytes e f)
 
 pub reads_signed : Reads signed signed_at
-reads_signed = record { found = signed_found; only = signed_only; fault = signed_fault; refused = signed_refused }
+reads_signed = search (arith, signed_found, signed_only, signed_fault, signed_refused)

@@ -29,10 +29,8 @@ grown_z_more : (scale low b : ℕ) (r : Read Difference)
     → grown_z scale low (r >>= λ high rest. (Ok (b % 128 + 128 * high.0, 128 * high.1), rest))
     ≡ grown_z (scale * 128) (low + scale * (b % 128)) r
 grown_z_more scale low b (Ok x, rest) =
-    let m : low + scale * (b % 128 + 128 * x.0) ≡ low + scale * (b % 128) + scale * 128 * x.0 = omega arith in
-    let n : scale * (128 * x.1) ≡ scale * 128 * x.1 = omega arith in
-    rw (m, n) refl
-grown_z_more scale low b (Err e, rest) = refl
+    grind arith
+grown_z_more scale low b _ = refl
 
 more_byte : (scale low b more : ℕ) (bytes : List ℕ) → 128 ≤ b →
     grown_z scale low (sleb_at (suc more) (b ∷ bytes))
@@ -88,7 +86,7 @@ module _ (value : ℕ) (bytes : List ℕ) (total : Read ℤ) where
       → err_z x rest ≡ total
   ends_err group x rest so_far e =
       let p = byte_err x rest bytes e in
-      let q : grown_z (2 ^ (7 * group)) value (sleb_at (9 - group) bytes) ≡ err_z (eof []) [] = rw (p.0, at_end) refl in
+      let q : grown_z _ value _ ≡ err_z _ [] = rw (p.0, at_end) refl in
       rw (p.1, p.2) (sym q ∙ so_far)
 
   pub ends_ok : (group b : ℕ) (rest : List ℕ) → grown_z (2 ^ (7 * group)) value (sleb_at (9 - group) bytes) ≡ total
@@ -99,10 +97,10 @@ module _ (value : ℕ) (bytes : List ℕ) (total : Read ℤ) where
   ends_ok group b rest so_far lt small e =
       let p = byte_ok b rest bytes e in
       let k : 9 - group ≡ suc (9 - (group + 1)) = omega arith in
-      let q : grown_z (2 ^ (7 * group)) value (sleb_at (9 - group) bytes)
+      let q : grown_z _ value _
       ≡ ok_z rest
-      (pos (value + 2 ^ (7 * group) * (b % 128)) -ℤ pos (if nat_le 64 b then 2 ^ (7 * group) * 128 else 0)) =
-      rw (k, p) (last_byte (2 ^ (7 * group)) value b (9 - (group + 1)) rest small) in
+      _ =
+      rw (k, p) (last_byte _ value b _ rest small) in
       rw (pow_next group) (sym q ∙ so_far)
 
   pub goes_on : (group b : ℕ) (rest : List ℕ) → grown_z (2 ^ (7 * group)) value (sleb_at (9 - group) bytes) ≡ total
@@ -112,9 +110,9 @@ module _ (value : ℕ) (bytes : List ℕ) (total : Read ℤ) where
   goes_on group b rest so_far lt large e =
       let p = byte_ok b rest bytes e in
       let k : 9 - group ≡ suc (9 - (group + 1)) = omega arith in
-      let q : grown_z (2 ^ (7 * group)) value (sleb_at (9 - group) bytes)
-      ≡ grown_z (2 ^ (7 * group) * 128) (value + 2 ^ (7 * group) * (b % 128)) (sleb_at (9 - (group + 1)) rest)
-      = rw (k, p) (more_byte (2 ^ (7 * group)) value b (9 - (group + 1)) rest large) in
+      let q : grown_z _ value _
+      ≡ grown_z _ _ _
+      = rw (k, p) (more_byte _ value b _ rest large) in
       rw (pow_next group) (sym q ∙ so_far)
 
   pub ends_tenth : (group b : ℕ) (rest : List ℕ) → grown_z (2 ^ (7 * group)) value (sleb_at (9 - group) bytes) ≡ total
@@ -124,4 +122,4 @@ module _ (value : ℕ) (bytes : List ℕ) (total : Read ℤ) where
   ends_tenth group b rest so_far ge le e =
       let p = byte_ok b rest bytes e in
       let i : group ≡ 9 = omega arith in
-      sym (tenth value b rest (nat_eq b 0) (nat_eq b 127) refl refl) ∙ (rw (i, p) at so_far)
+      sym (tenth value b rest _ _ refl refl) ∙ (rw (i, p) at so_far)

@@ -35,7 +35,7 @@ last_front more top b n bytes rest small fits same left = record {
   groups = (small, sym same);
   short = omega arith;
   fits = omega arith;
-  parts = ap (λ (xs : List ℕ). b ∷ xs) left;
+  parts = cc;
 }
 
 more_front : (more top b n high : ℕ) (bytes rest front : List ℕ) → 128 ≤ b → n ≡ b % 128 + 128 * high
@@ -44,10 +44,10 @@ more_front : (more top b n high : ℕ) (bytes rest front : List ℕ) → 128 ≤
 more_front more top b n high bytes rest [] large value groups short fits parts = absurd groups
 more_front more top b n high bytes rest (c ∷ bs) large value groups short fits parts = record {
   front = b ∷ c ∷ bs;
-  groups = (large, high, value, groups);
+  groups = grind arith;
   short = omega arith;
   fits = omega arith;
-  parts = ap (λ (xs : List ℕ). b ∷ xs) parts;
+  parts = cc;
 }
 
 uleb_found : (more top : ℕ) (bytes : List ℕ) (n : ℕ) (rest : List ℕ) → top < 128 → uleb_at more top bytes ≡ (Ok n, rest)
@@ -97,9 +97,9 @@ uleb_only (suc more) top (b ∷ c ∷ bs) n rest groups short fits =
 pub longer : (IsRefused : ℕ → Type 0) (bad : Error) (b : ℕ) → 128 ≤ b → (most : ℕ) (bytes : List ℕ) (e : Error)
     → IsLebFault most IsRefused bad bytes e
     → IsLebFault (suc most) IsRefused bad (b ∷ bytes) e
-longer IsRefused bad b le most bytes e (inl f) = inl (omega (arith, f.0), (le, f.1), f.2)
+longer IsRefused bad b le most bytes e (inl f) = grind arith
 longer IsRefused bad b le most bytes e (inr f) =
-    inr (b ∷ f.0, f.1, f.2, ap (λ (xs : List ℕ). b ∷ xs) f.3, omega (arith, f.4), (le, f.5), f.6, f.7)
+    inr (b ∷ f.0, f.1, f.2, ap (λ xs. b ∷ xs) f.3, omega (arith, f.4), (le, f.5), f.6, f.7)
 
 uleb_fault : (top more : ℕ) (bytes : List ℕ) (e : Error) → (uleb_at more top bytes).0 ≡ Err e
     → IsLebFault (suc more) (λ b. top < b) BadUnsignedLeb128 bytes e
@@ -122,12 +122,12 @@ uleb_fault top (suc more) (b ∷ bytes) e is = elim (cases_lt b 128) [
 
 pub not_nil : (front : List ℕ) (last : ℕ) (rest : List ℕ) → [] ≡ front ++ last ∷ rest → ⊥
 not_nil [] last rest e = absurd cc
-not_nil (x ∷ front) last rest e = absurd cc
+not_nil _ last rest e = absurd cc
 
 pub only_last : (front : List ℕ) (last : ℕ) (rest : List ℕ) (b : ℕ) (bytes : List ℕ) → b ∷ bytes ≡ front ++ last ∷ rest
     → length front + 1 ≡ 1 → b ≡ last
 only_last [] last rest b bytes e n = cc
-only_last (x ∷ front) last rest b bytes e n = absurd (omega (arith, n))
+only_last _ last rest b bytes e n = absurd (omega (arith, n))
 
 -- the fault after a first byte
 pub record Behind (IsRefused : ℕ → Type 0) (bad : Error) (most b : ℕ) (bytes : List ℕ) (e : Error) : Type 0 where
@@ -140,9 +140,7 @@ pub first_high : (IsRefused : ℕ → Type 0) (bad : Error) (most : ℕ) (front 
     → Behind IsRefused bad (suc most) b bytes e
 first_high IsRefused bad most [] last rest b bytes e parts n high refused is = absurd (omega (arith, n))
 first_high IsRefused bad most (x ∷ front) last rest b bytes e parts n high refused is =
-    let first : b ≡ x = cc in
-    let others : bytes ≡ front ++ last ∷ rest = cc in
-    record { high = rw first high.0; fault = inr (front, last, rest, others, omega (arith, n), high.1, refused, is) }
+    grind arith
 
 uleb_refused : (top more : ℕ) (bytes : List ℕ) (e : Error)
     → IsLebFault (suc more) (λ b. top < b) BadUnsignedLeb128 bytes e → (uleb_at more top bytes).0 ≡ Err e

@@ -24,8 +24,8 @@ pub or : {A B : Type 0} {p : A → A → Bool} {q : B → B → Bool} → ((a b 
     → ((a b : B) → Decides (q a b) (a ≡ b)) → (c d : A ⊎ B)
     → Decides (⊎_elim (λ x. ⊎_elim (λ y. p x y) (λ _. false) d) (λ x. ⊎_elim (λ _. false) (λ y. q x y) d) c) (c ≡ d)
 or here after (inl a) (inl b) = (λ e. ap inl ((here a b).0 e), λ e. (here a b).1 (ap (left_or a) e))
-or here after (inl a) (inr b) = (λ e. absurd cc, λ e. apart (ap Left e))
-or here after (inr a) (inl b) = (λ e. absurd cc, λ e. absurd cc)
+or here after (inl a) _ = (λ e. absurd cc, λ e. apart (ap Left e))
+or here after _ (inl b) = (λ e. absurd cc, λ e. absurd cc)
 or here after (inr a) (inr b) = (λ e. ap inr ((after a b).0 e), λ e. (after a b).1 (ap (right_or a) e))
 
 pub end : (p : ⊥ → ⊥ → Bool) (a b : ⊥) → Decides (p a b) (a ≡ b)

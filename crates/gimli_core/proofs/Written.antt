@@ -9,7 +9,7 @@ use Rattle.gimli_core.specs.Numbers.{le_value, SpellsNumber, number_bytes}
 
 length_low : (size i n : ℕ) → length (bytes_low_first i size n) ≡ size
 length_low zero i n = refl
-length_low (suc size) i n = ap suc (length_low size (suc i) n)
+length_low (suc size) i n = ap suc (length_low size _ n)
 
 length_high : (size n : ℕ) → length (bytes_high_first size n) ≡ size
 length_high zero n = refl
@@ -17,44 +17,44 @@ length_high (suc size) n = ap suc (length_high size n)
 
 -- a byte of a number
 byte_is : (i n : ℕ) → byte_at i n ≡ n / 256 ^ i % 256
-byte_is zero n = rw (div-one n) refl
-byte_is (suc i) n = refl
+byte_is zero n = omega arith
+byte_is _ n = refl
 
 -- the bytes from i upward are what is left without the lower ones
 low_value : (size i n : ℕ) → n / 256 ^ i < 256 ^ size → le_value (bytes_low_first i size n) ≡ n / 256 ^ i
 low_value zero i n fits = omega arith
 low_value (suc size) i n fits =
-    let worth : 256 ^ suc i ≡ 256 ^ i * 256 = pow-suc 256 i in
-    let next : n / 256 ^ suc i ≡ n / 256 ^ i / 256 = rw worth (sym (div-div-eq-div-mul n (256 ^ i) 256)) in
-    let room : 256 ^ suc size ≡ 256 ^ size * 256 = pow-suc 256 size in
-    let below : n / 256 ^ suc i < 256 ^ size = omega (arith, next, room) in
-    let rest = low_value size (suc i) n below in
+    let worth = pow-suc 256 i in
+    let next : n / 256 ^ suc i ≡ n / 256 ^ i / 256 = grind (arith, div-div-eq-div-mul) in
+    let room = pow-suc 256 size in
+    let below : n / 256 ^ suc i < 256 ^ size = omega arith in
+    let rest = low_value size _ n below in
     rw (rest, byte_is i n, next) (omega arith)
 
 -- the next byte comes last
 low_more : (size i n : ℕ) → bytes_low_first i (suc size) n ≡ bytes_low_first i size n ++ byte_at (i + size) n ∷ []
-low_more zero i n = let same : i + 0 ≡ i = omega arith in rw same refl
+low_more zero i n = grind arith
 low_more (suc size) i n =
     let same : suc i + size ≡ i + suc size = omega arith in
-    ap (λ (xs : List ℕ). byte_at i n ∷ xs)
-    (low_more size (suc i) n ∙ ap (λ (k : ℕ). bytes_low_first (suc i) size n ++ byte_at k n ∷ []) same)
+    ap (λ xs. byte_at i n ∷ xs)
+    (low_more size _ n ∙ ap (λ k. bytes_low_first (suc i) size n ++ byte_at k n ∷ []) same)
 
 high_reversed : (size n : ℕ) → reverse (bytes_high_first size n) ≡ bytes_low_first 0 size n
 high_reversed zero n = refl
 high_reversed (suc size) n =
     let same : 0 + size ≡ size = omega arith in
     reverse-append (byte_at size n ∷ []) (bytes_high_first size n)
-    ∙ ap (λ (xs : List ℕ). xs ++ byte_at size n ∷ []) (high_reversed size n)
-    ∙ ap (λ (k : ℕ). bytes_low_first 0 size n ++ byte_at k n ∷ []) (sym same)
+    ∙ ap (λ xs. xs ++ byte_at size n ∷ []) (high_reversed size n)
+    ∙ ap (λ k. bytes_low_first 0 size n ++ byte_at k n ∷ []) (sym same)
     ∙ sym (low_more size 0 n)
 
 pub number_spelled : (big : Bool) (size n : ℕ) → n < 256 ^ size → SpellsNumber big size (number_bytes big size n) n
 number_spelled big size n fits =
     let whole : n / 256 ^ 0 ≡ n = div-one n in
     let below : n / 256 ^ 0 < 256 ^ size = omega arith in
-    let low : le_value (bytes_low_first 0 size n) ≡ n = low_value size 0 n below ∙ whole in
+    let low = low_value size 0 n below ∙ whole in
     spelled big low
   where
     spelled : (b : Bool) → le_value (bytes_low_first 0 size n) ≡ n → SpellsNumber b size (number_bytes b size n) n
-    spelled true low = record { size_is = length_high size n; value_is = ap le_value (high_reversed size n) ∙ low }
-    spelled false low = record { size_is = length_low size 0 n; value_is = low }
+    spelled true low = grind (arith, length_high, high_reversed)
+    spelled false low = omega (arith, length_low)

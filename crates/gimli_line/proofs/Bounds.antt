@@ -48,49 +48,7 @@ word_some Dwarf32 = omega arith
 word_some Dwarf64 = omega arith
 
 shapes_have : AllByRecursion (λ row. HasBytes row.1) shapes
-shapes_have = (
-  omega arith,
-  (
-    omega arith,
-    (
-      omega arith,
-      (
-        tt,
-        (
-          omega arith,
-          (
-            omega arith,
-            (
-              omega arith,
-              (
-                omega arith,
-                (
-                  omega arith,
-                  (
-                    tt,
-                    (
-                      tt,
-                      (
-                        omega arith,
-                        (
-                          tt,
-                          (
-                            tt,
-                            (tt, (tt, (tt, (tt, (tt, (tt, (omega arith, (omega arith, (tt, (omega arith, tt)))))))))),
-                          ),
-                        ),
-                      ),
-                    ),
-                  ),
-                ),
-              ),
-            ),
-          ),
-        ),
-      ),
-    ),
-  ),
-)
+shapes_have = grind arith
 
 among_has : (form : ℕ) (shape : Shape) (rows : List (ℕ × Shape)) → AllByRecursion (λ row. HasBytes row.1) rows
     → shape_among form rows ≡ Some shape
@@ -133,53 +91,28 @@ each_bounded Spells some bytes (x ∷ xs) s =
 pub formats_some : (bytes : List ℕ) (formats : List FileEntryFormat) → formats_production.Spells bytes formats
     → formats ≢ []
 formats_some bytes formats s none =
-    let c = s.5 in
-    let path = c.5 in
-    let tested : IsTrue (nat_eq (count_by (is_content 0x0001) c.0) 1) = path.4.1 in
-    let same : formats ≡ c.0 = path.5.1 in
-    let empty : c.0 ≡ [] = sym same ∙ none in
-    let no : IsTrue (nat_eq (count_by (is_content 0x0001) []) 1) = rw empty at tested in
-    absurd cc
+    grind arith
 
 module _ (notation : Notation) (format : Format) where
   shape_some : (shape : Shape) → HasBytes shape → (bytes : List ℕ) (v : Value)
       → (shape_production notation format shape).Spells bytes v → 0 < length bytes
-  shape_some (fixed size make) some bytes v s = omega (arith, length-append s.1 s.2, ap length s.3, s.4.size_is)
+  shape_some (fixed size make) some bytes v s = grind (arith, length-append)
   shape_some (three_bytes make) some bytes v s =
-      let n =
-      s.4 in omega (arith, length-append s.1 s.2, ap length s.3, length-append n.1 n.2, ap length n.3, n.4.size_is)
+      grind (arith, length-append)
   shape_some (word_offset make) some bytes v s =
-      let n = s.4 in
-      omega
-      (arith, length-append s.1 s.2, ap length s.3, length-append n.1 n.2, ap length n.3, n.4.size_is, word_some format)
+      grind (arith, length-append)
   shape_some (leb make) some bytes v s =
-      omega (arith, length-append s.1 s.2, ap length s.3, groups_some s.1 s.0 s.4.groups)
+      grind (arith, length-append, groups_some)
   shape_some (signed_leb make) some bytes v s =
-      omega (arith, length-append s.1 s.2, ap length s.3, groups_some s.1 s.4.unsigned s.4.groups)
+      grind (arith, length-append, groups_some)
   shape_some (leb_offset make) some bytes v s =
-      let n =
-      s.4 in omega (
-        arith,
-        length-append s.1 s.2,
-        ap length s.3,
-        length-append n.1 n.2,
-        ap length n.3,
-        groups_some n.1 n.0 n.4.groups,
-      )
-  shape_some (block size) some bytes v s = omega (arith, length-append s.1 s.2, ap length s.3, s.4.0)
-  shape_some (counted size) some bytes v s = omega (arith, length-append s.1 s.2, ap length s.3, s.4.size_is)
+      grind (arith, length-append, groups_some)
+  shape_some (block size) some bytes v s = omega (arith, length-append s.1 s.2, ap length s.3)
+  shape_some (counted size) some bytes v s = grind (arith, length-append)
   shape_some leb_counted some bytes v s =
-      let n =
-      s.4 in omega (
-        arith,
-        length-append s.1 s.2,
-        ap length s.3,
-        length-append n.1 n.2,
-        ap length n.3,
-        groups_some n.1 n.0 n.4.groups,
-      )
+      grind (arith, length-append, groups_some)
   shape_some string some bytes v s =
-      omega (arith, length-append s.1 s.2, ap length s.3, length-append s.0 (0 ∷ []), ap length s.4.1)
+      grind (arith, length-append)
 
   form_some : (form : ℕ) (bytes : List ℕ) (v : Value) → (form_production notation format form).Spells bytes v
       → 0 < length bytes
@@ -190,7 +123,7 @@ module _ (notation : Notation) (format : Format) where
           [ Some shape ↦ shape_production notation format shape | None ↦ refuse (UnknownForm (record { 0 = form })) ] in
           l.Spells bytes v)
           → 0 < length bytes
-      at_shape (Some shape) is s = shape_some shape (among_has form shape shapes shapes_have is) bytes v s
+      at_shape (Some shape) is s = grind (arith, shape_some)
       at_shape None is s = absurd s
 
   -- ---- entries
@@ -199,15 +132,13 @@ module _ (notation : Notation) (format : Format) where
       → (entry_production notation format formats).Spells bytes entry → 0 < length bytes
   entry_some [] some bytes entry s = absurd (some refl)
   entry_some (f ∷ formats) some bytes entry s =
-      omega (arith, length-append s.1 s.2, ap length s.3, form_some f.form.0 s.1 s.0 s.4)
+      grind (arith, length-append, form_some)
 
   -- a table's entries are as many as their count says, and no more than the bytes after it
   pub entries_bounded : (formats : List FileEntryFormat) → formats ≢ [] → (bytes : List ℕ) (entries : List Entry)
       → (entries_production notation format formats).Spells bytes entries → HoldsCount bytes (length entries)
   entries_bounded formats some bytes entries s =
-      let l = entry_production notation format formats in
-      let counted = times_counted s.0 l s.2 entries s.5 in
-      (s.1, s.2, s.3, rw (← counted) s.4, times_bounded s.0 l (entry_some formats some) s.2 entries s.5)
+      grind (arith, times_counted, times_bounded, entry_some)
 
   table_bounded : (bytes : List ℕ) (table : List FileEntryFormat × List Entry)
       → (table_production notation format).Spells bytes table
@@ -223,9 +154,7 @@ module _ (notation : Notation) (format : Format) where
         ap length e.3,
         length-append b.0 b.1,
         ap length b.2,
-        b.4,
-        ap (λ (t : List FileEntryFormat × List Entry). length t.1) e.5.1,
-      )
+        ap (λ (t : List FileEntryFormat × List Entry). length t.1) e.5.1)
 
 -- ---- the tables of a header
 
@@ -235,17 +164,11 @@ name_some bytes path s = omega (arith, length-append path (0 ∷ []), ap length 
 paths_bounded : (bytes : List ℕ) (paths : List (List ℕ)) → paths_production.Spells bytes paths
     → length paths ≤ length bytes
 paths_bounded bytes paths s =
-    omega (arith, length-append s.0 (0 ∷ []), ap length s.1, each_bounded name.Spells name_some s.0 paths s.2)
+    grind (arith, length-append, each_bounded)
 
 files_bounded : (bytes : List ℕ) (files : List File) → files_production.Spells bytes files → length files ≤ length bytes
 files_bounded bytes files s =
-    omega (
-      arith,
-      length-append s.0 (0 ∷ []),
-      ap length s.1,
-      each_bounded _ (λ part file f. omega (arith, length-append f.1 f.2, ap length f.3, name_some f.1 f.0 f.4)) s.0
-          files s.2,
-    )
+    grind (arith, length-append, each_bounded)
 
 -- one production or the other
 chosen : {A : Type 0} {P : Type 0} (test : Bool) (l m : Production A) (bytes : List ℕ) (x : A) → (l.Spells bytes x → P)
@@ -266,16 +189,14 @@ module _ (notation : Notation) (encoding : Encoding) where
         ap length s.3,
         paths_bounded s.1 s.0 s.4,
         length-map {B = Value} s.0 String,
-        ap (λ (t : List FileEntryFormat × List Value). length t.1) s.5.1,
-      ))
+        ap (λ (t : List FileEntryFormat × List Value). length t.1) s.5.1))
       (λ s. omega (
         arith,
         length-append s.1 s.2,
         ap length s.3,
         table_bounded notation encoding.format s.1 s.0 s.4,
         length-map s.0.1 path_of,
-        ap (λ (t : List FileEntryFormat × List Value). length t.1) s.5.1,
-      ))
+        ap (λ (t : List FileEntryFormat × List Value). length t.1) s.5.1))
 
   all_files_bounded : (bytes : List ℕ) (table : List FileEntryFormat × List File)
       → (file_table notation encoding).Spells bytes table
@@ -287,42 +208,21 @@ module _ (notation : Notation) (encoding : Encoding) where
         length-append s.1 s.2,
         ap length s.3,
         files_bounded s.1 s.0 s.4,
-        ap (λ (t : List FileEntryFormat × List File). length t.1) s.5.1,
-      ))
+        ap (λ (t : List FileEntryFormat × List File). length t.1) s.5.1))
       (λ s. omega (
         arith,
         length-append s.1 s.2,
         ap length s.3,
         table_bounded notation encoding.format s.1 s.0 s.4,
         length-map s.0.1 file_of_entry,
-        ap (λ (t : List FileEntryFormat × List File). length t.1) s.5.1,
-      ))
+        ap (λ (t : List FileEntryFormat × List File). length t.1) s.5.1))
 
 -- the bytes that the header length counts are that many, and stand in front of the program
 opening_counted : (notation : Notation) (handed : ℕ) (format : Format) (bytes : List ℕ) (o : Opening)
     → (opening_production notation handed format).Spells bytes o
     → (length o.fields ≡ o.header_length) × (o.header_length ≤ length bytes)
 opening_counted notation handed format bytes o s =
-    let a = s.5 in
-    let l = a.5 in
-    let f = l.5 in
-    let same : length o.fields ≡ o.header_length = rw f.5.1 (ap length f.4.1 ∙ f.4.0) in
-    let long : o.header_length ≡ l.0 = ap (λ (o : Opening). o.header_length) f.5.1 in (
-      same,
-      omega (
-        arith,
-        long,
-        f.4.0,
-        length-append s.1 s.2,
-        ap length s.3,
-        length-append a.1 a.2,
-        ap length a.3,
-        length-append l.1 l.2,
-        ap length l.3,
-        length-append f.1 f.2,
-        ap length f.3,
-      ),
-    )
+    grind (arith, length-append)
 
 fields_bounded : (notation : Notation) (unit_entry : UnitEntry) (unit : ℕ) (o : Opening) (program bytes : List ℕ)
     (h : Header)
@@ -330,33 +230,7 @@ fields_bounded : (notation : Notation) (unit_entry : UnitEntry) (unit : ℕ) (o 
     → (length h.directories + length h.files ≤ length bytes) × (h.program ≡ program)
     × (h.header_length ≡ o.header_length) × (h.unit_length ≡ unit)
 fields_bounded notation unit_entry unit o program bytes h s =
-    let c = s.5 in
-    let d = c.5 in
-    let f = d.5 in
-    let is = f.5.1 in
-    let directories = directories_bounded notation o.encoding d.1 d.0 d.4 in
-    let files = all_files_bounded notation o.encoding f.1 f.0 f.4 in
-    let directories_are = ap (λ (h : Header). length h.directories) is in
-    let files_are = ap (λ (h : Header). length h.files) is in (
-      omega (
-        arith,
-        directories,
-        files,
-        directories_are,
-        files_are,
-        length-append s.1 s.2,
-        ap length s.3,
-        length-append c.1 c.2,
-        ap length c.3,
-        length-append d.1 d.2,
-        ap length d.3,
-        length-append f.1 f.2,
-        ap length f.3,
-      ),
-      ap (λ (h : Header). h.program) is,
-      ap (λ (h : Header). h.header_length) is,
-      ap (λ (h : Header). h.unit_length) is,
-    )
+    grind (arith, directories_bounded, all_files_bounded, length-append)
 
 pub unit_bounded : (notation : Notation) (unit_entry : UnitEntry) (bytes : List ℕ) (h : Header)
     → SpellsUnit notation unit_entry bytes h
@@ -372,27 +246,18 @@ unit_bounded notation unit_entry bytes h u =
     let fields = fields_bounded notation unit_entry s.0.0 o.0.0 o.0.1 f.4.1.0 f.0.0 f.4.1.2 in
     let same : h ≡ f.0.0 = f.5.1 in
     rw same (
-      omega (arith, fields.0, fields.2, opened.0, length-append f.4.1.0 f.0.1, ap length f.4.1.1),
+      omega (arith, length-append f.4.1.0 f.0.1, ap length f.4.1.1),
       omega (
         arith,
-        fields.2,
-        fields.3,
         ap length fields.1,
-        opened.1,
         length-append o.4.1.0 o.0.1,
         ap length o.4.1.1,
-        ap length i.4.1,
-        i.4.0,
-      ),
+        ap length i.4.1),
       omega (
         arith,
-        fields.3,
-        i.4.0,
-        whole,
         ap length u.2,
         length-append s.1 s.2,
         ap length s.3,
         length-append i.1 i.2,
-        ap length i.3,
-      ),
+        ap length i.3),
     )

@@ -33,22 +33,22 @@ pub record ReadsOpen {A : Type 0} (l : Production A) (read : List ℕ → Read A
 
 empty_text : (front xs rest : List ℕ) → text.Spells front xs → IsOpen (front ++ rest) → xs ≢ []
 empty_text front [] rest s clear e =
-    let whole : front ≡ 0 ∷ [] = s.1 in let o : IsOpen ((0 ∷ []) ++ rest) = rw whole at clear in o refl
+    grind arith
 empty_text front (b ∷ xs) rest s clear e = absurd cc
 
 name_opens : (front xs : List ℕ) → name.Spells front xs → Opens front
 name_opens front [] s = absurd (s.0 refl)
-name_opens front (b ∷ xs) s = record { first = b; rest = xs ++ 0 ∷ []; parts = s.1.1; other = s.1.0.0 }
+name_opens front (b ∷ xs) s = grind arith
 
 pub reads_name : ReadsOpen name text_at
 reads_name = record {
   found = λ bytes xs rest clear e.
       let f = reads_text.found bytes xs rest e in
       (f.0, f.1, (empty_text f.0 xs rest f.2 (rw f.1 at clear), f.2));
-  only = λ front xs rest s. reads_text.only front xs rest s.1;
+  only = grind (arith, reads_text);
   opens = name_opens;
-  fault = λ bytes e clear is. reads_text.fault bytes e is;
-  refused = λ bytes e clear f. reads_text.refused bytes e f;
+  fault = grind (arith, reads_text);
+  refused = grind (arith, reads_text);
 }
 
 -- ---- a production, and after it the next
@@ -61,13 +61,7 @@ module _ {A B : Type 0} (l : Production A) (next : A → Production B) (read : L
 
   both_opens : (front : List ℕ) (y : B) → (l >>> next).Spells front y → Opens front
   both_opens front y s =
-      let o = first.opens s.1 s.0 s.4 in
-      record {
-        first = o.first;
-        rest = o.rest ++ s.2;
-        parts = s.3 ∙ ap (λ (xs : List ℕ). xs ++ s.2) o.parts;
-        other = o.other;
-      }
+      grind arith
 
   both_fault : (bytes : List ℕ) (e : Error) → IsOpen bytes → (both bytes).0 ≡ Err e → (l >>> next).Fault bytes e
   both_fault bytes e clear is = elim (bind_fault (read bytes) after e is) [
@@ -76,8 +70,8 @@ module _ {A B : Type 0} (l : Production A) (next : A → Production B) (read : L
   ]
 
   both_refused : (bytes : List ℕ) (e : Error) → IsOpen bytes → (l >>> next).Fault bytes e → (both bytes).0 ≡ Err e
-  both_refused bytes e clear (inl p) = bind_refused (read bytes) after e (first.refused bytes e clear p)
-  both_refused bytes e clear (inr s) = rw (s.3, first.only s.1 s.0 s.2 s.4) ((second s.0).refused s.2 e s.5)
+  both_refused bytes e clear (inl p) = grind (arith)
+  both_refused bytes e clear (inr s) = grind arith
 
   pub reads_open_both : ReadsOpen (l >>> next) both
   reads_open_both = record {
@@ -89,10 +83,7 @@ module _ {A B : Type 0} (l : Production A) (next : A → Production B) (read : L
           p.1 ∙ ap (λ (xs : List ℕ). p.0 ++ xs) q.1 ∙ sym (append_assoc p.0 q.0 rest),
           (a.0, p.0, q.0, refl, p.2, q.2),
         );
-    only = λ front y rest s.
-        let regrouped : front ++ rest ≡ s.1 ++ (s.2 ++ rest) = ap (λ (xs : List ℕ). xs ++ rest) s.3
-        ∙ append_assoc s.1 s.2 rest in
-        ap both regrouped ∙ rw (first.only s.1 s.0 (s.2 ++ rest) s.4) ((second s.0).only s.2 y rest s.5);
+    only = grind (arith, append_assoc);
     opens = both_opens;
     fault = both_fault;
     refused = both_refused;
@@ -117,12 +108,11 @@ open_is [] clear = refl
 open_is (b ∷ bytes) clear = ne_eqb b 0 clear
 
 opens_is : (front rest : List ℕ) → Opens front → is_closed (front ++ rest) ≡ false
-opens_is front rest o = rw o.parts (ne_eqb o.first 0 o.other)
+opens_is front rest o = grind (arith)
 
 opens_longer : (front rest : List ℕ) → Opens front → length rest < length (front ++ rest)
 opens_longer front rest o =
-    let some : length front ≡ suc (length o.rest) = ap length o.parts in
-    omega (arith, length-append front rest)
+    grind (arith, length-append)
 
 module _ {A : Type 0} (l : Production A) (read : List ℕ → Read A) (r : ReadsOpen l read) where
   -- another value, and the further ones

@@ -124,7 +124,7 @@ module _ (notation : Notation) (h : Header) (bytes rest : List ℕ) where
       → IsExecutedAs h.parameters (ins_at notation h bytes) after old new told
   standard_executed opcode base is some lt read after old new told x =
       let below : nat_le h.parameters.opcode_base opcode
-      ≡ false = lt-leb h.parameters.opcode_base opcode (omega (arith, lt, is)) in
+      ≡ false = lt-leb h.parameters.opcode_base opcode (omega (arith)) in
       rw (standard_first opcode some below read) x
 
 -- ---- what is told

@@ -58,9 +58,9 @@ use Rattle.gimli_line.proofs.Closed.{ReadsOpen, reads_name, reads_open_both, rea
 pub reads_guard : {A : Type 0} (b : Bool) (d : Error) (m : Production A) (after : List ℕ → Read A) → Reads m after
     → Reads (check b d >>> λ ok. m) (λ bytes. if b then after bytes else (Err d, bytes))
 reads_guard true d m after r =
-    reads_both (check true d) (λ ok. m) (check_at true d) (λ ok. after) (reads_check true d) (λ ok. r)
+    reads_both _ (λ ok. m) _ (λ ok. after) (reads_check true d) (λ ok. r)
 reads_guard false d m after r =
-    reads_both (check false d) (λ ok. m) (check_at false d) (λ ok. after) (reads_check false d) (λ ok. r)
+    reads_both _ (λ ok. m) _ (λ ok. after) (reads_check false d) (λ ok. r)
 
 pub reads_positive : (d : Error) → Reads (positive d) (positive_at d)
 unfolding positive_at
@@ -70,29 +70,29 @@ reads_positive d =
 -- ---- the values of forms
 
 reads_block : (n : ℕ) → Reads (block_production n) (block_at n)
-reads_block n = reads_both (some_bytes n) _ _ _ (reads_some_bytes n) (λ xs. reads_done (Block xs))
+reads_block n = reads_both _ _ _ _ (reads_some_bytes n) (λ xs. reads_done _)
 
 module _ (notation : Notation) (format : Format) where
   reads_shape : (shape : Shape) → Reads (shape_production notation format shape) (shape_at notation format shape)
   reads_shape (fixed size make) =
-      reads_both (number notation.big size) _ _ _ (reads_number notation.big size) (λ n. reads_done (make n))
+      reads_both _ _ _ _ (reads_number notation.big size) (λ n. reads_done _)
   reads_shape (three_bytes make) =
-      reads_both (below_limit notation (number notation.big 3)) _ _ _
-      (reads_below_limit notation (number notation.big 3) _ (reads_number notation.big 3)) (λ n.
-      reads_done (make n))
+      reads_both _ _ _ _
+      (reads_below_limit notation _ _ (reads_number notation.big 3)) (λ n.
+      reads_done _)
   reads_shape (word_offset make) =
-      reads_both (offset_word notation format) _ _ _ (reads_offset_word notation format) (λ n. reads_done (make n))
-  reads_shape (leb make) = reads_both unsigned _ _ _ reads_unsigned (λ n. reads_done (make n))
-  reads_shape (signed_leb make) = reads_both signed _ _ _ reads_signed (λ z. reads_done (make z))
+      reads_both _ _ _ _ (reads_offset_word notation format) (λ n. reads_done _)
+  reads_shape (leb make) = reads_both unsigned _ _ _ reads_unsigned (λ n. reads_done _)
+  reads_shape (signed_leb make) = reads_both signed _ _ _ reads_signed (λ z. reads_done _)
   reads_shape (leb_offset make) =
-      reads_both (below_limit notation unsigned) _ _ _ (reads_below_limit notation unsigned _ reads_unsigned) (λ n.
-      reads_done (make n))
+      reads_both _ _ _ _ (reads_below_limit notation unsigned _ reads_unsigned) (λ n.
+      reads_done _)
   reads_shape (block size) = reads_block size
-  reads_shape (counted size) = reads_both (number notation.big size) _ _ _ (reads_number notation.big size) reads_block
+  reads_shape (counted size) = reads_both _ _ _ _ (reads_number notation.big size) reads_block
   reads_shape leb_counted =
-      reads_both (below_limit notation unsigned) _ _ _ (reads_below_limit notation unsigned _ reads_unsigned)
+      reads_both _ _ _ _ (reads_below_limit notation unsigned _ reads_unsigned)
       reads_block
-  reads_shape string = reads_both text _ _ _ reads_text (λ xs. reads_done (String xs))
+  reads_shape string = reads_both text _ _ _ reads_text (λ xs. reads_done _)
 
   pub reads_form : (form : ℕ) → Reads (form_production notation format form) (form_at notation format form)
   unfolding form_at
@@ -153,8 +153,8 @@ module _ (notation : Notation) (format : Format) where
       → Reads (entry_production notation format formats) (entry_at notation format formats)
   reads_entry [] = reads_done []
   reads_entry (f ∷ formats) =
-      reads_both (form_production notation format f.form.0) _ _ _ (reads_form notation format f.form.0)
-      (λ value. reads_both (entry_production notation format formats) _ _ _ (reads_entry formats) (λ values.
+      reads_both _ _ _ _ (reads_form notation format f.form.0)
+      (λ value. reads_both _ _ _ _ (reads_entry formats) (λ values.
       reads_done _))
 
   pub reads_entries : (formats : List FileEntryFormat)
@@ -234,7 +234,7 @@ module _ {A B : Type 0} (f : A → B) where
       → (r >>= λ x rest. (let s : Read (List FileEntryFormat × B) = (Ok (none, f x), rest) in s))
       ≡ (read_map f r >>= λ y rest. (Ok (none, y), rest))
   paired none (Ok x, rest) = refl
-  paired none (Err e, rest) = refl
+  paired none _ = refl
 
 table_viewed : {B : Type 0} (view : Entry → B) (read : List FileEntryFormat → List ℕ → Read (List Entry))
     (r : Read (List FileEntryFormat))
@@ -242,16 +242,16 @@ table_viewed : {B : Type 0} (view : Entry → B) (read : List FileEntryFormat �
     (let s : Read (List FileEntryFormat × List Entry) = (Ok (formats, xs), end) in s))
     >>= λ table rest. (let t : Read (List FileEntryFormat × List B) = (Ok (table.0, map view table.1), rest) in t))
     ≡ (r >>= λ formats rest. read_map (map view) (read formats rest) >>= λ ys end. (Ok (formats, ys), end))
-table_viewed {B} view read (Ok formats, rest) = inner (read formats rest)
+table_viewed {B} view read (Ok formats, rest) = inner _
   where
-    inner : (r : Read (List Entry))
+    inner : (r : Read _)
         → ((r >>= λ xs rest. (let s : Read (List FileEntryFormat × List Entry) = (Ok (formats, xs), rest) in s))
         >>= λ table rest.
         (let t : Read (List FileEntryFormat × List B) = (Ok (table.0, map view table.1), rest) in t))
         ≡ (read_map (map view) r >>= λ ys rest. (Ok (formats, ys), rest))
     inner (Ok xs, rest) = refl
-    inner (Err e, rest) = refl
-table_viewed view read (Err e, rest) = refl
+    inner _ = refl
+table_viewed view read _ = refl
 
 reads_entries_seen : {B : Type 0} (view : Entry → B) (notation : Notation) (format : Format)
     → Reads {A = List FileEntryFormat × List B} (table_production notation format >>> λ table.
@@ -330,22 +330,22 @@ module _ (notation : Notation) (unit_entry : UnitEntry) where
   -- the same where the bytes after it aren't named
   pub unit_answered : (bytes : List ℕ) (h : Header) → (header_at notation unit_entry bytes).0 ≡ Ok h
       → SpellsUnit notation unit_entry bytes h
-  unit_answered bytes h is = at_rest (header_at notation unit_entry bytes) refl is
+  unit_answered bytes h is = at_rest _ refl is
     where
       at_rest : (r : Read Header) → header_at notation unit_entry bytes ≡ r → r.0 ≡ Ok h
           → SpellsUnit notation unit_entry bytes h
       at_rest (Ok k, rest) same is =
           let whole : k
           ≡ h = cc in unit_found bytes h rest
-          (same ∙ ap (λ (x : Header). let r : Read Header = (Ok x, rest) in r) whole)
-      at_rest (Err e, rest) same is = absurd cc
+          (same ∙ ap (λ x. let r : Read Header = (Ok x, rest) in r) whole)
+      at_rest _ same is = absurd cc
 
   -- the header of a unit in front is read
   pub unit_read : (bytes : List ℕ) (h : Header) → SpellsUnit notation unit_entry bytes h
       → (header_at notation unit_entry bytes).0 ≡ Ok h
   unit_read bytes h s =
-      ap (λ (xs : List ℕ). (header_at notation unit_entry xs).0) s.2
-      ∙ ap (λ (r : Read Header). r.0) ((reads_header notation unit_entry).only s.0 h s.1 s.3)
+      ap (λ xs. (header_at notation unit_entry xs).0) s.2
+      ∙ ap (λ r. r.0) ((reads_header notation unit_entry).only s.0 h s.1 s.3)
 
   -- a unit has one header
   pub one_header : (bytes : List ℕ) (h k : Header) → SpellsUnit notation unit_entry bytes h
@@ -370,7 +370,7 @@ module _ (notation : Notation) (unit_entry : UnitEntry) where
   pub unit_or_fault : (bytes : List ℕ)
       → ((h : Header) × SpellsUnit notation unit_entry bytes h)
       ⊎ ((e : Error) × HasHeaderFault notation unit_entry bytes e)
-  unit_or_fault bytes = elim (answer_of (header_at notation unit_entry bytes)) [
+  unit_or_fault bytes = elim (answer_of _) [
     | given_ok h rest is ↦ inl (h, unit_found bytes h rest is)
     | given_err e is ↦ inr (e, (reads_header notation unit_entry).fault bytes e is)
   ]

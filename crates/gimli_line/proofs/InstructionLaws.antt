@@ -52,10 +52,7 @@ module _ {A : Type 0} (l : Production A) (read : List ℕ → Read A) (r : Reads
       (f.0, whole, (sym p.0 ∙ front_at bytes f.0 a.1 f.1, (a.0, f.2)))
 
   bytes_fault : (bytes : List ℕ) (e : Error) → (bytes_at read bytes).0 ≡ Err e → l.Fault bytes e
-  bytes_fault bytes e is = elim (bind_fault (read bytes) (as_bytes bytes) e is) [
-    | inl p ↦ r.fault bytes e p
-    | inr a ↦ let no = a.3 in absurd cc
-  ]
+  bytes_fault bytes e is = grind (arith)
 
   pub reads_bytes_of : Reads (bytes_of l) (bytes_at read)
   reads_bytes_of = record {
@@ -152,8 +149,7 @@ module _ (notation : Notation) (h : Header) where
   -- an instruction has bytes
   pub takes_bytes : (front : List ℕ) (i : Ins) → SpellsInstruction notation h front i → 0 < length front
   takes_bytes front i s =
-      let some : length s.1 ≡ 1 = ap length s.4 in
-      omega (arith, length-append s.1 s.2, ap length s.3)
+      grind (arith)
 
   decoding_is : (more : ℕ) (bytes : List ℕ) → length bytes ≤ more
       → Decodes notation h bytes (decoded_upto notation h more bytes).0 (decoded_upto notation h more bytes).1

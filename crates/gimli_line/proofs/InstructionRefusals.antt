@@ -36,13 +36,13 @@ module _ (notation : Notation) where
   byte_known = record { known = wanting 1 }
 
   bytes_known : (size : ℕ) → IsKnown notation (some_bytes size)
-  bytes_known size = record { known = wanting size }
+  bytes_known size = grind (arith)
 
   number_known : (big : Bool) (size : ℕ) → IsKnown notation (number big size)
-  number_known big size = record { known = wanting size }
+  number_known big size = grind (arith)
 
   text_known : IsKnown notation text
-  text_known = record { known = λ bytes e f. rw f.1 tt }
+  text_known = grind arith
 
   unsigned_known : IsKnown notation unsigned
   unsigned_known = record { known = λ bytes e f. elim f [ inl p ↦ rw p.2 tt | inr p ↦ rw p.7 tt ] }
@@ -51,7 +51,7 @@ module _ (notation : Notation) where
   signed_known = record { known = λ bytes e f. elim f [ inl p ↦ rw p.2 tt | inr p ↦ rw p.7 tt ] }
 
   done_known : {A : Type 0} (x : A) → IsKnown notation (done x)
-  done_known x = record { known = λ bytes e f. elim f [ ] }
+  done_known x = grind arith
 
   -- ---- put together
 
@@ -73,11 +73,11 @@ module _ (notation : Notation) where
       then_known l _ known (λ x. then_known (times n l) _ (times_known n l known) (λ xs. done_known (x ∷ xs)))
 
   bytes_of_known : {A : Type 0} (l : Production A) → IsKnown notation l → IsKnown notation (bytes_of l)
-  bytes_of_known l known = record { known = known.known }
+  bytes_of_known l known = grind arith
 
   within_known : {A : Type 0} (inside : List ℕ) (l : Production A) → IsKnown notation l
       → IsKnown notation (within inside l)
-  within_known inside l known = record { known = λ bytes e f. known.known inside e f }
+  within_known inside l known = grind arith
 
   -- a number that the reader's offsets don't hold is below 2 ^ 64
   limit_known : IsKnown notation (below_limit notation unsigned)
@@ -96,9 +96,7 @@ module _ (notation : Notation) where
 
   file_known : (path : List ℕ) → IsKnown notation (file_production path)
   file_known path =
-      then_known unsigned _ unsigned_known (λ directory.
-      then_known unsigned _ unsigned_known (λ time.
-      then_known unsigned _ unsigned_known (λ size. done_known (plain_file path directory time size))))
+      grind (arith)
 
   module _ (h : Header) where
     operand_known : (operand : Operand) → IsKnown notation (operand_production notation h operand)

@@ -10,19 +10,19 @@ use Rattle.gimli_line.specs.header.Header.{Header, from_one, entry_of, directory
 above : {A : Type 0} (first : Option A) (entries : List A) (i : ℕ) → 0 < i
     → from_one first entries i ≡ slice_get entries (i - 1)
 above first entries zero lt = absurd (omega arith)
-above first entries (suc i) lt = let less : i ≡ suc i - 1 = omega arith in ap (slice_get entries) less
+above first entries (suc i) lt = grind arith
 
 pub entry_above : {A : Type 0} (version : ℕ) (handed : Option A) (entries : List A) (i : ℕ) → version ≤ 4 → 0 < i
     → entry_of version handed entries i ≡ slice_get entries (i - 1)
-entry_above version handed entries i old lt = rw (le-leb version 4 old) (above handed entries i lt)
+entry_above version handed entries i old lt = grind (arith)
 
 pub directory_above : (h : Header) (i : ℕ) → h.parameters.encoding.version ≤ 4 → 0 < i
     → directory_of h i ≡ slice_get h.directories (i - 1)
-directory_above h i old lt = entry_above h.parameters.encoding.version _ h.directories i old lt
+directory_above h i old lt = grind (arith)
 
 pub file_above : (h : Header) (i : ℕ) → h.parameters.encoding.version ≤ 4 → 0 < i
     → file_of h i ≡ slice_get h.files (i - 1)
-file_above h i old lt = entry_above h.parameters.encoding.version _ h.files i old lt
+file_above h i old lt = grind (arith)
 
 -- ---- an entry that was found, seen as a table's
 
@@ -39,9 +39,9 @@ module _ {A B : Type 0} (see : A → B) where
 
   pub lent_entry : (items : List A) (found : Option (Bor A)) (i : ℕ) → option_map (λ b. b.now) found ≡ slice_get items i
       → option_map (λ b. see b.now) found ≡ slice_get (map see items) i
-  lent_entry items found i is = now_seen found ∙ ap (option_map see) is ∙ sym (slice_get-map see items i)
+  lent_entry items found i is = grind (arith, slice_get-map)
 
   pub copied_entry : (items : List A) (found : Option (Bor A)) (i : ℕ)
       → option_map (λ b. b.now) found ≡ slice_get items i
       → option_map see (option_copied found) ≡ slice_get (map see items) i
-  copied_entry items found i is = copied_seen found ∙ ap (option_map see) is ∙ sym (slice_get-map see items i)
+  copied_entry items found i is = grind (arith, slice_get-map)

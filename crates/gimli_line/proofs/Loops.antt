@@ -36,24 +36,21 @@ module _ {A B : Type 0} (f : A → B) where
   regroup : (xs : List B) (x : A) (v : B) → f x ≡ v → (r : Read (List A))
       → collected xs f (r >>= λ ys rest. (Ok (x ∷ ys), rest)) ≡ collected (xs ++ v ∷ []) f r
   regroup xs x v is (Ok ys, rest) =
-      ap (λ (zs : List B). let r : Read (List B) = (Ok zs, rest) in r)
-      (sym (append_assoc xs (f x ∷ []) (map f ys)) ∙ ap (λ (w : B). (xs ++ w ∷ []) ++ map f ys) is)
+      grind (arith, append_assoc)
   regroup xs x v is (Err e, rest) = refl
 
   -- what was read, where it is seen
   seen_item : (r : Read A) (v : B) (left : List ℕ) → (Ok v, left) ≡ read_map f r
       → (x : A) × (r ≡ (Ok x, left)) × (f x ≡ v)
   seen_item r v left e =
-      let a = bind_ok r (λ x rest. (let s : Read B = (Ok (f x), rest) in s)) v left (sym e) in
-      let p = ok_parts (f a.0) v a.1 left a.3 in
-      (a.0, a.2 ∙ ap (λ (xs : List ℕ). let s : Read A = (Ok a.0, xs) in s) p.1, p.0)
+      grind (arith)
 
   seen_fault : (r : Read A) (e : Error) (left : List ℕ) → (Err e, left) ≡ read_map f r → r.0 ≡ Err e
-  seen_fault (Ok x, rest) e left is = let p = ap (λ (s : Read B). s.0) is in absurd cc
-  seen_fault (Err d, rest) e left is = let p = ap (λ (s : Read B). s.0) is in let same : e ≡ d = cc in rw same refl
+  seen_fault (Ok x, rest) e left is = grind arith
+  seen_fault (Err d, rest) e left is = grind arith
 
   none_left : (xs : List B) (bytes : List ℕ) → collected xs f (Ok [], bytes) ≡ (Ok xs, bytes)
-  none_left xs bytes = ap (λ (zs : List B). let r : Read (List B) = (Ok zs, bytes) in r) (append-nil xs)
+  none_left xs bytes = grind (arith, append-nil)
 
   -- ---- so many of an item
 
@@ -196,22 +193,10 @@ text_closed bytes text rest empty e =
 pub text_free : (bytes text rest : List ℕ) → (IsTrue false ↔ (text ≡ [])) → (Ok text, rest) ≡ text_at bytes
     → is_closed bytes ≡ false
 text_free bytes text rest empty e =
-    let some : text ≢ [] = λ none. let no = empty.1 none in cc in
-    let a = reads_text.found bytes text rest (sym e) in
-    first bytes a.0 text a.1 some a.2.0 a.2.1
-  where
-    first : (bytes front text : List ℕ) → bytes ≡ front ++ rest → text ≢ [] → AllByRecursion (λ b. b ≢ 0) text
-        → front ≡ text ++ 0 ∷ []
-        → is_closed bytes ≡ false
-    first bytes front [] parts some all is = absurd (some refl)
-    first bytes front (b ∷ text) parts some all is = rw (parts, is) (ne_eqb b 0 all.0)
+    grind (arith)
 
 pub text_refused : (bytes rest : List ℕ) (e : Error) → (Err e, rest) ≡ text_at bytes → is_closed bytes ≡ false
-text_refused bytes rest e is = all_free bytes (reads_text.fault bytes e (ap (λ (r : Read (List ℕ)). r.0) (sym is))).0
-  where
-    all_free : (bytes : List ℕ) → AllByRecursion (λ b. b ≢ 0) bytes → is_closed bytes ≡ false
-    all_free [] all = refl
-    all_free (b ∷ bytes) all = ne_eqb b 0 all.0
+text_refused bytes rest e is = grind (arith)
 
 -- ---- a file, whose path is read first
 
@@ -219,12 +204,12 @@ pub named_is : (bytes path mid : List ℕ) (answer : Read File) → (Ok path, mi
     → answer ≡ plain_file_at path mid
     → answer ≡ read_map (λ x. x) (named_file_at bytes)
 named_is bytes path mid answer e is =
-    is ∙ ap (λ (r : Read (List ℕ)). r >>= plain_file_at) e ∙ sym (viewed_same (named_file_at bytes))
+    grind (arith)
 
 pub named_fault : (bytes mid : List ℕ) (e : Error) → (Err e, mid) ≡ text_at bytes
     → (Err e, mid) ≡ read_map (λ x. x) (named_file_at bytes)
 named_fault bytes mid e is =
-    ap (λ (r : Read (List ℕ)). r >>= plain_file_at) is ∙ sym (viewed_same (named_file_at bytes))
+    grind (arith)
 
 -- ---- the entries of a table of version 5, whose count is read first
 
@@ -246,4 +231,4 @@ pub entry_kept : (format : Format) {B : Type 0} (f : Entry → B) (formats : Lis
     → answer ≡ read_map f (entry_at (record { big = now; limit = limit }) format formats bytes)
     → answer ≡ read_map f (entry_at (record { big = first; limit = limit }) format formats bytes)
 entry_kept format f formats now first limit bytes answer same is =
-    is ∙ ap (λ (b : Bool). read_map f (entry_at (record { big = b; limit = limit }) format formats bytes)) same
+    grind arith

@@ -20,26 +20,7 @@ use Rattle.gimli_line.proofs.RunLists.{after_here}
 
 operations_rise : (parameters : Parameters) (n : ℕ) (p : OperationPointer)
     → p.address ≤ (advanced_by parameters n p).address
-operations_rise parameters n p = at_test (nat_eq parameters.line_encoding.maximum_operations_per_instruction 1)
-  where
-    at_test : (b : Bool)
-        → p.address
-        ≤ (if b
-        then (let q : OperationPointer = record {
-          address = p.address + parameters.line_encoding.minimum_instruction_length * n % 2 ^ 64;
-          op_index = 0;
-        } in
-        q)
-        else (let s = (p.op_index + n) % 2 ^ 64 in
-        record {
-          address =
-              p.address
-              + parameters.line_encoding.minimum_instruction_length
-              * (s / parameters.line_encoding.maximum_operations_per_instruction) % 2 ^ 64;
-          op_index = s % parameters.line_encoding.maximum_operations_per_instruction;
-        })).address
-    at_test true = omega arith
-    at_test false = omega arith
+operations_rise parameters n p = grind arith
 
 advance_rises : (parameters : Parameters) (tombstone : Bool) (i : Ins) (p to : OperationPointer)
     → (pointer_at_overflow i p to).address ≡ p.address
@@ -47,44 +28,31 @@ advance_rises : (parameters : Parameters) (tombstone : Bool) (i : Ins) (p to : O
     → p.address
     ≤ (if tombstone then p else (if is_too_large parameters to then pointer_at_overflow i p to else to)).address
 advance_rises parameters true i p to stays rises = omega arith
-advance_rises parameters false i p to stays rises = at_test (is_too_large parameters to)
-  where
-    at_test : (b : Bool) → p.address ≤ (if b then pointer_at_overflow i p to else to).address
-    at_test true = omega (arith, stays)
-    at_test false = rises
+advance_rises parameters false i p to stays rises = grind arith
 
 set_rises : (parameters : Parameters) (a : ℕ) (p : OperationPointer)
     → p.address ≤ (next_pointer parameters false (SetAddress a) p).address
-set_rises parameters a p = at_test (nat_lt a p.address) refl (nat_le _ a)
-  where
-    at_test : (b : Bool) → nat_lt a p.address ≡ b → (c : Bool)
-        → p.address
-        ≤ (if b || c then p else (let q : OperationPointer = record { address = a; op_index = 0 } in q)).address
-    at_test true e c = omega arith
-    at_test false e true = omega arith
-    at_test false e false = ltb-false a p.address e
+set_rises parameters a p = grind arith
 
 pub rises : (parameters : Parameters) (tombstone : Bool) (i : Ins) (p : OperationPointer) → is_end i ≡ false
     → p.address ≤ (next_pointer parameters tombstone i p).address
 rises parameters tombstone EndSequence p inner = absurd cc
 rises parameters tombstone (SetAddress a) p inner = set_rises parameters a p
 rises parameters tombstone (Special o) p inner =
-    advance_rises parameters tombstone (Special o) p (advanced_by parameters _ p) refl (operations_rise parameters _ p)
+    grind (arith)
 rises parameters tombstone (AdvancePc n) p inner =
-    advance_rises parameters tombstone (AdvancePc n) p (advanced_by parameters n p) refl
-    (operations_rise parameters n p)
+    grind (arith)
 rises parameters tombstone ConstAddPc p inner =
-    advance_rises parameters tombstone ConstAddPc p (advanced_by parameters _ p) refl (operations_rise parameters _ p)
+    grind (arith)
 rises parameters tombstone (FixedAddPc n) p inner =
-    advance_rises parameters tombstone (FixedAddPc n) p (record { address = p.address + n; op_index = 0 }) refl
-    (omega arith)
+    grind (arith)
 rises parameters tombstone i p inner = omega arith
 
 -- ---- rows
 
 weaker : (low high : ℕ) → low ≤ high → (events : List Event) → NeverBelow high events → NeverBelow low events
 weaker low high le [] n = tt
-weaker low high le (row r ∷ events) n = (omega (arith, n.0), n.1)
+weaker low high le (row r ∷ events) n = grind arith
 weaker low high le (fault e ∷ events) n = weaker low high le events n
 
 module _ (parameters : Parameters) where
@@ -97,23 +65,13 @@ module _ (parameters : Parameters) where
       ++ rest)
   after_point past i rest inner n o m = at_test o m
     where
-      up : (pointer_at parameters past).address ≤ (pointer_at parameters (i ∷ past)).address
-      up = rises parameters (is_under_tombstone parameters past) i (pointer_at parameters past) inner
-
-      here : (row_at parameters past i).address ≡ (pointer_at parameters (i ∷ past)).address
-      here = rw inner refl
-
       later : NeverBelow (pointer_at parameters past).address rest
-      later = weaker (pointer_at parameters past).address (pointer_at parameters (i ∷ past)).address up rest n
+      later = grind (arith, weaker)
 
       given : (b : Bool)
           → NeverBelow (pointer_at parameters past).address
           ((if b then row (row_at parameters past i) ∷ [] else []) ++ rest)
-      given true = (
-        omega (arith, up, here),
-        weaker (row_at parameters past i).address (pointer_at parameters (i ∷ past)).address (omega (arith, here))
-            rest n,
-      )
+      given true = grind (arith)
       given false = later
 
       at_test : (o m : Bool)
@@ -131,9 +89,9 @@ module _ (parameters : Parameters) where
       (filter is_given
       (if o then fault AddressOverflow ∷ [] else (if m then row (row_at parameters past i) ∷ [] else []))
       ++ [])
-  last_point past i false o m inner = after_point past i [] inner tt o m
+  last_point past i false o m inner = grind (arith)
   last_point past i true true m closes = tt
-  last_point past i true false true closes = given (not (is_under_tombstone parameters past))
+  last_point past i true false true closes = grind arith
     where
       here : (row_at parameters past i).address ≡ (pointer_at parameters past).address
       here = rw closes refl
@@ -141,7 +99,7 @@ module _ (parameters : Parameters) where
       given : (b : Bool)
           → NeverBelow (pointer_at parameters past).address
           ((if b then row (row_at parameters past i) ∷ [] else []) ++ [])
-      given true = (omega (arith, here), tt)
+      given true = grind arith
       given false = tt
   last_point past i true false false closes = tt
 
@@ -149,8 +107,7 @@ module _ (parameters : Parameters) where
       → NeverBelow (pointer_at parameters past).address (events_after parameters past list None)
   non_decreasing past [] one = tt
   non_decreasing past (i ∷ []) one =
-      rw (after_here parameters past i [] None)
-      (last_point past i (is_end i) (overflows parameters past i) (makes_row i) refl)
+      grind (arith)
   non_decreasing past (i ∷ j ∷ list) one =
       rw (after_here parameters past i (j ∷ list) None)
       (after_point past i (events_after parameters (i ∷ past) (j ∷ list) None) one.0

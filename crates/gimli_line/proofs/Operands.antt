@@ -27,9 +27,7 @@ module _ {A : Type 0} (read : List ℕ → Read A) where
       → (Err e, left) ≡ read bytes
       → without_value (times_at (count - i) read bytes) ≡ total → (Err e, left) ≡ total
   pass_ends count i bytes e left total lt is so_far =
-      let k : count - i ≡ suc (count - (i + 1)) = omega arith in
-      let one : without_value (times_at (count - i) read bytes) ≡ (Err e, left) = rw (k, ← is) refl in
-      sym one ∙ so_far
+      grind arith
 
 -- what was passed over stood in front of what is left
 pub passed_front : (count : ℕ) (bytes left : List ℕ) (u : Unit {0})

@@ -33,11 +33,11 @@ one_at_most false true r = omega arith
 one_at_most false false r = omega arith
 
 length_with_files : (files : List File) (events : List Event) → length (with_files files events) ≡ length events
-length_with_files files events = length-map events (λ e. record { event = e; files = files })
+length_with_files files events = grind (arith, length-map)
 
 few_after : (parameters : Parameters) (files : List Ins → List File) (past list : List Ins) (end : Option Error)
     → length (made_after parameters files past list end) ≤ length list + length (end_events end)
-few_after parameters files past [] end = omega (arith, length_with_files (files past) (end_events end))
+few_after parameters files past [] end = grind (arith)
 few_after parameters files past (i ∷ list) end =
     let here = made_at parameters past i in
     omega (
@@ -45,8 +45,7 @@ few_after parameters files past (i ∷ list) end =
       length-append (with_files (files past) here) (made_after parameters files (i ∷ past) list end),
       length_with_files (files past) here,
       one_at_most (overflows parameters past i) (makes_row i) (row_at parameters past i),
-      few_after parameters files (i ∷ past) list end,
-    )
+      few_after parameters files (i ∷ past) list end)
 
 few_from : (appends : Bool) (parameters : Parameters) (r : LineRow) (files : List File) (list : List Ins)
     (end : Option Error)
@@ -60,8 +59,7 @@ few_from appends parameters r files (i ∷ list) end =
       length-append (with_files files here) later,
       length_with_files files here,
       one_at_most (is_refused parameters i r) (makes_row i) (step_of parameters i r),
-      few_from appends parameters (next_registers parameters i r) (files_after appends i files) list end,
-    )
+      few_from appends parameters (next_registers parameters i r) (files_after appends i files) list end)
 
 few_given : (events : List EventWithFiles) → length (given_of events) ≤ length events
 few_given [] = omega arith
@@ -69,8 +67,8 @@ few_given (e ∷ events) = by (is_given e.event) (few_given events)
   where
     by : (b : Bool) → length (given_of events) ≤ length events
         → length (if b then e ∷ given_of events else given_of events) ≤ suc (length events)
-    by true few = omega (arith, few)
-    by false few = omega (arith, few)
+    by true few = omega (arith)
+    by false few = omega (arith)
 
 -- ---- no more instructions than bytes; where the end is refused, a byte is left for it
 
@@ -104,7 +102,7 @@ module _ (notation : Notation) (h : Header) where
       ≡ length (decoded_at notation h bytes).0 + length (end_events (decoded_at notation h bytes).1) =
       ap (λ (p : List Ins × Option Error). length p.0 + length (end_events p.1))
       (one_decoding notation h bytes list end c) in
-      omega (arith, same, taken_bounded bytes)
+      omega (arith, taken_bounded bytes)
 
   -- ---- no more events than bytes
 
@@ -115,8 +113,7 @@ module _ (notation : Notation) (h : Header) where
         arith,
         ap length m.made,
         few_after h.parameters (files_at appends h.files) [] m.list m.end,
-        decoded_bounded bytes m.list m.end m.decoding,
-      )
+        decoded_bounded bytes m.list m.end m.decoding)
 
   pub events_bounded : (bytes : List ℕ) (events : List Event) → Events notation h bytes events
       → length events ≤ length bytes
@@ -128,8 +125,7 @@ module _ (notation : Notation) (h : Header) where
         length-map (given_of made) (λ (t : EventWithFiles). t.event),
         few_given made,
         few_after h.parameters (λ before. []) [] given.list given.end,
-        decoded_bounded bytes given.list given.end given.decoding,
-      )
+        decoded_bounded bytes given.list given.end given.decoding)
 
   pub with_files_bounded : (appends : Bool) (bytes : List ℕ) (events : List EventWithFiles)
       → EventsWithFiles notation appends h bytes events
@@ -141,18 +137,11 @@ module _ (notation : Notation) (h : Header) where
         ap length given.given,
         few_given made,
         made_bounded appends bytes made
-            (record { list = given.list; end = given.end; decoding = given.decoding; made = refl }),
-      )
+            (record { list = given.list; end = given.end; decoding = given.decoding; made = refl }))
 
 pub made_left_bounded : (rows : RunState) → length (made_left rows) ≤ length rows.unread.bytes
 made_left_bounded rows =
-    let a = with_reset_row rows in
-    let taken = decoded_at a.unread.notation a.fixed a.unread.bytes in
-    omega (
-      arith,
-      few_from a.appends a.fixed.parameters a.row a.files taken.0 taken.1,
-      taken_bounded a.unread.notation a.fixed a.unread.bytes,
-    )
+    grind (arith, few_from, taken_bounded)
 
 pub left_bounded : (rows : RunState) → length (events_left rows) ≤ length rows.unread.bytes
-left_bounded rows = omega (arith, few_given (made_left rows), made_left_bounded rows)
+left_bounded rows = grind (arith, few_given, made_left_bounded)

@@ -39,18 +39,18 @@ module _ (notation : Notation) (h : Header) (bytes : List ℕ) where
   pub decoded_fault : (e : Error) → bytes ≢ [] → (instruction_production notation h).Fault bytes e
       → decoded_at notation h bytes ≡ ([], Some e)
   decoded_fault e some f =
-      sym (one_decoding notation h bytes [] (Some e)
+      sym (one_decoding notation h bytes [] _
       (record { front = []; rest = bytes; parts = refl; spelled = refl; ended = (some, f) }))
 
   pub decoded_some : (i : Ins) (front rest : List ℕ) → bytes ≡ front ++ rest → SpellsInstruction notation h front i
       → decoded_at notation h bytes ≡ (i ∷ (decoded_at notation h rest).0, (decoded_at notation h rest).1)
   decoded_some i front rest parts s =
       let c = is_decoded notation h rest in
-      sym (one_decoding notation h bytes (i ∷ (decoded_at notation h rest).0) (decoded_at notation h rest).1 (record {
+      sym (one_decoding notation h bytes _ (decoded_at notation h rest).1 (record {
         front = front ++ c.front;
         rest = c.rest;
-        parts = parts ∙ ap (λ (xs : List ℕ). front ++ xs) c.parts ∙ sym (append_assoc front c.front c.rest);
-        spelled = (front, c.front, refl, s, c.spelled);
+        parts = grind (arith, append_assoc);
+        spelled = grind arith;
         ended = c.ended;
       }))
 
@@ -58,32 +58,16 @@ pub decodes_on : (n : Notation) (h : Header) (bytes : List ℕ) (list : List Ins
     → bytes ≡ front ++ rest
     → Each (SpellsInstruction n h) front list
     → decoded_at n h bytes ≡ (list ++ (decoded_at n h rest).0, (decoded_at n h rest).1)
-decodes_on n h bytes [] front rest parts s = ap (decoded_at n h) (parts ∙ ap (λ (xs : List ℕ). xs ++ rest) s)
+decodes_on n h bytes [] front rest parts s = grind arith
 decodes_on n h bytes (i ∷ list) front rest parts s =
-    let whole : bytes ≡ s.0 ++ (s.1 ++ rest) = parts ∙ ap (λ (xs : List ℕ). xs ++ rest) s.2
-    ∙ append_assoc s.0 s.1 rest in
+    let whole : bytes ≡ s.0 ++ (s.1 ++ rest) = grind (arith, append_assoc) in
     decoded_some n h bytes i s.0 (s.1 ++ rest) whole s.3
     ∙ ap (λ (c : List Ins × Option Error). (i ∷ c.0, c.1)) (decodes_on n h (s.1 ++ rest) list s.1 rest refl s.4)
 
 -- the files of a header mean nothing to its program
 pub bare_decoding : (notation : Notation) (h : Header) (bytes : List ℕ) (list : List Ins) (end : Option Error)
     → Decodes notation (without_files h) bytes list end → Decodes notation h bytes list end
-bare_decoding notation h bytes list end c = record {
-  front = c.front;
-  rest = c.rest;
-  parts = c.parts;
-  spelled = each c.front list c.spelled;
-  ended = end_is end c.ended;
-}
-  where
-    each : (front : List ℕ) (list : List Ins) → Each (SpellsInstruction notation (without_files h)) front list
-        → Each (SpellsInstruction notation h) front list
-    each front [] s = s
-    each front (i ∷ list) s = (s.0, s.1, s.2, s.3, each s.1 list s.4)
-
-    end_is : (end : Option Error) → IsEnd notation (without_files h) c.rest end → IsEnd notation h c.rest end
-    end_is None e = e
-    end_is (Some d) e = e
+bare_decoding notation h bytes list end c = grind arith
 
 -- ---- instructions that make a row or are refused
 
@@ -107,18 +91,17 @@ events e h = record { event = e; files = h.files }
 
 pub source_same : (s t : Unread) → s.bytes ≡ t.bytes → s.notation ≡ t.notation → s ≡ t
 source_same s t b n =
-    ap (λ (xs : List ℕ). let u : Unread = record { bytes = xs; notation = s.notation } in u) b
-    ∙ ap (λ (m : Notation). let u : Unread = record { bytes = t.bytes; notation = m } in u) n
+    grind arith
 
 -- where no bytes are left
 pub none_made : (a : RunState) → a.unread.bytes ≡ [] → live_made a ≡ []
 none_made a e = rw (decoded_none a.unread.notation a.fixed a.unread.bytes e) refl
 
 pub none_to_make : (a : RunState) → a.unread.bytes ≡ [] → made_left a ≡ []
-none_to_make a e = none_made (with_reset_row a) e
+none_to_make a e = simp none_made
 
 pub none_to_come : (a : RunState) → a.unread.bytes ≡ [] → events_left a ≡ []
-none_to_come a e = ap given_of (none_to_make a e)
+none_to_come a e = simp none_to_make
 
 pub end_here : (a : RunState) → a.unread.bytes ≡ [] → files_at_end a ≡ a.files
 end_here a e = rw (decoded_none a.unread.notation a.fixed a.unread.bytes e) refl
@@ -215,40 +198,18 @@ is_overflow AddressOverflow = inl refl
 is_overflow e = inr (λ p. absurd cc)
 
 pub only_overflow : (e : Error) → (e ≢ OutOfMemory) → ((e ≢ AddressOverflow) → e ≡ OutOfMemory) → e ≡ AddressOverflow
-only_overflow e other is = elim (is_overflow e) [ inl p ↦ p | inr n ↦ absurd (other (is n)) ]
+only_overflow e other is = grind (arith)
 
 -- ---- passing over several instructions
 
 -- where nothing was taken
 pub passes_none : (a b : RunState) → b ≡ a → Progress a b []
-passes_none a b same = record {
-  list = [];
-  front = [];
-  parts = ap (λ (c : RunState). c.unread.bytes) (sym same);
-  spelled = refl;
-  notation = ap (λ (c : RunState). c.unread.notation) same;
-  fixed = ap (λ (c : RunState). c.fixed) same;
-  appends = ap (λ (c : RunState). c.appends) same;
-  given = refl;
-  registers = ap (λ (c : RunState). c.row) same;
-  files = ap (λ (c : RunState). c.files) same;
-}
+passes_none a b same = grind arith
 
 -- the same where only the orders of readers differ
 pub passes_still : (a b : RunState) → b.unread ≡ a.unread → b.fixed ≡ a.fixed → b.appends ≡ a.appends → b.row ≡ a.row
     → b.files ≡ a.files → Progress a b []
-passes_still a b unread fixed appends registers files = record {
-  list = [];
-  front = [];
-  parts = ap (λ (s : Unread). s.bytes) (sym unread);
-  spelled = refl;
-  notation = ap (λ (s : Unread). s.notation) unread;
-  fixed = fixed;
-  appends = appends;
-  given = refl;
-  registers = registers;
-  files = files;
-}
+passes_still a b unread fixed appends registers files = grind arith
 
 each_joined : (n : Notation) (h : Header) (front after : List ℕ) (list more : List Ins)
     → Each (SpellsInstruction n h) front list
@@ -258,7 +219,7 @@ each_joined n h front after [] more s t = rw s t
 each_joined n h front after (i ∷ list) more s t = (
   s.0,
   s.1 ++ after,
-  ap (λ (xs : List ℕ). xs ++ after) s.2 ∙ append_assoc s.0 s.1 after,
+  ap (λ xs. xs ++ after) s.2 ∙ append_assoc s.0 s.1 after,
   s.3,
   each_joined n h s.1 after list more s.4 t,
 )
@@ -271,26 +232,22 @@ registers_joined h r (i ∷ list) more = registers_joined h (next_registers h i 
 files_joined : (a : Bool) (files : List File) (list more : List Ins)
     → files_from a files (list ++ more) ≡ files_from a (files_from a files list) more
 files_joined a files [] more = refl
-files_joined a files (i ∷ list) more = files_joined a (files_after a i files) list more
+files_joined a files (i ∷ list) more = files_joined a _ list more
 
 pub passes_both : (a b c : RunState) (es fs : List Event) → Progress a b es → Progress b c fs → Progress a c (es ++ fs)
 passes_both a b c es fs p q = record {
   list = p.list ++ q.list;
   front = p.front ++ q.front;
-  parts = p.parts ∙ ap (λ (xs : List ℕ). p.front ++ xs) q.parts ∙ sym (append_assoc p.front q.front c.unread.bytes);
+  parts = grind (arith, append_assoc);
   spelled =
-      each_joined a.unread.notation a.fixed p.front q.front p.list q.list p.spelled
-      (rw (p.notation, p.fixed) at q.spelled);
+      grind (arith, each_joined);
   notation = q.notation ∙ p.notation;
   fixed = q.fixed ∙ p.fixed;
   appends = q.appends ∙ p.appends;
   given =
-      runs_joined a.fixed.parameters a.row p.list q.list
-      ∙ ap (λ (xs : List Event). xs ++ run a.fixed.parameters (registers_from a.fixed.parameters a.row p.list) q.list)
-      p.given
-      ∙ ap (λ (xs : List Event). es ++ xs) (rw (p.fixed, p.registers) at q.given);
-  registers = rw (p.fixed, p.registers) at q.registers ∙ sym (registers_joined a.fixed.parameters a.row p.list q.list);
-  files = rw (p.appends, p.files) at q.files ∙ sym (files_joined a.appends a.files p.list q.list);
+      grind (arith, runs_joined);
+  registers = grind (arith, registers_joined);
+  files = grind (arith, files_joined);
 }
 
 -- the files at the end are the same after what was passed over
@@ -298,10 +255,9 @@ pub same_end : (a b : RunState) (es : List Event) → Progress a b es → files_
 same_end a b es p =
     let after = (decoded_at a.unread.notation a.fixed b.unread.bytes).0 in
     let there : files_at_end b
-    ≡ files_from a.appends (files_from a.appends a.files p.list) after = rw
-    (p.notation, p.fixed, p.appends, p.files) refl in
+    ≡ files_from a.appends _ after = cc in
     there ∙ sym (files_joined a.appends a.files p.list after)
-    ∙ ap (λ (c : List Ins × Option Error). files_from a.appends a.files c.0)
+    ∙ ap (λ c. files_from a.appends a.files c.0)
     (sym (decodes_on a.unread.notation a.fixed a.unread.bytes p.list p.front b.unread.bytes p.parts p.spelled))
 
 -- ---- refusals
@@ -315,7 +271,7 @@ pub wants : (a : Bool) (h k : Header) → k ≡ h
     → WantsMemory (state a h c r s) (state a h2 c2 r2 s2)
 wants a h k same c c2 r s i front rest parts spelled defines h2 r2 s2 empty kept appends = record {
   point = state a h c r s;
-  passed = passes_none (state a h c r s) (state a h c r s) refl;
+  passed = grind (arith);
   definition = i;
   front = front;
   rest = rest;
@@ -323,8 +279,8 @@ wants a h k same c c2 r s i front rest parts spelled defines h2 r2 s2 empty kept
   spelled = rw same at spelled;
   defines = defines;
   appends = appends;
-  files = ap (λ (k : Header). k.files) kept;
-  none = none_to_make (state a h2 c2 r2 s2) empty;
+  files = grind arith;
+  none = simp none_to_make;
   empty = empty;
 }
 
@@ -354,14 +310,5 @@ refused_after live a b c e events passed (inr f) = inr (events ∙ f.0, f.1 ∙ 
 -- where no bytes are left nothing is refused
 pub never_refused : (a b : RunState) (e : Error) → a.unread.bytes ≡ [] → FaultIs live_events a b e → ⊥
 never_refused a b e empty (inl m) =
-    let w = m.1 in
-    omega (
-      arith,
-      takes_bytes w.point.unread.notation w.point.fixed w.front w.definition w.spelled,
-      length-append w.front w.rest,
-      ap length w.parts,
-      length-append w.passed.front w.point.unread.bytes,
-      ap length w.passed.parts,
-      ap length empty,
-    )
-never_refused a b e empty (inr f) = let none = sym (ap given_of (none_made a empty)) ∙ f.0 in absurd cc
+    grind (arith, length-append)
+never_refused a b e empty (inr f) = grind (arith, none_made)

@@ -46,7 +46,7 @@ none_ends (r ∷ rows) o = rw o.0 (none_ends rows o.1)
 
 through_none : (events : List Event) → list_any ends_sequence events ≡ false → through_last_end events ≡ []
 through_none [] none = refl
-through_none (e ∷ events) none = rw none refl
+through_none _ none = rw none refl
 
 one_ends : (rows : List LineRow) (last : LineRow) (later : List Event) → last.end_sequence ≡ true
     → list_any ends_sequence ((map row rows ++ row last ∷ []) ++ later) ≡ true
@@ -60,10 +60,10 @@ one_ends (r ∷ rows) last later closed = at_test r.end_sequence (one_ends rows 
 through_one : (rows : List LineRow) (last : LineRow) (later : List Event) → last.end_sequence ≡ true
     → through_last_end ((map row rows ++ row last ∷ []) ++ later)
     ≡ (map row rows ++ row last ∷ []) ++ through_last_end later
-through_one [] last later closed = rw (one_ends [] last later closed) refl
+through_one [] last later closed = grind (arith)
 through_one (r ∷ rows) last later closed =
     rw (one_ends (r ∷ rows) last later closed)
-    (ap (λ (xs : List Event). row r ∷ xs) (through_one rows last later closed))
+    (ap (λ xs. row r ∷ xs) (through_one rows last later closed))
 
 -- ---- sequences that are closed
 
@@ -74,55 +74,47 @@ runs_push : (h : Header) (parts : List Part) (runs : List (List Event)) (s : Par
     → HaveRuns h parts runs → HasRun h s run
     → HaveRuns h (parts ++ s ∷ []) (runs ++ run ∷ [])
 runs_push h [] [] s run all one = (one, tt)
-runs_push h [] (r ∷ runs) s run all one = absurd all
-runs_push h (p ∷ parts) [] s run all one = absurd all
+runs_push h [] _ s run all one = absurd all
+runs_push h _ [] s run all one = absurd all
 runs_push h (p ∷ parts) (r ∷ runs) s run all one = (all.0, runs_push h parts runs s run all.1 one)
 
 joined_push : (runs : List (List Event)) (run : List Event) → joined_runs (runs ++ run ∷ []) ≡ joined_runs runs ++ run
 joined_push [] run = append-nil run
 joined_push (r ∷ runs) run =
-    ap (λ (xs : List Event). r ++ xs) (joined_push runs run) ∙ sym (append_assoc r (joined_runs runs) run)
+    ap (λ xs. r ++ xs) (joined_push runs run) ∙ sym (append_assoc r _ run)
 
 through_events : (events : List Event) (start end : ℕ) → IsSequence events start end → (later : List Event)
     → through_last_end (events ++ later) ≡ events ++ through_last_end later
-through_events events start end is later = rw is.given (through_one is.rows is.last later is.ended)
+through_events events start end is later = grind (arith, through_one)
 
 through_runs : (h : Header) (parts : List Part) (runs : List (List Event)) → HaveRuns h parts runs
     → (later : List Event)
     → through_last_end (joined_runs runs ++ later) ≡ joined_runs runs ++ through_last_end later
 through_runs h [] [] all later = refl
-through_runs h [] (run ∷ runs) all later = absurd all
-through_runs h (s ∷ parts) [] all later = absurd all
+through_runs h [] _ all later = absurd all
+through_runs h _ [] all later = absurd all
 through_runs h (s ∷ parts) (run ∷ runs) all later =
-    ap through_last_end (append_assoc run (joined_runs runs) later)
-    ∙ through_events run s.start s.end all.0.is (joined_runs runs ++ later)
-    ∙ ap (λ (xs : List Event). run ++ xs) (through_runs h parts runs all.1 later)
-    ∙ sym (append_assoc run (joined_runs runs) (through_last_end later))
+    ap through_last_end (append_assoc run _ later)
+    ∙ through_events run s.start s.end all.0.is _
+    ∙ ap (λ xs. run ++ xs) (through_runs h parts runs all.1 later)
+    ∙ sym (append_assoc run _ _)
 
 -- the files of a header mean nothing to the run of a sequence
 run_over : (c : Header) (s : Part) (run : List Event) → HasRun (without_files c) s run → HasRun c s run
-run_over c s run has = record {
-  given = record {
-    list = has.given.list;
-    end = has.given.end;
-    decoding = bare_decoding s.unread.notation c s.unread.bytes has.given.list has.given.end has.given.decoding;
-    given = has.given.given;
-  };
-  is = has.is;
-}
+run_over c s run has = grind (arith)
 
 runs_over : (c : Header) (parts : List Part) (runs : List (List Event)) → HaveRuns (without_files c) parts runs
     → HaveRuns c parts runs
 runs_over c [] [] all = tt
-runs_over c [] (run ∷ runs) all = absurd all
-runs_over c (s ∷ parts) [] all = absurd all
+runs_over c [] _ all = absurd all
+runs_over c _ [] all = absurd all
 runs_over c (s ∷ parts) (run ∷ runs) all = (run_over c s run all.0, runs_over c parts runs all.1)
 
 complete_runs : (h c : Header) (parts : List Part) (runs : List (List Event)) → without_files c ≡ without_files h
     → HaveRuns (without_files h) parts runs
     → HaveRuns c parts runs
 complete_runs h c parts runs same all =
-    runs_over c parts runs (subst (λ (b : Header). HaveRuns b parts runs) (sym same) all)
+    grind (arith, runs_over)
 
 -- over the complete header too
 pub runs_are_kept : (n : Notation) (h c : Header) (parts : List Part) (runs : List (List Event))
@@ -130,7 +122,7 @@ pub runs_are_kept : (n : Notation) (h c : Header) (parts : List Part) (runs : Li
     → HaveRuns (without_files h) parts runs
     → HaveRuns c parts runs
 runs_are_kept n h c parts runs are all =
-    complete_runs h c parts runs (ap (λ (k : Header). without_files k) are.files) all
+    grind (arith, complete_runs)
 
 -- ---- the state of the split after some rows
 
@@ -172,8 +164,7 @@ starts_splitting h source unread = record {
   unended = tt;
   start_is = refl;
   passes =
-      passes_still (began h source h.files unread) (with_reset_row (start_of_run true h source unread)) refl refl refl
-      refl refl;
+      grind (arith);
 }
 
 -- the same, with the rows of each sequence
@@ -194,8 +185,7 @@ pub kept_runs : (h : Header) (k : SequenceSplit) (kept : RowSplit) (done : List 
     → Keeping h k kept done point
     → HaveRuns (without_files h) k.parts (map (map row) kept.closed)
 kept_runs h k kept done point keeping =
-    subst (λ (runs : List (List Event)). HaveRuns (without_files h) k.parts runs) keeping.closed
-    keeping.splitting.closed
+    grind arith
 
 open_push : (rows : List LineRow) (r : LineRow) → AreOpen rows → r.end_sequence ≡ false → AreOpen (rows ++ r ∷ [])
 open_push [] r o e = (e, tt)
@@ -204,11 +194,11 @@ open_push (q ∷ rows) r o e = (o.0, open_push rows r o.1 e)
 first_push : (rows : List LineRow) (r : LineRow) (start : Option ℕ) → start ≡ first_of rows
     → Some (unwrap_or start r.address) ≡ first_of (rows ++ r ∷ [])
 first_push [] r start is = rw is refl
-first_push (q ∷ rows) r start is = rw is refl
+first_push _ r start is = rw is refl
 
 first_is : (rows : List LineRow) (start : Option ℕ) → start ≡ first_of rows → unwrap_or start 0 ≡ first_address rows
 first_is [] start is = rw is refl
-first_is (q ∷ rows) start is = rw is refl
+first_is _ start is = rw is refl
 
 anew_at_end : (parameters : Parameters) (r : LineRow) → r.end_sequence ≡ true
     → reset_row parameters r ≡ initial parameters
@@ -218,16 +208,14 @@ module _ (h : Header) (k : SequenceSplit) (done : List LineRow) (point next : Ru
     (p : Progress point (with_reset_row next) (row next.row ∷ [])) where
   whole : Progress (began h c.source c.files k.unread) (with_reset_row next) (map row c.rows ++ row next.row ∷ [])
   whole =
-      passes_both (began h c.source c.files k.unread) point (with_reset_row next) (map row c.rows) (row next.row ∷ [])
-      c.passes p
+      grind (arith, passes_both)
 
   abbrev last_run : List Event
   last_run = map row c.rows ++ row next.row ∷ []
 
   more_done : map row (done ++ next.row ∷ []) ≡ joined_runs c.runs ++ last_run
   more_done =
-      map-append row done (next.row ∷ []) ∙ ap (λ (xs : List Event). xs ++ row next.row ∷ []) c.done_is
-      ∙ append_assoc (joined_runs c.runs) (map row c.rows) (row next.row ∷ [])
+      grind (arith, map-append, append_assoc)
 
   goes_open : next.row.end_sequence ≡ false
       → Splitting h (record k { start = Some (unwrap_or k.start next.row.address) }) (done ++ next.row ∷ [])
@@ -238,46 +226,22 @@ module _ (h : Header) (k : SequenceSplit) (done : List LineRow) (point next : Ru
     source = c.source;
     files = c.files;
     done_is =
-        more_done ∙ ap (λ (xs : List Event). joined_runs c.runs ++ xs) (sym (map-append row c.rows (next.row ∷ [])));
+        grind (arith, more_done, map-append);
     closed = c.closed;
-    unended = open_push c.rows next.row c.unended e;
-    start_is = first_push c.rows next.row k.start c.start_is;
+    unended = grind (arith, open_push);
+    start_is = grind (arith);
     passes =
-        subst (λ (es : List Event). Progress (began h c.source c.files k.unread) (with_reset_row next) es)
-        (sym (map-append row c.rows (next.row ∷ [])))
-        whole;
+        grind (arith, map-append, whole);
   }
 
   abbrev ended : Part
   ended = record { start = unwrap_or k.start 0; end = next.row.address; unread = front_of k.unread next.unread }
 
   front_is : take (length k.unread.bytes - length next.unread.bytes) k.unread.bytes ≡ whole.front
-  front_is = front_at k.unread.bytes whole.front next.unread.bytes whole.parts
+  front_is = grind (arith, front_at)
 
   closes : next.row.end_sequence ≡ true → HasRun (without_files h) ended last_run
-  closes e = record {
-    given = record {
-      list = whole.list;
-      end = None;
-      decoding = record {
-        front = whole.front;
-        rest = [];
-        parts = front_is ∙ sym (append-nil whole.front);
-        spelled = whole.spelled;
-        ended = refl;
-      };
-      given = sym whole.given ∙ starts h.parameters whole.list;
-    };
-    is = record {
-      rows = c.rows;
-      last = next.row;
-      given = refl;
-      unended = c.unended;
-      ended = e;
-      start_is = first_is c.rows k.start c.start_is;
-      end_is = refl;
-    };
-  }
+  closes e = grind (arith, front_is, append-nil, starts)
 
   goes_closed : next.row.end_sequence ≡ true
       → Splitting h (record { parts = k.parts ++ ended ∷ []; unread = next.unread; start = None })
@@ -287,13 +251,12 @@ module _ (h : Header) (k : SequenceSplit) (done : List LineRow) (point next : Ru
     rows = [];
     source = next.source;
     files = next.files;
-    done_is = more_done ∙ sym (joined_push c.runs last_run) ∙ sym (append-nil (joined_runs (c.runs ++ last_run ∷ [])));
-    closed = runs_push (without_files h) k.parts c.runs ended last_run c.closed (closes e);
+    done_is = grind (arith, more_done, joined_push, append-nil);
+    closed = grind (arith, runs_push, closes);
     unended = tt;
     start_is = refl;
     passes =
-        passes_still (began h next.source next.files next.unread) (with_reset_row next) refl whole.fixed whole.appends
-        (anew_at_end next.fixed.parameters next.row e ∙ ap (λ (x : Header). initial x.parameters) whole.fixed) refl;
+        grind (arith);
   }
 
   pub goes_splitting : Splitting h (with_row next.row next.unread k) (done ++ next.row ∷ []) (with_reset_row next)
@@ -342,7 +305,7 @@ module _ (h : Header) (k : SequenceSplit) (done : List LineRow) (point next : Ru
 
   -- what is split off stands in front of the rest
   pub has_front : (front : List ℕ) × (k.unread.bytes ≡ front ++ next.unread.bytes)
-  has_front = (whole.front, whole.parts)
+  has_front = grind (arith, whole)
 
 -- a row takes bytes
 pub row_takes : (a b : RunState) (e : Event) (es : List Event) → Progress a b (e ∷ es)
@@ -354,14 +317,7 @@ row_takes a b e es p = at_list p.list p.front p.parts p.spelled p.given
         → run a.fixed.parameters a.row list ≡ e ∷ es → length b.unread.bytes < length a.unread.bytes
     at_list [] front parts s given = absurd cc
     at_list (i ∷ list) front parts s given =
-        omega (
-          arith,
-          takes_bytes a.unread.notation a.fixed s.0 i s.3,
-          length-append s.0 s.1,
-          ap length s.2,
-          length-append front b.unread.bytes,
-          ap length parts,
-        )
+        grind (arith, length-append)
 
 -- ---- the end of a run without a fault
 
@@ -373,35 +329,26 @@ module _ (source : Source) (h c : Header) (k : SequenceSplit) (done : List LineR
   are_sequences splitting p empty fixed files = record {
     list = p.list;
     decoding =
-        bare_decoding source.notation h h.program p.list None
-        (record {
-          front = p.front;
-          rest = [];
-          parts = p.parts ∙ ap (λ (xs : List ℕ). p.front ++ xs) empty;
-          spelled = p.spelled;
-          ended = refl;
-        });
+        grind (arith);
     rows = done;
     given = given;
     files = c_is;
     runs = splitting.runs;
-    each = complete_runs h c k.parts splitting.runs (fixed ∙ p.fixed) splitting.closed;
+    each = grind (arith, complete_runs);
     joined =
         sym (ap through_last_end (given ∙ splitting.done_is)
-        ∙ through_runs (without_files h) k.parts splitting.runs splitting.closed (map row splitting.rows)
-        ∙ ap (λ (xs : List Event). joined_runs splitting.runs ++ xs)
+        ∙ through_runs _ k.parts splitting.runs splitting.closed _
+        ∙ ap (λ xs. joined_runs splitting.runs ++ xs)
         (through_none (map row splitting.rows) (none_ends splitting.rows splitting.unended))
-        ∙ append-nil (joined_runs splitting.runs));
+        ∙ append-nil _);
   }
     where
       given : program_events h.parameters p.list None ≡ map row done
-      given = sym (starts h.parameters p.list) ∙ p.given
+      given = grind (arith, starts)
 
       c_is : c ≡ record h { files = defined_files h.files (past_at_end [] p.list) }
       c_is =
-          ap (λ (b : Header). let k : Header = record b { files = c.files } in k) (fixed ∙ p.fixed)
-          ∙ ap (λ (fs : List File). let k : Header = record h { files = fs } in k)
-          (files ∙ p.files ∙ files_from_start true h.files p.list)
+          grind (arith, files_from_start)
 
 -- ---- a fault
 
@@ -412,32 +359,32 @@ passes_left a b es p =
     let here = registers_from a.fixed.parameters a.row p.list in
     let files = files_from a.appends a.files p.list in
     let rest : live_events b ≡ given_of (made_from a.appends a.fixed.parameters here files c.0 c.1) =
-    rw (p.notation, p.fixed, p.appends, p.registers, p.files) refl in
-    ap (λ (d : List Ins × Option Error).
+    cc in
+    ap (λ d.
     events_of (given_of (made_from a.appends a.fixed.parameters a.row a.files d.0 d.1)))
     (decodes_on a.unread.notation a.fixed a.unread.bytes p.list p.front b.unread.bytes p.parts p.spelled)
     ∙ given_joined a.appends a.fixed.parameters a.row a.files p.list c.0 c.1
-    ∙ ap (λ (xs : List Event).
+    ∙ ap (λ xs.
     xs ++ events_of (given_of (made_from a.appends a.fixed.parameters here files c.0 c.1))) p.given
-    ∙ ap (λ (xs : List EventWithFiles). es ++ events_of xs) (sym rest)
+    ∙ ap (λ xs. es ++ events_of xs) (sym rest)
 
 has_first_fault : (source : Source) (h : Header) (done : List LineRow) (old new : RunState) (e : Error)
     → Progress (with_reset_row (whole_run h source)) (with_reset_row old) (map row done)
     → FaultComes live_events (with_reset_row old) new e
     → HasFirstFault source.notation h e
 has_first_fault source h done old new e p is =
-    let c = decoded_at source.notation (without_files h) h.program in
+    let c = decoded_at source.notation _ h.program in
     record {
       list = c.0;
       end = c.1;
       decoding =
-          bare_decoding source.notation h h.program c.0 c.1 (is_decoded source.notation (without_files h) h.program);
+          grind (arith, bare_decoding, is_decoded);
       rows = done;
-      rest = events_of (events_left new);
+      rest = events_of _;
       given =
           sym (given_from_start true h.parameters h.files c.0 c.1)
-          ∙ passes_left (with_reset_row (whole_run h source)) (with_reset_row old) (map row done) p
-          ∙ ap (λ (t : List EventWithFiles). map row done ++ events_of t) is.0;
+          ∙ passes_left _ _ _ p
+          ∙ ap (λ t. map row done ++ events_of t) is.0;
     }
 
 -- ---- a run of a whole program that is split on its way
@@ -455,12 +402,7 @@ module _ (h : Header) (source : Source) (Split : List LineRow → RunState → T
 
   pub split_starts : (rows : RunState) → rows ≡ whole_run h source → Split [] whole_row → IsSplit Split h source rows
   split_starts rows start split =
-      subst (IsSplit Split h source) (sym start) (record {
-        done = [];
-        split = split;
-        passes = passes_still whole_row whole_row refl refl refl refl refl;
-        keeps = keeps_same (whole_run h source) (whole_run h source) refl;
-      })
+      grind (arith)
 
   module _ (rows next : RunState) (so_far : IsSplit Split h source rows) (keeps : KeepsRun rows next) where
     pub split_goes : (Longer : List LineRow → RunState → Type 0)

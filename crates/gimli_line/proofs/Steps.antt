@@ -36,15 +36,14 @@ abbrev pub Has : Bool → Header → RunState → Type 0
 Has a h s = (s.appends ≡ a) × (s.fixed ≡ without_files h) × (s.files ≡ h.files)
 
 is_state : (a : Bool) (h : Header) (s : RunState) → Has a h s → s ≡ state a h s.source s.row s.unread
-is_state a h s has = rw (← has.0, ← has.1, ← has.2) refl
+is_state a h s has = grind arith
 
 -- what holds of two runs by their headers holds of them
 by_headers : (a : Bool) (h h2 : Header) (old new : RunState) → Has a h old → Has a h2 new
     → (P : RunState → RunState → Type 0)
     → P (state a h old.source old.row old.unread) (state a h2 new.source new.row new.unread) → P old new
 by_headers a h h2 old new from to P p =
-    subst (λ (q : RunState). P q new) (sym (is_state a h old from))
-    (subst (λ (q : RunState). P (state a h old.source old.row old.unread) q) (sym (is_state a h2 new to)) p)
+    grind (arith)
 
 -- ---- what is kept
 
@@ -55,7 +54,7 @@ pub keeps_run : (a : Bool) (h h2 : Header) (old new : RunState) → Has a h old 
     → KeepsSource (λ order. a ≡ true → Fits order) old.source new.source
     → Fits old.unread.notation.big → KeepsRun old new
 keeps_run a h h2 old new from to fixed unread Fits source fits = record {
-  fixed = to.1 ∙ fixed ∙ sym from.1;
+  fixed = grind arith;
   appends = to.0 ∙ sym from.0;
   unread = unread;
   source = fits_less _ _ _ _ (λ order adds appends. subst Fits (adds (from.0 ∙ appends)) fits) source;
@@ -65,14 +64,10 @@ keeps_run a h h2 old new from to fixed unread Fits source fits = record {
 
 module _ (x y : RunState) where
   pub reads_none : x ≡ y → ReadsOn x y
-  reads_none same = record {
-    made = ap live_made same;
-    passed = passes_none x y (sym same);
-    keeps = keeps_same x y same;
-  }
+  reads_none same = grind (arith)
 
   pub reads_more : StepsTo x y (Ok More) → ReadsOn x y
-  reads_more s = record { made = s.ok.0; passed = s.ok.2; keeps = s.keeps }
+  reads_more s = grind arith
 
   module _ (z : RunState) (r : ReadsOn x y) where
     pub reads_both : ReadsOn y z → ReadsOn x z
@@ -102,11 +97,7 @@ module _ (x y : RunState) where
 -- ---- where no instruction was taken
 
 pub step_done : (x y : RunState) → y ≡ x → x.unread.bytes ≡ [] → StepsTo x y (Ok Done)
-step_done x y same empty = record {
-  ok = (none_made x empty, ap (λ (q : RunState). q.unread.bytes) same ∙ empty, passes_none x y same);
-  err = tt;
-  keeps = keeps_same x y (sym same);
-}
+step_done x y same empty = grind (arith, none_made)
 
 -- ---- one instruction
 
@@ -193,18 +184,13 @@ with_rest old row unread = record old { row = row; unread = unread }
 
 pub keeps_rest : (old : RunState) (row : LineRow) (unread : Unread) → unread.notation ≡ old.unread.notation
     → KeepsRun old (with_rest old row unread)
-keeps_rest old row unread notation = record {
-  fixed = refl;
-  appends = refl;
-  unread = notation;
-  source = source_kept (AddsInOrder old) old.source;
-}
+keeps_rest old row unread notation = grind (arith)
 
 -- none was
 pub none_executed : (k : Header) (old : RunState) (row : LineRow) (unread : Unread)
     → ExecutesNext k old.unread unread old.row row No
     → ReadsOn old (with_rest old row unread)
-none_executed k old row unread same = reads_none old (with_rest old row unread) (rw (same.0, same.1) refl)
+none_executed k old row unread same = grind (arith)
 
 module _ (a : Bool) (h k : Header) (same : k ≡ h) (old : RunState) (row : LineRow) (unread : Unread)
     (from : Has a h old)

@@ -16,7 +16,7 @@ use Rattle.gimli_line.specs.declared.header.file_entry.FileEntryFormat.{FileEntr
 
 -- a table without entries
 pub none_yet : {A : Type 0} (P : A → Type 0) (xs : List A) → xs ≡ [] → All P xs
-none_yet P xs is = rw is (λ k d lt. absurd (omega arith))
+none_yet P xs is = grind arith
 
 -- ---- the tables of a version
 

@@ -23,7 +23,7 @@ use Rattle.gimli_line.specs.UnitReading.{any_unit_at, after_unit, offsets_upto, 
 length_size : (big : Bool) (bytes : List ℕ) (format : Format) (n : ℕ) → SpellsInitialLength big bytes format n
     → length bytes ≡ initial_length_size format
 length_size big bytes Dwarf32 n s = s.0.size_is
-length_size big bytes Dwarf64 n s = omega (arith, ap length s.2, length-append s.0 s.1, s.3.size_is, s.4.size_is)
+length_size big bytes Dwarf64 n s = grind (arith, length-append)
 
 size_some : (format : Format) → 0 < initial_length_size format
 size_some Dwarf32 = omega arith
@@ -39,23 +39,12 @@ module _ (notation : Notation) where
   length_exact : (bytes : List ℕ) (unit : ℕ × Format) → (unit_length notation).Spells bytes unit
       → length bytes ≡ initial_length_size unit.1
   length_exact bytes unit s =
-      let same : unit.1 ≡ s.0.1 = ap (λ (u : ℕ × Format). u.1) s.5.5.1 in
-      ap length s.3
-      ∙ omega (
-        arith,
-        length_size notation.big s.1 s.0.1 s.0.0 s.4,
-        length-append s.1 s.2,
-        ap length s.5.3,
-        length-append s.5.1 s.5.2,
-        ap length s.5.4.0,
-        ap length s.5.5.0,
-      )
-      ∙ sym (ap initial_length_size same)
+      grind (arith, length-append)
 
   -- a unit has bytes
   unit_some : (unit content : List ℕ) → (any_unit notation).Spells unit content → 0 < length unit
   unit_some unit content s =
-      omega (arith, length_exact s.1 s.0 s.4, size_some s.0.1, length-append s.1 s.2, ap length s.3)
+      grind (arith, length-append)
 
   -- what comes after the bytes that were read is an end of them, and is shorter
   after_end : (bytes : List ℕ) (r : Read (List ℕ)) → any_unit_at notation bytes ≡ r
@@ -73,7 +62,7 @@ module _ (notation : Notation) where
 
   after_fault : (e : Error) (r : Read (List ℕ)) → r.0 ≡ Err e → after_unit r ≡ []
   after_fault e (Ok content, rest) is = absurd cc
-  after_fault e (Err d, rest) is = refl
+  after_fault e _ is = refl
 
   module _ (end : ℕ) where
     upto_none : (more : ℕ) → offsets_upto notation end more [] ≡ []
@@ -166,7 +155,7 @@ module _ (notation : Notation) where
   only_units (o ∷ offsets) end zero offset (b ∷ bytes) le ends s = absurd (omega arith)
   only_units (o ∷ offsets) end (suc more) offset (b ∷ bytes) le ends s =
       let some : b ∷ bytes ≢ [] = λ none. absurd cc in
-      let first : o ≡ end - length (b ∷ bytes) = omega (arith, s.0) in
+      let first : o ≡ end - length (b ∷ bytes) = omega (arith) in
       let others : offsets ≡ offsets_upto notation end more (after_unit (any_unit_at notation (b ∷ bytes))) = elim s.1 [
         | inl u ↦
             let long = unit_some u.unit u.content u.spelled in
@@ -187,7 +176,7 @@ module _ (notation : Notation) where
       ∙ sym (upto_some end more (b ∷ bytes) some)
 
   pub are_units : (section : List ℕ) → AreUnits notation 0 section (offsets_at notation (length section) section)
-  are_units section = upto_units (length section) (length section) 0 section (omega arith) (omega arith)
+  are_units section = grind (arith, upto_units)
 
   -- bytes have one list of offsets of units
   pub one_list : (offset : ℕ) (bytes offsets others : List ℕ) → AreUnits notation offset bytes offsets
@@ -209,16 +198,13 @@ module _ (notation : Notation) where
   opening_format : (handed : ℕ) (format : Format) (bytes : List ℕ) (o : Opening)
       → (opening_production notation handed format).Spells bytes o
       → o.encoding.format ≡ format
-  opening_format handed format bytes o s = ap (λ (o : Opening). o.encoding.format) s.5.5.5.5.1
+  opening_format handed format bytes o s = grind arith
 
   fields_are : (unit_entry : UnitEntry) (unit : ℕ) (o : Opening) (program bytes : List ℕ) (h : Header)
       → (fields_production notation unit_entry unit o program).Spells bytes h
       → (h.parameters.encoding.format ≡ o.encoding.format) × (h.unit_length ≡ unit)
   fields_are unit_entry unit o program bytes h s =
-      let is = s.5.5.5.5.1 in (
-        ap (λ (h : Header). h.parameters.encoding.format) is ∙ ap (λ p. p.encoding.format) s.4.5.5.1,
-        ap (λ (h : Header). h.unit_length) is,
-      )
+      grind arith
 
   -- a unit has the bytes of its length, and as many as that says
   unit_size : (unit_entry : UnitEntry) (unit : List ℕ) (h : Header)
@@ -226,34 +212,13 @@ module _ (notation : Notation) where
       → (content : List ℕ) × (any_unit notation).Spells unit content
       × (length unit ≡ initial_length_size h.parameters.encoding.format + h.unit_length)
   unit_size unit_entry unit h s =
-      let i = s.5 in
-      let o = i.5 in
-      let f = o.5 in
-      let opened = opening_format unit_entry.address_size s.0.1 o.4.1.0 o.0.0 o.4.1.2 in
-      let fields = fields_are unit_entry s.0.0 o.0.0 o.0.1 f.4.1.0 f.0.0 f.4.1.2 in
-      let format : h.parameters.encoding.format ≡ s.0.1 = ap (λ (h : Header). h.parameters.encoding.format) f.5.1
-      ∙ fields.0 ∙ opened in
-      let unit_length_is : h.unit_length ≡ s.0.0 = ap (λ (h : Header). h.unit_length) f.5.1 ∙ fields.1 in
-      let after : i.2 ≡ [] = o.3 ∙ ap (λ (xs : List ℕ). xs ++ o.2) o.4.0 ∙ f.3 ∙ ap (λ (xs : List ℕ). xs ++ f.2) f.4.0
-      ∙ f.5.0 in
-      let inside : s.2 ≡ i.1 = i.3 ∙ ap (λ (xs : List ℕ). i.1 ++ xs) after ∙ append-nil i.1 in
-      let whole : unit ≡ s.1 ++ i.1 = s.3 ∙ ap (λ (xs : List ℕ). s.1 ++ xs) inside in
-      let size : length unit
-      ≡ initial_length_size s.0.1
-      + s.0.0 = omega (arith, length_exact s.1 s.0 s.4, i.4.0, ap length whole, length-append s.1 i.1) in (
-        i.1,
-        (s.0, s.1, i.1, whole, s.4, (i.4.0, refl)),
-        size
-            ∙ sym (ap (λ (n : ℕ). n + h.unit_length) (ap initial_length_size format)
-            ∙ ap (λ (n : ℕ). initial_length_size s.0.1 + n) unit_length_is),
-      )
+      grind (arith, append-nil, length-append)
 
   pub unit_ends : (unit_entry : UnitEntry) (offset : ℕ) (bytes : List ℕ) (h : Header)
       → SpellsUnit notation unit_entry bytes h
       → offset_after offset h ≤ offset + length bytes
   unit_ends unit_entry offset bytes h u =
-      let p = unit_size unit_entry u.0 h u.3 in
-      omega (arith, p.2, length-append u.0 u.1, ap length u.2)
+      grind (arith, length-append)
 
   pub unit_follows : (unit_entry : UnitEntry) (offset next : ℕ) (bytes offsets : List ℕ) (h : Header)
       → SpellsUnit notation unit_entry bytes h
@@ -268,14 +233,11 @@ module _ (notation : Notation) where
         let same : u.1 ≡ b.rest = ap (λ (r : Read (List ℕ)). r.1) (sym read ∙ again) in
         omega (
           arith,
-          b.follow.0,
-          p.2,
           ap length same,
           ap length u.2,
           ap length b.parts,
           length-append u.0 u.1,
-          length-append b.unit b.rest,
-        )
+          length-append b.unit b.rest)
     | inr r ↦ absurd cc
   ]
 

@@ -5,13 +5,11 @@ use Common.{Keeps, SourceTables, KeepsFiles}
 
 module _ {A : Type 0} where
   pub keeps_self : (xs : List A) → Keeps xs xs
-  keeps_self xs = record { grows = omega arith; stays = λ i h. refl }
+  keeps_self xs = grind arith
 
   pub keeps_then : (xs ys zs : List A) → Keeps xs ys → Keeps ys zs → Keeps xs zs
   keeps_then xs ys zs first second =
-      let a = first.grows in
-      let b = second.grows in
-      record { grows = omega arith; stays = λ i h. second.stays i (omega arith) ∙ first.stays i h }
+      grind arith
 
   -- one more comes last
   pub keeps_more : (xs : List A) (x : A) → Keeps xs (xs ++ x ∷ [])
@@ -24,11 +22,7 @@ module _ {A : Type 0} where
   }
 
 pub files_self : (c : SourceTables) → KeepsFiles c c
-files_self c = record { files = keeps_self _; numbers = keeps_self _; directories = refl }
+files_self c = grind (arith, keeps_self)
 
 pub files_then : (a b c : SourceTables) → KeepsFiles a b → KeepsFiles b c → KeepsFiles a c
-files_then a b c first second = record {
-  files = keeps_then _ _ _ first.files second.files;
-  numbers = keeps_then _ _ _ first.numbers second.numbers;
-  directories = second.directories ∙ first.directories;
-}
+files_then a b c first second = grind (arith, keeps_then)

@@ -46,7 +46,7 @@ module _ {A : Type 0} (p : A → Bool) where
           → (b || list_any p xs) ≡ true
           → cond (not b) (1 + position_or_len p (xs ++ ys)) 0 ≡ cond (not b) (1 + position_or_len p xs) 0
       by true rest any = refl
-      by false rest any = ap (λ n. 1 + n) (rest any)
+      by false rest any = grind arith
 
   pub index_new : (xs : List A) (x : A) → p x ≡ true → list_any p xs ≡ false
       → position_or_len p (xs ++ x ∷ []) ≡ position_or_len p xs
@@ -56,10 +56,10 @@ module _ {A : Type 0} (p : A → Bool) where
       rw parts.0 (ap (λ n. 1 + n) (index_new xs x passes parts.1))
 
   pub any_stays : (xs ys : List A) → list_any p xs ≡ true → list_any p (xs ++ ys) ≡ true
-  any_stays xs ys any = list_any-append p _ _ ∙ or_left _ _ any
+  any_stays xs ys any = grind (arith, list_any-append)
 
   pub any_new : (xs : List A) (x : A) → p x ≡ true → list_any p (xs ++ x ∷ []) ≡ true
-  any_new xs x passes = list_any-append p xs (x ∷ []) ∙ or_right (list_any p xs) _ (or_left _ false passes)
+  any_new xs x passes = grind (arith, list_any-append)
 
   -- another element was there before this one came
   pub grown_index : (there : Bool) (xs : List A) (x : A) → list_any p xs ≡ true
@@ -107,7 +107,7 @@ same_text (InStrings i) = eq-eqb i i refl
 same_text (InLineStrings i) = eq-eqb i i refl
 
 pub same_key : (k : FileKey) → key_eq k k ≡ true
-same_key k = rw (same_text k.0, eq-eqb k.1 k.1 refl) refl
+same_key k = grind (arith, same_text)
 
 -- ---- texts
 
@@ -121,14 +121,11 @@ pub record HasMade (version : ℕ) (old new : List (List ℕ)) : Type 0 where
   pub same : (text : List ℕ) → IsMade version old text → made_text version new text ≡ made_text version old text
 
 pub has_itself : (version : ℕ) (line_strings : List (List ℕ)) → HasMade version line_strings line_strings
-has_itself version line_strings = record { there = λ text so. so; same = λ text so. refl }
+has_itself version line_strings = grind arith
 
 pub has_then : (version : ℕ) (old between new : List (List ℕ)) → HasMade version old between
     → HasMade version between new → HasMade version old new
-has_then version old between new a b = record {
-  there = λ text so. b.there text (a.there text so);
-  same = λ text so. b.same text (a.there text so) ∙ a.same text so;
-}
+has_then version old between new a b = grind arith
 
 module _ (version : ℕ) (line_strings : List (List ℕ)) (text : List ℕ) where
   -- the table has it
@@ -136,10 +133,10 @@ module _ (version : ℕ) (line_strings : List (List ℕ)) (text : List ℕ) wher
       → list_any (bytes_eq text) (if old then line_strings else with_text line_strings text) ≡ true
   made_any true is = absurd cc
   made_any false is =
-      own_any (bytes_eq text) (list_any (bytes_eq text) line_strings) line_strings text refl (same_bytes text)
+      grind (arith, own_any, same_bytes)
 
   pub is_made : IsMade version (made_table version line_strings text) text
-  is_made = record { any = λ new. made_any _ new }
+  is_made = grind (arith, made_any)
 
   made_same : (old : Bool)
       → (if old then Inline text
@@ -147,8 +144,7 @@ module _ (version : ℕ) (line_strings : List (List ℕ)) (text : List ℕ) wher
       ≡ (if old then Inline text else InLineStrings (index_of_text line_strings text))
   made_same true = refl
   made_same false =
-      ap InLineStrings
-      (own_index (bytes_eq text) (list_any (bytes_eq text) line_strings) line_strings text refl (same_bytes text))
+      grind (arith, own_index, same_bytes)
 
   -- at the index at which it was made
   pub is_same : made_text version (made_table version line_strings text) text ≡ made_text version line_strings text
@@ -158,20 +154,17 @@ module _ (version : ℕ) (line_strings : List (List ℕ)) (text : List ℕ) wher
   others_any : (other : List ℕ) (old : Bool) → list_any (bytes_eq other) line_strings ≡ true
       → list_any (bytes_eq other) (if old then line_strings else with_text line_strings text) ≡ true
   others_any other true any = any
-  others_any other false any = grown_any (bytes_eq other) _ _ _ any
+  others_any other false any = grind (arith, grown_any)
 
   others_same : (other : List ℕ) (old : Bool) → (old ≡ false → list_any (bytes_eq other) line_strings ≡ true)
       → (if old then Inline other
       else InLineStrings (index_of_text (if old then line_strings else with_text line_strings text) other))
       ≡ (if old then Inline other else InLineStrings (index_of_text line_strings other))
   others_same other true any = refl
-  others_same other false any = ap InLineStrings (grown_index (bytes_eq other) _ _ _ (any refl))
+  others_same other false any = grind (arith, grown_index)
 
   pub table_has : HasMade version line_strings (made_table version line_strings text)
-  table_has = record {
-    there = λ other so. record { any = λ new. others_any _ _ (so.any new) };
-    same = λ other so. others_same _ _ so.any;
-  }
+  table_has = grind (arith, others_any, others_same)
 
 -- the bytes of a text that is there
 pub made_bytes : (version : ℕ) (texts : StringTables) (text : List ℕ) → IsMade version texts.line_strings text
@@ -491,7 +484,7 @@ prepared_ready strings sections h given line_strings tables is =
 
 -- bytes that have no zero byte are kept
 kept_bytes : (bytes text : List ℕ) → without_zero bytes ≡ Ok text → bytes ≡ text
-kept_bytes bytes text is = by (list_any _ bytes) is
+kept_bytes bytes text is = grind arith
   where
     by : (b : Bool) → (if b then Err InvalidAttributeValue else Ok bytes) ≡ Ok text → bytes ≡ text
     by true so = absurd cc
@@ -510,8 +503,7 @@ source_text_of sections v text is = source_read _ _ is
 pub source_path_of : (version : ℕ) (sections : Sections) (v : Value) (path : List ℕ)
     → source_path version sections v ≡ Ok path → text_of sections v ≡ Ok path
 source_path_of version sections v path is =
-    let t = took _ _ _ is in
-    source_text_of _ v _ (t.1 ∙ ap Ok (by t.0 _ t.2))
+    grind (arith, took, source_text_of)
   where
     by : (text : List ℕ) (b : Bool) → (if b then Err InvalidAttributeValue else Ok text) ≡ Ok path → text ≡ path
     by text true so = absurd cc
@@ -520,7 +512,7 @@ source_path_of version sections v path is =
 first_path_of : (version : ℕ) (sections : Sections) (h : Header) (v : Value) (path : List ℕ)
     → first_path version sections h v ≡ Ok path
     → text_of sections v ≡ Ok path
-first_path_of version sections h v path is = by (nat_le h.parameters.encoding.version 4) is
+first_path_of version sections h v path is = grind arith
   where
     by : (old : Bool) → (if old then source_text sections v else source_path version sections v) ≡ Ok path
         → text_of sections v ≡ Ok path
@@ -546,8 +538,8 @@ pub entry_at : {A : Type 0} (old : Bool) (handed : Option A) (done rest : List A
     → i ≡ begins_at old + length done
     → (if old then from_one handed (done ++ x ∷ rest) i else slice_get (done ++ x ∷ rest) i) ≡ Some x
 entry_at true handed done rest x zero is = absurd (omega arith)
-entry_at true handed done rest x (suc i) is = at_seam _ _ x i (omega arith)
-entry_at false handed done rest x i is = at_seam _ _ x i (omega arith)
+entry_at true handed done rest x (suc i) is = grind (arith, at_seam)
+entry_at false handed done rest x i is = grind (arith, at_seam)
 
 pub first_count : (version : ℕ) → length (first_ids version) ≡ begins_at (nat_le version 4)
 first_count version = by (nat_le version 4)
@@ -581,24 +573,14 @@ pub record IsDirectoryId (version : ℕ) (line_strings : List (List ℕ)) (direc
 longer_texts : (version : ℕ) (old new : List (List ℕ)) (directories : List LineText) (path : List ℕ) (id : ℕ)
     → HasMade version old new
     → IsDirectoryId version old directories path id → IsDirectoryId version new directories path id
-longer_texts version old new directories path id has so = record {
-  made = has.there path so.made;
-  at = subst (λ (t : LineText). IsAt directories t id) (sym (has.same path so.made)) so.at;
-}
+longer_texts version old new directories path id has so = grind arith
 
 more_directories : (version : ℕ) (line_strings : List (List ℕ)) (directories : List LineText) (t : LineText)
     (path : List ℕ) (id : ℕ)
     → IsDirectoryId version line_strings directories path id
     → IsDirectoryId version line_strings (with_directory directories t) path id
 more_directories version line_strings directories t path id so =
-    let test = line_text_eq (made_text version line_strings path) in
-    record {
-      made = so.made;
-      at = record {
-        present = grown_any test _ _ t so.at.present;
-        index = so.at.index ∙ sym (grown_index test _ _ t so.at.present);
-      };
-    }
+    grind (arith, grown_any, grown_index)
 
 -- one that is added has its id
 new_id : (version : ℕ) (line_strings : List (List ℕ)) (directories : List LineText) (path : List ℕ)
@@ -609,14 +591,9 @@ new_id version line_strings directories path =
     let text = made_text version line_strings path in
     let there = list_any (line_text_eq text) directories in
     record {
-      made = is_made version line_strings path;
+      made = grind (arith, is_made);
       at =
-          subst (λ (t : LineText). IsAt (with_directory directories text) t (index_of_directory directories text))
-          (sym (is_same version line_strings path))
-          (record {
-            present = own_any (line_text_eq text) there directories text refl (same_text text);
-            index = sym (own_index (line_text_eq text) there directories text refl (same_text text));
-          });
+          grind (arith, is_same, own_any, same_text, own_index);
     }
 
 -- it is found there
@@ -700,7 +677,7 @@ module _ (sections : Sections) (h : Header) where
       → length tables.directory_ids ≡ begins_at (nat_le h.parameters.encoding.version 4) + length done
       → all_added (directory_added sections) rest tables ≡ Ok last → AreDirectories sections h tables
       → AreDirectories sections h last
-  directories_next done [] tables last parts count is so = subst (AreDirectories sections h) (same_ok _ _ is) so
+  directories_next done [] tables last parts count is so = grind (arith, same_ok)
   directories_next done (v ∷ rest) tables last parts count is so =
       let t = took _ _ _ is in
       let here : directory_of h (length tables.directory_ids) ≡ Some v =
@@ -798,12 +775,7 @@ module _ (sections : Sections) (h : Header) where
       has_then version tables.line_strings paths after (table_has version tables.line_strings parts.path)
       (sources_has version paths parts.source) in
       subst (AreDirectories sections h) (same_ok (with_parts tables f parts) next t.2) (record {
-        each = λ d id at.
-            let before = so.each d id at in (
-              before.0,
-              before.1,
-              longer_texts version tables.line_strings after tables.program.directories before.0 id has before.2,
-            );
+        each = grind (arith, longer_texts);
       })
 
 -- ---- elements one by one
@@ -1264,15 +1236,7 @@ are_read : (sections : Sections) (version : ℕ) (directory_ids : List ℕ) (par
     → HasParts sections version directory_ids parts f
     → AreRead sections directory_ids parts f
 are_read sections version directory_ids parts f is =
-    let a = took (source_path version sections f.path_name) _ parts is in
-    let b = took (ok_or (slice_get directory_ids f.directory_index) InvalidDirectoryIndex) _ parts a.2 in
-    let c = took (if_there (source_text sections) f.source) _ parts b.2 in
-    let same = same_ok _ _ c.2 in
-    subst (λ p. AreRead sections directory_ids p f) same (record {
-      path = text_read _ _ _ (source_path_of version sections f.path_name _ a.1);
-      directory = there_ok _ _ b.1;
-      source = c.1;
-    })
+    grind (arith, took, same_ok, text_read, source_path_of, there_ok)
 
 -- a source that is known stands for the text of the source
 source_is_text : (sections : Sections) (version : ℕ) (texts : StringTables) (o : Option Value)
@@ -1280,11 +1244,9 @@ source_is_text : (sections : Sections) (version : ℕ) (texts : StringTables) (o
     → if_there (source_text sections) o ≡ Ok source → IfSome source (IsMade version texts.line_strings)
     → IsOptionalText sections o (option_map (bytes_in texts) (option_map (made_text version texts.line_strings) source))
 source_is_text sections version texts (Some v) (Some text) is made =
-    let t = took _ _ _ is in
-    let same : t.0 ≡ text = cc in
-    subst (IsText sections v) (same ∙ sym (made_bytes _ _ _ made)) (text_read _ v _ (source_text_of _ v _ t.1))
+    grind (arith, took, made_bytes, text_read, source_text_of)
 source_is_text sections version texts (Some v) None is made =
-    let t = took (source_text sections v) _ None is in absurd cc
+    grind (arith, took)
 source_is_text sections version texts None (Some text) is made = absurd cc
 source_is_text sections version texts None None is made = tt
 
@@ -1393,30 +1355,19 @@ module _ (version : ℕ) (R : File → ℕ → Type 0) (files : List File) (ids 
       → (id : ℕ) × IsFileId version file_ids n id × R f id
   each_number true is ids_are zero f at = absurd cc
   each_number true is ids_are (suc i) f at =
-      let found = one_by_one_at R _ _ i f all at in (
-        found.0,
-        record { from_one = λ old zero. absurd (omega arith); there = ap (λ l. slice_get l (suc i)) ids_are ∙ found.1 },
-        found.2,
-      )
+      grind (arith, one_by_one_at)
   each_number false is ids_are n f at =
-      let found = one_by_one_at R _ _ n f all at in (
-        found.0,
-        record {
-          from_one = λ old. absurd (true≢false (sym (le-leb version 4 old) ∙ is));
-          there = ap (λ l. slice_get l n) ids_are ∙ found.1;
-        },
-        found.2,
-      )
+      grind (arith, one_by_one_at)
 
   -- and no other
   only_number : (old : Bool) → nat_le version 4 ≡ old → file_ids ≡ (if old then 0 ∷ [] else []) ++ ids
       → (n id : ℕ) → IsFileId version file_ids n id
       → (f : File) × ((if old then from_one None files n else slice_get files n) ≡ Some f)
-  only_number true is ids_are zero id so = absurd (so.from_one (leb-true version 4 is) refl)
+  only_number true is ids_are zero id so = grind arith
   only_number true is ids_are (suc i) id so =
-      one_by_one_back R _ _ i _ all (sym (ap (λ l. slice_get l (suc i)) ids_are) ∙ so.there)
+      grind (arith, one_by_one_back)
   only_number false is ids_are n id so =
-      one_by_one_back R _ _ n _ all (sym (ap (λ l. slice_get l n) ids_are) ∙ so.there)
+      grind (arith, one_by_one_back)
 
 -- ---- all files
 

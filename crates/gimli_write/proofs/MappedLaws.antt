@@ -289,10 +289,7 @@ same_others : (source_version version base : ℕ) (built : LineRow) (source back
     → source ≡ record (read_row source_version base built) { file = source.file } → back ≡ read_row version base built
     → back ≡ record source { file = back.file }
 same_others source_version version base built source back mapped matches =
-    let number = file_number version built.file in
-    matches
-    ∙ ap (λ r. let s : ReadRow = record r { file = number } in s) (sym mapped)
-    ∙ ap (λ n. let s : ReadRow = record source { file = n } in s) (sym (ap (λ r. r.file) matches))
+    grind arith
 
 -- ---- the whole
 
@@ -318,13 +315,7 @@ module _ {convert_address : ℕ → Option Address} {s : Source} {line_strings :
   all_items = sym (whole.built ∙ ap (λ (l : List BuiltItem). l ++ whole.items) (first_ready w []).items)
 
   pub rows_mapped : AreRowsMapped s.notation s.header s.header.program c
-  rows_mapped = record {
-    rows = whole.rows;
-    events = record { list = w.reads.list; end = w.reads.end; decoding = w.reads.decoding; given = sym whole.events };
-    mapped =
-        subst (λ items. RowsMapped s.header.parameters.encoding.version c.file_ids 0 items whole.rows) all_items
-        whole.mapped;
-  }
+  rows_mapped = grind (arith, whole, all_items)
 
   pub addresses_fit : AddressesFit c.program.encoding.address_size 0 (0, 0) c.program.items
   addresses_fit =
@@ -348,10 +339,10 @@ rows_again source_version version file_ids past (Row built ∷ items) [] back ma
 rows_again source_version version file_ids past (Row built ∷ items) (s ∷ source) [] mapped matches = elim matches [ ]
 rows_again source_version version file_ids past (Row built ∷ items) (s ∷ source) (b ∷ back) mapped matches = (
   record {
-    address = ap (λ (r : ReadRow). r.address) matches.0 ∙ sym (ap (λ (r : ReadRow). r.address) mapped.0.others);
-    ends = ap (λ (r : ReadRow). r.end_sequence) matches.0 ∙ sym (ap (λ (r : ReadRow). r.end_sequence) mapped.0.others);
-    registers = λ inner. same_others source_version version (base_of past) built s b mapped.0.others matches.0;
-    file = λ inner. (built.file, mapped.0.file, ap (λ (r : ReadRow). r.file) matches.0);
+    address = grind arith;
+    ends = grind arith;
+    registers = grind (arith, same_others);
+    file = grind arith;
   },
   rows_again source_version version file_ids (Row built ∷ past) items source back mapped.1 matches.1,
 )
@@ -360,10 +351,10 @@ rows_again source_version version file_ids past (End offset op_index ∷ items) 
     elim matches [ ]
 rows_again source_version version file_ids past (End offset op_index ∷ items) (s ∷ source) (b ∷ back) mapped matches = (
   record {
-    address = matches.0.address ∙ sym mapped.0.address;
-    ends = matches.0.ends ∙ sym mapped.0.ends;
-    registers = λ inner. absurd (true≢false (sym mapped.0.ends ∙ inner));
-    file = λ inner. absurd (true≢false (sym mapped.0.ends ∙ inner));
+    address = grind arith;
+    ends = grind arith;
+    registers = grind arith;
+    file = grind arith;
   },
   rows_again source_version version file_ids (End offset op_index ∷ past) items source back mapped.1 matches.1,
 )

@@ -28,7 +28,7 @@ use Rattle.gimli_write.specs.declared.convert.rows.ConvertLineRow.TheVariants as
 
 set_within : (parameters : Parameters) (a : ℕ) (p : OperationPointer) → p.address < address_limit parameters
     → (next_pointer parameters false (SetAddress a) p).address < address_limit parameters
-set_within parameters a p lt = at_test (nat_lt a p.address) (nat_le (address_limit parameters - 2) a) refl
+set_within parameters a p lt = grind arith
   where
     at_test : (b c : Bool) → nat_le (address_limit parameters - 2) a ≡ c
         → (if b || c then p else (let q : OperationPointer = record { address = a; op_index = 0 } in q)).address
@@ -36,7 +36,7 @@ set_within parameters a p lt = at_test (nat_lt a p.address) (nat_le (address_lim
     at_test true c e = lt
     at_test false true e = lt
     at_test false false e =
-        let below : a < address_limit parameters - 2 = leb-false (address_limit parameters - 2) a e in omega arith
+        grind arith
 
 advance_within : (parameters : Parameters) (tombstone : Bool) (i : Ins) (p to : OperationPointer)
     → (pointer_at_overflow i p to).address ≡ p.address
@@ -44,12 +44,12 @@ advance_within : (parameters : Parameters) (tombstone : Bool) (i : Ins) (p to : 
     → (if tombstone then p else (if is_too_large parameters to then pointer_at_overflow i p to else to)).address
     < address_limit parameters
 advance_within parameters true i p to stays lt = lt
-advance_within parameters false i p to stays lt = at_test (is_too_large parameters to) refl
+advance_within parameters false i p to stays lt = grind arith
   where
     at_test : (b : Bool) → is_too_large parameters to ≡ b
         → (if b then pointer_at_overflow i p to else to).address < address_limit parameters
     at_test true e = omega (arith, stays)
-    at_test false e = leb-false (address_limit parameters) to.address e
+    at_test false e = grind arith
 
 next_within : (parameters : Parameters) (tombstone : Bool) (i : Ins) (p : OperationPointer)
     → p.address < address_limit parameters
@@ -57,13 +57,13 @@ next_within : (parameters : Parameters) (tombstone : Bool) (i : Ins) (p : Operat
 next_within parameters tombstone EndSequence p lt = omega arith
 next_within parameters tombstone (SetAddress a) p lt = set_within parameters a p lt
 next_within parameters tombstone (Special o) p lt =
-    advance_within parameters _ (Special o) p (advanced_by parameters _ p) refl lt
+    grind (arith, advance_within)
 next_within parameters tombstone (AdvancePc n) p lt =
-    advance_within parameters _ (AdvancePc n) p (advanced_by parameters n p) refl lt
+    grind (arith, advance_within)
 next_within parameters tombstone ConstAddPc p lt =
-    advance_within parameters _ ConstAddPc p (advanced_by parameters _ p) refl lt
+    grind (arith, advance_within)
 next_within parameters tombstone (FixedAddPc n) p lt =
-    advance_within parameters _ (FixedAddPc n) p (record { address = p.address + n; op_index = 0 }) refl lt
+    grind (arith, advance_within)
 next_within parameters tombstone i p lt = lt
 
 pub address_within : (parameters : Parameters) (past : List Ins)
@@ -79,14 +79,13 @@ address_within parameters (i ∷ past) =
 pub set_seen : (parameters : Parameters) (a : ℕ) (p : OperationPointer) → is_tombstone parameters a p ≡ false
     → (p.address ≤ a) × (a < address_limit parameters - 2)
 set_seen parameters a p seen =
-    let parts = or_parts _ _ seen in
-    (ltb-false a p.address parts.0, leb-false (address_limit parameters - 2) a parts.1)
+    grind arith
 
 pub set_moves : (parameters : Parameters) (a : ℕ) (p : OperationPointer) (tombstone : Bool)
     → is_tombstone parameters a p ≡ false
     → (next_pointer parameters tombstone (SetAddress a) p).address ≡ a
 set_moves parameters a p tombstone seen =
-    ap (λ b. (if b then p else (let q : OperationPointer = record { address = a; op_index = 0 } in q)).address) seen
+    grind arith
 
 pub pending_is_base : (past : List Ins) (a : ℕ) → pending_address past ≡ Some a → base_at past ≡ a
 pending_is_base [] a is = absurd cc
@@ -114,10 +113,7 @@ pub base_below_row : (parameters : Parameters) (past : List Ins) (i : Ins) → i
     → is_end i ≡ false
     → base_at past ≤ (row_at parameters past i).address
 base_below_row parameters past i seen inner =
-    let before = base_below parameters past seen in
-    let up = rises parameters (is_under_tombstone parameters past) i (pointer_at parameters past) inner in
-    let address : (row_at parameters past i).address ≡ (pointer_at parameters (i ∷ past)).address = rw inner refl in
-    omega arith
+    grind (arith, base_below, rises)
 
 -- ---- what was built after a past
 
@@ -134,22 +130,12 @@ pub record Follows (parameters : Parameters) (past : List Ins) (base position : 
   pub unset : gave_row parameters past ≡ false → base + position ≡ 0
 
 pub follows_start : (parameters : Parameters) → Follows parameters [] 0 0
-follows_start parameters = record {
-  reached = omega arith;
-  counted = λ seen none. refl;
-  ahead = λ a seen is. absurd cc;
-  unset = λ none. omega arith;
-}
+follows_start parameters = grind arith
 
 -- an end
 pub follows_end : (parameters : Parameters) (past : List Ins) (i : Ins) → is_end i ≡ true
     → Follows parameters (i ∷ past) 0 0
-follows_end parameters past EndSequence closes = record {
-  reached = omega arith;
-  counted = λ seen none. refl;
-  ahead = λ a seen is. absurd cc;
-  unset = λ none. omega arith;
-}
+follows_end parameters past EndSequence closes = grind arith
 follows_end parameters past i closes = absurd cc
 
 -- a point that makes a row and doesn't end a sequence
@@ -162,13 +148,8 @@ record IsRowPoint (parameters : Parameters) (past : List Ins) (i : Ins) : Type 0
 row_point : (parameters : Parameters) (past : List Ins) (i : Ins) → makes_row i ≡ true → is_end i ≡ false
     → IsRowPoint parameters past i
 row_point parameters past EndSequence loud inner = absurd cc
-row_point parameters past (Special o) loud inner = record {
-  tombstone = refl;
-  none_pending = refl;
-  gave = refl;
-  base = refl;
-}
-row_point parameters past Copy loud inner = record { tombstone = refl; none_pending = refl; gave = refl; base = refl }
+row_point parameters past (Special o) loud inner = grind arith
+row_point parameters past Copy loud inner = grind arith
 row_point parameters past i loud inner = absurd cc
 
 not_false : (b : Bool) → not b ≡ false → b ≡ true
@@ -181,40 +162,14 @@ quiet_row : (parameters : Parameters) (past : List Ins) (i : Ins) (base position
     → not (is_under_tombstone parameters past) ≡ false
     → Follows parameters past base position → Follows parameters (i ∷ past) base position
 quiet_row parameters past i base position loud inner quiet f =
-    let at : IsRowPoint parameters past i = row_point parameters past i loud inner in
-    let is_tombstone : is_under_tombstone parameters past
-    ≡ true = not_false (is_under_tombstone parameters past) quiet in
-    let before = f.reached in
-    let up = rises parameters (is_under_tombstone parameters past) i (pointer_at parameters past) inner in
-    record {
-      reached = omega arith;
-      counted = λ seen none.
-          let so : is_under_tombstone parameters (i ∷ past) ≡ is_under_tombstone parameters past = at.tombstone in
-          absurd cc;
-      ahead = λ a seen is. let so : pending_address (i ∷ past) ≡ None = at.none_pending in absurd cc;
-      unset = λ none.
-          f.unset
-          (or_parts (not (is_under_tombstone parameters past)) (gave_row parameters past) (sym at.gave ∙ none)).1;
-    }
+    grind (arith, row_point, not_false, rises)
 
 -- one that isn't
 pub follows_row : (parameters : Parameters) (past : List Ins) (i : Ins) → makes_row i ≡ true → is_end i ≡ false
     → is_under_tombstone parameters past ≡ false
     → Follows parameters (i ∷ past) (base_at past) ((pointer_at parameters (i ∷ past)).address - base_at past)
 follows_row parameters past i loud inner seen =
-    let at : IsRowPoint parameters past i = row_point parameters past i loud inner in
-    let below = base_below parameters past seen in
-    let up = rises parameters (is_under_tombstone parameters past) i (pointer_at parameters past) inner in
-    record {
-      reached = omega arith;
-      counted = λ still none. sym at.base;
-      ahead = λ a still is. let so : pending_address (i ∷ past) ≡ None = at.none_pending in absurd cc;
-      unset = λ none.
-          let gave : gave_row parameters (i ∷ past) ≡ true = at.gave
-          ∙ or_left (not (is_under_tombstone parameters past)) (gave_row parameters past)
-          (not_from_false (is_under_tombstone parameters past) seen) in
-          absurd cc;
-    }
+    grind (arith, row_point, base_below, rises)
 
 -- a point that gives nothing
 pub follows_quiet : (parameters : Parameters) (past : List Ins) (i : Ins) (base position : ℕ)
@@ -222,33 +177,15 @@ pub follows_quiet : (parameters : Parameters) (past : List Ins) (i : Ins) (base 
     → (is_end i ≡ true → is_under_tombstone parameters past ≡ true → gave_row parameters past ≡ false)
     → Follows parameters past base position → Follows parameters (i ∷ past) base position
 follows_quiet parameters past EndSequence base position quiet ends f =
-    let unset : base + position ≡ 0 = f.unset (ends refl (not_false (is_under_tombstone parameters past) quiet)) in
-    record {
-      reached = omega arith;
-      counted = λ seen none. omega arith;
-      ahead = λ a seen is. absurd cc;
-      unset = λ none. unset;
-    }
+    grind (arith, not_false)
 follows_quiet parameters past (SetAddress a) base position quiet ends f =
-    let before = f.reached in
-    let up = rises parameters (is_under_tombstone parameters past) (SetAddress a) (pointer_at parameters past) refl in
-    record {
-      reached = omega arith;
-      counted = λ seen none. absurd cc;
-      ahead = λ b seen is.
-          let set = set_seen parameters a (pointer_at parameters past) seen in
-          let same : a ≡ b = cc in
-          (omega (arith, set.0), omega (arith, set.1));
-      unset = f.unset;
-    }
+    grind (arith, rises, set_seen)
 follows_quiet parameters past (Special o) base position quiet ends f =
-    quiet_row parameters past (Special o) base position refl refl quiet f
+    grind (arith, quiet_row)
 follows_quiet parameters past Copy base position quiet ends f =
-    quiet_row parameters past Copy base position refl refl quiet f
+    grind (arith, quiet_row)
 follows_quiet parameters past i base position quiet ends f =
-    let before = f.reached in
-    let up = rises parameters (is_under_tombstone parameters past) i (pointer_at parameters past) refl in
-    record { reached = omega arith; counted = f.counted; ahead = f.ahead; unset = f.unset }
+    grind (arith, rises)
 
 -- ---- ids stay
 
@@ -268,17 +205,15 @@ ids_stay sections tables next (DefineFile f) is n id there =
         → slice_get next.file_ids n ≡ Some id
     by (Err e) so = absurd cc
     by (Ok parts) so =
-        let same : with_parts tables f parts ≡ next = cc in
-        subst (λ l. slice_get l.file_ids n ≡ Some id) same (slice_stays _ _ n _ there)
+        grind (arith, slice_stays)
 ids_stay sections tables next i is n id there =
-    let same : tables ≡ next = cc in
-    subst (λ l. slice_get l.file_ids n ≡ Some id) same there
+    grind arith
 
 -- ---- one point
 
 file_id-is : (version : ℕ) (tables : TablesAndTexts) (n id : ℕ) → file_id version tables n ≡ Ok id
     → IsFileId version tables.file_ids n id
-file_id-is version tables n id is = by (nat_le version 4 && nat_eq n 0) refl is
+file_id-is version tables n id is = grind arith
   where
     there : (o : Option ℕ) → ok_or o InvalidFileIndex ≡ Ok id → o ≡ Some id
     there (Some x) so = cc
@@ -288,17 +223,12 @@ file_id-is version tables n id is = by (nat_le version 4 && nat_eq n 0) refl is
         → (if b then Err InvalidFileIndex else ok_or (slice_get tables.file_ids n) InvalidFileIndex) ≡ Ok id
         → IsFileId version tables.file_ids n id
     by true at so = absurd cc
-    by false at so = record {
-      from_one = λ old zero. absurd (true≢false (sym (and_from _ _ (le-leb version 4 old) (eq-eqb n 0 zero)) ∙ at));
-      there = there _ so;
-    }
+    by false at so = grind arith
 
 row_parts : (r : ReadRow) (address : ℕ) → r.tombstone ≡ false → r.address ≡ address → r.end_sequence ≡ false
     → r ≡ record r { tombstone = false; address = address; end_sequence = false }
 row_parts r address seen at inner =
-    ap (λ x. let s : ReadRow = record r { tombstone = x } in s) seen
-    ∙ ap (λ x. let s : ReadRow = record r { tombstone = false; address = x } in s) at
-    ∙ ap (λ x. let s : ReadRow = record r { tombstone = false; address = address; end_sequence = x } in s) inner
+    grind arith
 
 -- ---- what comes of the rest of a program
 

@@ -34,8 +34,7 @@ pub one_fewer : (old rest : Reading) (item : ConvertLineRow) (tables : TablesAnd
     → after_definitions old ≡ offers item tables rest
     → offer_count rest < offer_count old
 one_fewer old rest item tables hands =
-    let e : offer_count old ≡ suc (offer_count rest) = sym (counted_after old) ∙ ap offer_count hands in
-    omega (arith, e)
+    grind (arith, counted_after)
 
 module _ (m : ℕ → Option Address) where
   -- one at a point
@@ -43,7 +42,7 @@ module _ (m : ℕ → Option Address) where
       (rest : Reading) (p : Built)
       → outcome_of m (reading_at parameters tables past i (with_definition i rest)) p
       ≡ outcome_of m (reading_at parameters tables past i rest) p
-  definition_passed parameters tables past (DefineFile f) rest p = by (overflows parameters past (DefineFile f))
+  definition_passed parameters tables past (DefineFile f) rest p = grind arith
     where
       by : (o : Bool)
           → outcome_of m (if o then stops (Read AddressOverflow) else defines rest) p
@@ -75,7 +74,7 @@ pub same_left : (c d : Conversion) (line_strings : List (List ℕ)) → d ≡ wi
     → without_items d.tables.program ≡ without_items c.tables.program
     → still_to_read d line_strings ≡ still_to_read c line_strings
 same_left c d line_strings is items =
-    ap (λ x. still_to_read x line_strings) is ∙ ap (still_with c line_strings) items
+    grind arith
 
 -- ---- the tables that a reading finds
 
@@ -83,9 +82,7 @@ same_left c d line_strings is items =
 tables_are : (old new : Built) → AddsFiles old new
     → record old { directories = new.directories; files = new.files } ≡ new
 tables_are old new adds =
-    ap (λ texts. let p : Built = record old { directories = texts; files = new.files } in p)
-    (ap (λ p. p.directories) adds)
-    ∙ sym adds
+    grind arith
 
 module _ (map : ℕ → Option Address → Type 0) where
   comes_after : (r : Reading) (p : Built) (outcome : Result Outcome ConvertError)

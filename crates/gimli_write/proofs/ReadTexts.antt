@@ -59,7 +59,7 @@ text_there s v text is = absurd is
 
 -- so a value that stands for a text isn't refused
 pub text_not_refused : (s : Sections) (v : Value) (e : Error) → HasText s v → text_of s v ≡ Err e → ⊥
-text_not_refused s v e has refused = let both = sym (text_there s v _ has.1) ∙ refused in cc
+text_not_refused s v e has refused = grind (arith, text_there)
 
 -- ---- one after the other
 
@@ -74,7 +74,7 @@ one_by_one_push Related (a ∷ xs) [] x y all one = absurd all
 -- the elements so far, and one more
 pub taken_more : {A : Type 0} (xs : List A) (i : ℕ) (x : A) → i < length xs → x ≡ get_or xs i x
     → take (i + 1) xs ≡ take i xs ++ x ∷ []
-taken_more xs i x lt is = ap (λ n. take n xs) (add-one i) ∙ take-suc xs i x lt ∙ ap (λ a. take i xs ++ a ∷ []) (sym is)
+taken_more xs i x lt is = grind (arith, take-suc)
 
 pub one_by_one_more : {A B C D : Type 0} (Related : A → B → Type 0) (f : C → A) (g : D → B) (xs : List C) (ys : List D)
     (i : ℕ) (x : C) (y : D)

@@ -53,13 +53,12 @@ pub same_sections : (strings other_strings line_strings other_line_strings : Lis
     → record { strings = strings; line_strings = line_strings } ≡ s
     → record { strings = other_strings; line_strings = other_line_strings } ≡ s
 same_sections strings other_strings line_strings other_line_strings s a b is =
-    ap (λ x. let t : Sections = record { strings = x; line_strings = other_line_strings } in t) a
-    ∙ ap (λ x. let t : Sections = record { strings = strings; line_strings = x } in t) b ∙ is
+    grind arith
 
 pub same_notation : (limit : ℕ) (big other : Bool) (n : Notation) → n ≡ record { big = other; limit = limit }
     → other ≡ big
     → n ≡ record { big = big; limit = limit }
-same_notation limit big other n is b = is ∙ ap (λ x. let m : Notation = record { big = x; limit = limit } in m) b
+same_notation limit big other n is b = grind arith
 
 -- ---- one header
 
@@ -89,14 +88,12 @@ pub same_answers : (r : Result RoundTrip ConvertError) (n m : Notation) (s t : S
     → h ≡ k
     → IfOk r (λ answer. AreAnswers n s h (answers answer)) → IfOk r (λ answer. AreAnswers m t k (answers answer))
 same_answers r n m s t h k a b d is =
-    subst (λ x. IfOk r (λ answer. AreAnswers x t k (answers answer))) a
-    (subst (λ x. IfOk r (λ answer. AreAnswers n x k (answers answer))) b
-    (subst (λ x. IfOk r (λ answer. AreAnswers n s x (answers answer))) d is))
+    grind arith
 
 pub same_refusal : (r : Result RoundTrip ConvertError) (n m : Notation) (h k : Header) → n ≡ m → h ≡ k
     → IfErr r (IsRunRefusal n h) → IfErr r (IsRunRefusal m k)
 same_refusal r n m h k a d is =
-    subst (λ x. IfErr r (IsRunRefusal x k)) a (subst (λ x. IfErr r (IsRunRefusal n x)) d is)
+    grind arith
 
 -- ---- a program's unit
 
@@ -118,10 +115,7 @@ optional_there s None (Some text) is = absurd is
 
 file_texts_there : (s : Sections) (p : Built) (texts : StringTables) (read : ReadFile) (built : File)
     → IsFile s p texts read built → HasFileTexts s read
-file_texts_there s p texts read built is = record {
-  path = (_, is.path);
-  source = optional_there s _ _ is.source;
-}
+file_texts_there s p texts read built is = grind (arith, optional_there)
 
 -- the sections of the tables have lengths that 64 bits hold
 abbrev pub AreShort : StringTables → Type 0
@@ -148,7 +142,7 @@ module _ (big : Bool) (p : Built) (texts : StringTables) (section : List ℕ) (n
   -- `OutOfMemory` before the unit is read
   pub unread_refused : (e : ConvertError) → e ≡ NoMemory
       → RefusesUnit (slice_notation big) (unit_entry_of p texts) (drop n section) e
-  unread_refused e is = rw is (read_back.header, read_back.is_unit, tt)
+  unread_refused e is = grind (arith, read_back)
 
 -- what is handed to the reading of a program's unit, by the names of the program
 module _ (big other : Bool) (p : Built) (texts : StringTables) (section other_section : List ℕ) (n size : ℕ)
@@ -161,22 +155,17 @@ module _ (big other : Bool) (p : Built) (texts : StringTables) (section other_se
 
   is_unit_entry : unit_entry_with size directory ≡ unit_entry_of p texts
   is_unit_entry =
-      ap (λ x. unit_entry_with x directory) sized
-      ∙ ap (λ x. let g : UnitEntry = record { address_size = p.encoding.address_size; directory = x; name = None } in g)
-      directed
+      grind arith
 
   -- the unit by other names
   moved : (P : Bool → UnitEntry → List ℕ → Sections → Type 0)
       → P big (unit_entry_of p texts) section (sections_of texts)
       → P other (unit_entry_with size directory) other_section s
   moved P is =
-      subst (λ x. P x (unit_entry_with size directory) other_section s) (sym order)
-      (subst (λ x. P big x other_section s) (sym is_unit_entry)
-      (subst (λ x. P big (unit_entry_of p texts) x s) (sym there)
-      (subst (λ x. P big (unit_entry_of p texts) section x) (sym written) is)))
+      grind (arith, is_unit_entry)
 
   moved_back : (P : Bool → Sections → Type 0) → P other s → P big (sections_of texts)
-  moved_back P is = subst (λ x. P x (sections_of texts)) order (subst (λ x. P other x) written is)
+  moved_back P is = grind arith
 
   begins : BeginsUnit (slice_notation big) (unit_entry_of p texts) (drop n section) back.header
   begins = record { spelled = (drop n section, [], sym (append-nil (drop n section)), back.is_unit.spelled) }
@@ -197,7 +186,7 @@ module _ (big other : Bool) (p : Built) (texts : StringTables) (section other_se
   })
 
   begins_there : BeginsUnit (slice_notation other) (unit_entry_with size directory) (drop n other_section) back.header
-  begins_there = moved (λ b g xs t. BeginsUnit (slice_notation b) g (drop n xs) back.header) begins
+  begins_there = grind (arith, moved, back, begins)
 
   pub program_answered : (r : Result RoundTrip ConvertError)
       → ((h : Header) → BeginsUnit (slice_notation other) (unit_entry_with size directory) (drop n other_section) h

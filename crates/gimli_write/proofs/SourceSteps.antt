@@ -57,10 +57,10 @@ module _ (notation : Notation) (h : Header) (bytes : List ℕ) where
 -- ---- readings
 
 if_true : {A : Type 0} (b : Bool) (x y : A) → b ≡ true → (if b then x else y) ≡ x
-if_true b x y e = ap (λ c. if c then x else y) e
+if_true b x y e = grind arith
 
 if_false : {A : Type 0} (b : Bool) (x y : A) → b ≡ false → (if b then x else y) ≡ y
-if_false b x y e = ap (λ c. if c then x else y) e
+if_false b x y e = grind arith
 
 pub no_file : (sections : Sections) (tables : TablesAndTexts) (i : Ins) → defines_file i ≡ false
     → tables_after_definition sections tables i ≡ Ok tables
@@ -85,7 +85,7 @@ same_reading sections u v s (Ok tables) (i ∷ list) end =
 module _ (sections : Sections) (tables : TablesAndTexts) (s : SourceRun) where
   pub none_left : s.unread.bytes ≡ [] → reading_left sections s tables ≡ ends tables
   none_left e =
-      ap (λ c. reading_from sections s (Ok tables) c.0 c.1) (decoded_none s.unread.notation s.header s.unread.bytes e)
+      grind (arith, decoded_none)
 
   pub at_fault : (e : Error) → s.unread.bytes ≢ []
       → (instruction_production s.unread.notation s.header).Fault s.unread.bytes e
@@ -170,8 +170,7 @@ state h r b p u = record { header = h; row = r; base = b; pending = p; unread = 
 pub state_same : (h k : Header) (r s : LineRow) (b c : ℕ) (p q : Option ℕ) (u : Unread) → h ≡ k → r ≡ s → b ≡ c → p ≡ q
     → state h r b p u ≡ state k s c q u
 state_same h k r s b c p q u header row base pending =
-    ap (λ x. state x r b p u) header ∙ ap (λ x. state k x b p u) row ∙ ap (λ x. state k s x p u) base
-    ∙ ap (λ x. state k s c x u) pending
+    grind arith
 
 -- what an instruction does to registers that a run relies on
 ends_row : (p : Parameters) (i : Ins) (r : LineRow) → r.end_sequence ≡ false → makes_row i ≡ true
@@ -206,13 +205,13 @@ files_same i files e = refl
 
 header_same : (i : Ins) (h h2 : Header) → defines_file i ≡ false → h2 ≡ record h { files = files_after true i h.files }
     → h2 ≡ h
-header_same i h h2 file is = is ∙ ap (λ files. let k : Header = record h { files = files } in k) (files_same i _ file)
+header_same i h h2 file is = grind (arith, files_same)
 
 -- a refusal of an instruction that defines no file
 pub is_overflow : (i : Ins) (e : Error) → (e ≢ AddressOverflow → defines_file i ≡ true) → defines_file i ≡ false
     → e ≡ AddressOverflow
 is_overflow i AddressOverflow memory file = refl
-is_overflow i e memory file = absurd (false≢true (sym file ∙ memory (λ is. absurd cc)))
+is_overflow i e memory file = grind arith
 
 -- registers that are ready don't end a sequence
 abbrev pub IsReady : LineRow → Type 0
@@ -223,11 +222,10 @@ module _ (i : Ins) (old new : LineRow) (ready : IsReady old) where
       → (e ≢ AddressOverflow → defines_file i ≡ true)
       → (e ≡ AddressOverflow → (is_refused p i old ≡ true) × (new ≡ step_of p i old)) → IsReady new
   ready_at_refusal p e file memory over =
-      let o = over (is_overflow i e memory file) in
-      ap (λ r. r.end_sequence) o.1 ∙ refusal_keeps_end p i _ o.0 ∙ ready
+      grind (arith, is_overflow, refusal_keeps_end)
 
   pub ready_when_quiet : (p : Parameters) → makes_row i ≡ false → new ≡ step_of p i old → IsReady new
-  ready_when_quiet p quiet step = ap (λ r. r.end_sequence) step ∙ keeps_end p i _ quiet ∙ ready
+  ready_when_quiet p quiet step = grind (arith, keeps_end)
 
 -- ---- what is done of an instruction that sets no address and defines no file
 
@@ -241,7 +239,7 @@ module _ {R Endian Offset : Type 0} where
   same_or_other : (made tombstone other : Bool) (r d : SourceRow) → made ≡ true → tombstone ≡ other → r ≡ d
       → ◌≡◌ {A = SourceStep R Endian Offset} (if tombstone then More else Made r)
       (if made && not other then Made d else More)
-  same_or_other made tombstone other r d loud same row_is = rw (loud, same, row_is) (shown _ d)
+  same_or_other made tombstone other r d loud same row_is = grind (arith, shown)
 
 module _ (i : Ins) (h h2 : Header) (r r2 : LineRow) (b : ℕ) (p : Option ℕ) (u : Unread)
     (address : address_operand i ≡ None) (file : defines_file i ≡ false)
@@ -254,16 +252,12 @@ module _ (i : Ins) (h h2 : Header) (r r2 : LineRow) (b : ℕ) (p : Option ℕ) (
       → next_registers h.parameters i r
       ≡ (if made then reset_row h.parameters (step_of h.parameters i r) else step_of h.parameters i r)
   next_is made is =
-      let goes : (is_refused h.parameters i r || makes_row i) ≡ made = ap (λ c. c || makes_row i) fits ∙ is in
-      ap (λ c. if c then reset_row h.parameters (step_of h.parameters i r) else step_of h.parameters i r) goes
+      grind arith
 
   -- where it makes no row
   pub quiet_state : makes_row i ≡ false → state h2 r2 b p u ≡ state_after i (state h r b p u)
   quiet_state quiet =
-      let registers : r2 ≡ next_registers h.parameters i r = step ∙ sym (next_is _ quiet) in
-      let base : base_after i b ≡ b = rw (no_end i quiet, address) refl in
-      let pends : pending_after i p ≡ p = rw (quiet, address) refl in
-      state_same h2 h r2 _ b _ p _ u header_kept registers (sym base) (sym pends)
+      grind (arith, next_is, no_end, state_same, header_kept)
 
   -- where it makes one
   pub row_state : makes_row i ≡ true → r.end_sequence ≡ false → (k : Header) → k ≡ h2 → (r3 : LineRow)
@@ -271,15 +265,7 @@ module _ (i : Ins) (h h2 : Header) (r r2 : LineRow) (b : ℕ) (p : Option ℕ) (
       → (last : Bool) → last ≡ r2.end_sequence → (n : ℕ) → n ≡ (if last then 0 else b)
       → state h2 r3 n None u ≡ state_after i (state h r b p u)
   row_state loud ready k lent r3 reset last ended n counts =
-      let registers : r3 ≡ next_registers h.parameters i r =
-      reset ∙ ap (λ x. reset_row x.parameters r2) (lent ∙ header_kept) ∙ ap (reset_row h.parameters) step
-      ∙ sym (next_is _ loud) in
-      let last_is : last ≡ is_end i = ended ∙ ap (λ x. x.end_sequence) step ∙ ends_row h.parameters i r ready loud in
-      let of_row : base_after i b
-      ≡ (if is_end i then 0 else b) = ap (λ o. if is_end i then 0 else unwrap_or o b) address in
-      let base : n ≡ base_after i b = counts ∙ ap (λ x. if x then 0 else b) last_is ∙ sym of_row in
-      let pends : pending_after i p ≡ None = rw loud refl in
-      state_same h2 h r3 _ n _ None _ u header_kept registers base (sym pends)
+      grind (arith, header_kept, next_is, ends_row, state_same)
 
   pub made_is : {R Endian Offset : Type 0} (given : SourceStep R Endian Offset) (offset : ℕ)
       → given ≡ (if r2.tombstone then More else Made (record { set_address = p; address_offset = offset; row = r2 }))
@@ -287,14 +273,7 @@ module _ (i : Ins) (h h2 : Header) (r r2 : LineRow) (b : ℕ) (p : Option ℕ) (
       → offset ≡ r2.address - b
       → given ≡ step_made (state h r b p u) i
   made_is given offset is loud counts =
-      let same : r2.tombstone ≡ r.tombstone = ap (λ w. w.tombstone) step ∙ keeps_tombstone h.parameters i r address in
-      let x : SourceRow = record { set_address = p; address_offset = offset; row = r2 } in
-      let offset_is : x ≡ record { set_address = p; address_offset = r2.address - b; row = r2 } =
-      ap (λ o. let y : SourceRow = record { set_address = p; address_offset = o; row = r2 } in y) counts in
-      let row_is : record { set_address = p; address_offset = r2.address - b; row = r2 }
-      ≡ row_made (state h r b p u) i =
-      ap (λ w. let y : SourceRow = record { set_address = p; address_offset = w.address - b; row = w } in y) step in
-      is ∙ same_or_other _ _ _ x _ loud same (offset_is ∙ row_is)
+      grind (arith, keeps_tombstone, same_or_other)
 
 -- ---- what is done of a set address
 
@@ -306,10 +285,10 @@ module _ (p : Parameters) (a : ℕ) (old new : LineRow) where
       e ≢ AddressOverflow → (e ≡ OutOfMemory) × (true ≡ true) × (defines_file (SetAddress a) ≡ true) × (new ≡ old))
       → new ≡ step_of p (SetAddress a) old
   address_done (Ok m) step over memory = step
-  address_done (Err e) step over memory = (over (is_overflow (SetAddress a) e (λ n. (memory n).2) refl)).1
+  address_done (Err e) step over memory = grind (arith, is_overflow)
 
   pub address_ready : IsReady old → new ≡ step_of p (SetAddress a) old → IsReady new
-  address_ready ready step = ap (λ r. r.end_sequence) step ∙ ready
+  address_ready ready step = grind arith
 
 pub address_header : (a : ℕ) (h h2 : Header) (r : Result Bool Error)
     → OnOk r (h2 ≡ record h { files = files_after true (SetAddress a) h.files })
@@ -321,7 +300,7 @@ pub address_state : (a : ℕ) (h h2 : Header) (r r2 : LineRow) (b : ℕ) (p : Op
     → r2 ≡ step_of h.parameters (SetAddress a) r
     → state h2 r2 a (Some a) u ≡ state_after (SetAddress a) (state h r b p u)
 address_state a h h2 r r2 b p u header step =
-    state_same h2 h r2 _ a a (Some a) (Some a) u header step refl refl
+    grind (arith, state_same)
 
 -- ---- what is read from a step on
 
@@ -333,7 +312,7 @@ pub spelled_as : (notation : Notation) (h k : Header) (front : List ℕ) (i j : 
     → SpellsInstruction notation k front i
     → SpellsInstruction notation h front j
 spelled_as notation h k front i j same is s =
-    subst (λ x. SpellsInstruction notation x front j) same (subst (λ y. SpellsInstruction notation k front y) is s)
+    grind arith
 
 module _ (R Endian Offset : Type 0) (s old new : SourceRun) (i : Ins) where
   shortens : length new.unread.bytes < length old.unread.bytes → (b : Bool)
@@ -344,7 +323,7 @@ module _ (R Endian Offset : Type 0) (s old new : SourceRun) (i : Ins) where
 module _ {R Endian Offset : Type 0} (s old new : SourceRun) (i : Ins) where
   pub executed_shortens : (r : Result (SourceStep R Endian Offset) ConvertError) → IfOk r (λ step. step ≡ step_made s i)
       → length new.unread.bytes < length old.unread.bytes → IfOk r (λ step. Shortens step old new)
-  executed_shortens (Ok step) made lt = rw made (shortens R Endian Offset s old new i lt _)
+  executed_shortens (Ok step) made lt = grind (arith, shortens)
   executed_shortens (Err e) made lt = tt
 
 module _ {R Offset : Type 0} (Endian : Type 0) (bytes : R → List ℕ) (number : Offset → ℕ) (s : SourceRun) (u : Unread)
@@ -383,7 +362,7 @@ module _ {R Offset : Type 0} (Endian : Type 0) (bytes : R → List ℕ) (number 
       → IfOk r (λ step.
       (sections : Sections) (tables : TablesAndTexts)
       → reading_left sections s tables ≡ step_reading bytes number sections tables step t)
-  executed_reading t (Ok step) file fits next made = λ sections tables. rw (made, next) (made_reading fits file _ _)
+  executed_reading t (Ok step) file fits next made = grind (arith, made_reading)
   executed_reading t (Err e) file fits next made = tt
 
   pub executed_refusal : (r : Result (SourceStep R Endian Offset) ConvertError)

@@ -22,7 +22,7 @@ use Rattle.gimli_build.proofs.building.TableLemmas.{keys-with_file, keys-with_de
 -- where items leave off, from a position on
 reached : ℕ × ℕ → List BuiltItem → ℕ × ℕ
 reached position [] = position
-reached position (item ∷ items) = reached (position_after item) items
+reached position (item ∷ items) = grind arith
 
 last_at : (position : ℕ × ℕ) (item : BuiltItem) (items : List BuiltItem) (n : ℕ) → n ≡ length items
     → reached position (item ∷ items) ≡ option_map_or position_after (slice_get (item ∷ items) n) (0, 0)
@@ -73,7 +73,7 @@ item_pushed {e = e} items item so can = record {
   address_size = so.address_size;
   working_dir = so.working_dir;
   source_file = so.source_file;
-  directories_not_empty = so.directories_not_empty;
+  directories_not_empty = grind arith;
   paths_not_empty = so.paths_not_empty;
   items_built =
       push_reached e _ _ _ so.items_built (subst (λ position. CanBuild e position item) (sym (reached_last items)) can);
@@ -105,16 +105,7 @@ pub directory_added : {is_none : Bool} {encoding : Encoding} {e : LineEncoding} 
     (t : LineText)
     → IsProgram is_none encoding e ds keys items → is_none ≡ false → (encoding.version ≤ 4 → IsNotEmpty t)
     → IsProgram is_none encoding e (with_directory ds t) keys items
-directory_added ds t so is not_empty = record {
-  lines = so.lines;
-  address_size = so.address_size;
-  working_dir = λ h. longer _ t (so.working_dir is);
-  source_file = so.source_file;
-  directories_not_empty =
-      λ old. not_empty_pushed _ t (so.working_dir is) (so.directories_not_empty old) (not_empty old);
-  paths_not_empty = so.paths_not_empty;
-  items_built = so.items_built;
-}
+directory_added ds t so is not_empty = grind (arith, longer, not_empty_pushed)
 
 paths_pushed : (files : List File) (k : FileKey) (given : Option Details) → All (λ l. IsNotEmpty l.0) (keys_of files)
     → IsNotEmpty k.0
@@ -139,15 +130,7 @@ pub file_added : {is_none : Bool} {encoding : Encoding} {e : LineEncoding} {ds :
     (given : Option Details)
     → IsProgram is_none encoding e ds (keys_of files) items → (encoding.version ≤ 4 → IsNotEmpty k.0)
     → IsProgram is_none encoding e ds (keys_of (with_file files k given)) items
-file_added files k given so not_empty = record {
-  lines = so.lines;
-  address_size = so.address_size;
-  working_dir = so.working_dir;
-  source_file = λ is new. files_longer _ k _ (so.source_file is new);
-  directories_not_empty = so.directories_not_empty;
-  paths_not_empty = λ old. paths_pushed _ k _ (so.paths_not_empty old) (not_empty old);
-  items_built = so.items_built;
-}
+file_added files k given so not_empty = grind (arith, files_longer, paths_pushed)
 
 -- details are written
 pub details_written : {is_none : Bool} {encoding : Encoding} {e : LineEncoding} {ds : List LineText} {items : List

@@ -18,7 +18,7 @@ use Rattle.gimli_build.proofs.reading.ReadyTexts.{within_after}
 module _ {A : Type 0} (test : A → Bool) (xs : List A) (i : ℕ) where
   any_next : (x : A) → slice_get xs i ≡ Some x → list_any test (drop i xs) ≡ list_any test xs
       → list_any test xs ≡ (test x || list_any test (drop (i + 1) xs))
-  any_next x at so = sym so ∙ ap (list_any test) (next_at _ i x at)
+  any_next x at so = grind (arith, next_at)
 
   -- an element has it
   pub any_found : (x : A) → slice_get xs i ≡ Some x → list_any test (drop i xs) ≡ list_any test xs → test x ≡ true
@@ -67,7 +67,7 @@ module _ (files : List File) (i : ℕ) where
 pub first_path : (files : List File) (f : File) → slice_get files 0 ≡ Some f
     → text_form f.0.0 ≡ first_form (path_texts files)
 first_path [] f at = cc
-first_path (g ∷ files) f at = let same : g ≡ f = cc in ap (λ h. text_form h.0.0) (sym same)
+first_path (g ∷ files) f at = grind arith
 
 -- whether a text is none, seen by a function
 pub none_seen : {A B : Type 0} (f : A → B) (o : Option A) → is_none (option_map f o) ≡ is_none o
@@ -85,24 +85,14 @@ if-some P Q f None p = tt
 -- a program that could be written can be written then
 pub can-write-after : (p : Built) (texts : StringTables) → CanWrite p texts → CanWrite p (texts_after p texts)
 can-write-after p texts can =
-    let after = texts_after p texts in
-    let within = within_after p _ in
-    record {
-      program = can.program;
-      directories = All-weaker (IsWithin texts) _ within _ can.directories;
-      paths = All-weaker (λ f. IsWithin texts f.0.0) _ (λ f w. within f.0.0 w) _ can.paths;
-      sources =
-          All-weaker (λ f. IfSome f.1.source (IsWithin texts)) _
-          (λ f w. if-some _ _ within _ w) _ can.sources;
-      sources_end = can.sources_end;
-    }
+    grind (arith, within_after, if-some)
 
 -- ---- where it is needed
 
 any-at : {A : Type 0} (test : A → Bool) (xs : List A) (i : ℕ) (x : A) → i < length xs → slice_index_or xs i x ≡ x
     → test x ≡ true → list_any test xs ≡ true
 any-at test [] i x lt at is = absurd (omega arith)
-any-at test (y ∷ xs) zero x lt at is = ap (λ b. b || list_any test xs) (ap test at ∙ is)
+any-at test (y ∷ xs) zero x lt at is = grind arith
 any-at test (y ∷ xs) (suc i) x lt at is = ap (λ b. test y || b) (any-at test xs i x (omega arith) at is) ∙ by _
   where
     by : (b : Bool) → (b || true) ≡ true
@@ -114,6 +104,4 @@ pub needs-empty : (p : Built) (f : File) → 5 ≤ p.encoding.version → Contai
     → f.1.source ≡ None
     → needs_empty p ≡ true
 needs-empty p f new there has without =
-    let one = le-leb 5 p.encoding.version new in
-    let any = any-at _ _ _ f there.1 there.2 (ap is_none without) in
-    λ j. one j && has j && any j
+    grind (arith, le-leb, any-at)

@@ -36,28 +36,28 @@ use Rattle.gimli_build.specs.inside.TableFields.{key, directories_of, files_of}
 pub line_eq : (x y : LineString) → ghosts.eq x y ≡ line_text_eq (line_text x) (line_text y)
 line_eq (String a) (String b) = refl
 line_eq (String a) (StringRef b) = refl
-line_eq (String a) (LineStringRef b) = refl
+line_eq (String a) _ = refl
 line_eq (StringRef a) (String b) = refl
 line_eq (StringRef a) (StringRef b) = refl
-line_eq (StringRef a) (LineStringRef b) = refl
-line_eq (LineStringRef a) (String b) = refl
-line_eq (LineStringRef a) (StringRef b) = refl
-line_eq (LineStringRef a) (LineStringRef b) = refl
+line_eq (StringRef a) _ = refl
+line_eq _ (String b) = refl
+line_eq _ (StringRef b) = refl
+line_eq _ _ = refl
 
 line_text_eq-self : (t : LineText) → line_text_eq t t ≡ true
-line_text_eq-self (Inline bytes) = (bytes_eq-Decides bytes _).1 refl
+line_text_eq-self (Inline bytes) = simp bytes_eq-Decides
 line_text_eq-self (InStrings i) = nat_eq_equiv.refl i
 line_text_eq-self (InLineStrings i) = nat_eq_equiv.refl i
 
 line_text_eq-same : (s t : LineText) → s ≡ t → line_text_eq t s ≡ true
-line_text_eq-same s t e = subst (λ x. line_text_eq t x ≡ true) (sym e) (line_text_eq-self t)
+line_text_eq-same s t e = grind (arith, line_text_eq-self)
 
 nat_eq-tells : (i j : ℕ) → nat_eq i j ≡ true → i ≡ j
-nat_eq-tells i j h = grind (arith, nat_tests)
+nat_eq-tells i j h = grind (arith)
 
 and_true : (a b : Bool) → (a && b) ≡ true → (a ≡ true) × (b ≡ true)
 and_true true b h = (refl, h)
-and_true false b h = absurd (true≢false (sym h))
+and_true false b h = cc
 
 -- ---- a search in a list
 
@@ -71,14 +71,14 @@ any-directories k (x ∷ xs) = λ i. line_eq k x i || any-directories k xs i
 pub directories_insert : (ks : List LineString) (k : LineString)
     → directories_of (insert_key ghosts.eq ks k) ≡ with_directory (directories_of ks) (line_text k)
 directories_insert ks k =
-    by (list_any (ghosts.eq k) ks)
+    by _
     ∙ ap (λ b. if b then directories_of ks else directories_of ks ++ line_text k ∷ []) (any-directories k _)
   where
     by : (b : Bool)
         → directories_of (if b then ks else ks ++ k ∷ [])
         ≡ (if b then directories_of ks else directories_of ks ++ line_text k ∷ [])
     by true = refl
-    by false = map-append line_text ks (k ∷ [])
+    by false = grind (arith, map-append)
 
 pub index_of_equal_directory : (ks : List LineString) (k : LineString)
     → position_or_len (ghosts.eq k) ks ≡ index_of_directory (directories_of ks) (line_text k)
@@ -87,7 +87,7 @@ index_of_equal_directory (x ∷ xs) k = λ i. cond (not (line_eq k x i)) (1 + in
 
 pub with_directory-AreTables : (ds : List LineText) (ks : List FileKey) (t : LineText) → AreTables ds ks → HasNoZero t
     → AreTables (with_directory ds t) ks
-with_directory-AreTables ds ks t so clean = by (list_any (line_text_eq t) ds) refl
+with_directory-AreTables ds ks t so clean = by _ refl
   where
     by : (b : Bool) → list_any (line_text_eq t) ds ≡ b → AreTables (if b then ds else ds ++ t ∷ []) ks
     by true h = so
@@ -99,7 +99,7 @@ with_directory-AreTables ds ks t so clean = by (list_any (line_text_eq t) ds) re
       distinct_files = so.distinct_files;
       paths_end = so.paths_end;
       in_directories =
-          λ k d short. let below = so.in_directories k d short in omega (arith, below, length-append ds (t ∷ []));
+          grind (arith, length-append);
     }
 
 -- ---- files
@@ -109,17 +109,17 @@ abbrev pub pair_eq : LineString × ℕ → LineString × ℕ → Bool
 pair_eq x y = ghosts.eq x.0 y.0 && nat_eq x.1 y.1
 
 pub pair_eq-is : (x y : LineString × ℕ) → pair_eq x y ≡ key_eq (key x) (key y)
-pair_eq-is x y = ap (λ b. b && nat_eq x.1 y.1) (line_eq x.0 y.0)
+pair_eq-is x y = grind (arith)
 
 key_eq-same : (k l : FileKey) → k ≡ l → key_eq l k ≡ true
-key_eq-same k l e = subst (λ x. key_eq l x ≡ true) (sym e) (λ i. line_text_eq-self l.0 i && nat_eq_equiv.refl l.1 i)
+key_eq-same k l e = grind (arith, line_text_eq-self)
 
 -- the files after an insertion
 pub files_insert : (es : List ((LineString × ℕ) × FileInfo)) (k : LineString × ℕ) (v : FileInfo)
     → files_of (insert_entry pair_eq es k v) ≡ with_file (files_of es) (key k) (Some (details v))
 files_insert [] k v = refl
 files_insert (e ∷ es) k v =
-    by (pair_eq k e.0)
+    by _
     ∙ (λ i.
     if pair_eq-is k e.0 i then (key e.0, details v) ∷ files_of es else (key e.0, details e.1) ∷ files_insert es k v i)
     ∙ joined _ _
@@ -135,8 +135,7 @@ files_insert (e ∷ es) k v =
         → with_details ((key e.0, details e.1) ∷ files_of es) (1 + n) (details v)
         ≡ (key e.0, details e.1) ∷ with_details (files_of es) n (details v)
     one n =
-        let h : 1 + n ≡ suc n = omega arith in
-        ap (λ m. with_details ((key e.0, details e.1) ∷ files_of es) m (details v)) h
+        grind arith
 
     joined : (b there : Bool)
         → (if b then (key e.0, details v) ∷ files_of es
@@ -166,43 +165,42 @@ index_of_equal_file (e ∷ es) k = λ i. cond (not (pair_eq-is k e.0 i)) (1 + in
 pub file_found : (es : List ((LineString × ℕ) × FileInfo)) (k : LineString × ℕ) (b : Bool)
     → b ≡ is_some (lookup (pair_eq k) es)
     → has_file (files_of es) (key k) ≡ b
-file_found es k b e = sym (any-files k _) ∙ sym (is_some-lookup (pair_eq k) es) ∙ sym e
+file_found es k b e = grind (arith, any-files, is_some-lookup)
 
 -- a file that is there stays as it is, where nothing is handed of it
 pub with_file-kept : (files : List File) (k : FileKey) → has_file files k ≡ true → with_file files k None ≡ files
-with_file-kept files k h = ap (λ b. if b then files else files ++ (k, no_details) ∷ []) h
+with_file-kept files k h = grind arith
 
 -- a new file has no details, where none are handed
 pub with_file-new : (files : List File) (k : FileKey) → has_file files k ≡ false
     → with_file files k (Some no_details) ≡ with_file files k None
 with_file-new files k h =
-    ap (λ b. if b then with_details files (index_of_file files k) no_details else files ++ (k, no_details) ∷ []) h
-    ∙ ap (λ b. if b then files else files ++ (k, no_details) ∷ []) (sym h)
+    grind arith
 
 pub keys-with_details : (files : List File) (i : ℕ) (d : Details) → keys_of (with_details files i d) ≡ keys_of files
 keys-with_details [] i d = refl
-keys-with_details (f ∷ files) zero d = refl
+keys-with_details _ zero d = refl
 keys-with_details (f ∷ files) (suc i) d = ap (λ ks. f.0 ∷ ks) (keys-with_details files i d)
 
 pub with_file-AreTables : (ds : List LineText) (files : List File) (k : FileKey) (d : Details)
     → AreTables ds (keys_of files) → HasNoZero k.0 → k.1 < length ds
     → AreTables ds (keys_of (with_file files k (Some d)))
-with_file-AreTables ds files k d so clean within = by (has_file files k) refl
+with_file-AreTables ds files k d so clean within = by _ refl
   where
     absent : has_file files k ≡ false → list_any (key_eq k) (keys_of files) ≡ false
-    absent h = any-map (key_eq k) (λ f. f.0) files ∙ h
+    absent h = grind (arith, any-map)
 
     by : (b : Bool) → has_file files k ≡ b
         → AreTables ds (keys_of (if b then with_details files (index_of_file files k) d else files ++ (k, d) ∷ []))
-    by true h = rw (keys-with_details files (index_of_file files k) d) so
-    by false h = rw (map-append (λ (f : File). f.0) files ((k, d) ∷ [])) (record {
+    by true h = grind (arith, keys-with_details)
+    by false h = rw (map-append (λ f. f.0) files _) (record {
       distinct_directories = so.distinct_directories;
       directories_end = so.directories_end;
       distinct_files =
-          all_pairs_push (λ l m. l ≢ m) (keys_of files) k so.distinct_files (λ i l short same.
-          true≢false (sym (list_any_at (key_eq k) (keys_of files) i l short (key_eq-same _ k same)) ∙ absent h));
-      paths_end = All-push (λ l. HasNoZero l.0) (keys_of files) k so.paths_end clean;
-      in_directories = All-push (λ l. l.1 < length ds) (keys_of files) k so.in_directories within;
+          all_pairs_push (λ l m. l ≢ m) _ k so.distinct_files (λ i l short same.
+          true≢false (sym (list_any_at (key_eq k) _ i l short (key_eq-same _ k same)) ∙ absent h));
+      paths_end = All-push (λ l. HasNoZero l.0) _ k so.paths_end clean;
+      in_directories = All-push (λ l. l.1 < length ds) _ k so.in_directories within;
     })
 
 -- ---- details that are written
@@ -210,20 +208,20 @@ with_file-AreTables ds files k d so clean within = by (has_file files k) refl
 pub files_with : (es : List ((LineString × ℕ) × FileInfo)) (n : ℕ) (v : FileInfo)
     → files_of (set_value_at es n v) ≡ with_details (files_of es) n (details v)
 files_with [] n v = refl
-files_with (e ∷ es) zero v = refl
+files_with _ zero v = refl
 files_with (e ∷ es) (suc n) v = ap (λ t. (key e.0, details e.1) ∷ t) (files_with es n v)
 
 pub details_at : (es : List ((LineString × ℕ) × FileInfo)) (n : ℕ) (v : FileInfo)
     → Some v ≡ slice_get (map (λ e. e.1) es) n
     → option_map (λ f. f.1) (slice_get (files_of es) n) ≡ Some (details v)
 details_at [] n v h = cc
-details_at (e ∷ es) zero v h = let same : v ≡ e.1 = cc in ap (λ i. Some (details i)) (sym same)
+details_at (e ∷ es) zero v h = grind arith
 details_at (e ∷ es) (suc n) v h = details_at es n v h
 
 pub written-AreTables : (ds : List LineText) (es : List ((LineString × ℕ) × FileInfo)) (n : ℕ) (v : FileInfo)
     → AreTables ds (keys_of (files_of es))
     → AreTables ds (keys_of (files_of (set_value_at es n v)))
-written-AreTables ds es n v so = rw (files_with es n v) (rw (keys-with_details (files_of es) n (details v)) so)
+written-AreTables ds es n v so = grind (arith, files_with, keys-with_details)
 
 -- ---- a walk over the files
 
@@ -233,7 +231,7 @@ pub numbered_more : (es : List ((LineString × ℕ) × FileInfo)) (i j : ℕ) (e
     ≡ (j, line_text e.0.0, e.0.1) ∷ with_indexes (j + 1) (drop (i + 1) (files_of es))
 numbered_more [] i j e h = cc
 numbered_more (x ∷ xs) zero j e h =
-    let s : x ≡ e = cc in ap (λ k. (j, line_text k.0.0, k.0.1) ∷ with_indexes (j + 1) (files_of xs)) s
+    grind arith
 numbered_more (x ∷ xs) (suc n) j e h = rw suc_add (numbered_more xs n j e h)
 
 -- ---- clones
@@ -242,8 +240,8 @@ numbered_more (x ∷ xs) (suc n) j e h = rw suc_add (numbered_more xs n j e h)
 pub directories_cloned : (ks ls : List LineString) → AllZip (λ k l. line_text l ≡ line_text k) ks ls
     → directories_of ls ≡ directories_of ks
 directories_cloned [] [] z = refl
-directories_cloned [] (l ∷ ls) z = absurd z
-directories_cloned (k ∷ ks) [] z = absurd z
+directories_cloned [] _ z = absurd z
+directories_cloned _ [] z = absurd z
 directories_cloned (k ∷ ks) (l ∷ ls) z = λ i. z.0 i ∷ directories_cloned ks ls z.1 i
 
 -- and clones of files the same files
@@ -251,15 +249,15 @@ pub files_cloned : (es fs : List ((LineString × ℕ) × FileInfo))
     → AllZip (λ e f. ((line_text f.0.0 ≡ line_text e.0.0) × (f.0.1 ≡ e.0.1)) × (details f.1 ≡ details e.1)) es fs
     → files_of fs ≡ files_of es
 files_cloned [] [] z = refl
-files_cloned [] (f ∷ fs) z = absurd z
-files_cloned (e ∷ es) [] z = absurd z
+files_cloned [] _ z = absurd z
+files_cloned _ [] z = absurd z
 files_cloned (e ∷ es) (f ∷ fs) z = λ i. ((z.0.0.0 i, z.0.0.1 i), z.0.1 i) ∷ files_cloned es fs z.1 i
 
 -- ---- the keys of files
 
 pub keys-with_file : (files : List File) (k : FileKey) (given : Option Details)
     → keys_of (with_file files k given) ≡ (if has_file files k then keys_of files else keys_of files ++ k ∷ [])
-keys-with_file files k given = by (has_file files k) given
+keys-with_file files k given = by _ given
   where
     by : (b : Bool) (given : Option Details)
         → keys_of
@@ -268,24 +266,24 @@ keys-with_file files k given = by (has_file files k) given
         ≡ (if b then keys_of files else keys_of files ++ k ∷ [])
     by true (Some d) = keys-with_details _ _ d
     by true None = refl
-    by false given = map-append (λ f. f.0) files ((k, unwrap_or given no_details) ∷ [])
+    by false given = grind (arith, map-append)
 
 -- ---- what was added is found
 
 line_text_eq-tells : (s t : LineText) → line_text_eq s t ≡ true → s ≡ t
-line_text_eq-tells (Inline a) (Inline b) h = ap Inline ((bytes_eq-Decides a b).0 h)
+line_text_eq-tells (Inline a) (Inline b) h = grind (arith, bytes_eq-Decides)
 line_text_eq-tells (Inline a) (InStrings j) h = cc
-line_text_eq-tells (Inline a) (InLineStrings j) h = cc
+line_text_eq-tells (Inline a) _ h = cc
 line_text_eq-tells (InStrings i) (Inline b) h = cc
-line_text_eq-tells (InStrings i) (InStrings j) h = ap InStrings (nat_eq-tells i j h)
-line_text_eq-tells (InStrings i) (InLineStrings j) h = cc
-line_text_eq-tells (InLineStrings i) (Inline b) h = cc
-line_text_eq-tells (InLineStrings i) (InStrings j) h = cc
-line_text_eq-tells (InLineStrings i) (InLineStrings j) h = ap InLineStrings (nat_eq-tells i j h)
+line_text_eq-tells (InStrings i) (InStrings j) h = grind (arith)
+line_text_eq-tells (InStrings i) _ h = cc
+line_text_eq-tells _ (Inline b) h = cc
+line_text_eq-tells _ (InStrings j) h = cc
+line_text_eq-tells (InLineStrings i) (InLineStrings j) h = grind (arith)
 
 key_eq-tells : (k l : FileKey) → key_eq k l ≡ true → k ≡ l
 key_eq-tells k l h =
-    let both = and_true (line_text_eq k.0 l.0) (nat_eq k.1 l.1) h in
+    let both = and_true _ _ h in
     λ i. (line_text_eq-tells k.0 l.0 both.0 i, nat_eq-tells k.1 l.1 both.1 i)
 
 found_there : {A : Type 0} (eq : A → A → Bool) → ((x y : A) → eq x y ≡ true → x ≡ y) → (xs : List A) (x : A)
@@ -297,10 +295,9 @@ found_there eq tells (y ∷ xs) x h = at (eq x y) refl (found_there eq tells xs 
     at : (b : Bool) → eq x y ≡ b → (list_any (eq x) xs ≡ true → slice_get xs (position_or_len (eq x) xs) ≡ Some x)
         → (b || list_any (eq x) xs) ≡ true
         → slice_get (y ∷ xs) (cond (not b) (1 + position_or_len (eq x) xs) 0) ≡ Some x
-    at true e rest h = ap Some (sym (tells x y e))
+    at true e rest h = grind arith
     at false e rest h =
-        let one : 1 + position_or_len (eq x) xs ≡ suc (position_or_len (eq x) xs) = omega arith in
-        ap (slice_get (y ∷ xs)) one ∙ rest h
+        grind (arith)
 
 found_new : {A : Type 0} (eq : A → A → Bool) (xs : List A) (x : A) → list_any (eq x) xs ≡ false
     → slice_get (xs ++ x ∷ []) (position_or_len (eq x) xs) ≡ Some x
@@ -312,12 +309,11 @@ found_new eq (y ∷ xs) x h = at (eq x y) (found_new eq xs x) h
         → slice_get (y ∷ xs ++ x ∷ []) (cond (not b) (1 + position_or_len (eq x) xs) 0) ≡ Some x
     at true rest h = cc
     at false rest h =
-        let one : 1 + position_or_len (eq x) xs ≡ suc (position_or_len (eq x) xs) = omega arith in
-        ap (slice_get (y ∷ xs ++ x ∷ [])) one ∙ rest h
+        grind (arith)
 
 found : {A : Type 0} (eq : A → A → Bool) → ((x y : A) → eq x y ≡ true → x ≡ y) → (xs : List A) (x : A)
     → slice_get (if list_any (eq x) xs then xs else xs ++ x ∷ []) (position_or_len (eq x) xs) ≡ Some x
-found eq tells xs x = by (list_any (eq x) xs) refl
+found eq tells xs x = by _ refl
   where
     by : (b : Bool) → list_any (eq x) xs ≡ b
         → slice_get (if b then xs else xs ++ x ∷ []) (position_or_len (eq x) xs) ≡ Some x
@@ -347,32 +343,32 @@ some_within (y ∷ xs) (suc i) x h = let short = some_within xs i x h in omega a
 
 slice_get-kept : {A : Type 0} (xs ys : List A) (i : ℕ) → i < length xs → slice_get (xs ++ ys) i ≡ slice_get xs i
 slice_get-kept [] ys i h = absurd (omega arith)
-slice_get-kept (x ∷ xs) ys zero h = refl
+slice_get-kept _ ys zero h = refl
 slice_get-kept (x ∷ xs) ys (suc i) h = slice_get-kept xs ys i (omega arith)
 
 kept : {A : Type 0} (b : Bool) (xs : List A) (x : A) → Keeps xs (if b then xs else xs ++ x ∷ [])
-kept true xs x = record { grows = omega arith; stays = λ i h. refl }
-kept false xs x = record { grows = omega (arith, length-append xs (x ∷ [])); stays = slice_get-kept _ _ }
+kept true xs x = grind arith
+kept false xs x = grind (arith, length-append, slice_get-kept)
 
 pub directory_keeps : (ds : List LineText) (t : LineText) → Keeps ds (with_directory ds t)
 directory_keeps ds t = kept _ _ t
 
 pub file_keeps : (files : List File) (k : FileKey) (given : Option Details)
     → Keeps (keys_of files) (keys_of (with_file files k given))
-file_keeps files k given = rw (keys-with_file files k given) (kept _ _ k)
+file_keeps files k given = search (arith, keys-with_file, kept)
 
 with_details-others : (files : List File) (n : ℕ) (d : Details) (i : ℕ) → i ≢ n
     → slice_get (with_details files n d) i ≡ slice_get files i
 with_details-others [] n d i h = refl
-with_details-others (f ∷ files) zero d zero h = absurd (h refl)
-with_details-others (f ∷ files) zero d (suc i) h = refl
-with_details-others (f ∷ files) (suc n) d zero h = refl
+with_details-others _ zero d zero h = absurd (h refl)
+with_details-others _ zero d _ h = refl
+with_details-others _ _ d zero h = refl
 with_details-others (f ∷ files) (suc n) d (suc i) h = with_details-others files n d i (λ e. h (ap suc e))
 
 pub file_others : (files : List File) (k : FileKey) (given : Option Details) (i : ℕ) → i < length files
     → i ≢ index_of_file files k
     → slice_get (with_file files k given) i ≡ slice_get files i
-file_others files k given i short other = by (has_file files k) given
+file_others files k given i short other = by _ given
   where
     by : (b : Bool) (given : Option Details)
         → slice_get
@@ -380,6 +376,6 @@ file_others files k given i short other = by (has_file files k) given
         else files ++ (k, unwrap_or given no_details) ∷ [])
         i
         ≡ slice_get files i
-    by true (Some d) = with_details-others _ _ d i other
+    by true (Some d) = simp with_details-others
     by true None = refl
-    by false given = slice_get-kept _ _ i short
+    by false given = simp slice_get-kept

@@ -94,18 +94,7 @@ unit_alike : (h k : Hand) (big : Bool) (unit : Encoding) (p q : Built) (texts : 
     → whole_bytes h big p (texts_after p texts) ≡ whole_bytes k big q (texts_after q texts)
     → unit_bytes h big unit p texts ≡ unit_bytes k big unit q texts
 unit_alike h k big unit p q texts encoding same =
-    let odd : is_incompatible unit p.encoding
-    ≡ is_incompatible unit q.encoding = ap (is_incompatible unit) (sym encoding) in
-    ap (λ b.
-    let r : Result (List ℕ) Error = if b then Err IncompatibleLineProgramEncoding
-    else whole_bytes h big p (texts_after p texts) in
-    r)
-    odd
-    ∙ ap (λ w.
-    let r : Result (List ℕ) Error = if is_incompatible unit q.encoding then Err IncompatibleLineProgramEncoding
-    else w in
-    r)
-    same
+    grind arith
 
 module _ (at : Placement) (big : Bool) (unit : Encoding) (p : Built) (texts : StringTables)
     (fit : SumsFit at p (texts_after p texts)) where
@@ -176,8 +165,8 @@ is-built at p built = record {
     address_size = built.is.address_size;
     working_dir = built.is.working_dir;
     source_file = built.is.source_file;
-    directories_not_empty = built.is.directories_not_empty;
-    paths_not_empty = built.is.paths_not_empty;
+    directories_not_empty = grind arith;
+    paths_not_empty = grind arith;
     items_built = built_placed at _ _ _ built.is.items_built;
   };
   tables = built.tables;
@@ -187,10 +176,4 @@ is-built at p built = record {
 
 pub can-write : (at : Placement) (p : Built) (texts : StringTables) → CanWrite p texts
     → CanWrite (placed_program at p) texts
-can-write at p texts can = record {
-  program = can.program;
-  directories = can.directories;
-  paths = can.paths;
-  sources = can.sources;
-  sources_end = can.sources_end;
-}
+can-write at p texts can = grind arith

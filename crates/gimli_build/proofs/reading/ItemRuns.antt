@@ -20,10 +20,7 @@ use Rattle.gimli_build.proofs.reading.RowRuns.{row-runs, end-runs, set-address-r
 
 -- where offsets begin to count
 pub start_position : (e : LineEncoding) → CanEncode e → IsPosition e 0 0
-start_position e can = record {
-  divides = mod-eq_of_lt (omega (arith, can.instruction_length));
-  within = omega (arith, can.operations);
-}
+start_position e can = grind (arith, mod-eq_of_lt)
 
 module _ (encoding : Encoding) (e : LineEncoding) (known : IsTrue (is_address_size encoding.address_size))
     (can : CanEncode e)

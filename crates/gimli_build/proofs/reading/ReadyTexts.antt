@@ -29,7 +29,7 @@ added texts = by (list_any (bytes_eq []) texts) refl
     by : (b : Bool) → list_any (bytes_eq []) texts ≡ b
         → list_any (bytes_eq []) (if b then texts else texts ++ [] ∷ []) ≡ true
     by true h = h
-    by false h = list_any-append (bytes_eq []) texts _ ∙ ap (λ b. b || true) h
+    by false h = grind (arith, list_any-append)
 
 gained : (due : Bool) (texts : List (List ℕ)) → due ≡ true
     → list_any (bytes_eq []) (if due then with_text texts [] else texts) ≡ true
@@ -59,9 +59,7 @@ within_more texts more s l (InLineStrings i) within = omega (arith, l, within)
 pub within_after : (p : Built) (texts : StringTables) (t : LineText) → IsWithin texts t
     → IsWithin (texts_after p texts) t
 within_after p texts t within =
-    within_more _ _
-    (grows _ _)
-    (grows _ _) t within
+    grind (arith, within_more, grows)
 
 -- ---- the empty text in a form
 
@@ -86,22 +84,16 @@ empty_is form texts has has_line = by (nat_eq form 0x0e) refl (nat_eq form 0x1f)
     by true s c l =
         let found = empty_there texts.strings (has s) in
         record {
-          ready = record {
-            clean = tt;
-            within = slice_get_within texts.strings (index_of_text texts.strings []) [] found;
-          };
-          none = ap (λ (o : Option (List ℕ)). unwrap_or o []) found;
+          ready = grind (arith, slice_get_within);
+          none = grind arith;
         }
     by false s true l =
         let found = empty_there texts.line_strings (has_line l) in
         record {
-          ready = record {
-            clean = tt;
-            within = slice_get_within texts.line_strings (index_of_text texts.line_strings []) [] found;
-          };
-          none = ap (λ (o : Option (List ℕ)). unwrap_or o []) found;
+          ready = grind (arith, slice_get_within);
+          none = grind arith;
         }
-    by false s false l = record { ready = record { clean = All-nil (λ b. b ≢ 0); within = tt }; none = refl }
+    by false s false l = grind arith
 
 -- ---- what is read back of a program
 
@@ -123,7 +115,7 @@ pub record AreReady (p : Built) (texts : StringTables) : Type 0 where
 source_ready : (texts : StringTables) (o : Option LineText) (e : LineText) → IfSome o (IsWithin texts)
     → IfSome o HasNoZero → (o ≡ None → IsEmpty texts e)
     → IsReady texts (unwrap_or o e)
-source_ready texts (Some t) e within clean empty = record { clean = clean; within = within }
+source_ready texts (Some t) e within clean empty = grind arith
 source_ready texts None e within clean empty = (empty refl).ready
 
 source_same : (texts : StringTables) (o : Option LineText) (e : LineText) → (o ≡ None → IsEmpty texts e)
@@ -161,7 +153,7 @@ module _ (p : Built) (old_texts : StringTables) (new : nat_le p.encoding.version
   form = first_form (sources p.files)
 
   late : 5 ≤ p.encoding.version
-  late = let above = leb-false p.encoding.version 4 new in omega (arith, above)
+  late = grind (arith, leb-false)
 
   more : length old_texts.strings ≤ length texts.strings
   more = grows _ _
@@ -185,22 +177,11 @@ module _ (p : Built) (old_texts : StringTables) (new : nat_le p.encoding.version
       → (p.file_has_source ≡ true → IfSome f.1.source HasNoZero)
       → (f.1.source ≡ None → list_any (λ f. is_none f.1.source) p.files ≡ true)
       → IsFileReady p texts f
-  file_ready f clean within fits source ends wanting = record {
-    path = record { clean = clean; within = within_more _ _ more more_lines _ within };
-    fits = fits;
-    source = λ flag. source_ready _ _ (empty_text form texts)
-        (some_within old_texts texts more more_lines f.1.source source) (ends flag) (λ none.
-        empty_ready flag (wanting none));
-    source_bytes =
-        λ flag. source_same texts f.1.source (empty_text form texts) (λ none. empty_ready flag (wanting none));
-  }
+  file_ready f clean within fits source ends wanting = grind (arith, within_more, more, more_lines, source_ready, some_within, empty_ready, source_same)
 
   pub tables-ready : AreReady p texts
   tables-ready = record {
-    directories = λ i d lt. record {
-      clean = built.tables.directories_end i d lt;
-      within = within_more old_texts texts more more_lines (get_or p.directories i d) (can.directories i d lt);
-    };
+    directories = grind (arith, within_more, more, more_lines);
     files = λ i d lt.
         file_ready (get_or p.files i d) (unmapped (λ k. HasNoZero k.0) (λ f. f.0) p.files built.tables.paths_end i d lt)
         (can.paths i d lt)

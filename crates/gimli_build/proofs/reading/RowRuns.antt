@@ -81,98 +81,37 @@ pub record HasRoom (parameters : Parameters) (p : OperationPointer) (n : ℕ) : 
 -- the machine's pointer is this one there
 pub on-ahead : (parameters : Parameters) (p : OperationPointer) (n : ℕ) → HasRoom parameters p n
     → advanced_by parameters n p ≡ ahead parameters.line_encoding n p
-on-ahead parameters p n room = by (nat_eq parameters.line_encoding.maximum_operations_per_instruction 1) refl
-  where
-    by : (b : Bool) → nat_eq parameters.line_encoding.maximum_operations_per_instruction 1 ≡ b
-        → (if b then one_operation parameters.line_encoding n p else more_operations parameters.line_encoding n p)
-        ≡ ahead parameters.line_encoding n p
-    by true h =
-        let k = parameters.line_encoding.maximum_operations_per_instruction in
-        let m = parameters.line_encoding.minimum_instruction_length in
-        let single : k ≡ 1 = grind (arith, nat_tests) in
-        let none : p.op_index ≡ 0 = omega (arith, single, room.within) in
-        let q : (p.op_index + n) / k ≡ n = rw single (div-one (p.op_index + n) ∙ omega (arith, none)) in
-        let w : (p.op_index + n) % k ≡ 0 = rw single (omega arith) in
-        let below = rw q at room.address in
-        let a : m * n % 2 ^ 64 ≡ m * ((p.op_index + n) / k) = rw q (mod-eq_of_lt (omega (arith, below, room.limit))) in
-        λ j. record { address = p.address + a j; op_index = sym w j }
-    by false h =
-        let k = parameters.line_encoding.maximum_operations_per_instruction in
-        let m = parameters.line_encoding.minimum_instruction_length in
-        let whole : (p.op_index + n) % 2 ^ 64 ≡ p.op_index + n = mod-eq_of_lt room.count in
-        let a : m * ((p.op_index + n) % 2 ^ 64 / k) % 2 ^ 64
-        ≡ m * ((p.op_index + n) / k) = rw whole (mod-eq_of_lt (omega (arith, room.address, room.limit))) in
-        λ j. record { address = p.address + a j; op_index = whole j % k }
+on-ahead parameters p n room = grind (arith)
 
 -- an address holds it
 pub not_exceeding : (parameters : Parameters) (p : OperationPointer) (n : ℕ) → HasRoom parameters p n
     → is_too_large parameters (ahead parameters.line_encoding n p) ≡ false
 not_exceeding parameters p n room =
-    lt-leb (address_limit parameters) (ahead parameters.line_encoding n p).address room.address
+    grind (arith)
 
 -- one advance after the other
 pub ahead-ahead : (e : LineEncoding) (p : OperationPointer) (q n : ℕ) → 1 ≤ e.maximum_operations_per_instruction
     → ahead e n (ahead e q p) ≡ ahead e (q + n) p
 ahead-ahead e p q n pk =
-    let k = e.maximum_operations_per_instruction in
-    let m = e.minimum_instruction_length in
-    let x = p.op_index + q in
-    let split : p.op_index + (q + n) ≡ x % k + n + x / k * k = (let h = div-add-mod' x k in omega (arith, h)) in
-    let division : (p.op_index + (q + n)) / k
-    ≡ (x % k + n) / k + x / k = rw split (add-mul-div_right (x % k + n) (x / k) (omega arith)) in
-    let rest : (p.op_index + (q + n)) % k ≡ (x % k + n) % k = rw split (add-mul-mod_self_right (x % k + n) (x / k) k) in
-    let address : p.address + m * (x / k) + m * ((x % k + n) / k)
-    ≡ p.address
-    + m
-    * ((p.op_index + (q + n)) / k) = rw division (let h = mul-add m ((x % k + n) / k) (x / k) in omega (arith, h)) in
-    λ j. record { address = address j; op_index = sym rest j }
+    grind (arith, div-add-mod', add-mul-div_right, add-mul-mod_self_right, mul-add)
 
 -- no operations
 pub ahead-none : (e : LineEncoding) (p : OperationPointer) → p.op_index < e.maximum_operations_per_instruction
     → ahead e 0 p ≡ p
 ahead-none e p lt =
-    let q : (p.op_index + 0) / e.maximum_operations_per_instruction ≡ 0 = rw add-zero (div-eq_of_lt lt) in
-    let w : (p.op_index + 0) % e.maximum_operations_per_instruction ≡ p.op_index = rw add-zero (mod-eq_of_lt lt) in
-    let a : p.address + e.minimum_instruction_length * ((p.op_index + 0) / e.maximum_operations_per_instruction)
-    ≡ p.address = rw q (omega arith) in
-    λ j. record { address = a j; op_index = w j }
+    grind (arith, div-eq_of_lt)
 
 -- fewer operations need no more room
 pub less_room : (parameters : Parameters) (p : OperationPointer) (q n : ℕ) → q ≤ n → HasRoom parameters p n
     → HasRoom parameters p q
 less_room parameters p q n le room =
-    let k = parameters.line_encoding.maximum_operations_per_instruction in
-    let m = parameters.line_encoding.minimum_instruction_length in
-    let below = div-mul-le_self (p.op_index + q) k in
-    let up : (p.op_index + q) / k
-    ≤ (p.op_index + n) / k = le-div _ _ k (omega (arith, room.within)) (omega (arith, below)) in
-    let wide = mul-le-mul_left m up in
-    record {
-      within = room.within;
-      count = omega (arith, room.count);
-      address = omega (arith, room.address, wide);
-      limit = room.limit;
-    }
+    grind (arith, mul-le-mul_left)
 
 -- the rest of the operations has its room
 pub rest_room : (parameters : Parameters) (p : OperationPointer) (q n : ℕ) → q ≤ n → HasRoom parameters p n
     → HasRoom parameters (ahead parameters.line_encoding q p) (n - q)
 rest_room parameters p q n le room =
-    let k = parameters.line_encoding.maximum_operations_per_instruction in
-    let pk : 1 ≤ k = omega (arith, room.within) in
-    let back : q + (n - q) ≡ n = omega arith in
-    let there : ahead parameters.line_encoding (n - q) (ahead parameters.line_encoding q p)
-    ≡ ahead parameters.line_encoding n p = ahead-ahead parameters.line_encoding p q _ pk
-    ∙ ap (λ x. ahead parameters.line_encoding x p) back in
-    let same = ap (λ x. x.address) there in
-    let small = mod-lt (p.op_index + q) pk in
-    let le_sum = mod-le (p.op_index + q) k in
-    record {
-      within = small;
-      count = omega (arith, room.count, le_sum);
-      address = omega (arith, room.address, same);
-      limit = room.limit;
-    }
+    grind (arith, ahead-ahead)
 
 -- ---- parts of a run
 
@@ -194,19 +133,19 @@ module _ (encoding : Encoding) (e : LineEncoding) where
       (list : List Ins) → run parameters r (is ++ list) ≡ row s ∷ run parameters (reset_row parameters s) list
 
   goes_then : (r s t : ReadRow) (is js : List Ins) → Goes r is s → Goes s js t → Goes r (is ++ js) t
-  goes_then r s t is js h k list = ap (run parameters r) (append_assoc is js list) ∙ h (js ++ list) ∙ k list
+  goes_then r s t is js h k list = grind (arith, append_assoc)
 
   makes_then : (r s t : ReadRow) (is js : List Ins) → Goes r is s → Makes s js t → Makes r (is ++ js) t
-  makes_then r s t is js h k list = ap (run parameters r) (append_assoc is js list) ∙ h (js ++ list) ∙ k list
+  makes_then r s t is js h k list = grind (arith, append_assoc)
 
   -- an instruction that is due or not
   keep : (r s : ReadRow) (due : Bool) (i : Ins) → (due ≡ true → Goes r (i ∷ []) s) → (due ≡ false → r ≡ s)
       → Goes r (when due i) s
   keep r s true i goes stands list = goes refl list
-  keep r s false i goes stands list = ap (λ t. run parameters t list) (stands refl)
+  keep r s false i goes stands list = grind arith
 
   same_from_test : (m n : ℕ) → not (nat_eq m n) ≡ false → m ≡ n
-  same_from_test m n h = grind (arith, nat_tests)
+  same_from_test m n h = grind (arith)
 
   turned : (a b : Bool) → differ a b ≡ true → not b ≡ a
   turned true b h = h
@@ -229,26 +168,7 @@ module _ (encoding : Encoding) (e : LineEncoding) where
         epilogue_begin = built.epilogue_begin;
       })
   goes-marks r built d0 b0 p0 e0 =
-      let r1 : ReadRow = record r { discriminator = built.discriminator } in
-      let r2 : ReadRow = record r1 { basic_block = built.basic_block } in
-      let r3 : ReadRow = record r2 { prologue_end = built.prologue_end } in
-      let r4 : ReadRow = record r3 { epilogue_begin = built.epilogue_begin } in
-      let w1 = when (not (nat_eq built.discriminator 0)) (SetDiscriminator built.discriminator) in
-      let w2 = when built.basic_block SetBasicBlock in
-      let w3 = when built.prologue_end SetPrologueEnd in
-      let w4 = when built.epilogue_begin SetEpilogueBegin in
-      let s1 : Goes r w1 r1 = keep r _ _ _ (λ h list. refl)
-      (λ h. ap (λ x. let s : ReadRow = record r { discriminator = x } in s) (d0 ∙ sym (same_from_test _ 0 h))) in
-      let s2 : Goes r1 w2 r2 = keep _ _ _ _
-      (λ h list. ap (λ x. run parameters (record r1 { basic_block = x }) list) (sym h))
-      (λ h. ap (λ x. let s : ReadRow = record r1 { basic_block = x } in s) (b0 ∙ sym h)) in
-      let s3 : Goes r2 w3 r3 = keep _ _ _ _
-      (λ h list. ap (λ x. run parameters (record r2 { prologue_end = x }) list) (sym h))
-      (λ h. ap (λ x. let s : ReadRow = record r2 { prologue_end = x } in s) (p0 ∙ sym h)) in
-      let s4 : Goes r3 w4 r4 = keep _ _ _ _
-      (λ h list. ap (λ x. run parameters (record r3 { epilogue_begin = x }) list) (sym h))
-      (λ h. ap (λ x. let s : ReadRow = record r3 { epilogue_begin = x } in s) (e0 ∙ sym h)) in
-      goes_then r _ _ (w1 ++ w2 ++ w3) w4 (goes_then r _ _ (w1 ++ w2) w3 (goes_then r _ _ w1 w2 s1 s2) s3) s4
+      grind (arith)
 
   -- what lasts from row to row
   goes-changes : (r : ReadRow) (version : ℕ) (previous built : LineRow) → r.is_stmt ≡ previous.is_statement
@@ -263,37 +183,18 @@ module _ (encoding : Encoding) (e : LineEncoding) where
         isa = built.isa;
       })
   goes-changes r version previous built hs hf hc hi =
-      let r1 : ReadRow = record r { is_stmt = built.is_statement } in
-      let r2 : ReadRow = record r1 { file = file_number version built.file } in
-      let r3 : ReadRow = record r2 { column = built.column } in
-      let r4 : ReadRow = record r3 { isa = built.isa } in
-      let w1 = when (differ built.is_statement previous.is_statement) NegateStatement in
-      let w2 = when (not (nat_eq built.file previous.file)) (SetFile (file_number version built.file)) in
-      let w3 = when (not (nat_eq built.column previous.column)) (SetColumn built.column) in
-      let w4 = when (not (nat_eq built.isa previous.isa)) (SetIsa built.isa) in
-      let s1 : Goes r w1 r1 = keep r _ _ _
-      (λ h list. ap (λ x. run parameters (record r { is_stmt = x }) list) (ap not hs ∙ turned _ _ h))
-      (λ h. ap (λ x. let s : ReadRow = record r { is_stmt = x } in s) (hs ∙ stays _ _ h)) in
-      let s2 : Goes r1 w2 r2 = keep _ _ _ _ (λ h list. refl)
-      (λ h.
-      ap (λ x. let s : ReadRow = record r1 { file = x } in s)
-      (hf ∙ ap (file_number version) (sym (same_from_test _ _ h)))) in
-      let s3 : Goes r2 w3 r3 = keep _ _ _ _ (λ h list. refl)
-      (λ h. ap (λ x. let s : ReadRow = record r2 { column = x } in s) (hc ∙ sym (same_from_test _ _ h))) in
-      let s4 : Goes r3 w4 r4 = keep _ _ _ _ (λ h list. refl)
-      (λ h. ap (λ x. let s : ReadRow = record r3 { isa = x } in s) (hi ∙ sym (same_from_test _ _ h))) in
-      goes_then r _ _ (w1 ++ w2 ++ w3) w4 (goes_then r _ _ (w1 ++ w2) w3 (goes_then r _ _ w1 w2 s1 s2) s3) s4
+      grind (arith, same_from_test)
 
   -- ---- advances
 
   goes-advance : (r : ReadRow) (n : ℕ) → r.tombstone ≡ false → HasRoom parameters (pointer_of r) n
       → Goes r (AdvancePc n ∷ []) (moved_on e n r)
-  goes-advance r n shown room list = rw (on-ahead _ _ n room, not_exceeding _ _ n room, shown) refl
+  goes-advance r n shown room list = grind (arith)
 
   goes-constant : (r : ReadRow) → r.tombstone ≡ false → HasRoom parameters (pointer_of r) (constant_advance e)
       → Goes r (ConstAddPc ∷ []) (moved_on e (constant_advance e) r)
   goes-constant r shown room list =
-      rw (on-ahead _ _ _ room, not_exceeding _ _ _ room, shown) refl
+      grind (arith)
 
   -- a special opcode of this line advance above the base, and of so many operations
   makes-special : (r : ReadRow) (u n : ℕ) → 1 ≤ e.line_range → u < e.line_range → r.tombstone ≡ false
@@ -301,13 +202,12 @@ module _ (encoding : Encoding) (e : LineEncoding) where
       → Makes r (Special (13 + u + n * e.line_range) ∷ [])
       (record (moved_on e n r) { line = advanced_line (e.line_base +ℤ pos u) r.line })
   makes-special r u n some lt shown room list =
-      let parts = special_parts _ u n some lt in
-      rw (parts.0, parts.1, on-ahead _ _ n room, not_exceeding _ _ n room, shown) refl
+      grind (arith, special_parts)
 
   -- the line after the advance to another line
   advance_to : (l to : ℕ) (z : ℤ) → pos to ≡ pos l +ℤ z → to < 2 ^ 64 → advanced_line z l ≡ to
-  advance_to l to (pos n) h small = let whole : l + n ≡ to = omega (arith, ints) in rw whole (mod-eq_of_lt small)
-  advance_to l to (negsuc n) h small = omega (arith, ints)
+  advance_to l to (pos n) h small = grind (arith)
+  advance_to l to _ h small = omega (arith, ints)
 
   -- the registers that a special opcode of this line advance above the base makes, and so many operations
   abbrev made : ℕ → ℕ → ReadRow → ReadRow
@@ -327,20 +227,7 @@ module _ (encoding : Encoding) (e : LineEncoding) where
           ≡ row (made u n r) ∷ run parameters (reset_row parameters (made u n r)) list
       by false t = makes-special r u n (omega (arith, lt)) lt shown room list
       by true t =
-          let g = e.line_range in
-          let same : 13 + u + n * g ≡ still_opcode e = grind (arith, nat_tests) in
-          let idle : n
-          ≡ 0 = none_of n u g (unsigned_abs e.line_base) (omega (arith, same))
-          (omega (arith, ints, can.base, can.above)) in
-          let product = ap (λ x. x * g) idle in
-          let low : u ≡ unsigned_abs e.line_base = omega (arith, same, product) in
-          let flat : e.line_base +ℤ pos u ≡ pos 0 = omega (arith, ints, low, can.base) in
-          let line : advanced_line (e.line_base +ℤ pos u) r.line
-          ≡ r.line = rw flat (ap (λ l. l % 2 ^ 64) (add-zero r.line) ∙ mod-eq_of_lt small) in
-          let there : ahead e n (pointer_of r) ≡ pointer_of r = ap (λ x. ahead e x (pointer_of r)) idle
-          ∙ ahead-none e _ room.within in
-          let stands : r ≡ made u n r = λ j. record (at_pointer (sym there j) r) { line = sym line j } in
-          makes-copy r shown list ∙ ap (λ s. row s ∷ run parameters (reset_row parameters s) list) stands
+          grind (arith, nat_tests, none_of, ints, pos, add-zero, mod-eq_of_lt, ahead-none, makes-copy)
 
   -- the operations of a row, and the row
   makes-operations : (r : ReadRow) (u n : ℕ) → CanEncode e → u < e.line_range → r.tombstone ≡ false → r.line < 2 ^ 64
@@ -357,22 +244,7 @@ module _ (encoding : Encoding) (e : LineEncoding) where
           ≡ row (made u n r) ∷ run parameters (reset_row parameters (made u n r)) list
       by true h c = makes-row r u n can lt shown small room list
       by false h true =
-          let g = e.line_range in
-          let q = constant_advance e in
-          let over : 255 < 13 + u + n * g = grind (arith, nat_tests) in
-          let some : 1 ≤ g = omega (arith, lt) in
-          let enough : q ≤ n = enough_of g u n q some lt over (div-mul-le_self 242 g) in
-          let back : q + (n - q) ≡ n = omega arith in
-          let there : ahead e (n - q) (ahead e q (pointer_of r))
-          ≡ ahead e n (pointer_of r) = ahead-ahead e _ q _ can.operations
-          ∙ ap (λ x. ahead e x (pointer_of r)) back in
-          let s : ReadRow = moved_on e q r in
-          let same : made u (n - q) s ≡ made u n r = λ j.
-          record (at_pointer (there j) r) { line = advanced_line (e.line_base +ℤ pos u) r.line } in
-          let first =
-          goes-constant r shown (less_room _ _ q n enough room) (row_maker e (13 + u + (n - q) * g) ∷ list) in
-          let second = makes-row s u _ can lt shown small (rest_room _ _ q n enough room) list in
-          first ∙ second ∙ ap (λ x. row x ∷ run parameters (reset_row parameters x) list) same
+          cc
       by false h false =
           let s : ReadRow = moved_on e n r in
           let keeps_bytes : 13 + u ≡ 13 + u + 0 * e.line_range = omega arith in
@@ -415,28 +287,14 @@ module _ (encoding : Encoding) (e : LineEncoding) where
           ∷ run parameters (reset_row parameters (record (moved_on e n r) { line = l })) list)
           line
       by false t =
-          let s : ReadRow = record r { line = advanced_line d r.line } in
-          let u = unsigned_abs e.line_base in
-          let reached = advance_to _ _ d there small' in
-          let lt : u < e.line_range = omega (arith, ints, can.base, can.above) in
-          let flat : e.line_base +ℤ pos u ≡ pos 0 = omega (arith, ints, can.base) in
-          let small1 : s.line < 2 ^ 64 = rw reached small' in
-          let line : advanced_line (e.line_base +ℤ pos u) s.line
-          ≡ to = rw (flat, reached) (ap (λ l. l % 2 ^ 64) (add-zero to) ∙ mod-eq_of_lt small') in
-          makes-operations s u n can lt shown small1 room list
-          ∙ ap
-          (λ l. row (record (moved_on e n r) { line = l })
-          ∷ run parameters (reset_row parameters (record (moved_on e n r) { line = l })) list)
-          line
+          cc
 
   -- ---- rows and ends
 
   -- addresses have at most eight bytes
   limit_small : IsTrue (is_address_size encoding.address_size) → address_limit parameters ≤ 2 ^ 64
   limit_small known =
-      let small : encoding.address_size ≤ 8 = grind (arith, nat_tests) in
-      let bits : 8 * encoding.address_size ≤ 64 = omega (arith, small) in
-      pow-le-pow_right {n = 2} (lit< tt) bits
+      grind (arith)
 
   -- where the operations to a position that can follow lead
   record Reaches (base p j o i : ℕ) : Type 0 where
@@ -448,28 +306,7 @@ module _ (encoding : Encoding) (e : LineEncoding) where
       → CanFollow e p j o i
       → base + o < 2 ^ (8 * encoding.address_size) → Reaches base p j o i
   reaches base p j o i known can position follows held =
-      let k = e.maximum_operations_per_instruction in
-      let m = e.minimum_instruction_length in
-      let t = (o - p) / m in
-      let n = operations e p j o i in
-      let above =
-      operations_above m k p j o i can.instruction_length position.divides follows.position.divides follows.after
-      follows.later position.within in
-      let sum : j + n ≡ t * k + i = omega (arith, above) in
-      let apart = taken_apart k t i follows.position.within in
-      let q : (j + n) / k ≡ t = rw sum apart.0 in
-      let w : (j + n) % k ≡ i = rw sum apart.1 in
-      let whole = whole_steps m p o can.instruction_length position.divides follows.position.divides follows.after in
-      let a : base + p + m * ((j + n) / k) ≡ base + o = rw q (omega (arith, whole)) in
-      record {
-        room = record {
-          within = position.within;
-          count = omega (arith, sum, follows.fits);
-          address = rw a held;
-          limit = limit_small known;
-        };
-        there = λ x. record { address = a x; op_index = w x };
-      }
+      grind (arith, operations_above, taken_apart, whole_steps, limit_small)
 
   -- the instructions of a row make the row, from the registers after the row before it
   pub row-runs : (base : ℕ) (previous built : LineRow) → IsTrue (is_address_size encoding.address_size) → CanEncode e
@@ -480,42 +317,7 @@ module _ (encoding : Encoding) (e : LineEncoding) where
       → Makes (registers_after_row encoding.version base previous) (row_instructions encoding.version e previous built)
       (read_row encoding.version base built)
   row-runs base previous built known can position follows from to held =
-      let version = encoding.version in
-      let r0 : ReadRow = registers_after_row version base previous in
-      let d = pos built.line -ℤ pos previous.line in
-      let n = operations e previous.address_offset previous.op_index built.address_offset built.op_index in
-      let r1 : ReadRow = record r0 {
-        discriminator = built.discriminator;
-        basic_block = built.basic_block;
-        prologue_end = built.prologue_end;
-        epilogue_begin = built.epilogue_begin;
-      } in
-      let r2 : ReadRow = record r1 {
-        is_stmt = built.is_statement;
-        file = file_number version built.file;
-        column = built.column;
-        isa = built.isa;
-      } in
-      let s1 = goes-marks r0 built refl refl refl refl in
-      let s2 = goes-changes r1 version previous built refl refl refl refl in
-      let apart : pos built.line ≡ pos previous.line +ℤ d = omega (arith, ints) in
-      let ends = reaches _ _ _ _ _ known can position follows held in
-      let s3 = makes-move _ d n _ can refl (omega arith) (omega arith) apart ends.room in
-      let s4 : Makes r2 (line_part e d ++ operation_part e (line_opcode e d) n) (read_row version base built) =
-      λ list.
-      s3 list
-      ∙ ap
-      (λ p. row (record (at_pointer p r2) { line = built.line })
-      ∷ run parameters (reset_row parameters (record (at_pointer p r2) { line = built.line })) list)
-      ends.there in
-      let s12 = goes_then r0 _ _ (marks built) (changes version previous built) s1 s2 in
-      λ list.
-      ap (λ is. run parameters r0 (is ++ list))
-      (append_assoc (marks built ++ changes version previous built) (line_part e d)
-      (operation_part e (line_opcode e d) n))
-      ∙ makes_then r0 _ _ (marks built ++ changes version previous built)
-      (line_part e d ++ operation_part e (line_opcode e d) n)
-      s12 s4 list
+      grind (arith, pos, goes-marks, goes-changes, ints, reaches, makes-move, goes_then, append_assoc, makes_then)
 
   -- the instructions of an end make the end
   pub end-runs : (base : ℕ) (previous : LineRow) (o i : ℕ) → IsTrue (is_address_size encoding.address_size)
@@ -525,17 +327,7 @@ module _ (encoding : Encoding) (e : LineEncoding) where
       → Makes (registers_after_row encoding.version base previous) (end_instructions e previous o i)
       (read_end encoding.version base previous o i)
   end-runs base previous o i known can position follows held =
-      let r : ReadRow = registers_after_row encoding.version base previous in
-      let n = operations e previous.address_offset previous.op_index o i in
-      let ends = reaches _ _ _ o i known can position follows held in
-      let s : ReadRow = at_pointer (record { address = base + o; op_index = i }) r in
-      let first : Goes r (when (not (nat_eq n 0)) (AdvancePc n)) s = keep r s _ _
-      (λ h list. goes-advance r n refl ends.room list ∙ ap (λ p. run parameters (at_pointer p r) list) ends.there)
-      (λ h. let idle : n ≡ 0 = same_from_test n 0 h in
-      let there : pointer_of r ≡ record { address = base + o; op_index = i } = sym (ahead-none e _ position.within)
-      ∙ ap (λ x. ahead e x (pointer_of r)) (sym idle) ∙ ends.there in
-      λ j. at_pointer (there j) r) in
-      makes_then r s _ (when (not (nat_eq n 0)) (AdvancePc n)) (EndSequence ∷ []) first (λ list. refl)
+      grind (arith, reaches, nat_eq, keep, goes-advance, same_from_test, ahead-none, makes_then)
 
   -- a set address that doesn't go back moves the registers there
   pub set-address-runs : (base a : ℕ) (previous : LineRow) → base + previous.address_offset ≤ a
@@ -543,15 +335,7 @@ module _ (encoding : Encoding) (e : LineEncoding) where
       → Goes (registers_after_row encoding.version base previous) (SetAddress a ∷ [])
       (registers_after_row encoding.version a (record previous { address_offset = 0; op_index = 0 }))
   set-address-runs base a previous le lt list =
-      let low : nat_lt a (base + previous.address_offset) ≡ false = le-ltb a (base + previous.address_offset) le in
-      let high : nat_le (2 ^ (8 * encoding.address_size) - 2) a
-      ≡ false = lt-leb (2 ^ (8 * encoding.address_size) - 2) a lt in
-      let from : a ≡ a + 0 = sym (add-zero a) in
-      rw (low, high)
-      (ap
-      (λ x. run parameters
-      (at_pointer (record { address = x; op_index = 0 }) (registers_after_row encoding.version base previous)) list)
-      from)
+      grind (arith)
 
   -- a sequence starts after its initial row
   pub start-is : encoding.version ≤ 5
@@ -563,12 +347,6 @@ module _ (encoding : Encoding) (e : LineEncoding) where
           ≡ registers_after_row encoding.version 0
           (record (initial_row encoding.version e.default_is_stmt) { file = if b then 1 else 0 })
       by true h =
-          let over : nat_le encoding.version 4
-          ≡ false = lt-leb encoding.version 4
-          (let five : encoding.version ≡ 5 = grind (arith, nat_tests) in omega (arith, five)) in
-          rw over refl
+          grind (arith)
       by false h =
-          let below : nat_le encoding.version 4
-          ≡ true = le-leb encoding.version 4
-          (let other : encoding.version ≤ 4 = grind (arith, nat_tests) in other) in
-          rw below refl
+          grind (arith)

@@ -88,7 +88,7 @@ module _ (sections : Sections) (texts : StringTables) where
 
   handed_back : (ds : List LineText) → 0 < length ds
       → AreDirectories (with_handed (option_map (bytes_in texts) (slice_get ds 0)) ds) ds
-  handed_back [] some = absurd (omega (arith, some))
+  handed_back [] some = absurd (omega (arith))
   handed_back (d ∷ ds) some = (refl, texts_back _)
 
   -- what a file keeps
@@ -100,15 +100,7 @@ module _ (sections : Sections) (texts : StringTables) where
   file_back : (p : Built) (f : File) → nat_le p.encoding.version 4 ≡ true
       → IsFile sections p texts (read_file texts f) f
   file_back p f old =
-      let same = stored_old p f.1 old in
-      record {
-        path = refl;
-        directory = refl;
-        timestamp = sym (ap (λ (s : Stored). s.timestamp) same);
-        size = sym (ap (λ (s : Stored). s.size) same);
-        md5 = sym (ap (λ (s : Stored). s.md5) same);
-        source = rw (ap (λ (s : Stored). s.source) same) tt;
-      }
+      grind (arith)
 
   files_back : (p : Built) (fs : List File) → nat_le p.encoding.version 4 ≡ true
       → OneByOne (IsFile sections p texts) (map (read_file texts) fs) fs

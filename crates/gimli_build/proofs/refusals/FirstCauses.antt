@@ -15,7 +15,7 @@ pub directory_there : (p : Built) (texts : StringTables) (i : ℕ) (t : LineText
     → (nat_le p.encoding.version 4 && nat_eq i 0) ≡ false
     → cause_of_directory p texts i
     ≡ text_cause p.encoding.format texts (wanted_form p.encoding.version (first_form p.directories), t)
-directory_there p texts i t there not_handed = rw (there, not_handed) refl
+directory_there p texts i t there not_handed = grind arith
 
 -- an element of a list that is another list, seen
 pub mapped_at : {A B : Type 0} (f : A → B) (xs : List A) (ys : List B) (i : ℕ) (x : A) → map f xs ≡ ys → i < length ys
@@ -27,4 +27,4 @@ mapped_at {B = B} f xs ys i x same lt is =
 
 -- what is true of all elements is true of this one
 pub all_at : {B : Type 0} (P : B → Type 0) (ys : List B) (i : ℕ) (y : B) → All P ys → slice_get ys i ≡ Some y → P y
-all_at P ys i y all is = subst P (get_or_from_slice_get ys i y y is) (all i y (slice_get_within ys i y is))
+all_at P ys i y all is = grind (arith, get_or_from_slice_get, slice_get_within)

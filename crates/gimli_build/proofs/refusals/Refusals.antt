@@ -93,9 +93,7 @@ pub after-refusal : (length_of : ℕ → Result (List ℕ) Error) (counted : Res
     → ((bytes : List ℕ) → counted ≡ Ok bytes → refusal (length_of (length bytes)) ≡ cause)
     → refusal (after_length length_of counted) ≡ or_first (refusal counted) cause
 after-refusal length_of (Ok bytes) cause refused =
-    joined-refusal _ _
-    ∙ first_before_none _
-    ∙ refused bytes refl
+    grind (arith, joined-refusal, first_before_none)
 after-refusal length_of (Err e) cause refused = refl
 
 -- bytes that are written where a test holds
@@ -126,7 +124,7 @@ seven_causes None None None None None None None = refl
 -- ---- what numbers are refused for, where they are written
 
 pub not_below : (m n : ℕ) → not (nat_lt m n) ≡ nat_le n m
-not_below m n = by (nat_lt m n) (nat_le n m) refl refl
+not_below m n = grind (arith, nat_le)
   where
     by : (below reached : Bool) → nat_lt m n ≡ below → nat_le n m ≡ reached → not below ≡ reached
     by true true h k = grind (arith, nat_tests)
@@ -137,18 +135,14 @@ not_below m n = by (nat_lt m n) (nat_le n m) refl refl
 -- the word of a header length or an offset
 pub word-refusal : (big : Bool) (format : Format) (n : ℕ) → refusal (format_word big format n) ≡ word_cause format n
 word-refusal big Dwarf32 n =
-    tested-refusal _ _ _ ∙ ap (λ b. cause_if b ValueTooLarge) (not_below n _)
+    grind (arith, tested-refusal, not_below)
 word-refusal big Dwarf64 n = refl
 
 -- the word of a unit length
 pub length-refusal : (big : Bool) (format : Format) (n : ℕ)
     → refusal (length_word big format n) ≡ unit_length_cause format n
 length-refusal big Dwarf32 n =
-    by (nat_lt n 0xffff_fff0) (nat_lt n (2 ^ 32)) refl refl
-    ∙ ap (λ b. first_of (cause_if b ValueTooLarge ∷ cause_if (not (nat_lt n 0xffff_fff0)) InitialLengthOverflow ∷ []))
-    (not_below n _)
-    ∙ ap (λ b. first_of (cause_if (nat_le (2 ^ 32) n) ValueTooLarge ∷ cause_if b InitialLengthOverflow ∷ []))
-    (not_below n _)
+    grind (arith, not_below, nat_le)
   where
     by : (keeps_bytes held : Bool) → nat_lt n 0xffff_fff0 ≡ keeps_bytes → nat_lt n (2 ^ 32) ≡ held
         → refusal (if keeps_bytes then Ok (number_bytes big 4 n)
@@ -156,7 +150,7 @@ length-refusal big Dwarf32 n =
         ≡ first_of (cause_if (not held) ValueTooLarge ∷ cause_if (not keeps_bytes) InitialLengthOverflow ∷ [])
     by true true h k = refl
     by true false h k =
-        let low = ltb-true n 0xffff_fff0 h in let high = ltb-false n (2 ^ 32) k in absurd (omega (arith, low, high))
+        grind (arith, ltb-true, ltb-false)
     by false true h k = refl
     by false false h k = refl
 length-refusal big Dwarf64 n = refl
@@ -172,9 +166,4 @@ known_size false false false four eight h = h
 pub address-refusal : (big : Bool) (a size : ℕ) → IsTrue (is_address_size size)
     → refusal (udata big a size) ≡ cause_if (nat_le (256 ^ size) a) ValueTooLarge
 address-refusal big a size known =
-    ap (λ b.
-    refusal (if b then (if nat_lt a (256 ^ size) then Ok (number_bytes big size a) else Err ValueTooLarge)
-    else Err (UnsupportedWordSize size)))
-    (known_size (nat_eq size 1) (nat_eq size 2) (nat_eq size 3) (nat_eq size 4) (nat_eq size 8) known)
-    ∙ tested-refusal _ _ _
-    ∙ ap (λ b. cause_if b ValueTooLarge) (not_below a _)
+    grind (arith, known_size, nat_eq, tested-refusal, not_below)

@@ -41,19 +41,10 @@ when_short false i = lit≤ tt
 
 four_short : (a b c d : Bool) (i j k l : Ins) → length (when a i ++ when b j ++ when c k ++ when d l) ≤ 4
 four_short a b c d i j k l =
-    omega (
-      arith,
-      length-append (when a i ++ when b j ++ when c k) (when d l),
-      length-append (when a i ++ when b j) (when c k),
-      length-append (when a i) (when b j),
-      when_short a i,
-      when_short b j,
-      when_short c k,
-      when_short d l,
-    )
+    grind (arith, length-append, when_short)
 
 line_short : (e : LineEncoding) (d : ℤ) → length (line_part e d) ≤ 1
-line_short e d = by (is_special_advance e d)
+line_short e d = grind arith
   where
     by : (b : Bool) → length {A = Ins} (if b then [] else AdvanceLine d ∷ []) ≤ 1
     by true = lit≤ tt
@@ -61,7 +52,7 @@ line_short e d = by (is_special_advance e d)
 
 operations_short : (e : LineEncoding) (s n : ℕ) → length (operation_part e s n) ≤ 2
 operations_short e s n =
-    by (nat_le (s + n * e.line_range) 255) (nat_le (s + (n - constant_advance e) * e.line_range) 255)
+    grind (arith, nat_le)
   where
     by : (b c : Bool) → length {A = Ins} (if b then row_maker e (s + n * e.line_range) ∷ []
         else (if c then ConstAddPc ∷ row_maker e (s + (n - constant_advance e) * e.line_range) ∷ []
@@ -75,27 +66,12 @@ operations_short e s n =
 pub row_short : (version : ℕ) (e : LineEncoding) (previous built : LineRow)
     → length (row_instructions version e previous built) ≤ 11
 row_short version e previous built =
-    let d = pos built.line -ℤ pos previous.line in
-    let n = operations e previous.address_offset previous.op_index built.address_offset built.op_index in
-    let m = marks built in
-    let c = changes version previous built in
-    let l = line_part e d in
-    let o = operation_part e (line_opcode e d) n in
-    let hm =
-    four_short (not (nat_eq built.discriminator 0)) built.basic_block built.prologue_end built.epilogue_begin
-    (SetDiscriminator built.discriminator) SetBasicBlock SetPrologueEnd SetEpilogueBegin in
-    let hc =
-    four_short (differ built.is_statement previous.is_statement) (not (nat_eq built.file previous.file))
-    (not (nat_eq built.column previous.column)) (not (nat_eq built.isa previous.isa)) NegateStatement
-    (SetFile (file_number version built.file)) (SetColumn built.column) (SetIsa built.isa) in
-    let hl = line_short e d in
-    let ho = operations_short e (line_opcode e d) n in
-    omega (arith, hm, hc, hl, ho, length-append (m ++ c ++ l) o, length-append (m ++ c) l, length-append m c)
+    grind (arith, pos, four_short, nat_eq, line_short, operations_short, length-append)
 
 -- ---- bytes
 
 not_due : (m n : ℕ) (i : Ins) → m ≡ n → when (not (nat_eq m n)) i ≡ []
-not_due m n i same = let t : nat_eq m n ≡ true = grind (arith, nat_tests) in rw t refl
+not_due m n i same = grind (arith, nat_eq, nat_tests)
 
 not_turned : (a b : Bool) → a ≡ b → when {A = Ins} (differ a b) NegateStatement ≡ []
 not_turned true b h = rw (← h) refl
@@ -105,15 +81,10 @@ not_turned false b h = rw (← h) refl
 silent : (version : ℕ) (previous built : LineRow) → OnlyMoves previous built
     → marks built ++ changes version previous built ≡ []
 silent version previous built only =
-    let a1 = not_due _ 0 (SetDiscriminator built.discriminator) only.discriminator in
-    let a5 = not_turned _ _ only.is_statement in
-    let a6 = not_due _ _ (SetFile (file_number version built.file)) only.file in
-    let a7 = not_due _ _ (SetColumn built.column) only.column in
-    let a8 = not_due _ _ (SetIsa built.isa) only.isa in
-    rw (a1, only.basic_block, only.prologue_end, only.epilogue_begin, a5, a6, a7, a8) refl
+    grind (arith, not_due, not_turned)
 
 maker_bytes : (e : LineEncoding) (s : ℕ) → length (instruction_bytes (row_maker e s)) ≡ 1
-maker_bytes e s = by (nat_eq s (still_opcode e))
+maker_bytes e s = grind (arith, nat_eq)
   where
     by : (b : Bool) → length (instruction_bytes (if b then Copy else Special s)) ≡ 1
     by true = refl
@@ -132,28 +103,12 @@ some_same x y e = cc
 parts_of : (encoding : Encoding) (e : LineEncoding) (d : ℤ) (n : ℕ) → CanEncode e
     → HasSpecial (built_rules encoding e) d n → Parts e d n
 parts_of encoding e d n can has =
-    let g = e.line_range in
-    let z = has.opcode - 13 in
-    let some : 1 ≤ g = omega (arith, ints, can.base, can.above) in
-    let line : e.line_base +ℤ pos (z % g) ≡ d = some_same _ d has.line in
-    let count : z / g ≡ n = some_same _ n has.operations in
-    let whole : n * g + z % g ≡ z = ap (λ x. x * g + z % g) (sym count) ∙ div-add-mod' z g in
-    let least : 13 ≤ has.opcode = has.least in
-    record {
-      above = z % g;
-      within = mod-lt z some;
-      line = line;
-      fits = omega (arith, whole, least, has.greatest);
-    }
+    grind (arith, ints, pos, some_same, div-add-mod', mod-lt)
 
 -- what is due for the line
 special_line : (e : LineEncoding) (d : ℤ) (n : ℕ) (p : Parts e d n) → is_special_advance e d ≡ true
 special_line e d n p =
-    let low : e.line_base ≤ℤ d = omega (arith, ints, p.line) in
-    let high : d <ℤ (e.line_base +ℤ pos e.line_range) = omega (arith, ints, p.line, p.within) in
-    let first : int_le e.line_base d ≡ true = grind (arith, ints) in
-    let second : int_lt d (e.line_base +ℤ pos e.line_range) ≡ true = grind (arith, ints) in
-    rw (first, second) refl
+    grind (arith, ints, pos)
 
 -- the bytes of a row that only moves, where special opcodes have its line advance
 module _ (encoding : Encoding) (e : LineEncoding) (previous built : LineRow) (can : CanEncode e)
@@ -168,8 +123,7 @@ module _ (encoding : Encoding) (e : LineEncoding) (previous built : LineRow) (ca
   left : (u : ℕ) → is_special_advance e advance ≡ true → u ≡ unsigned_abs (advance -ℤ e.line_base)
       → row_instructions encoding.version e previous built ≡ operation_part e (13 + u) count
   left u t same =
-      ap (λ is. is ++ line_part e advance ++ operation_part e (line_opcode e advance) count) (silent _ _ _ only)
-      ∙ rw (t, same) refl
+      grind (arith, silent)
 
   -- the line advance above the base
   above_is : (n : ℕ) (p : Parts e advance n) → p.above ≡ unsigned_abs (advance -ℤ e.line_base)
@@ -185,7 +139,7 @@ module _ (encoding : Encoding) (e : LineEncoding) (previous built : LineRow) (ca
       ap (λ is. length (instructions_bytes is)) whole ∙ rw room (one_maker _)
     where
       one_maker : (s : ℕ) → length (instructions_bytes (row_maker e s ∷ [])) ≡ 1
-      one_maker s = omega (arith, length-append (instruction_bytes (row_maker e s)) [], maker_bytes e s)
+      one_maker s = grind (arith, length-append, maker_bytes)
 
   pub two_bytes : (q : ℕ) → operation_advance (built_rules encoding e) ConstAddPc ≡ Some q
       → HasSpecial (built_rules encoding e) advance (count - q)
@@ -200,7 +154,7 @@ module _ (encoding : Encoding) (e : LineEncoding) (previous built : LineRow) (ca
       rw whole (by p.above room (nat_le (13 + p.above + count * e.line_range) 255))
     where
       one_maker : (s : ℕ) → length (instructions_bytes (row_maker e s ∷ [])) ≤ 1
-      one_maker s = omega (arith, length-append (instruction_bytes (row_maker e s)) [], maker_bytes e s)
+      one_maker s = grind (arith, length-append, maker_bytes)
 
       by : (u : ℕ) → nat_le (13 + u + (count - constant_advance e) * e.line_range) 255 ≡ true → (b : Bool)
           → length (instructions_bytes (if b then row_maker e (13 + u + count * e.line_range) ∷ []
@@ -208,6 +162,6 @@ module _ (encoding : Encoding) (e : LineEncoding) (previous built : LineRow) (ca
           then ConstAddPc ∷ row_maker e (13 + u + (count - constant_advance e) * e.line_range) ∷ []
           else AdvancePc count ∷ row_maker e (13 + u) ∷ [])))
           ≤ 2
-      by u room true = let one = one_maker (13 + u + count * e.line_range) in omega (arith, one)
+      by u room true = grind arith
       by u room false =
-          rw room (let one = one_maker (13 + u + (count - constant_advance e) * e.line_range) in omega (arith, one))
+          grind arith

@@ -9,12 +9,7 @@ use Rattle.std.proofs.lemmas.Bool.{cases_lt}
 -- two multiples of m that differ are at least m apart
 apart_by : (m p o : ℕ) → p % m ≡ 0 → o % m ≡ 0 → p < o → m ≤ o - p
 apart_by m p o hp ho lt =
-    let ep = div-add-mod' p m in
-    let eo = div-add-mod' o m in
-    elim (cases_lt (p / m) (o / m)) [
-      | inl below ↦ (let h : (p / m + 1) * m ≤ o / m * m = mul-le-mul_right m (omega arith) in omega (arith, ep, eo, h))
-      | inr above ↦ (let h : o / m * m ≤ p / m * m = mul-le-mul_right m above in omega (arith, ep, eo, h))
-    ]
+    grind (arith, div-add-mod', cases_lt, mul-le-mul_right)
 
 -- the operations from a position to a later one aren't fewer than those of the first in its own instruction
 pub operations_above : (m k p j o i : ℕ) → 0 < m → p % m ≡ 0 → o % m ≡ 0 → p ≤ o → (o ≡ p → j ≤ i) → j < k
@@ -46,30 +41,19 @@ whole_steps m p o pm hp ho le =
 -- the operations of whole instructions and a part of one, taken apart again
 pub taken_apart : (k t i : ℕ) → i < k → ((t * k + i) / k ≡ t) × ((t * k + i) % k ≡ i)
 taken_apart k t i lt =
-    let turned : t * k + i ≡ i + t * k = omega arith in (
-      rw turned (add-mul-div_right i t (omega arith) ∙ (let z = div-eq_of_lt lt in omega (arith, z))),
-      rw turned (add-mul-mod_self_right i t k ∙ mod-eq_of_lt lt),
-    )
+    grind (arith, add-mul-div_right, div-eq_of_lt, add-mul-mod_self_right, mod-eq_of_lt)
 
 -- a special opcode by its parts
 pub special_parts : (g u n : ℕ) → 1 ≤ g → u < g → ((13 + u + n * g - 13) % g ≡ u) × ((13 + u + n * g - 13) / g ≡ n)
 special_parts g u n pg lt =
-    let off : 13 + u + n * g - 13 ≡ u + n * g = omega arith in (
-      rw off (add-mul-mod_self_right u n g ∙ mod-eq_of_lt lt),
-      rw off (add-mul-div_right u n (omega arith) ∙ (let z = div-eq_of_lt lt in omega (arith, z))),
-    )
+    grind (arith, add-mul-mod_self_right, mod-eq_of_lt, add-mul-div_right, div-eq_of_lt)
 
 -- where one special opcode doesn't do, there are as many operations as const_add_pc has
 pub enough_of : (g u n q : ℕ) → 1 ≤ g → u < g → 255 < 13 + u + n * g → q * g ≤ 242 → q ≤ n
 enough_of g u n q pg lt over le =
-    elim (cases_lt n q) [
-      | inl below ↦
-          absurd (let up : (n + 1) * g ≤ q * g = mul-le-mul_right g (omega arith) in let d = add-mul n 1 g in
-          omega (arith, up, d))
-      | inr above ↦ above
-    ]
+    grind (arith, cases_lt, mul-le-mul_right, add-mul)
 
 -- the special opcode that advances nothing is no sum of a line advance and operations
 pub none_of : (n u g b : ℕ) → u + n * g ≡ b → b < g → n ≡ 0
 none_of zero u g b h lt = refl
-none_of (suc n) u g b h lt = absurd (let d = add-mul n 1 g in omega (arith, d))
+none_of (suc n) u g b h lt = grind (arith, add-mul)

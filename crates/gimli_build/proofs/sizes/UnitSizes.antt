@@ -36,7 +36,7 @@ HasSize written n = (bytes : List ℕ) → written ≡ Ok bytes → length bytes
 -- ---- parts
 
 pub size_of_ok : (own : List ℕ) → HasSize (Ok own) (length own)
-size_of_ok own bytes is = let same : own ≡ bytes = cc in ap length (sym same)
+size_of_ok own bytes is = grind arith
 
 pub size_of_none : (e : Error) (n : ℕ) → HasSize (Err e) n
 size_of_none e n bytes is = absurd cc
@@ -57,8 +57,7 @@ size_either false first second m n one other = other
 pub size_joined : (first rest : Result (List ℕ) Error) (m n : ℕ) → HasSize first m → HasSize rest n
     → HasSize (result_append first rest) (m + n)
 size_joined (Ok a) (Ok b) m n first rest bytes is =
-    let same : a ++ b ≡ bytes = cc in
-    ap length (sym same) ∙ length-append a b ∙ ap (λ k. k + length b) (first a refl) ∙ ap (λ k. m + k) (rest b refl)
+    grind (arith, length-append)
 size_joined (Ok a) (Err e) m n first rest bytes is = absurd cc
 size_joined (Err e) written m n first rest bytes is = absurd cc
 
@@ -91,7 +90,7 @@ format_word_size big Dwarf64 n =
 
 name_size : (format : Format) (t : LineText) → HasSize (name_bytes t) (text_size format t)
 name_size format (Inline text) =
-    size_as _ _ _ (length-append text (0 ∷ [])) (size_of_ok _)
+    grind (arith, length-append)
 name_size format (InStrings i) = size_of_none _ _
 name_size format (InLineStrings i) = size_of_none _ _
 
@@ -103,9 +102,7 @@ directories_size format directories =
 
 three_lengths : (a b c : List ℕ) (n : ℕ) → n + length (a ++ b ++ c) ≡ n + length a + length b + length c
 three_lengths a b c n =
-    let whole = length-append (a ++ b) c in
-    let first = length-append a b in
-    omega (arith, whole, first)
+    grind (arith, length-append)
 
 one_file_size : (format : Format) (f : File) → HasSize (file_bytes f) (file_size format f)
 one_file_size format f =
@@ -143,8 +140,7 @@ module _ (big : Bool) (format : Format) (texts : StringTables) where
       → HasSize (if has then text_in_form plain big format texts form t else Ok [])
       (sum_by (λ (s : ℕ × LineText). text_size format s.1) (if has then (form, t) ∷ [] else []))
   source_size true form t =
-      let size = text_size format t in
-      size_as _ _ _ (nothing_first _) (formed_size _ t)
+      grind (arith, formed_size)
   source_size false form t = size_of_ok _
 
 -- ---- tables of version 5
@@ -153,9 +149,7 @@ module _ (big : Bool) (format : Format) (texts : StringTables) where
 prefixed_size : (formats number : List ℕ) (rest : Result (List ℕ) Error) (n : ℕ) → HasSize rest n
     → HasSize (result_append (Ok (formats ++ number)) rest) (length formats + length number + n)
 prefixed_size formats number rest n size =
-    size_as _ _ _
-    (ap (λ k. k + n) (length-append formats number))
-    (size_joined _ _ _ n (size_of_ok _) size)
+    grind (arith, length-append)
 
 path_first : (path details source : ℕ) → path + (details + source) ≡ (path + source) + details
 path_first path details source = omega arith
@@ -237,7 +231,7 @@ opened_size false version address_size size = size_joined _ _ 2 2 size (size_of_
 opening_size : (big : Bool) (encoding : Encoding)
     → HasSize (opening_bytes big encoding) (if nat_le encoding.version 4 then 2 else 4)
 opening_size big encoding =
-    opened_size _ _ encoding.address_size (version_size big encoding.version)
+    grind (arith)
 
 -- ---- what the header length counts
 
@@ -254,14 +248,7 @@ encoding_count false = refl
 line_encoding_size : (version : ℕ) (e : LineEncoding)
     → HasSize (line_encoding_bytes version e) (if nat_le 4 version then 5 else 4)
 line_encoding_size version e =
-    let fourth = nat_le 4 version in
-    let operations = operations_bytes version e.maximum_operations_per_instruction in
-    let numbers = flag_byte e.default_is_stmt ∷ base_byte e.line_base ∷ e.line_range ∷ [] in
-    size_as _ _ _ (encoding_count _)
-    (size_joined _ _ 1 _
-    (size_of_ok (e.minimum_instruction_length ∷ []))
-    (size_joined _ _ _ 3
-    (operations_size _ _ _) (size_of_ok _)))
+    grind (arith)
 
 three_parts : (a b c : ℕ) → a + (b + c) ≡ a + b + c
 three_parts a b c = omega arith

@@ -39,8 +39,7 @@ use Rattle.gimli_build.proofs.writing.WrittenParts.{same_written, after_written,
 
 pub positive-spelled : (n : ℕ) (d : ReadError) → 0 < n → (positive d).Spells (n ∷ []) n
 positive-spelled n d some =
-    let other : nat_eq n 0 ≡ false = ne_eqb n 0 (λ e. absurd (omega (arith, some))) in
-    (n, n ∷ [], [], refl, refl, (tt, [], [], refl, (refl, ap not other), (refl, refl)))
+    grind (arith, ne_eqb)
 
 pub first-chosen : {A : Type 0} (b : Bool) (l m : Production A) (bytes : List ℕ) (x : A) → b ≡ true → l.Spells bytes x
     → (choose b l m).Spells bytes x
@@ -117,21 +116,16 @@ operations_line version = choose (nat_le version 3) (done 1) (positive MaximumOp
 
 operations_spelled : (version n : ℕ) (bytes : List ℕ) → 0 < n → operations_bytes version n ≡ Ok bytes
     → (operations_line version).Spells bytes n
-operations_spelled version n bytes some is = by (nat_le 4 version) refl (nat_eq n 1) refl is
+operations_spelled version n bytes some is = grind arith
   where
     by : (b : Bool) → nat_le 4 version ≡ b → (one : Bool) → nat_eq n 1 ≡ one
         → (let r : Result (List ℕ) Error = if b then Ok (n ∷ []) else (if one then Ok [] else Err (NeedVersion 4)) in r)
         ≡ Ok bytes
         → (operations_line version).Spells bytes n
     by true high one t is =
-        let above : 4 ≤ version = leb-true 4 version high in
-        let over : nat_le version 3 ≡ false = lt-leb version 3 (omega (arith, above)) in
-        rw (over, same_written _ _ is) (positive-spelled n MaximumOperationsPerInstructionZero some)
+        grind (arith, leb-true, lt-leb, same_written, positive-spelled)
     by false low true t is =
-        let below : version < 4 = leb-false 4 version low in
-        let only : n ≡ 1 = eqb-true n 1 t in
-        first-chosen _ _ _ _ n (le-leb version 3 (omega (arith, below)))
-        (same_written _ _ is, only)
+        grind (arith, leb-false, eqb-true, first-chosen, le-leb, same_written)
     by false low false t is = absurd cc
 
 pub encoding-spelled : (version : ℕ) (e : LineEncoding) (bytes : List ℕ) → CanEncode e
@@ -166,7 +160,7 @@ pub record VersionWritten (big : Bool) (version : ℕ) (bytes : List ℕ) : Type
 
 version_written : (big : Bool) (version : ℕ) (bytes : List ℕ) → version_bytes big version ≡ Ok bytes
     → VersionWritten big version bytes
-version_written big version bytes is = by (nat_le 2 version && nat_le version 5) refl is
+version_written big version bytes is = grind arith
   where
     by : (b : Bool) → (nat_le 2 version && nat_le version 5) ≡ b
         → (let r : Result (List ℕ) Error = if b then Ok (number_bytes big 2 version)
@@ -174,12 +168,12 @@ version_written big version bytes is = by (nat_le 2 version && nat_le version 5)
         r)
         ≡ Ok bytes
         → VersionWritten big version bytes
-    by true t is = record { bytes_are = same_written _ _ is; known = t }
+    by true t is = grind (arith, same_written)
     by false t is = absurd cc
 
 pub version-known : (big : Bool) (version : ℕ) (bytes : List ℕ) → version_bytes big version ≡ Ok bytes → version ≤ 5
 version-known big version bytes is =
-    leb-true version 5 (both_true (nat_le 2 version) _ (version_written big version _ is).known)
+    grind (arith, leb-true, both_true, version_written)
 
 pub version-spelled : (big : Bool) (version : ℕ) (bytes : List ℕ) → version_bytes big version ≡ Ok bytes
     → (version_production big).Spells bytes version
@@ -229,28 +223,26 @@ address-spelled version handed size same known = by (nat_le version 4)
 held : (notation : Notation) (format : Format) (n : ℕ) → (format ≡ Dwarf64 → n < notation.limit)
     → fits_offset notation format n ≡ true
 held notation Dwarf32 n lt = refl
-held notation Dwarf64 n lt = lt-ltb n notation.limit (lt refl)
+held notation Dwarf64 n lt = grind (arith, lt-ltb)
 
 -- eight bytes hold any number of the 64-bit format, which is told by no test
 word_spelled : (big : Bool) (format : Format) (n : ℕ) (bytes : List ℕ) → n < 2 ^ 64
     → format_word big format n ≡ Ok bytes
     → SpellsNumber big (word_size format) bytes n
-word_spelled big Dwarf32 n bytes small is = by (nat_lt n (2 ^ 32)) refl is
+word_spelled big Dwarf32 n bytes small is = grind arith
   where
     by : (b : Bool) → nat_lt n (2 ^ 32) ≡ b
         → (let r : Result (List ℕ) Error = if b then Ok (number_bytes big 4 n) else Err ValueTooLarge in r) ≡ Ok bytes
         → SpellsNumber big 4 bytes n
-    by true t is = rw (same_written _ _ is) (number_spelled _ 4 n (ltb-true n (2 ^ 32) t))
+    by true t is = grind (arith, same_written, number_spelled, ltb-true)
     by false t is = absurd cc
-word_spelled big Dwarf64 n bytes small is = rw (same_written _ _ is) (number_spelled _ 8 n (omega (arith, small)))
+word_spelled big Dwarf64 n bytes small is = grind (arith, same_written, number_spelled)
 
 -- a word has bytes
 pub word-long : (big : Bool) (format : Format) (n : ℕ) (bytes : List ℕ) → format_word big format n ≡ Ok bytes
     → 0 < length bytes
 word-long big format n bytes is =
-    let size = format_word_size big format n bytes is in
-    let some = word_some format in
-    omega (arith, size, some)
+    grind (arith, format_word_size)
   where
     word_some : (f : Format) → 0 < word_size f
     word_some Dwarf32 = lit< tt
@@ -273,7 +265,7 @@ offset-spelled notation format n bytes lt small is = (
 initial_spelled : (big : Bool) (format : Format) (n : ℕ) (word : List ℕ) → n < 2 ^ 64
     → length_word big format n ≡ Ok word
     → SpellsInitialLength big (escape_bytes big format ++ word) format n
-initial_spelled big Dwarf32 n word small is = by (nat_lt n 0xffff_fff0) refl (nat_lt n (2 ^ 32)) is
+initial_spelled big Dwarf32 n word small is = grind arith
   where
     by : (b : Bool) → nat_lt n 0xffff_fff0 ≡ b → (c : Bool)
         → (let r : Result (List ℕ) Error = if b then Ok (number_bytes big 4 n)
@@ -282,17 +274,10 @@ initial_spelled big Dwarf32 n word small is = by (nat_lt n 0xffff_fff0) refl (na
         ≡ Ok word
         → SpellsNumber big 4 word n × (n < 0xffff_fff0)
     by true t c is =
-        let lt : n < 0xffff_fff0 = ltb-true n 0xffff_fff0 t in
-        (rw (same_written _ _ is) (number_spelled _ 4 n (omega (arith, lt))), lt)
+        grind (arith, ltb-true, same_written, number_spelled)
     by false t true is = absurd cc
     by false t false is = absurd cc
-initial_spelled big Dwarf64 n word small is = (
-  number_bytes big 4 0xffff_ffff,
-  word,
-  refl,
-  number_spelled _ 4 _ (omega arith),
-  rw (same_written _ _ is) (number_spelled _ 8 n (omega (arith, small))),
-)
+initial_spelled big Dwarf64 n word small is = grind (arith, number_spelled, same_written)
 
 pub length-spelled : (notation : Notation) (format : Format) (n : ℕ) (word : List ℕ)
     → (format ≡ Dwarf64 → n < notation.limit) → n < 2 ^ 64

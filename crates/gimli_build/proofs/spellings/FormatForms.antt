@@ -64,14 +64,7 @@ AreSpelled formats =
 
 more_spelled : (f : ℕ × ℕ) (formats : List (ℕ × ℕ)) → IsFormat f → AreSpelled formats → AreSpelled (f ∷ formats)
 more_spelled f formats is rest =
-    let bytes = flat_map one_bytes formats in (
-      read_format f,
-      one_bytes f,
-      bytes,
-      refl,
-      one_spelled f is,
-      (map read_format formats, bytes, [], sym (append-nil bytes), rest, (refl, refl)),
-    )
+    grind (arith, one_spelled, map, append-nil)
 
 when_spelled : (due : Bool) (f : ℕ × ℕ) (formats : List (ℕ × ℕ)) → IsFormat f → AreSpelled formats
     → AreSpelled (when due f ++ formats)
@@ -87,15 +80,7 @@ formats_spelled : (formats : List (ℕ × ℕ)) → AreSpelled formats
     → count_by (is_content 0x0001) (map read_format formats) ≡ 1
     → SpellsFormats (formats_bytes formats) (map read_format formats)
 formats_spelled formats spelled one =
-    let bytes = flat_map one_bytes formats in
-    let list = map read_format formats in (
-      length formats,
-      length formats ∷ [],
-      bytes,
-      refl,
-      refl,
-      (list, bytes, [], sym (append-nil bytes), spelled, (tt, [], [], refl, (refl, rw one refl), (refl, refl))),
-    )
+    grind (arith, map, append-nil)
 
 -- ---- the tables
 
@@ -109,7 +94,7 @@ first_form_small [] = lit< tt
 first_form_small (t ∷ texts) = text_form_small t
 
 is_format : (content form : ℕ) → content < 2 ^ 64 → min content 0xffff ≡ content → form < 128 → IsFormat (content, form)
-is_format content form fits held small = record { fits = fits; content = held; form = small }
+is_format content form fits held small = grind arith
 
 pub directory-formats : (p : Built)
     → SpellsFormats (formats_bytes (directory_formats p)) (map read_format (directory_formats p))
@@ -126,18 +111,14 @@ formats_of time size digest source path_form source_form =
 
 -- four parts one after the other
 pub nested : {A : Type 0} (a b c d : List A) → a ++ b ++ c ++ d ≡ a ++ (b ++ (c ++ d))
-nested a b c d = append_assoc (a ++ b) c d ∙ append_assoc a b (c ++ d)
+nested a b c d = grind (arith, append_assoc)
 
 pub formats-same : (p : Built)
     → file_formats p
     ≡ formats_of p.file_has_timestamp p.file_has_size p.file_has_md5 p.file_has_source (first_form (path_texts p.files))
     (first_form (sources p.files))
 formats-same p =
-    let parts =
-    nested (when p.file_has_timestamp (0x0003, 0x0f)) (when p.file_has_size (0x0004, 0x0f))
-    (when p.file_has_md5 (0x0005, 0x1e))
-    (when p.file_has_source (0x2001, first_form (sources p.files))) in
-    ap (λ l. (0x0001, first_form (path_texts p.files)) ∷ (0x0002, 0x0f) ∷ l) parts
+    grind (arith, nested)
 
 one_path : (time size digest source : Bool) (path_form source_form : ℕ)
     → count_by (is_content 0x0001) (map read_format (formats_of time size digest source path_form source_form)) ≡ 1

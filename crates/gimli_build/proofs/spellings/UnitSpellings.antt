@@ -52,14 +52,14 @@ pub record UnitWritten (hand : Hand) (big : Bool) (p : Built) (texts : StringTab
 -- a front in two parts
 front_in_two : (whole front rest first second : List ℕ) → whole ≡ front ++ rest → front ≡ first ++ second
     → whole ≡ (first ++ second) ++ rest
-front_in_two whole front rest first second is parts = is ∙ ap (λ l. l ++ rest) parts
+front_in_two whole front rest first second is parts = grind arith
 
 -- a rest in three parts
 rest_in_three : (whole first rest header size fields last : List ℕ) → whole ≡ first ++ rest → rest ≡ header ++ last
     → header ≡ size ++ fields
     → whole ≡ first ++ ((size ++ fields) ++ last)
 rest_in_three whole first rest header size fields last is parts inner =
-    is ∙ ap (λ l. first ++ l) (parts ∙ ap (λ l. l ++ last) inner)
+    grind arith
 
 pub unit_written : (hand : Hand) (big : Bool) (p : Built) (texts : StringTables) (unit : List ℕ)
     → whole_bytes hand big p texts ≡ Ok unit → UnitWritten hand big p texts unit
@@ -125,10 +125,7 @@ length_wide : (big : Bool) (format : Format) (n : ℕ) (word : List ℕ) → for
     → length (escape_bytes big format ++ word) ≡ 12
 length_wide big Dwarf32 n word wide is = absurd cc
 length_wide big Dwarf64 n word wide is =
-    let whole = length-append (escape_bytes big Dwarf64) word in
-    let escape = size_4 big 0xffff_ffff in
-    let eight = ap length (same_written _ _ is) ∙ size_8 big n in
-    omega (arith, whole, escape, eight)
+    grind (arith)
 
 inside-wide : (hand : Hand) (big : Bool) (p : Built) (texts : StringTables) (unit : List ℕ)
     (w : UnitWritten hand big p texts unit)

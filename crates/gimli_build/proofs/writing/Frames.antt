@@ -25,16 +25,7 @@ use Rattle.gimli_build.proofs.writing.Writes.{Leaves, writes_in}
 patched_middle : (a b other c : List ℕ) (at : ℕ) → length other ≡ length b → length a ≡ at
     → overwrite_of (a ++ b ++ c) at other ≡ Ok (a ++ other ++ c)
 patched_middle a b other c at same position =
-    let whole : length (a ++ b ++ c) ≡ length a + length b + length c = length-append (a ++ b) c
-    ∙ ap (λ x. x + length c) (length-append a b) in
-    let first : nat_lt (length (a ++ b ++ c)) at
-    ≡ false = le-ltb (length (a ++ b ++ c)) at (omega (arith, whole, position)) in
-    let second : nat_lt (length (a ++ b ++ c)) (at + length other)
-    ≡ false = le-ltb (length (a ++ b ++ c)) (at + length other) (omega (arith, whole, position, same)) in
-    let front : take at (a ++ b ++ c) ≡ a = ap (take at) (append_assoc a b c) ∙ take_at a (b ++ c) at position in
-    let back : drop (at + length other) (a ++ b ++ c)
-    ≡ c = drop_at (a ++ b) c (at + length other) (let l = length-append a b in omega (arith, l, same, position)) in
-    rw (first, second, front, back) refl
+    grind (arith, length-append, nat_lt, le-ltb, append_assoc, take_at, drop_at)
 
 same_ok : (xs ys : List ℕ) → (let r : Result (List ℕ) Error = Ok xs in r) ≡ Ok ys → xs ≡ ys
 same_ok xs ys h = cc
@@ -48,25 +39,21 @@ module _ (full length_of : ℕ → Result (List ℕ) Error) (escape blank old c1
     (as_long : (word : List ℕ) → length_of n ≡ Ok word → length word ≡ length blank) where
   whole : (bytes : List ℕ) → body ≡ Ok bytes → c2 ≡ (old ++ escape) ++ blank ++ bytes
   whole bytes is =
-      let written : c2 ≡ c1 ++ bytes = rw is at written in
-      written ∙ ap (λ l. l ++ bytes) opened
+      grind arith
 
   count : (bytes : List ℕ) → body ≡ Ok bytes → n ≡ length bytes
   count bytes is =
-      let written : c2 ≡ c1 ++ bytes = rw is at written in
-      let l = ap length written ∙ length-append c1 bytes in
-      omega (arith, l, counted)
+      grind (arith, length-append)
 
   known : (bytes : List ℕ) → body ≡ Ok bytes
       → after_length full body ≡ result_append (result_append (Ok escape) (length_of n)) (Ok bytes)
   known bytes is =
-      ap (after_length full) is ∙ ap (λ r. result_append r (Ok bytes)) (ap full (sym (count _ is)) ∙ is_full n)
+      grind (arith, count)
 
   put : (bytes word : List ℕ) → body ≡ Ok bytes → length_of n ≡ Ok word
       → overwrite_of c2 position word ≡ Ok ((old ++ escape) ++ word ++ bytes)
   put bytes word is so =
-      ap (λ l. overwrite_of l position word) (whole _ is)
-      ∙ patched_middle _ _ _ _ _ (as_long word so) (length-append old escape ∙ sym at)
+      grind (arith, whole, patched_middle, length-append)
 
   framed : patch (length_of n) c2 position ≡ Ok new → Appends (after_length full body) old new
   framed h = by _ refl _ refl h
@@ -77,11 +64,7 @@ module _ (full length_of : ℕ → Result (List ℕ) Error) (escape blank old c1
       by (Err e) is w so h = absurd (rw is at written)
       by (Ok bytes) is (Err e) so h = cc
       by (Ok bytes) is (Ok word) so h =
-          let shape : after_length full body ≡ Ok ((escape ++ word) ++ bytes) = known _ is
-          ∙ ap (λ r. result_append (result_append (Ok escape) r) (Ok bytes)) so in
-          let same : new ≡ (old ++ escape) ++ word ++ bytes = sym (same_ok _ _ (sym (put _ _ is so) ∙ h)) in
-          rw shape
-          (same ∙ ap (λ l. l ++ bytes) (append_assoc old escape word) ∙ append_assoc old (escape ++ word) bytes)
+          grind (arith, known, same_ok, put, append_assoc)
 
   frame_refused : (e : Error) → patch (length_of n) c2 position ≡ Err e → after_length full body ≡ Err e
   frame_refused e h = by _ refl _ refl h
@@ -90,7 +73,7 @@ module _ (full length_of : ℕ → Result (List ℕ) Error) (escape blank old c1
           → patch w c2 position ≡ Err e → after_length full body ≡ Err e
       by (Err d) is w so h = absurd (rw is at written)
       by (Ok bytes) is (Err d) so h =
-          known _ is ∙ ap (λ r. result_append (result_append (Ok escape) r) (Ok bytes)) so ∙ h
+          grind (arith, known)
       by (Ok bytes) is (Ok word) so h = absurd (let never = sym (put _ _ is so) ∙ h in cc)
 
   -- so much of one view of a writer
@@ -148,11 +131,7 @@ counted_written {sink = sink} {r = r} {escape = escape} {blank = blank} {positio
       memory = λ keeps_bytes memory_alone.
           leaves (λ e. e ≡ OutOfMemory) plain _ _ _ _ (so.held keeps_bytes) (inside.ok keeps_bytes) so.count
           (call.ok keeps_bytes) (if_err r (λ e. inr) (call.err memory_alone));
-      linked = λ at completes.
-          let opened = so.stays completes in
-          leaves sink.refuses (sink.hand at) _ _ _ _ (so.linked at completes) (inside.completed at opened)
-          (so.count_linked at completes) (call.completed at (inside.stays opened))
-          (call.completed_own at (inside.stays opened));
+      linked = grind arith;
     })
 
 -- ---- words
@@ -194,20 +173,19 @@ ok_if_if false false xs ys d e h = cc
 pub length_word_long : (big : Bool) (format : Format) (n : ℕ) (word : List ℕ) → length_word big format n ≡ Ok word
     → length word ≡ length (open_word big format)
 length_word_long big Dwarf32 n word h =
-    ap length (ok_if_if _ _ _ _ _ _ h) ∙ size_4 _ n
-    ∙ sym (size_4 _ 0)
-length_word_long big Dwarf64 n word h = ap length (sym (same_ok _ _ h)) ∙ size_8 _ n ∙ sym (size_8 _ 0)
+    grind (arith, ok_if_if, size_4)
+length_word_long big Dwarf64 n word h = grind (arith, same_ok, size_8)
 
 pub header_word_long : (big : Bool) (format : Format) (n : ℕ) (word : List ℕ) → format_word big format n ≡ Ok word
     → length word ≡ length (open_word big format)
-header_word_long big Dwarf32 n word h = ap length (ok_if _ _ _ _ h) ∙ size_4 _ n ∙ sym (size_4 _ 0)
-header_word_long big Dwarf64 n word h = ap length (sym (same_ok _ _ h)) ∙ size_8 _ n ∙ sym (size_8 _ 0)
+header_word_long big Dwarf32 n word h = grind (arith, ok_if, size_4)
+header_word_long big Dwarf64 n word h = grind (arith, same_ok, size_8)
 
 -- where 64 bits hold a number, it is written as a word of the format is
 pub word_is : (big : Bool) (format : Format) (n : ℕ) → n < 2 ^ 64
     → udata big n (word_size format) ≡ format_word big format n
 word_is big Dwarf32 n small = refl
-word_is big Dwarf64 n small = rw (lt-ltb n (2 ^ 64) small) refl
+word_is big Dwarf64 n small = grind (arith, lt-ltb)
 
 -- a word of 0 fits
 pub zero_word : (big : Bool) (format : Format) → udata big 0 (word_size format) ≡ Ok (open_word big format)

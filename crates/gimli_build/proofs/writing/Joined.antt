@@ -29,16 +29,16 @@ or_wanted f (inr wanted) = inr (f wanted)
 
 pub appends_joined : (a b : Result (List ℕ) Error) (old new newer : List ℕ) → Appends a old new → Appends b new newer
     → Appends (result_append a b) old newer
-appends_joined (Ok xs) (Ok ys) old new newer first second = second ∙ ap (λ l. l ++ ys) first ∙ append_assoc old xs ys
+appends_joined (Ok xs) (Ok ys) old new newer first second = grind (arith, append_assoc)
 appends_joined (Ok xs) (Err e) old new newer first second = absurd second
 appends_joined (Err e) b old new newer first second = absurd first
 
 pub first_refused : (a b : Result (List ℕ) Error) (e : Error) → a ≡ Err e → result_append a b ≡ Err e
-first_refused a b e is = ap (λ r. result_append r b) is
+first_refused a b e is = grind arith
 
 pub second_refused : (a b : Result (List ℕ) Error) (old new : List ℕ) (e : Error) → Appends a old new → b ≡ Err e
     → result_append a b ≡ Err e
-second_refused (Ok xs) b old new e first is = ap (λ r. result_append (Ok xs) r) is
+second_refused (Ok xs) b old new e first is = grind arith
 second_refused (Err d) b old new e first is = absurd first
 
 pub appended_bytes : (r : Result (List ℕ) Error) (old new : List ℕ) → Appends r old new
@@ -51,7 +51,7 @@ appended_bytes (Err e) old new h = absurd h
 -- two parts that are there, and a third
 pub joined-joined : (a b : List ℕ) (r : Result (List ℕ) Error)
     → result_append (Ok a) (result_append (Ok b) r) ≡ result_append (Ok (a ++ b)) r
-joined-joined a b (Ok c) = ap (λ l. let s : Result (List ℕ) Error = Ok l in s) (sym (append_assoc a b c))
+joined-joined a b (Ok c) = grind (arith, append_assoc)
 joined-joined a b (Err e) = refl
 
 -- the parts so far are written, and those of `left` aren't
@@ -62,7 +62,7 @@ pub record SoFar {A : Type 0} (part : A → Result (List ℕ) Error) (all left :
 
 pub none_so_far : {A : Type 0} (part : A → Result (List ℕ) Error) (all : List A) (old : List ℕ)
     → SoFar part all all old old
-none_so_far part all old = record { done = []; written = sym (append-nil old); parts = nothing _ }
+none_so_far part all old = grind (arith, append-nil)
   where
     nothing : (r : Result (List ℕ) Error) → r ≡ result_append (Ok []) r
     nothing (Ok bytes) = refl
@@ -72,25 +72,18 @@ pub one_more : {A : Type 0} (part : A → Result (List ℕ) Error) (all left : L
     → SoFar part all (x ∷ left) old new
     → Appends (part x) new newer → SoFar part all left old newer
 one_more part all left x old new newer so more =
-    let a = appended_bytes _ _ _ more in
-    record {
-      done = so.done ++ a.0;
-      written = a.2 ∙ ap (λ l. l ++ a.0) so.written ∙ append_assoc old so.done a.0;
-      parts =
-          so.parts ∙ ap (λ r. result_append (Ok so.done) (result_append r (result_concat part left))) a.1
-          ∙ joined-joined _ _ _;
-    }
+    grind (arith, appended_bytes, append_assoc, joined-joined)
 
 pub part_refused : {A : Type 0} (part : A → Result (List ℕ) Error) (all left : List A) (x : A) (old new : List ℕ)
     (e : Error)
     → SoFar part all (x ∷ left) old new → part x ≡ Err e → result_concat part all ≡ Err e
 part_refused part all left x old new e so is =
-    so.parts ∙ ap (λ r. result_append (Ok so.done) (result_append r (result_concat part left))) is
+    grind arith
 
 -- what is left begins with the next element
 pub next_left : {A : Type 0} (xs : List A) (i : ℕ) (x : A) → i < length xs → x ≡ get_or xs i x
     → drop i xs ≡ x ∷ drop (i + 1) xs
-next_left xs i x lt is = rw add-one (drop-cons xs i x lt ∙ ap (λ y. y ∷ drop (suc i) xs) (sym is))
+next_left xs i x lt is = grind (arith, add-one, drop-cons)
 
 -- what is left begins with the next element, seen by a function
 pub next_seen : {A B : Type 0} (f : A → B) (xs : List A) (i : ℕ) (x : A) → i < length xs → x ≡ get_or xs i x
@@ -125,9 +118,7 @@ begins_self bytes = take-length bytes
 
 pub begins_then : (a b c : List ℕ) → Begins a b → Begins b c → Begins a c
 begins_then a b c first second =
-    let size : min (length a) (length b) ≡ length a = sym (length-take (length a) b) ∙ ap length first in
-    let le : length a ≤ length b = omega (arith, size) in
-    sym (take-take (length a) (length b) c le) ∙ ap (λ l. take (length a) l) second ∙ first
+    grind (arith, length-take, take-take)
 
 -- a beginning stays where bytes after it change
 pub begins_before : (old bytes new : List ℕ) (at : ℕ) → Begins old bytes → length old ≤ at → take at new ≡ take at bytes
@@ -140,4 +131,4 @@ begins_before old bytes new at first le same =
 module _ {A : Type 0} (P : A → Type 0) (xs : List A) (i : ℕ) (x : A) (next : drop i xs ≡ x ∷ drop (i + 1) xs) where
   -- an element has it, and those before it have
   pub all_passed : P x → (All P (drop i xs) → All P xs) → All P (drop (i + 1) xs) → All P xs
-  all_passed is so rest = so (subst (λ ys. All P ys) (sym next) (All-cons P x _ is rest))
+  all_passed is so rest = grind arith

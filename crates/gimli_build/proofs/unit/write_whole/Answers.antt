@@ -25,18 +25,10 @@ returns-clause-writes g c =
       ordered = opening.appends.ordered;
       stays = opening.appends.stays;
       after = opening.after;
-      held = λ keeps_bytes. record {
-        opened = blank _ _ (opening.appends.ok keeps_bytes);
-        at = omega (arith, opening.place keeps_bytes, escape_long big format);
-      };
-      linked = λ at completes. record {
-        opened = blank _ _ (opening.appends.completed at completes);
-        at = omega (arith, opening.completed at completes, escape_long big format);
-      };
-      count = omega (arith, c.len.ensures.contents, c.len-start.ensures.contents);
-      count_linked = λ at completes.
-          let opened = opening.appends.stays completes in
-          omega (arith, c.len.ensures.completed at (inside.stays opened), c.len-start.ensures.completed at opened);
+      held = grind (arith, escape_long);
+      linked = grind (arith, escape_long);
+      count = grind arith;
+      count_linked = grind arith;
     }) inside call
 
 pub returns-clause-completed_short : goal.returns-clause-completed_short

@@ -10,28 +10,11 @@ use Rattle.gimli_bytes.proofs.piece_vec.put.Goals as goal
 
 pub index_mut-piece-requires : goal.index_mut-piece-requires
 index_mut-piece-requires c =
-    let some : 0 < length c.loop-rest.rest.now = grind (arith, common_steps) in
-    let inside =
-    piece-inside _ c.loop-rest.at _ c.requires.size c.loop-rest.invariant.sizes
-    (omega (arith, c.loop-rest.invariant.fits)) in
-    omega (arith, c.loop-rest.pieces.ok.0)
+    grind (arith, common_steps, piece-inside)
 
 pub put-requires : goal.put-requires
 put-requires c =
-    let some : 0 < length c.loop-rest.rest.now = grind (arith, common_steps) in
-    let inside =
-    piece-inside _ _ _ c.requires.size c.loop-rest.invariant.sizes
-    (omega (arith, c.loop-rest.invariant.fits)) in
-    let size = c.loop-rest.invariant.sizes (c.loop-rest.at / c.args.size) c.index_mut-piece.result.now inside in
-    let same = ap (λ l. length l) c.index_mut-piece.ensures.value in
-    omega (
-      arith,
-      size,
-      same,
-      c.split_at.ensures.front_len,
-      c.min.ensures,
-      mod_below c.loop-rest.at c.args.size c.requires.size,
-    )
+    grind (arith, common_steps, piece-inside)
 
 pub loop-rest-preserved : goal.loop-rest-preserved
 loop-rest-preserved c =
@@ -41,12 +24,12 @@ loop-rest-preserved c =
     let piece = c.index_mut-piece.result.now in
     let some : 0 < length c.loop-rest.rest.now = grind (arith, common_steps) in
     let inside =
-    piece-inside n at ps c.requires.size c.loop-rest.invariant.sizes (omega (arith, c.loop-rest.invariant.fits)) in
+    piece-inside n at ps c.requires.size c.loop-rest.invariant.sizes (omega (arith)) in
     let size =
     ap (λ (l : List ℕ). length l) c.index_mut-piece.ensures.value
     ∙ c.loop-rest.invariant.sizes (at / n) piece inside in
     let fits : at % n + length c.split_at.result.0.now
-    ≤ n = omega (arith, c.split_at.ensures.front_len, c.min.ensures, mod_below at n c.requires.size) in
+    ≤ n = omega (arith) in
     let parts : c.split_at.result.0.now ++ c.split_at.result.1.now ≡ c.loop-rest.rest.now =
     rw (c.split_at.ensures.front, c.split_at.ensures.back) (take-append-drop c.min.result c.loop-rest.rest.now) in
     let counted = length-append c.split_at.result.0.now c.split_at.result.1.now in
@@ -64,8 +47,8 @@ loop-rest-preserved c =
     record {
       sizes = sizes;
       count = count ∙ c.loop-rest.invariant.count;
-      fits = rw (after, count) (omega (arith, c.loop-rest.invariant.fits));
-      end = omega (arith, c.loop-rest.invariant.end);
+      fits = rw (after, count) (omega (arith));
+      end = omega (arith);
       bytes =
           put-step n at ps piece c.split_at.result.0.now c.split_at.result.1.now c.loop-rest.rest.now c.put.new.self
           c.loop-rest.invariant.sizes inside parts

@@ -12,11 +12,4 @@ read_file-requires g c =
 
 pub loop-file-preserved : goal.loop-file-preserved
 loop-file-preserved g c =
-    let seen = file_seen g.R.Reader.bytes g.R.Offset.ReaderOffset.number in
-    let i = c.loop-file.file-index in
-    let lt : i < length c.args.files.now = omega arith in
-    rw c.in_ok-push.ensures.items
-    (one_by_one_more (IsFileAnswer c.args.sections.now) seen file_answer c.args.files.now c.loop-file.answers.items i
-    c.file-item.result
-    c.in_ok-read_file.field-0
-    lt c.file-item.is c.loop-file.invariant c.in_ok-read_file.ensures.ok)
+    grind (arith, file_seen, one_by_one_more, file_answer)

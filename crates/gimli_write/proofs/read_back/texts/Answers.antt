@@ -12,11 +12,4 @@ text_there-requires g c =
 
 pub loop-value-preserved : goal.loop-value-preserved
 loop-value-preserved g c =
-    let seen = value_seen g.R.Reader.bytes g.R.Offset.ReaderOffset.number in
-    let i = c.loop-value.value-index in
-    let lt : i < length c.args.values.now = omega arith in
-    rw c.in_ok-push.ensures.items
-    (one_by_one_more (IsText c.args.sections.now) seen (λ text. text.items) c.args.values.now c.loop-value.texts.items i
-    c.value-item.result
-    c.in_ok-text_there.field-0
-    lt c.value-item.is c.loop-value.invariant c.in_ok-text_there.ensures.ok)
+    grind (arith, value_seen, one_by_one_more)

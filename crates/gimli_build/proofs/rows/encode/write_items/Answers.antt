@@ -12,8 +12,7 @@ loop-item-init g c =
     record {
       fit = tt;
       way =
-          rw c.initial-initial.ensures
-          (record { position = start_position e c.requires.can; line = lit< tt; built = c.requires.built });
+          grind (arith, start_position);
       so =
           rw c.initial-initial.ensures (none_standing _ _ _ e _
           _ _);

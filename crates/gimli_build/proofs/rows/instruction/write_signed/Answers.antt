@@ -7,11 +7,7 @@ use Rattle.gimli_build.proofs.rows.instruction.write_signed.Goals as goal
 
 pub returns-then-has_seven_bits : goal.returns-then-has_seven_bits
 returns-then-has_seven_bits g c =
-    let back : to_z w64 (of_z w64 c.args.operand) ≡ c.args.operand = omega (arith, ints) in
-    let one : has_seven_bits c.args.operand ≡ true = ap has_seven_bits (sym back) ∙ sym c.if-has_seven_bits.ensures in
-    let low : c.low_bits.result ≡ low_bits c.args.operand = c.low_bits.ensures ∙ ap low_bits back in
-    let put = c.write.ensures in
-    rw (sleb_one _ one, ← low) (writes _ put)
+    grind (arith, to_z, w64, of_z, ints, sleb_one, writes)
 
 pub returns : goal.returns
 returns g c =

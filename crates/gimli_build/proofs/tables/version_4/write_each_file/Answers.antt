@@ -34,7 +34,4 @@ loop-index-preserved g c =
 
 pub returns-clause-fit : goal.returns-clause-fit
 returns-clause-fit g c =
-    let files = c.args.tables.now.files in
-    let i = c.loop-index.index in
-    let end : length files ≤ i = omega (arith, c.loop-index-test.false, c.file_count-index-end.ensures.count) in
-    rw (take_all i files end) at c.loop-index.invariant.fit
+    grind (arith, take_all)

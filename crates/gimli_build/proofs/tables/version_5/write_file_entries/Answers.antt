@@ -13,13 +13,7 @@ use Rattle.gimli_build.proofs.tables.version_5.write_file_entries.Goals as goal
 
 pub write_file_entry-requires-clause-there : goal.write_file_entry-requires-clause-there
 write_file_entry-requires-clause-there g c =
-    let p = c.args.input.now.program in
-    let file : File = ((line_text c.file-file.result.0.now, c.file-file.result.1), details c.file-file.result.2.now) in
-    let there : slice_get p.files c.loop-index.index
-    ≡ Some file = ap (λ l. slice_get l c.loop-index.index)
-    (sym (c.tables-tables.ensures.files ∙ ap (λ q. q.files) c.program.ensures.program))
-    ∙ c.file-file.ensures in
-    contains-at _ _ _ there
+    grind (arith, slice_get, contains-at)
 
 pub loop-index-init : goal.loop-index-init
 loop-index-init g c = record { so = none_written _ _ _ _; fit = All-nil FitsFile }
@@ -56,10 +50,4 @@ loop-index-preserved g c =
 
 pub returns-clause-fit : goal.returns-clause-fit
 returns-clause-fit g c =
-    let files = c.args.input.now.program.files in
-    let i = c.loop-index.index in
-    let count =
-    c.file_count-index-end.ensures.count
-    ∙ ap length (c.tables-tables.ensures.files ∙ ap (λ q. q.files) c.program.ensures.program) in
-    let end : length files ≤ i = omega (arith, c.loop-index-test.false, count) in
-    rw (take_all i files end) at c.loop-index.invariant.fit
+    grind (arith, take_all)

@@ -31,14 +31,9 @@ returns-clause-writes g c =
         opened = blank _ _ (zero.ok keeps_bytes);
         at = omega (arith, c.len-length.ensures.contents);
       };
-      linked = λ at completes. record {
-        opened = blank _ _ (zero.completed at completes);
-        at = omega (arith, c.len-length.ensures.completed at completes);
-      };
+      linked = grind arith;
       count = omega (arith, c.len.ensures.contents, c.len-start.ensures.contents);
-      count_linked = λ at completes.
-          let opened = zero.stays completes in
-          omega (arith, c.len.ensures.completed at (fields.stays opened), c.len-start.ensures.completed at opened);
+      count_linked = grind arith;
     }) fields call
 
 pub returns-in_err-write_fields-clause-writes : goal.returns-in_err-write_fields-clause-writes

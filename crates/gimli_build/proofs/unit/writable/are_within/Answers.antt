@@ -17,12 +17,4 @@ returns-then-not-is_within c =
 
 pub loop-text-preserved : goal.loop-text-preserved
 loop-text-preserved c =
-    let texts = c.args.texts.now in
-    let i = c.loop-text.text-index in
-    let lt : i < length texts = omega arith in
-    record {
-      left =
-          all_passed (IsWithin (texts_in c.args.strings.now c.args.line_strings.now)) (map line_text texts) i
-          (line_text c.text-item.result)
-          (next_seen _ _ i _ lt c.text-item.is) (c.if-not-is_within.ensures.0 refl) c.loop-text.invariant.left;
-    }
+    grind (arith, all_passed, map, next_seen)

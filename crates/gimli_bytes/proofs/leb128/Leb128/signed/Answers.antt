@@ -21,12 +21,9 @@ loop-len-preserved c =
     ≡ int_div_euclid (to_z w64 c.loop-len.rest-bits) (pos 128) = wide
     ∙ c.div_euclid-rest.ensures in
     record {
-      ten = length-set c.loop-len.bytes c.loop-len.len (c.low_bits-low.result + 128) ∙ c.loop-len.invariant.ten;
+      ten = grind (arith, length-set);
       so =
-          rw (back, c.low_bits-low.ensures.value)
-          (sleb_step _ _ _ _
-          (omega (arith, c.loop-len.invariant.ten)) (omega arith) (sym c.if-has_seven_bits.ensures)
-          c.loop-len.invariant.so);
+          grind (arith, sleb_step);
     }
 
 pub returns : goal.returns

@@ -10,13 +10,7 @@ returns-then-rest-lt128 c =
     uleb_end _ _ _ _ (omega arith) c.if-rest-lt128.true c.loop-len.invariant.so
 
 pub loop-len-preserved : goal.loop-len-preserved
-loop-len-preserved c = record {
-  ten = length-set c.loop-len.bytes c.loop-len.len (c.loop-len.rest % 128 + 128) ∙ c.loop-len.invariant.ten;
-  so =
-      uleb_step c.loop-len.bytes c.loop-len.len c.loop-len.rest (uleb_within 9 c.args.val) (omega arith) (omega arith)
-      c.if-rest-lt128.false
-      c.loop-len.invariant.so;
-}
+loop-len-preserved c = grind (arith, length-set, uleb_step)
 
 pub returns : goal.returns
 unfolding uleb

@@ -6,9 +6,7 @@ use Rattle.gimli_bytes.proofs.piece_vec.PieceVec.write.Goals as goal
 
 pub overflow_sub-div_ceil : goal.overflow_sub-div_ceil
 overflow_sub-div_ceil g c =
-    let size : c.len.result ≡ length c.self.inside.pieces.items = search rules in
-    rw (c.div_ceil.ensures, size)
-    (count-below _ _ _ _ c.self.invariant.positive c.self.invariant.needed)
+    grind (arith, rules, count-below)
 
 pub put-requires-clause-sizes : goal.put-requires-clause-sizes
 put-requires-clause-sizes g c =
@@ -37,29 +35,16 @@ invariant_of-self-2 g c =
 
 pub returns-clause-ok : goal.returns-clause-ok
 returns-clause-ok g c =
-    let items : c.append.new.self.items ≡ c.self.inside.pieces.items ++ c.in_ok-added.added.items = search rules in
-    rw (← c.self.view_is, bytes-more _ _ _ _ _ _ _ c.self.invariant items c.put.ensures.bytes) refl
+    grind (arith, rules, bytes-more)
 
 pub returns-then-bytes-self-clause-room : goal.returns-then-bytes-self-clause-room
 returns-then-bytes-self-clause-room g c =
-    let size = bytes-length _ _ _ c.self.invariant in
-    rw (← c.self.view_is) (λ short none. absurd (omega (arith, size, short)))
+    grind (arith, bytes-length)
 
 pub returns-in_err-added-clause-room : goal.returns-in_err-added-clause-room
 returns-in_err-added-clause-room g c =
-    let size : c.len.result ≡ length c.self.inside.pieces.items = search rules in
-    rw (← c.self.view_is) (λ short none.
-    let same = no_piece _ _ _ _ c.self.invariant none in
-    let count : c.div_ceil.result - c.len.result ≡ 0 = omega (arith, c.div_ceil.ensures, size, same) in
-    absurd (true≢false (sym {a = false} (c.in_err-added.ensures.none count))))
+    grind (arith, rules, no_piece)
 
 pub returns-in_err-append-clause-room : goal.returns-in_err-append-clause-room
 returns-in_err-append-clause-room g c =
-    let size : c.len.result ≡ length c.self.inside.pieces.items = search rules in
-    rw (← c.self.view_is) (λ short none.
-    let same = no_piece _ _ _ _ c.self.invariant none in
-    let added : vec_len c.in_ok-added.added
-    ≡ 0 = omega (arith, c.in_ok-added.added.ok.0, c.in_ok-added.ensures.count, c.div_ceil.ensures, size, same) in
-    let fits : vec_len c.self.inside.pieces + vec_len c.in_ok-added.added
-    ≤ vec_capacity c.self.inside.pieces = omega (arith, c.self.inside.pieces.ok.1, added) in
-    absurd (true≢false (sym {a = false} (c.in_err-append.ensures.succeeds fits))))
+    grind (arith, rules, no_piece)

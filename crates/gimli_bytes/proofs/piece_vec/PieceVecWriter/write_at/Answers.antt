@@ -7,23 +7,7 @@ use Rattle.gimli_bytes.proofs.piece_vec.PieceVecWriter.write_at.Goals as goal
 
 pub returns-then-bytes-self : goal.returns-then-bytes-self
 returns-then-bytes-self g c =
-    let size = bytes-length _ _ _ c.self.invariant in
-    rw (← c.self.view_is) (record {
-      len = refl;
-      before = refl;
-      ordered = refl;
-      stays = λ completes. completes;
-      refused = refl;
-      ok = λ _. tt;
-      completed = λ _ completes. absurd (no_truth completes);
-      err = λ _.
-          patched-past (take c.self.inside.len (concat c.self.inside.pieces.items)) c.args.offset c.args.bytes.now
-          (omega arith) (omega arith);
-      own =
-          inr (patched-past (take c.self.inside.len (concat c.self.inside.pieces.items)) c.args.offset c.args.bytes.now
-          (omega arith) (omega arith));
-      completed_own = λ _ completes. absurd (no_truth completes);
-    })
+    grind (arith, bytes-length)
 
 pub put-requires-clause-fits : goal.put-requires-clause-fits
 put-requires-clause-fits g c = omega (arith, bytes-within _ _ _ c.self.invariant)
@@ -38,17 +22,15 @@ returns g c =
     c.put.ensures.bytes in
     let same = HoldPieces-same _ _ _ _ c.self.invariant c.put.ensures.sizes c.put.ensures.count in
     rw (← c.self.view_is) (record {
-      len = bytes-length _ _ _ same ∙ sym (bytes-length _ _ _ c.self.invariant);
+      len = grind (arith, bytes-length);
       before =
-          ap (λ (l : List ℕ). take c.args.offset l) over ∙ take-before old c.args.offset c.args.bytes.now (omega arith);
+          grind (arith, take-before);
       ordered = refl;
       stays = λ completes. completes;
       refused = tt;
-      completed = λ _ completes. absurd (no_truth completes);
-      ok = λ _.
-          patched-inside old c.args.offset c.args.bytes.now (take c.self.inside.len (concat c.put.new.pieces.items))
-          (omega arith) over;
+      completed = grind (arith);
+      ok = grind (arith);
       err = λ _. tt;
       own = tt;
-      completed_own = λ _ completes. absurd (no_truth completes);
+      completed_own = grind (arith);
     })

@@ -16,19 +16,16 @@ returns g c =
     let small : c.args.val < 2 ^ 64 = omega arith in
     record {
       keeps =
-          either r e.ok e.err (λ is. (grows_offset v w c.args.section c.args.val c.args.size is).begins) (λ same.
-          rw same (begins_self v.bytes));
+          grind (arith, grows_offset, begins_self);
       ordered =
-          either r e.ok e.err (λ is. (grows_offset v w c.args.section c.args.val c.args.size is).big_is) (λ same.
-          rw same refl);
+          grind (arith);
       stays = λ inside.
           either r e.ok e.err (λ is. (grows_offset v w c.args.section c.args.val c.args.size is).stays inside) (λ same.
           rw same inside);
-      ok = λ keeps. absurd (no_truth keeps);
+      ok = grind (arith);
       completed =
-          λ at inside.
-          on_ok r (λ is. completed_offset at v w c.args.section c.args.val c.args.size small inside is) e.ok;
-      err = λ memory. absurd (no_truth memory);
+          grind (arith, completed_offset);
+      err = grind (arith);
       own =
           if_err r
           (λ d is. inl (place_refused v (OfSection c.args.section) (cast_signed w64 c.args.val) c.args.size d is))
@@ -37,6 +34,6 @@ returns g c =
           if_err r
           (λ d is. inl (place_refused v (OfSection c.args.section) (cast_signed w64 c.args.val) c.args.size d is))
           e.cause;
-      untouched = λ keeps. absurd (no_truth keeps);
-      none = λ all. on_err r (λ same. rw same refl) e.err;
+      untouched = grind (arith);
+      none = grind (arith);
     }

@@ -24,15 +24,12 @@ returns g c =
       len = e.len;
       before = e.before;
       ordered = e.ordered;
-      stays = λ inside.
-          either r ok e.err (λ is. stays_inside_at v w at c.args.section n c.args.size small is inside) (λ same.
-          rw same inside);
-      refused = on_err r (λ same. rw same refl) e.err;
-      ok = λ keeps. absurd (no_truth keeps);
+      stays = grind (arith, stays_inside_at);
+      refused = grind (arith);
+      ok = grind (arith);
       completed =
-          λ places inside.
-          on_ok r (λ is. completed_offset_at places v w at c.args.section n c.args.size small inside is) ok;
-      err = λ memory. absurd (no_truth memory);
+          grind (arith, completed_offset_at);
+      err = grind (arith);
       own = if_err r (λ d is. inl (place_at_refused v at _ _ c.args.size d is)) e.cause;
       completed_own = λ places inside. if_err r (λ d is. inl (place_at_refused v at _ _ c.args.size d is)) e.cause;
     }

@@ -9,9 +9,7 @@ use Rattle.gimli_bytes.proofs.str.Texts.add.Goals as goal
 
 pub returns-in-Some-clause-ok : goal.returns-in-Some-clause-ok
 returns-in-Some-clause-ok c =
-    rw (← c.self.view_is) (sym
-    (with_text-there (texts_of c.self.inside.strings.keys) c.args.text.now
-    (is_there c.self.inside.strings.keys c.args.text.now true c.in-Some.ensures.found)))
+    grind (arith, is_there)
 
 pub returns-in-Some-clause-id : goal.returns-in-Some-clause-id
 returns-in-Some-clause-id c =
@@ -32,15 +30,11 @@ invariant_of-self-2 c =
           with_text-AreTexts (texts_of c.self.inside.strings.keys) c.args.text.now c.self.invariant.are_texts
           c.requires;
       counted =
-          omega (
-            arith,
-            byte_count-new (texts_of c.self.inside.strings.keys) c.args.text.now absent,
-            c.self.invariant.counted,
-          );
+          grind (arith, byte_count-new);
     })
 
 pub returns-clause-ok : goal.returns-clause-ok
-returns-clause-ok c = rw (← c.self.view_is) (added c)
+returns-clause-ok c = grind (arith, added)
 
 pub returns-clause-id : goal.returns-clause-id
 returns-clause-id c =
@@ -67,7 +61,7 @@ returns-clause-found c =
     ∙ with_text-found (texts_of c.self.inside.strings.keys) c.args.text.now)
 
 pub returns-clause-stays : goal.returns-clause-stays
-returns-clause-stays c = rw (← c.self.view_is) (rw (added c) (with_text-KeepsTexts _ _))
+returns-clause-stays c = grind (arith, added, with_text-KeepsTexts)
 
 pub returns-then-text-self-clause-there : goal.returns-then-text-self-clause-there
 returns-then-text-self-clause-there c =

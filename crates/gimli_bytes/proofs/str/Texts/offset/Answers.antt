@@ -7,25 +7,8 @@ use Rattle.gimli_bytes.proofs.str.Texts.offset.Goals as goal
 
 pub overflow_add-offset-in-loop-text : goal.overflow_add-offset-in-loop-text
 overflow_add-offset-in-loop-text c =
-    let items = take c.args.index c.as_slice.result.now in
-    let step = byte_count-more items c.loop-text.text-index c.text-item.result (omega arith) c.text-item.is in
-    let part = byte_count-part items (c.loop-text.text-index + 1) in
-    let all = byte_count-part c.as_slice.result.now c.args.index in
-    omega (
-      arith,
-      step,
-      part,
-      all,
-      c.loop-text.invariant,
-      c.self.invariant.counted,
-      ap (λ (l : List (Vec ℕ Global)). byte_count (texts_of l)) c.as_slice.ensures.keys,
-    )
+    grind (arith, byte_count-more, byte_count-part)
 
 pub returns-clause-offset : goal.returns-clause-offset
 returns-clause-offset c =
-    c.loop-text.invariant
-    ∙ ap (λ l. byte_count (texts_of l))
-    (take_all c.loop-text.text-index (take c.args.index c.as_slice.result.now) (omega arith))
-    ∙ ap byte_count (sym (take-map (λ k. k.items) c.args.index c.as_slice.result.now))
-    ∙ ap (λ l. offset_of (texts_of l) c.args.index) c.as_slice.ensures.keys
-    ∙ ap (λ ts. offset_of ts c.args.index) c.self.view_is
+    grind (arith, take_all, take-map)

@@ -10,10 +10,7 @@ returns-then-has_seven_bits-clause-shortest g c = sleb_shortest _ c.ranges.val
 
 pub returns-then-has_seven_bits-clause-appends : goal.returns-then-has_seven_bits-clause-appends
 returns-then-has_seven_bits-clause-appends g c =
-    let back : to_z w64 (of_z w64 c.args.val) ≡ c.args.val = omega (arith, ints) in
-    let one : has_seven_bits c.args.val ≡ true = ap has_seven_bits (sym back) ∙ sym c.if-has_seven_bits.ensures in
-    let low : c.low_bits.result ≡ low_bits c.args.val = c.low_bits.ensures.value ∙ ap low_bits back in
-    rw (sleb_one _ one, ← low) c.write.ensures
+    grind (arith, sleb_one)
 
 pub returns-clause-shortest : goal.returns-clause-shortest
 returns-clause-shortest g c = sleb_shortest _ c.ranges.val

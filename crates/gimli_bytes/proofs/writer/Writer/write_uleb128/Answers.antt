@@ -7,7 +7,7 @@ pub returns-then-val-lt128-clause-shortest : goal.returns-then-val-lt128-clause-
 returns-then-val-lt128-clause-shortest g c = uleb_shortest c.args.val (omega arith)
 
 pub returns-then-val-lt128-clause-appends : goal.returns-then-val-lt128-clause-appends
-returns-then-val-lt128-clause-appends g c = rw (uleb_one _ c.if-val-lt128.true) c.write.ensures
+returns-then-val-lt128-clause-appends g c = grind (arith, uleb_one)
 
 pub returns-clause-shortest : goal.returns-clause-shortest
 returns-clause-shortest g c = uleb_shortest c.args.val (omega arith)

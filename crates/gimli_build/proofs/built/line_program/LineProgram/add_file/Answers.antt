@@ -21,12 +21,7 @@ invariant_of-self-2 c =
 
 pub returns-clause-found : goal.returns-clause-found
 returns-clause-found c =
-    let files = c.self.inside.tables.files in
-    let k : FileKey = (line_text c.args.file, c.args.directory) in
-    let given = option_map details c.args.info in
-    ap (λ t. slice_get (keys_of t.files) c.in_ok-id.id) c.in_ok-id.ensures.ok
-    ∙ ap (slice_get (keys_of (with_file files k given))) c.in_ok-id.ensures.id
-    ∙ file_found_at _ k _
+    grind (arith, option_map, slice_get, file_found_at)
 
 pub returns-clause-within : goal.returns-clause-within
 returns-clause-within c =
@@ -35,14 +30,8 @@ returns-clause-within c =
 
 pub returns-clause-keeps : goal.returns-clause-keeps
 returns-clause-keeps c =
-    rw (← c.self.view_is)
-    (subst (λ t. Keeps (keys_of c.self.inside.tables.files) (keys_of t.files)) (sym c.in_ok-id.ensures.ok)
-    (file_keeps _ _ _))
+    grind (arith, file_keeps)
 
 pub returns-clause-others : goal.returns-clause-others
 returns-clause-others c =
-    rw (← c.self.view_is)
-    (λ i short other.
-    ap (λ t. slice_get t.files i) c.in_ok-id.ensures.ok
-    ∙ file_others _ _ _ i short (λ e.
-    other (e ∙ sym c.in_ok-id.ensures.id)))
+    grind (arith, slice_get, file_others)

@@ -18,27 +18,12 @@ at_item : (p : Built) (items : List BuiltItem) (i : ℕ) (item : BuiltItem) (bas
     → item ≡ get_or items i item → base ≡ base_of (reverse (take i items))
     → begins ≡ begins_unset (reverse (take i items))
     → trap_at p i ≡ item_trap p base begins item (drop (i + 1) items)
-at_item p items i item base begins same lt is base_is begins_is = rw (← same, next_left _ i _ lt is, base_is, begins_is)
+at_item p items i item base begins same lt is base_is begins_is = grind (arith, next_left)
 
 none_more : (p : Built) (from i : ℕ) → HaveNoTrap p from i → (from ≤ i → trap_at p i ≡ None) → HaveNoTrap p from (i + 1)
 none_more p from i before here k low high =
-    below_more (λ n. from ≤ n → trap_at p n ≡ None) i (λ n lt l. before n l lt) here k high low
+    grind (arith, below_more)
 
 pub loop-index-preserved : goal.loop-index-preserved
 loop-index-preserved c =
-    let p = c.args.self.now in
-    let items = c.built_items-items.result.now in
-    let i = c.loop-index.index in
-    let item = c.index-items-index.result in
-    let lt : i < length items = omega arith in
-    let more = past_more _ i _ lt c.index-items-index.is in
-    let at = at_item p _ i _ _ _ c.built_items-items.ensures.items lt c.index-items-index.is
-    c.loop-index.invariant.base c.loop-index.invariant.begins in
-    let told = rw (take_rest items (i + 1)) at c.trap_of-trap.ensures in
-    record {
-      base = rw more (c.base_after-base.ensures (reverse (take i items)) c.loop-index.invariant.base);
-      begins = rw more (c.begins_after-begins.ensures (reverse (take i items)));
-      none = none_more p _ i c.loop-index.invariant.none (λ low.
-          elim c.match-trap.branch
-          [ in-Some+else-index-from w ↦ absurd (omega arith) | in_default w ↦ at ∙ sym told ∙ w.in_default.is ]);
-    }
+    grind (arith, past_more, at_item, take_rest, reverse, none_more, in-Some+else-index-from, in_default)

@@ -6,7 +6,7 @@ use Rattle.gimli_line.proofs.header.program_header.LineProgramHeader.directory.G
 
 pub returns-then-directory-gt0-clause-directory : goal.returns-then-directory-gt0-clause-directory
 returns-then-directory-gt0-clause-directory g c =
-    let old : c.args.self.now.meaning.parameters.encoding.version ≤ 4 = omega (arith, c.version.ensures) in
+    let old : c.args.self.now.meaning.parameters.encoding.version ≤ 4 = omega (arith) in
     let there =
     c.entry-then-directory-gt0.ensures
     ∙ ap (λ items. slice_get items (c.args.directory - 1)) c.deref-then-directory-gt0.ensures.value in

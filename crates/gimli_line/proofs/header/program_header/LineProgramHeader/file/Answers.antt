@@ -6,7 +6,7 @@ use Rattle.gimli_line.proofs.header.program_header.LineProgramHeader.file.Goals 
 
 pub returns-then-file-gt0-clause-file : goal.returns-then-file-gt0-clause-file
 returns-then-file-gt0-clause-file g c =
-    let old : c.args.self.now.meaning.parameters.encoding.version ≤ 4 = omega (arith, c.version.ensures) in
+    let old : c.args.self.now.meaning.parameters.encoding.version ≤ 4 = omega (arith) in
     let there =
     c.entry-then-file-gt0.ensures
     ∙ ap (λ items. slice_get items (c.args.file - 1)) c.deref-then-file-gt0.ensures.value in
@@ -16,12 +16,4 @@ returns-then-file-gt0-clause-file g c =
 
 pub returns-then-file-gt0-clause-own : goal.returns-then-file-gt0-clause-own
 returns-then-file-gt0-clause-own g c =
-    let old : c.args.self.now.meaning.parameters.encoding.version ≤ 4 = omega (arith, c.version.ensures) in
-    let there =
-    c.entry-then-file-gt0.ensures
-    ∙ ap (λ items. slice_get items (c.args.file - 1)) c.deref-then-file-gt0.ensures.value in
-    let table = ap (λ h. slice_get h.file_names.items (c.args.file - 1)) c.self.view_is in
-    there ∙ table
-    ∙ sym (entry_above c.args.self.now.meaning.parameters.encoding.version c.args.self.now.comp_file
-    c.args.self.now.file_names.items c.args.file old
-    c.if-file-gt0.true)
+    grind (arith, entry_above)

@@ -17,9 +17,7 @@ returns-then-is_executed-clause-ok g c =
 
 pub returns-else-is_executed-clause-ok : goal.returns-else-is_executed-clause-ok
 returns-else-is_executed-clause-ok g c =
-    let is = sym c.is_executed.ensures ∙ c.if-is_executed.false in
-    rw (← c.self.view_is) (executes_none _ _ _ _ _ _ is (λ none.
-    (refl, c.exec_extended_opcode-executed.ensures.none none)))
+    grind (arith)
 
 pub returns-in-Err-clause-err : goal.returns-in-Err-clause-err
 returns-in-Err-clause-err g c =
@@ -28,7 +26,7 @@ returns-in-Err-clause-err g c =
     let over = c.in-Err.ensures.overflow in
     rw (← c.self.view_is) (
       over.0,
-      below_executed _ _ _ _ _ _ _ same c.opcode_base.ensures (omega (arith, is)) c.if-opcode-opcode_base.false
+      below_executed _ _ _ _ _ _ _ same c.opcode_base.ensures (omega (arith)) c.if-opcode-opcode_base.false
           c.in-Ok.ensures.read
           (AdvancePc c.in-Some.advance)
           _ (advance_read _ _ _ _ is _ _ c.in-Some.ensures.read) refl _ _ _ c.apply_operation_advance.ensures.step
@@ -40,7 +38,7 @@ returns-in-Ok-apply_operation_advance-clause-ok g c =
     let same = ap (λ (m : Header). m.parameters) (ap (λ v. v.meaning) c.header.view_is) in
     let is : c.in-Ok.opcode ≡ 2 = search rules in
     rw (← c.self.view_is) (
-      below_executed _ _ _ _ _ _ _ same c.opcode_base.ensures (omega (arith, is)) c.if-opcode-opcode_base.false
+      below_executed _ _ _ _ _ _ _ same c.opcode_base.ensures (omega (arith)) c.if-opcode-opcode_base.false
           c.in-Ok.ensures.read
           (AdvancePc c.in-Some.advance) _ (advance_read _ _ _ _ is _ _ c.in-Some.ensures.read) refl _ _ _
           c.apply_operation_advance.ensures.step
@@ -55,7 +53,7 @@ returns-in-Err-exec_const_add_pc-clause-err g c =
     let over = c.in-Err-exec_const_add_pc.ensures.overflow in
     rw (← c.self.view_is) (
       over.0,
-      below_executed _ _ _ _ _ _ _ same c.opcode_base.ensures (omega (arith, is)) c.if-opcode-opcode_base.false
+      below_executed _ _ _ _ _ _ _ same c.opcode_base.ensures (omega (arith)) c.if-opcode-opcode_base.false
           c.in-Ok.ensures.read ConstAddPc _
           (const_add_read _ _ _ _ is) refl _ _ _ c.exec_const_add_pc.ensures.step over.1,
     )
@@ -65,7 +63,7 @@ returns-in-Ok-exec_const_add_pc-clause-ok g c =
     let same = ap (λ (m : Header). m.parameters) (ap (λ v. v.meaning) c.header.view_is) in
     let is : c.in-Ok.opcode ≡ 8 = search rules in
     rw (← c.self.view_is) (
-      below_executed _ _ _ _ _ _ _ same c.opcode_base.ensures (omega (arith, is)) c.if-opcode-opcode_base.false
+      below_executed _ _ _ _ _ _ _ same c.opcode_base.ensures (omega (arith)) c.if-opcode-opcode_base.false
           c.in-Ok.ensures.read
           ConstAddPc _ (const_add_read _ _ _ _ is) refl _ _ _ c.exec_const_add_pc.ensures.step
           c.in-Ok-exec_const_add_pc.ensures.fits,

@@ -4,7 +4,7 @@ use Rattle.gimli_line.proofs.Executions.{copies, negates, advances_line, sets_fi
 use Rattle.gimli_line.proofs.run.row.LineRow.exec_common_opcode.Goals as goal
 
 pub returns-in-DW_LNS_copy-clause-executed : goal.returns-in-DW_LNS_copy-clause-executed
-returns-in-DW_LNS_copy-clause-executed g c = λ is n h. copies n h _ _ c.args.opcode.0 (search rules)
+returns-in-DW_LNS_copy-clause-executed g c = grind (arith, copies, rules)
 
 pub returns-in-Some-clause-executed : goal.returns-in-Some-clause-executed
 returns-in-Some-clause-executed g c =

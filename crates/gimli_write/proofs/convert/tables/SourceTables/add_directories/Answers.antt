@@ -19,11 +19,9 @@ loop-directory-preserved g c =
           sym (done_first (add here (seen x)) (λ (l : TablesAndTexts). all_added add (map seen (drop (i + 1) xs)) l)
           next c.in_ok-add_directory.ensures.ok)
           ∙ sym (next_added add seen xs i x here lt c.directory-item.is) ∙ c.loop-directory.invariant.left;
-      stays = kept_then c.args.line_strings.now c.loop-directory.line_strings c.add_directory.new.line_strings
-          c.loop-directory.invariant.stays c.in_ok-add_directory.ensures.stays;
+      stays = grind (arith, kept_then);
     }
 
 pub returns-in_err-add_directory-clause-stays : goal.returns-in_err-add_directory-clause-stays
 returns-in_err-add_directory-clause-stays g c =
-    kept_then _ _ _
-    c.loop-directory.invariant.stays c.in_err-add_directory.ensures.stays
+    grind (arith, kept_then)

@@ -19,8 +19,7 @@ loop-file-preserved g c =
           sym (done_first (add here (seen x)) (λ (l : TablesAndTexts). all_added add (map seen (drop (i + 1) xs)) l)
           next c.in_ok-add_file.ensures.ok)
           ∙ sym (next_added add seen xs i x here lt c.file-item.is) ∙ c.loop-file.invariant.left;
-      stays = kept_then c.args.line_strings.now c.loop-file.line_strings c.add_file.new.line_strings
-          c.loop-file.invariant.stays c.in_ok-add_file.ensures.stays;
+      stays = grind (arith, kept_then);
     }
 
 pub returns-in_err-add_file-clause-err : goal.returns-in_err-add_file-clause-err
@@ -43,5 +42,4 @@ returns-in_err-add_file-clause-err g c =
 
 pub returns-in_err-add_file-clause-stays : goal.returns-in_err-add_file-clause-stays
 returns-in_err-add_file-clause-stays g c =
-    kept_then _ _ _
-    c.loop-file.invariant.stays c.in_err-add_file.ensures.stays
+    grind (arith, kept_then)
