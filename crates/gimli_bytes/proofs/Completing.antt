@@ -26,7 +26,6 @@ use Rattle.gimli_bytes.specs.declared.error.Error.{Error}
 use Rattle.gimli_bytes.specs.declared.error.Error.TheVariants.{InvalidRange, OffsetOutOfBounds, LengthOutOfBounds}
 use Rattle.gimli_bytes.specs.declared.relocation.RelocationTarget.{RelocationTarget}
 use Rattle.gimli_bytes.specs.declared.relocation.RelocationTarget.TheVariants.{OfSymbol, OfSection}
-use Rattle.std.proofs.lemmas.Bool.{ltb-false}
 use Rattle.gimli_bytes.proofs.PieceLemmas.{length-put_over, take-before}
 use Rattle.gimli_bytes.proofs.RelocationLemmas.{pow_positive}
 use Rattle.gimli_bytes.proofs.Relocating.{AreInside, inside-from, inside-to, low_sum}

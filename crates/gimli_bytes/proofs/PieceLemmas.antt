@@ -2,7 +2,7 @@
 use Rattle.std.proofs.Common.{arith, ◌≡◌, ℕ, zero, suc, ◌+◌, ◌-◌, ◌*◌, ◌/◌, ◌%◌, ◌<◌, ◌≤◌, List, [], ◌∷◌, ◌++◌, length}
 use Rattle.std.proofs.Common.{take, drop, set, get_or, refl, ap, sym}
 use Rattle.std.proofs.Common.{◌∙◌, append_assoc, length-append, length-take}
-use Rattle.std.specs.Prelude.{All, true, false, nat_lt, Ok, Err}
+use Rattle.std.specs.Prelude.{All, Ok, Err}
 use Rattle.std.specs.List.{concat}
 use Rattle.std.specs.Int.{div_ceil}
 use Rattle.std.proofs.Math.Seq.{take-append-add, drop-append-add}
@@ -10,7 +10,6 @@ use Rattle.std.proofs.lemmas.Grind.{common_steps, div_ceil_times}
 use Rattle.std.proofs.lemmas.List.{take_at, drop_at, drop-drop, take-append-le, take-append-drop}
 use Rattle.std.proofs.lemmas.List.Elements.{All-head, All-tail, All-append}
 use Rattle.std.proofs.lemmas.List.Folds.{concat-append}
-use Rattle.std.proofs.lemmas.Bool.{lt-ltb, le-ltb}
 use Rattle.std.proofs.lemmas.Nat.{div-add-mod', div_below}
 use native.Mathlib.Nat.{lt_of_mul-lt-mul_right}
 use Rattle.gimli_bytes.specs.Written.{overwrite_of}
@@ -150,21 +149,6 @@ in_use-HaveSizes n len (p ∷ q ∷ ps) one s h =
 
 -- ---- how many pieces there are
 
-at_most : (n a b : ℕ) → a * n < b * n + n → a ≤ b
-at_most n a b h =
-    grind arith
-
-count_same : (n len k d : ℕ) → len ≤ k * n → k * n < len + n → len ≤ d * n → d * n < len + n → k ≡ d
-count_same n len k d a b e f =
-    grind (arith)
-
-pub count_is : (n len k : ℕ) → 1 ≤ n → len ≤ k * n → k * n < len + n → k ≡ div_ceil len n
-count_is n len k one enough needed =
-    grind (arith)
-
-below_more : (n len more k d : ℕ) → k * n < len + n → len + more ≤ d * n → k ≤ d
-below_more n len more k d h e = at_most n k d (omega arith)
-
 pub count-below : (n len more k : ℕ) → 1 ≤ n → k * n < len + n → k ≤ div_ceil (len + more) n
 count-below n len more k one needed = grind (arith)
 
@@ -237,11 +221,6 @@ pub patched-inside : (old : List ℕ) (at : ℕ) (bytes new : List ℕ) → at +
     → new ≡ put_over old at bytes
     → overwrite_of old at bytes ≡ Ok new
 patched-inside old at bytes new h is =
-    grind (arith)
-
-pub patched-past : (old : List ℕ) (at : ℕ) (bytes : List ℕ) → at ≤ length old → length old < at + length bytes
-    → overwrite_of old at bytes ≡ Err LengthOutOfBounds
-patched-past old at bytes h past =
     grind (arith)
 
 -- so many pieces

@@ -2,12 +2,12 @@
 use Rattle.std.proofs.Common.{arith, ◌≡◌, inl, inr, ℕ, ◌+◌, ◌-◌, ◌*◌, ◌/◌, ◌%◌, ◌^◌, ◌<◌, ◌≤◌, ℤ, Bool, List, [], ◌∷◌}
 use Rattle.std.proofs.Common.{◌++◌, length, take, drop, refl, ap, sym}
 use Rattle.std.proofs.Common.{◌∙◌, subst, w64}
-use Rattle.std.specs.Prelude.{All, ◌⊎◌, ◌&&◌, ◌||◌, true, false, nat_le, nat_lt}
+use Rattle.std.specs.Prelude.{All, ◌⊎◌, ◌&&◌, ◌||◌, true, false, nat_le}
 use Rattle.std.specs.List.{list_any}
-use Rattle.std.proofs.lemmas.Bool.{and_parts, leb-true, le-leb, ltb-false}
+use Rattle.std.proofs.lemmas.Bool.{and_parts, leb-true, le-leb}
 use Rattle.std.specs.Int.{cast_unsigned}
 use Rattle.std.proofs.Math.Nat.{add-mul-mod_self_right, mod-eq_of_lt}
-use Rattle.std.proofs.lemmas.Nat.{pow-add, div-add-mod'}
+use Rattle.std.proofs.lemmas.Nat.{pow-add}
 use Rattle.std.proofs.lemmas.List.{drop_at, drop_all, take_all, append-nil}
 use Rattle.std.proofs.lemmas.List.Elements.{All-head, All-tail, All-append, All-cons}
 use Rattle.gimli_core.specs.Numbers.{number_bytes, value_of}

@@ -5,7 +5,7 @@ use Rattle.std.proofs.Common.{sym, ◌∙◌, append_assoc, length-append, lengt
 use Rattle.std.specs.Int.{byte_at, bytes_low_first, bytes_high_first}
 use Rattle.std.proofs.Math.Seq.{drop-append-add}
 use Rattle.std.proofs.Math.Nat.{div-one, add-mul-div_right, add-mul-mod_self_right}
-use Rattle.std.proofs.lemmas.Nat.{pow-add, div-add-mod'}
+use Rattle.std.proofs.lemmas.Nat.{pow-add}
 use Rattle.std.proofs.lemmas.List.{take_at, drop_at, drop-drop, take-append-le, drop-append-le, take-append-drop}
 use Rattle.gimli_core.specs.Numbers.{number_bytes}
 use Rattle.gimli_bytes.specs.inside.Pieces.{put_over}

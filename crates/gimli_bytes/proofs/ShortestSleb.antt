@@ -3,10 +3,10 @@ use Rattle.std.proofs.Common.{◌≡◌, ℕ, zero, suc, ◌+◌, ◌-◌, ◌*�
 use Rattle.std.proofs.Common.{◌∷◌, length, refl, sym, ap, ◌∙◌, arith}
 use Rattle.std.proofs.Common.{inl, inr, ℤ, pos, negsuc, ◌-ℤ◌, if◌then◌else◌, w64}
 use Rattle.std.specs.Prelude.{FitsSigned}
-use Rattle.std.proofs.Math.Nat.{pow-succ', mod-eq_of_lt}
+use Rattle.std.proofs.Math.Nat.{pow-succ'}
 use Rattle.std.proofs.lemmas.Nat.{pow-add}
 use Rattle.std.proofs.lemmas.Int.{ints}
-use Rattle.std.proofs.lemmas.Bool.{cases_lt, lt-ltb, le-ltb, lt-leb, le-leb, leb-true, leb-false}
+use Rattle.std.proofs.lemmas.Bool.{cases_lt, lt-ltb, le-ltb, leb-true, leb-false}
 use lib.Signed.{mag}
 use Rattle.gimli_core.specs.Numbers.{Groups, is_negative, signed_value, SpellsSleb128, IsShortest}
 use Rattle.gimli_bytes.specs.Number.{sleb, sleb_within, high_bits, has_seven_bits}

@@ -1,7 +1,7 @@
 -- The keys of a table, seen as texts.
 use Rattle.std.proofs.Common.{◌≡◌, ◌≢◌, ℕ, zero, suc, ◌+◌, Bool, true, false, cond, not, ◌||◌, List, [], ◌∷◌, ◌++◌, map}
 use Rattle.std.proofs.Common.{length, take, drop, get_or, Some, None}
-use Rattle.std.proofs.Common.{refl, sym, ap, ◌∙◌, arith, true≢false, position, nat_lt, if◌then◌else◌, ◌<◌, ◌≤◌}
+use Rattle.std.proofs.Common.{refl, sym, ap, ◌∙◌, arith, true≢false, position, if◌then◌else◌, ◌<◌, ◌≤◌}
 use Rattle.std.proofs.Common.{append_assoc, length-append}
 use Rattle.std.specs.Prelude.{bytes_eq, All, Contains, slice_get}
 use Rattle.std.specs.List.{list_any, position_or_len, prefix_len}
@@ -70,9 +70,6 @@ texts_new ks t v e absent =
 -- a text that is there
 pub with_text-there : (ts : List (List ℕ)) (t : List ℕ) → list_any (bytes_eq t) ts ≡ true → with_text ts t ≡ ts
 with_text-there ts t h = grind arith
-
-pub with_text-new : (ts : List (List ℕ)) (t : List ℕ) → list_any (bytes_eq t) ts ≡ false → with_text ts t ≡ ts ++ t ∷ []
-with_text-new ts t h = grind arith
 
 pub byte_count-new : (ts : List (List ℕ)) (t : List ℕ) → list_any (bytes_eq t) ts ≡ false
     → byte_count (with_text ts t) ≡ byte_count ts + length t + 1

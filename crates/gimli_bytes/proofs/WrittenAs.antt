@@ -12,13 +12,6 @@ use Rattle.gimli_bytes.specs.declared.error.Error.TheVariants.{UnsupportedPointe
 use Rattle.gimli_bytes.specs.declared.sink.Sink.{Ghosts}
 use Rattle.gimli_bytes.proofs.Parts.{begins_self}
 
--- what is wanted, said otherwise
-pub append_as : {W X : Type 0} {sink : Ghosts W} {old new : W} {result : Result X Error} {wanted other : Result (List ℕ)
-    Error}
-    → wanted ≡ other
-    → IsAppend sink old new result (λ hand. other) → IsAppend sink old new result (λ hand. wanted)
-append_as is append = rw is append
-
 -- refused before anything is written
 pub refused_at_once : {W X : Type 0} {sink : Ghosts W} {wanted : Result (List ℕ) Error} {e : Error} (old : W)
     → wanted ≡ Err e

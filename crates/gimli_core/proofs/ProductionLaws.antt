@@ -3,7 +3,6 @@ use Rattle.std.proofs.Common.{◌≡◌, ◌≢◌, ℕ, suc, ◌+◌, ◌<◌, 
 use Rattle.std.proofs.Common.{length, take, drop, Ok, Err, refl, sym}
 use Rattle.std.proofs.Common.{ap, subst, ◌∙◌, arith, append_assoc, inl, inr, ◌⊎◌}
 use Rattle.std.specs.Prelude.{nat_eq, nat_lt}
-use Rattle.std.specs.Int.{w8, cast_signed}
 use Rattle.std.specs.List.{AllByRecursion, position_or_len}
 use Rattle.std.proofs.lemmas.Bool.{cases_lt, le-ltb, lt-ltb, ne_eqb, le-leb, lt-leb}
 use Rattle.std.proofs.lemmas.Bool.Decides.{eqb_tells}
@@ -17,7 +16,7 @@ use Rattle.gimli_core.specs.declared.error.Error.TheVariants.{
   UnsupportedOffset,
 }
 use Rattle.gimli_core.specs.Notation.{Notation}
-use Rattle.gimli_core.specs.Numbers.{SpellsNumber, SpellsInitialLength, value_of, is_address_size}
+use Rattle.gimli_core.specs.Numbers.{SpellsNumber, SpellsInitialLength, is_address_size}
 use Rattle.gimli_core.specs.Reading.{Read, ◌>>=◌, result_map, eof, byte_at, signed_byte_at, number_at, split_at}
 use Rattle.gimli_core.specs.Reading.{text_at, word_at, initial_length_at}
 use Rattle.gimli_core.specs.Reading.{address_size_at, offset_of}

@@ -1,13 +1,8 @@
 -- A sum of addresses of 8 bytes.
-use Rattle.std.proofs.Common.{◌≡◌, ℕ, ◌+◌, ◌%◌, ◌^◌, ◌<◌, ◌≤◌, Bool, true, false, Ok, refl, arith, IsTrue}
-use Rattle.std.proofs.lemmas.Bool.{lt-ltb, eqb-true}
-use Rattle.std.specs.Prelude.{◌||◌, nat_eq}
+use Rattle.std.proofs.Common.{◌≡◌, ℕ, ◌+◌, ◌%◌, ◌^◌, ◌<◌, ◌≤◌, Bool, Ok, arith, IsTrue}
+use Rattle.std.specs.Prelude.{◌||◌}
 use Rattle.gimli_core.specs.Numbers.{is_address_size}
 use Rattle.gimli_core.specs.Reading.{sized_sum}
-
--- an address size above 4 is 8
-above_four : (n : ℕ) → IsTrue (is_address_size n) → 4 < n → n ≡ 8
-above_four n known large = grind arith
 
 -- there each sum that doesn't wrap fits
 pub sum_fits : (address length size sum : ℕ) → IsTrue (is_address_size size) → 4 < size → length < 2 ^ 64

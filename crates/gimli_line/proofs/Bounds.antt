@@ -1,14 +1,13 @@
 -- A table of version 5 has no more entries than bytes stand after their count, and the tables of a header have no more
 -- than it has bytes.
 use Rattle.std.proofs.Common.{◌≡◌, ◌≢◌, ℕ, zero, suc, ◌+◌, ◌<◌, ◌≤◌, Bool, true, false, List, [], ◌∷◌, length, Option}
-use Rattle.std.proofs.Common.{Some, None, refl, sym, ap, subst, ◌∙◌}
-use Rattle.std.proofs.Common.{arith, inl, inr, IsTrue}
+use Rattle.std.proofs.Common.{Some, None, refl, ap, ◌∙◌}
+use Rattle.std.proofs.Common.{arith, IsTrue}
 use Rattle.std.specs.List.{AllByRecursion}
-use Rattle.std.specs.Prelude.{nat_eq, nat_le, count_by}
-use Rattle.std.proofs.lemmas.Bool.Decides.{eqb_tells}
+use Rattle.std.specs.Prelude.{nat_le}
 use Rattle.std.proofs.lemmas.List.{length-append, length-map}
 use Rattle.gimli_core.specs.Notation.{Notation}
-use Rattle.gimli_core.specs.Numbers.{Groups, word_size}
+use Rattle.gimli_core.specs.Numbers.{Groups}
 use Rattle.gimli_core.specs.declared.error.Error.TheVariants.{UnknownForm}
 use Rattle.gimli_core.specs.Values.{Value}
 use Rattle.gimli_core.specs.Production.{Production, Each, times, refuse, choose}
@@ -21,8 +20,7 @@ use Rattle.gimli_core.specs.declared.common.Format.TheVariants.{Dwarf32, Dwarf64
 use Rattle.gimli_core.specs.declared.common.Encoding.{Encoding}
 use Rattle.gimli_line.specs.header.File.{File}
 use Rattle.gimli_line.specs.header.Header.{Header, UnitEntry}
-use Rattle.gimli_line.specs.header.Productions.{name}
-use Rattle.gimli_line.specs.header.HeaderGrammar.{Entry, is_content, path_of, file_of_entry, paths_production}
+use Rattle.gimli_line.specs.header.HeaderGrammar.{Entry, path_of, file_of_entry, paths_production}
 use Rattle.gimli_line.specs.header.HeaderGrammar.{files_production, formats_production}
 use Rattle.gimli_line.specs.header.HeaderGrammar.{entry_production, entries_production, table_production}
 use Rattle.gimli_line.specs.header.HeaderGrammar.{directory_table, file_table, opening_production}
@@ -42,23 +40,6 @@ HasBytes (fixed size make) = 0 < size
 HasBytes (block size) = 0 < size
 HasBytes (counted size) = 0 < size
 HasBytes shape = Unit {0}
-
-word_some : (format : Format) → 0 < word_size format
-word_some Dwarf32 = omega arith
-word_some Dwarf64 = omega arith
-
-shapes_have : AllByRecursion (λ row. HasBytes row.1) shapes
-shapes_have = grind arith
-
-among_has : (form : ℕ) (shape : Shape) (rows : List (ℕ × Shape)) → AllByRecursion (λ row. HasBytes row.1) rows
-    → shape_among form rows ≡ Some shape
-    → HasBytes shape
-among_has form shape [] all is = absurd cc
-among_has form shape (row ∷ rows) all is = elim (eqb_tells form row.0) [
-  | inl p ↦
-      let found : Some row.1 ≡ Some shape = rw p.0 at is in let same : row.1 ≡ shape = cc in subst HasBytes same all.0
-  | inr p ↦ among_has form shape rows all.1 (rw p.0 at is)
-]
 
 -- so many values, each of which has bytes
 times_bounded : {A : Type 0} (n : ℕ) (l : Production A)
@@ -157,9 +138,6 @@ module _ (notation : Notation) (format : Format) where
         ap (λ (t : List FileEntryFormat × List Entry). length t.1) e.5.1)
 
 -- ---- the tables of a header
-
-name_some : (bytes path : List ℕ) → name.Spells bytes path → 0 < length bytes
-name_some bytes path s = omega (arith, length-append path (0 ∷ []), ap length s.1.1)
 
 paths_bounded : (bytes : List ℕ) (paths : List (List ℕ)) → paths_production.Spells bytes paths
     → length paths ≤ length bytes

@@ -5,10 +5,9 @@ use Rattle.std.specs.Prelude.{nat_eq, nat_le, count_by, ◌&&◌}
 use Rattle.gimli_core.specs.Notation.{Notation}
 use Rattle.gimli_core.specs.Numbers.{is_address_size}
 use Rattle.gimli_core.specs.Reading.{Read, ◌>>=◌, byte_at, address_size_at}
-use Rattle.gimli_core.specs.inside.Reading.{check_at}
 use Rattle.gimli_core.specs.Production.{Production, ◌>>=◌ as ◌>>>◌, done, refuse, check, choose, times, byte, number}
 use Rattle.gimli_core.specs.Production.{some_bytes, text, unsigned, unsigned_16}
-use Rattle.gimli_core.specs.Production.{signed, below_limit, offset_word, unit_length, within, Reads}
+use Rattle.gimli_core.specs.Production.{signed, offset_word, unit_length, within, Reads}
 use Rattle.gimli_core.specs.Form.{Shape, fixed, three_bytes, word_offset, leb, signed_leb, leb_offset, block, counted}
 use Rattle.gimli_core.specs.Form.{leb_counted, string, shape_among, shapes}
 use Rattle.gimli_core.specs.Form.{block_production, shape_production, form_production}

@@ -1,7 +1,7 @@
 -- Reading instructions, and decoding a program into them.
 use Rattle.std.proofs.Common.{◌≡◌, ◌≢◌, ℕ, zero, suc, ◌-◌, ◌<◌, ◌≤◌, List, [], ◌∷◌, ◌++◌, length, take, Option, Some}
 use Rattle.std.proofs.Common.{None, Ok, Err, refl, sym, ap, subst, ◌∙◌}
-use Rattle.std.proofs.Common.{append_assoc, arith, inl, inr}
+use Rattle.std.proofs.Common.{append_assoc, arith}
 use Rattle.std.specs.Prelude.{nat_eq, nat_le, slice_index}
 use Rattle.std.proofs.lemmas.List.{length-append, take_at}
 use Rattle.gimli_core.specs.Notation.{Notation}
@@ -10,7 +10,7 @@ use Rattle.gimli_core.specs.Production.{Production, ◌>>=◌ as ◌>>>◌, done
 use Rattle.gimli_core.specs.Production.{unsigned, signed, below_limit, within, Reads}
 use Rattle.gimli_core.specs.declared.error.Error.{Error}
 use Rattle.gimli_core.proofs.Productions.{reads_both, reads_done, reads_if, reads_times, reads_within, bind_ok}
-use Rattle.gimli_core.proofs.Productions.{bind_fault, bind_refused, ok_parts}
+use Rattle.gimli_core.proofs.Productions.{bind_refused, ok_parts}
 use Rattle.gimli_core.proofs.ProductionLaws.{reads_byte, reads_some_bytes, reads_number, reads_text, reads_below_limit}
 use Rattle.gimli_core.proofs.UnsignedLeb.{reads_unsigned}
 use Rattle.gimli_core.proofs.SignedLaws.{reads_signed}

@@ -12,7 +12,7 @@ use Rattle.gimli_core.specs.declared.error.Error.TheVariants.{UnsupportedOffset}
 use Rattle.gimli_line.specs.declared.run.instruction.LineInstruction.TheVariants.{Special, UnknownStandard0}
 use Rattle.gimli_line.specs.declared.run.instruction.LineInstruction.TheVariants.{UnknownStandard1, UnknownStandardN}
 use Rattle.gimli_line.specs.declared.run.instruction.LineInstruction.TheVariants.{UnknownExtended}
-use Rattle.gimli_line.specs.header.Header.{Header, plain_file}
+use Rattle.gimli_line.specs.header.Header.{Header}
 use Rattle.gimli_line.specs.header.HeaderGrammar.{file_production}
 use Rattle.gimli_line.specs.header.Productions.{among, bytes_of}
 use Rattle.gimli_line.specs.run.Instruction.{Ins}

@@ -1,16 +1,10 @@
 -- Looking up the entry of an index in a table that begins at 1.
-use Rattle.std.proofs.Common.{◌≡◌, ℕ, zero, suc, ◌-◌, ◌<◌, ◌≤◌, List, Option, refl, ap, ◌∙◌, arith}
+use Rattle.std.proofs.Common.{◌≡◌, ℕ, ◌-◌, ◌<◌, ◌≤◌, List, Option, ◌∙◌, arith}
 use Rattle.std.specs.Prelude.{map, slice_get, Some, None, option_map}
 use Rattle.std.specs.Option.{option_copied}
-use Rattle.std.proofs.Common.{Bor, sym}
-use Rattle.std.proofs.lemmas.Bool.{le-leb}
+use Rattle.std.proofs.Common.{Bor}
 use Rattle.std.proofs.lemmas.Option.{slice_get-map}
-use Rattle.gimli_line.specs.header.Header.{Header, from_one, entry_of, directory_of, file_of}
-
-above : {A : Type 0} (first : Option A) (entries : List A) (i : ℕ) → 0 < i
-    → from_one first entries i ≡ slice_get entries (i - 1)
-above first entries zero lt = absurd (omega arith)
-above first entries (suc i) lt = grind arith
+use Rattle.gimli_line.specs.header.Header.{Header, entry_of, directory_of, file_of}
 
 pub entry_above : {A : Type 0} (version : ℕ) (handed : Option A) (entries : List A) (i : ℕ) → version ≤ 4 → 0 < i
     → entry_of version handed entries i ≡ slice_get entries (i - 1)
@@ -27,15 +21,6 @@ file_above h i old lt = grind (arith)
 -- ---- an entry that was found, seen as a table's
 
 module _ {A B : Type 0} (see : A → B) where
-  now_seen : (found : Option (Bor A))
-      → option_map (λ b. see b.now) found ≡ option_map see (option_map (λ b. b.now) found)
-  now_seen (Some b) = refl
-  now_seen None = refl
-
-  copied_seen : (found : Option (Bor A))
-      → option_map see (option_copied found) ≡ option_map see (option_map (λ b. b.now) found)
-  copied_seen (Some b) = refl
-  copied_seen None = refl
 
   pub lent_entry : (items : List A) (found : Option (Bor A)) (i : ℕ) → option_map (λ b. b.now) found ≡ slice_get items i
       → option_map (λ b. see b.now) found ≡ slice_get (map see items) i

@@ -1,15 +1,13 @@
 -- Row addresses never go down between two ends.
 use Rattle.std.proofs.Common.{◌≡◌, ℕ, ◌+◌, ◌*◌, ◌/◌, ◌%◌, ◌^◌, ◌≤◌, Bool, true, false, ◌||◌, if◌then◌else◌, List, []}
-use Rattle.std.proofs.Common.{◌∷◌, ◌++◌, None, not, refl, arith}
-use Rattle.std.specs.Prelude.{nat_eq, nat_lt, nat_le}
+use Rattle.std.proofs.Common.{◌∷◌, ◌++◌, None, not, arith}
 use Rattle.std.specs.List.{filter}
-use Rattle.std.proofs.lemmas.Bool.{ltb-false}
 use Rattle.gimli_core.specs.declared.error.Error.TheVariants.{AddressOverflow}
 use Rattle.gimli_line.specs.declared.run.instruction.LineInstruction.TheVariants.{Special, AdvancePc, ConstAddPc}
 use Rattle.gimli_line.specs.declared.run.instruction.LineInstruction.TheVariants.{FixedAddPc, EndSequence, SetAddress}
 use Rattle.gimli_line.specs.header.Parameters.{Parameters}
 use Rattle.gimli_line.specs.run.Instruction.{Ins, is_end, makes_row}
-use Rattle.gimli_line.specs.run.OperationPointer.{OperationPointer, advanced_by, is_too_large, pointer_at_overflow}
+use Rattle.gimli_line.specs.run.OperationPointer.{OperationPointer}
 use Rattle.gimli_line.specs.run.OperationPointer.{next_pointer, pointer_at}
 use Rattle.gimli_line.specs.run.OperationPointer.{is_under_tombstone, overflows}
 use Rattle.gimli_line.specs.run.Events.{Event, row, fault, row_at, is_given, events_after}
@@ -17,18 +15,6 @@ use Rattle.gimli_line.specs.run.NonDecreasing.{NeverBelow, AreOneSequence}
 use Rattle.gimli_line.proofs.RunLists.{after_here}
 
 -- ---- a pointer that goes on isn't lower
-
-operations_rise : (parameters : Parameters) (n : ℕ) (p : OperationPointer)
-    → p.address ≤ (advanced_by parameters n p).address
-operations_rise parameters n p = grind arith
-
-advance_rises : (parameters : Parameters) (tombstone : Bool) (i : Ins) (p to : OperationPointer)
-    → (pointer_at_overflow i p to).address ≡ p.address
-    → p.address ≤ to.address
-    → p.address
-    ≤ (if tombstone then p else (if is_too_large parameters to then pointer_at_overflow i p to else to)).address
-advance_rises parameters true i p to stays rises = omega arith
-advance_rises parameters false i p to stays rises = grind arith
 
 set_rises : (parameters : Parameters) (a : ℕ) (p : OperationPointer)
     → p.address ≤ (next_pointer parameters false (SetAddress a) p).address
@@ -82,26 +68,6 @@ module _ (parameters : Parameters) where
       at_test true m = later
       at_test false true = given (not (is_under_tombstone parameters past))
       at_test false false = later
-
-  -- the last point, which may be an end
-  last_point : (past : List Ins) (i : Ins) → (e o m : Bool) → is_end i ≡ e
-      → NeverBelow (pointer_at parameters past).address
-      (filter is_given
-      (if o then fault AddressOverflow ∷ [] else (if m then row (row_at parameters past i) ∷ [] else []))
-      ++ [])
-  last_point past i false o m inner = grind (arith)
-  last_point past i true true m closes = tt
-  last_point past i true false true closes = grind arith
-    where
-      here : (row_at parameters past i).address ≡ (pointer_at parameters past).address
-      here = rw closes refl
-
-      given : (b : Bool)
-          → NeverBelow (pointer_at parameters past).address
-          ((if b then row (row_at parameters past i) ∷ [] else []) ++ [])
-      given true = grind arith
-      given false = tt
-  last_point past i true false false closes = tt
 
   pub non_decreasing : (past list : List Ins) → AreOneSequence list
       → NeverBelow (pointer_at parameters past).address (events_after parameters past list None)

@@ -19,7 +19,6 @@ use Rattle.gimli_line.specs.run.Events.{Event, Events, row, fault, row_at, made_
 use Rattle.gimli_line.specs.run.Events.{with_files, made_after, is_given, given_of}
 use Rattle.gimli_line.specs.run.Events.{files_at}
 use Rattle.gimli_line.specs.run.EventsWithFiles.{program_made, Makes, EventsWithFiles}
-use Rattle.gimli_line.specs.run.Progress.{with_reset_row}
 use Rattle.gimli_line.specs.run.RunState.{RunState}
 use Rattle.gimli_line.specs.run.Rows.{made_left, events_left}
 use Rattle.gimli_line.proofs.InstructionLaws.{one_decoding}

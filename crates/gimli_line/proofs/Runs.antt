@@ -18,8 +18,8 @@ use Rattle.gimli_line.specs.run.Instruction.{Ins, makes_row, defines_file}
 use Rattle.gimli_line.specs.header.File.{File}
 use Rattle.gimli_line.specs.run.InstructionGrammar.{SpellsInstruction, instruction_production, IsEnd, Decodes}
 use Rattle.gimli_line.specs.run.InstructionReading.{decoded_upto, decoded_at}
-use Rattle.gimli_line.specs.run.Events.{Event, row, EventWithFiles, is_given, given_of}
-use Rattle.gimli_line.specs.run.Machine.{step_of, reset_row, is_refused, made_step, next_registers, run}
+use Rattle.gimli_line.specs.run.Events.{Event, row, EventWithFiles, is_given}
+use Rattle.gimli_line.specs.run.Machine.{step_of, reset_row, is_refused, made_step, next_registers}
 use Rattle.gimli_line.specs.run.Unread.{Unread}
 use Rattle.gimli_line.specs.run.RunState.{RunState}
 use Rattle.gimli_line.specs.run.Progress.{Progress, with_reset_row, registers_from, files_from}
@@ -193,10 +193,6 @@ module _ (a : Bool) (h k : Header) (same : k ≡ h) (c c2 : Source) (r : LineRow
 
 -- ---- errors
 
-is_overflow : (e : Error) → (e ≡ AddressOverflow) ⊎ (e ≢ AddressOverflow)
-is_overflow AddressOverflow = inl refl
-is_overflow e = inr (λ p. absurd cc)
-
 pub only_overflow : (e : Error) → (e ≢ OutOfMemory) → ((e ≢ AddressOverflow) → e ≡ OutOfMemory) → e ≡ AddressOverflow
 only_overflow e other is = grind (arith)
 
@@ -205,11 +201,6 @@ only_overflow e other is = grind (arith)
 -- where nothing was taken
 pub passes_none : (a b : RunState) → b ≡ a → Progress a b []
 passes_none a b same = grind arith
-
--- the same where only the orders of readers differ
-pub passes_still : (a b : RunState) → b.unread ≡ a.unread → b.fixed ≡ a.fixed → b.appends ≡ a.appends → b.row ≡ a.row
-    → b.files ≡ a.files → Progress a b []
-passes_still a b unread fixed appends registers files = grind arith
 
 each_joined : (n : Notation) (h : Header) (front after : List ℕ) (list more : List Ins)
     → Each (SpellsInstruction n h) front list

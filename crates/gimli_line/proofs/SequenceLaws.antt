@@ -20,20 +20,20 @@ use Rattle.gimli_line.specs.run.InstructionReading.{decoded_at}
 use Rattle.gimli_line.specs.run.Events.{Event, row, EventWithFiles, given_of, events_of, program_events, defined_files}
 use Rattle.gimli_line.specs.run.Events.{past_at_end, ends_sequence}
 use Rattle.gimli_line.specs.run.Events.{through_last_end}
-use Rattle.gimli_line.specs.run.Machine.{initial, reset_row, made_from, run}
+use Rattle.gimli_line.specs.run.Machine.{initial, made_from, run}
 use Rattle.gimli_line.specs.run.Unread.{Unread}
 use Rattle.gimli_line.specs.inside.run.Unread.{front_of}
 use Rattle.gimli_line.specs.run.RunState.{RunState}
 use Rattle.gimli_line.specs.run.Progress.{Progress, with_reset_row, registers_from, files_from}
-use Rattle.gimli_line.specs.run.Rows.{live_events, events_left, start_of_run, whole_run, FaultComes, FaultIs, KeepsRun}
-use Rattle.gimli_line.specs.run.Sequences.{Part, first_address, IsSequence, HasRun, HaveRuns, AreSequences}
+use Rattle.gimli_line.specs.run.Rows.{live_events, start_of_run, whole_run, FaultComes, FaultIs, KeepsRun}
+use Rattle.gimli_line.specs.run.Sequences.{Part, IsSequence, HasRun, HaveRuns, AreSequences}
 use Rattle.gimli_line.specs.run.Sequences.{HasFirstFault}
 use Rattle.gimli_line.specs.inside.run.SequenceSplit.{SequenceSplit, with_row, RowSplit, with_kept_row}
 use Rattle.gimli_line.proofs.Backwards.{starts, files_from_start}
 use Rattle.gimli_line.proofs.RunLists.{given_joined, given_from_start}
-use Rattle.gimli_line.proofs.InstructionLaws.{front_at, is_decoded, takes_bytes}
-use Rattle.gimli_line.proofs.Sources.{fits_less, keeps_same, keeps_both}
-use Rattle.gimli_line.proofs.Runs.{decodes_on, bare_decoding, passes_still, passes_both}
+use Rattle.gimli_line.proofs.InstructionLaws.{front_at, is_decoded}
+use Rattle.gimli_line.proofs.Sources.{fits_less, keeps_both}
+use Rattle.gimli_line.proofs.Runs.{decodes_on, bare_decoding, passes_both}
 
 -- ---- through the last end
 
@@ -190,19 +190,6 @@ kept_runs h k kept done point keeping =
 open_push : (rows : List LineRow) (r : LineRow) → AreOpen rows → r.end_sequence ≡ false → AreOpen (rows ++ r ∷ [])
 open_push [] r o e = (e, tt)
 open_push (q ∷ rows) r o e = (o.0, open_push rows r o.1 e)
-
-first_push : (rows : List LineRow) (r : LineRow) (start : Option ℕ) → start ≡ first_of rows
-    → Some (unwrap_or start r.address) ≡ first_of (rows ++ r ∷ [])
-first_push [] r start is = rw is refl
-first_push _ r start is = rw is refl
-
-first_is : (rows : List LineRow) (start : Option ℕ) → start ≡ first_of rows → unwrap_or start 0 ≡ first_address rows
-first_is [] start is = rw is refl
-first_is _ start is = rw is refl
-
-anew_at_end : (parameters : Parameters) (r : LineRow) → r.end_sequence ≡ true
-    → reset_row parameters r ≡ initial parameters
-anew_at_end parameters r e = rw e refl
 
 module _ (h : Header) (k : SequenceSplit) (done : List LineRow) (point next : RunState) (c : Splitting h k done point)
     (p : Progress point (with_reset_row next) (row next.row ∷ [])) where

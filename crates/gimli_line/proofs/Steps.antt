@@ -24,9 +24,8 @@ use Rattle.gimli_line.specs.run.Rows.{live_made, FaultComes, AddsInOrder, KeepsR
 use Rattle.gimli_line.specs.run.Unread.{Unread}
 use Rattle.gimli_line.proofs.Executions.{told_row, told_quiet, told_address}
 use Rattle.gimli_line.proofs.InstructionLaws.{reads_instruction}
-use Rattle.gimli_line.proofs.Sources.{source_kept, fits_less, keeps_same, keeps_both}
+use Rattle.gimli_line.proofs.Sources.{fits_less, keeps_both}
 use Rattle.gimli_line.proofs.Runs.{state, none_made, after_fault, after_quiet, after_made, after_overflow, is_shorter}
-use Rattle.gimli_line.proofs.Runs.{passes_none}
 use Rattle.gimli_line.proofs.Runs.{passes_both, passes_quiet, passes_made, wants, refused_after}
 
 -- ---- the state of a run whose program has a header
@@ -34,9 +33,6 @@ use Rattle.gimli_line.proofs.Runs.{passes_both, passes_quiet, passes_made, wants
 -- the program of a run has this header, and adds files or doesn't
 abbrev pub Has : Bool → Header → RunState → Type 0
 Has a h s = (s.appends ≡ a) × (s.fixed ≡ without_files h) × (s.files ≡ h.files)
-
-is_state : (a : Bool) (h : Header) (s : RunState) → Has a h s → s ≡ state a h s.source s.row s.unread
-is_state a h s has = grind arith
 
 -- what holds of two runs by their headers holds of them
 by_headers : (a : Bool) (h h2 : Header) (old new : RunState) → Has a h old → Has a h2 new

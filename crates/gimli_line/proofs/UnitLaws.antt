@@ -14,32 +14,16 @@ use Rattle.gimli_core.specs.declared.error.Error.{Error}
 use Rattle.gimli_core.proofs.Productions.{reads_both}
 use Rattle.gimli_core.proofs.ProductionLaws.{reads_some_bytes, reads_unit_length}
 use Rattle.gimli_line.specs.header.Header.{Header, UnitEntry}
-use Rattle.gimli_line.specs.header.HeaderGrammar.{Opening, fields_production, header_production, opening_production}
+use Rattle.gimli_line.specs.header.HeaderGrammar.{Opening, header_production}
 use Rattle.gimli_line.specs.header.HeaderGrammar.{SpellsUnit}
 use Rattle.gimli_line.specs.Units.{offset_after, any_unit, BeginsWithUnit, IsRest, AreUnits}
 use Rattle.gimli_line.specs.UnitReading.{any_unit_at, after_unit, offsets_upto, offsets_at}
-
--- the bytes of a length are as many as its format says
-length_size : (big : Bool) (bytes : List ℕ) (format : Format) (n : ℕ) → SpellsInitialLength big bytes format n
-    → length bytes ≡ initial_length_size format
-length_size big bytes Dwarf32 n s = s.0.size_is
-length_size big bytes Dwarf64 n s = grind (arith, length-append)
-
-size_some : (format : Format) → 0 < initial_length_size format
-size_some Dwarf32 = omega arith
-size_some Dwarf64 = omega arith
 
 module _ (notation : Notation) where
   pub reads_any_unit : Reads (any_unit notation) (any_unit_at notation)
   unfolding any_unit_at
   reads_any_unit =
       reads_both (unit_length notation) _ _ _ (reads_unit_length notation) (λ unit. reads_some_bytes unit.0)
-
-  -- the bytes of a length that an offset holds
-  length_exact : (bytes : List ℕ) (unit : ℕ × Format) → (unit_length notation).Spells bytes unit
-      → length bytes ≡ initial_length_size unit.1
-  length_exact bytes unit s =
-      grind (arith, length-append)
 
   -- a unit has bytes
   unit_some : (unit content : List ℕ) → (any_unit notation).Spells unit content → 0 < length unit
@@ -194,17 +178,6 @@ module _ (notation : Notation) where
   )
 
   -- ---- a unit with a header
-
-  opening_format : (handed : ℕ) (format : Format) (bytes : List ℕ) (o : Opening)
-      → (opening_production notation handed format).Spells bytes o
-      → o.encoding.format ≡ format
-  opening_format handed format bytes o s = grind arith
-
-  fields_are : (unit_entry : UnitEntry) (unit : ℕ) (o : Opening) (program bytes : List ℕ) (h : Header)
-      → (fields_production notation unit_entry unit o program).Spells bytes h
-      → (h.parameters.encoding.format ≡ o.encoding.format) × (h.unit_length ≡ unit)
-  fields_are unit_entry unit o program bytes h s =
-      grind arith
 
   -- a unit has the bytes of its length, and as many as that says
   unit_size : (unit_entry : UnitEntry) (unit : List ℕ) (h : Header)

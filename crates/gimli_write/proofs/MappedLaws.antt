@@ -23,7 +23,6 @@ use Rattle.gimli_write.proofs.MappedFiles.{files_defined, took, same_ok, is_prep
 use Rattle.gimli_write.proofs.MappedFiles.{lists_at_keeps, file_ready, written_with_tables, prepared_ready, finished}
 use Rattle.gimli_write.proofs.MappedFiles.{files_mapped}
 use Rattle.std.proofs.Math.Pow.{pow_mono}
-use Rattle.gimli_build.specs.FileNumber.{file_number}
 use Rattle.gimli_build.specs.declared.built.items.BuiltItem.TheVariants.{SetAddress, Row, End}
 use Rattle.gimli_write.proofs.MappedRows.{follows_start, Rest, rest_mapped}
 use Rattle.gimli_line.specs.run.EventsWithFiles.{FilesAtEnd}

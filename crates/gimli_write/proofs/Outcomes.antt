@@ -58,18 +58,6 @@ refused_then e f (inr p) = inr (f p)
 
 -- ---- what is built doesn't change what is read
 
--- what is still to be read, by the program of its tables
-abbrev still_with : Conversion → List (List ℕ) → Built → Reading
-still_with c line_strings p =
-    let tables : TablesAndTexts = record {
-      program = p;
-      directory_ids = c.tables.directory_ids;
-      file_ids = c.tables.file_ids;
-      line_strings = line_strings;
-    } in
-    unless_failed c.failed (address_offered c.address tables
-    (after_held (version_of_source c) tables c.held (reading_left c.sections c.source tables)))
-
 pub same_left : (c d : Conversion) (line_strings : List (List ℕ)) → d ≡ with_program d.tables.program c
     → without_items d.tables.program ≡ without_items c.tables.program
     → still_to_read d line_strings ≡ still_to_read c line_strings

@@ -1,14 +1,13 @@
 -- The tables of directories and files, seen as lists.
 use Rattle.std.proofs.Common.{◌≡◌, ◌≢◌, ℕ, zero, suc, ◌+◌, ◌<◌, Bool, true, false, cond, not, ◌||◌, ◌&&◌, List, [], ◌∷◌}
 use Rattle.std.proofs.Common.{◌++◌, map, length, refl, sym, ap}
-use Rattle.std.proofs.Common.{subst, ◌∙◌, if◌then◌else◌, slice_get, drop, Option, Some, None, option_map}
+use Rattle.std.proofs.Common.{◌∙◌, if◌then◌else◌, slice_get, drop, Option, Some, None, option_map}
 use Rattle.std.proofs.Common.{true≢false, arith}
 use Rattle.std.proofs.Common.{length-append}
 use native.Mathlib.Nat.{suc-add as suc_add}
 use Rattle.std.specs.Prelude.{nat_eq, is_some, unwrap_or}
 use Rattle.std.specs.List.{list_any, position_or_len, AllZip}
 use Rattle.std.proofs.lemmas.Cmp.{nat_eq_equiv}
-use Rattle.std.proofs.lemmas.Bool.Decides.{nat_tests}
 use Rattle.std.proofs.lemmas.List.{map-append}
 use Rattle.std.proofs.lemmas.List.Elements.{All-push}
 use Rattle.std.proofs.lemmas.List.Folds.{list_any_at}

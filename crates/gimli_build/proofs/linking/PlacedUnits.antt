@@ -32,7 +32,7 @@ use Rattle.gimli_build.specs.Version5Tables.{texts_after}
 use Rattle.gimli_build.specs.Cause.{emitted_texts}
 use Rattle.gimli_build.specs.ReadsBack.{IsOffsetHeld}
 use Rattle.gimli_build.specs.Linked.{placed_item, placed_program, AddressFits, OffsetFits, SumsFit, TextsBeginAtZero}
-use Rattle.gimli_build.specs.Unit.{is_incompatible, program_bytes, whole_bytes, unit_bytes}
+use Rattle.gimli_build.specs.Unit.{program_bytes, whole_bytes, unit_bytes}
 use Rattle.gimli_build.specs.inside.Conditions.{IsBuilt}
 use Rattle.gimli_build.specs.declared.built.row.LineRow.{LineRow}
 use Rattle.gimli_build.specs.declared.built.items.BuiltItem.{BuiltItem}

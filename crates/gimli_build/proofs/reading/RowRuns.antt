@@ -1,16 +1,16 @@
 -- The machine over the instructions of a row, and of an end.
 use Rattle.std.proofs.Common.{◌≡◌, ℕ, ◌+◌, ◌-◌, ◌*◌, ◌/◌, ◌%◌, ◌^◌, ◌<◌, ◌≤◌, Bool, true, false, not, List, [], ◌∷◌}
-use Rattle.std.proofs.Common.{◌++◌, refl, sym, ap, ◌∙◌, arith, nat_eq}
-use Rattle.std.proofs.Common.{nat_le, if◌then◌else◌, ℤ, pos, negsuc, ◌+ℤ◌, ◌-ℤ◌, ◌<ℤ◌, ◌≤ℤ◌, nat_lt, add-zero}
-use Rattle.std.proofs.Common.{append_assoc, lit<}
+use Rattle.std.proofs.Common.{◌++◌, refl, ap, ◌∙◌, arith, nat_eq}
+use Rattle.std.proofs.Common.{nat_le, if◌then◌else◌, ℤ, pos, ◌+ℤ◌, ◌-ℤ◌, ◌<ℤ◌, ◌≤ℤ◌, add-zero}
+use Rattle.std.proofs.Common.{append_assoc}
 use Rattle.std.specs.Prelude.{unsigned_abs, IsTrue}
 use Rattle.std.specs.Int.Signed.{lt_z, le_z}
-use Rattle.std.proofs.Math.Nat.{mod-eq_of_lt, div-eq_of_lt, div-one, div-mul-le_self, mod-lt, mod-le, pow-le-pow_right}
+use Rattle.std.proofs.Math.Nat.{mod-eq_of_lt, div-eq_of_lt}
 use Rattle.std.proofs.Math.Nat.{add-mul-div_right}
-use Rattle.std.proofs.Math.Nat.{add-mul-mod_self_right, mul-add, mul-le-mul_left}
-use Rattle.std.proofs.lemmas.Nat.{div-add-mod', le-div}
+use Rattle.std.proofs.Math.Nat.{add-mul-mod_self_right, mul-add}
+use Rattle.std.proofs.lemmas.Nat.{div-add-mod'}
 use Rattle.std.proofs.lemmas.Int.{ints}
-use Rattle.std.proofs.lemmas.Bool.{and_parts, lt-leb, le-leb, le-ltb}
+use Rattle.std.proofs.lemmas.Bool.{and_parts}
 use Rattle.std.proofs.lemmas.Bool.Decides.{nat_tests}
 use Rattle.gimli_core.specs.Numbers.{is_address_size}
 use Rattle.gimli_core.specs.declared.common.Encoding.{Encoding}
@@ -33,19 +33,19 @@ use Rattle.gimli_line.specs.declared.run.instruction.LineInstruction.TheVariants
 use Rattle.gimli_line.specs.header.Parameters.{Parameters}
 use Rattle.gimli_line.specs.run.Instruction.{Ins}
 use Rattle.gimli_line.specs.run.Registers.{advanced_line}
-use Rattle.gimli_line.specs.run.OperationPointer.{OperationPointer, advanced_by, is_too_large, address_limit}
+use Rattle.gimli_line.specs.run.OperationPointer.{OperationPointer, address_limit}
 use Rattle.gimli_line.specs.run.Events.{row}
 use Rattle.gimli_line.specs.run.Machine.{run, initial, reset_row, pointer_of, at_pointer}
 use Rattle.gimli_build.specs.declared.built.row.LineRow.{LineRow}
 use Rattle.gimli_build.specs.Advance.{CanEncode, IsPosition, CanFollow, operations}
 use Rattle.gimli_build.specs.Due.{when}
-use Rattle.gimli_build.specs.Encode.{marks, changes, differ, line_part, line_opcode, is_special_advance, operation_part}
+use Rattle.gimli_build.specs.Encode.{marks, changes, line_part, line_opcode, is_special_advance, operation_part}
 use Rattle.gimli_build.specs.Encode.{row_instructions, row_maker}
 use Rattle.gimli_build.specs.Encode.{still_opcode, constant_advance, end_instructions}
 use Rattle.gimli_build.specs.FileNumber.{file_number}
 use Rattle.gimli_build.specs.Rows.{initial_row}
 use Rattle.gimli_build.specs.SameRow.{built_rules, read_row, registers_after_row, read_end}
-use Rattle.gimli_build.proofs.sizes.Steps.{operations_above, whole_steps, taken_apart, special_parts, enough_of}
+use Rattle.gimli_build.proofs.sizes.Steps.{operations_above, whole_steps, taken_apart, special_parts}
 use Rattle.gimli_build.proofs.sizes.Steps.{none_of}
 
 -- ---- pointers
@@ -55,17 +55,6 @@ abbrev pub ahead : LineEncoding → ℕ → OperationPointer → OperationPointe
 ahead e n p = record {
   address = p.address + e.minimum_instruction_length * ((p.op_index + n) / e.maximum_operations_per_instruction);
   op_index = (p.op_index + n) % e.maximum_operations_per_instruction;
-}
-
-abbrev one_operation : LineEncoding → ℕ → OperationPointer → OperationPointer
-one_operation e n p = record { address = p.address + e.minimum_instruction_length * n % 2 ^ 64; op_index = 0 }
-
-abbrev more_operations : LineEncoding → ℕ → OperationPointer → OperationPointer
-more_operations e n p = record {
-  address =
-      p.address
-      + e.minimum_instruction_length * ((p.op_index + n) % 2 ^ 64 / e.maximum_operations_per_instruction) % 2 ^ 64;
-  op_index = (p.op_index + n) % 2 ^ 64 % e.maximum_operations_per_instruction;
 }
 
 -- an address holds the pointer n operations further on
@@ -78,17 +67,6 @@ pub record HasRoom (parameters : Parameters) (p : OperationPointer) (n : ℕ) : 
       < address_limit parameters
   pub limit : address_limit parameters ≤ 2 ^ 64
 
--- the machine's pointer is this one there
-pub on-ahead : (parameters : Parameters) (p : OperationPointer) (n : ℕ) → HasRoom parameters p n
-    → advanced_by parameters n p ≡ ahead parameters.line_encoding n p
-on-ahead parameters p n room = grind (arith)
-
--- an address holds it
-pub not_exceeding : (parameters : Parameters) (p : OperationPointer) (n : ℕ) → HasRoom parameters p n
-    → is_too_large parameters (ahead parameters.line_encoding n p) ≡ false
-not_exceeding parameters p n room =
-    grind (arith)
-
 -- one advance after the other
 pub ahead-ahead : (e : LineEncoding) (p : OperationPointer) (q n : ℕ) → 1 ≤ e.maximum_operations_per_instruction
     → ahead e n (ahead e q p) ≡ ahead e (q + n) p
@@ -100,12 +78,6 @@ pub ahead-none : (e : LineEncoding) (p : OperationPointer) → p.op_index < e.ma
     → ahead e 0 p ≡ p
 ahead-none e p lt =
     grind (arith, div-eq_of_lt)
-
--- fewer operations need no more room
-pub less_room : (parameters : Parameters) (p : OperationPointer) (q n : ℕ) → q ≤ n → HasRoom parameters p n
-    → HasRoom parameters p q
-less_room parameters p q n le room =
-    grind (arith, mul-le-mul_left)
 
 -- the rest of the operations has its room
 pub rest_room : (parameters : Parameters) (p : OperationPointer) (q n : ℕ) → q ≤ n → HasRoom parameters p n
@@ -147,15 +119,6 @@ module _ (encoding : Encoding) (e : LineEncoding) where
   same_from_test : (m n : ℕ) → not (nat_eq m n) ≡ false → m ≡ n
   same_from_test m n h = grind (arith)
 
-  turned : (a b : Bool) → differ a b ≡ true → not b ≡ a
-  turned true b h = h
-  turned false b h = ap not h
-
-  stays : (a b : Bool) → differ a b ≡ false → b ≡ a
-  stays true true h = refl
-  stays true false h = sym h
-  stays false b h = h
-
   -- what stands for one row alone
   goes-marks : (r : ReadRow) (built : LineRow) → r.discriminator ≡ 0 → r.basic_block ≡ false → r.prologue_end ≡ false
       → r.epilogue_begin ≡ false
@@ -190,11 +153,6 @@ module _ (encoding : Encoding) (e : LineEncoding) where
   goes-advance : (r : ReadRow) (n : ℕ) → r.tombstone ≡ false → HasRoom parameters (pointer_of r) n
       → Goes r (AdvancePc n ∷ []) (moved_on e n r)
   goes-advance r n shown room list = grind (arith)
-
-  goes-constant : (r : ReadRow) → r.tombstone ≡ false → HasRoom parameters (pointer_of r) (constant_advance e)
-      → Goes r (ConstAddPc ∷ []) (moved_on e (constant_advance e) r)
-  goes-constant r shown room list =
-      grind (arith)
 
   -- a special opcode of this line advance above the base, and of so many operations
   makes-special : (r : ReadRow) (u n : ℕ) → 1 ≤ e.line_range → u < e.line_range → r.tombstone ≡ false

@@ -2,7 +2,7 @@
 use Rattle.std.proofs.Common.{◌≡◌, ℕ, ◌<◌, ◌^◌, Bool, true, false, List, [], ◌∷◌, ◌++◌, length, drop, map, option_map}
 use Rattle.std.proofs.Common.{Option, None, slice_get, if◌then◌else◌}
 use Rattle.std.proofs.Common.{Ok, refl, sym, ap, ◌∙◌, arith, length-append}
-use Rattle.std.specs.Prelude.{Result, nat_le, replicate}
+use Rattle.std.specs.Prelude.{Result, nat_le}
 use Rattle.std.specs.Option.{option_to_list}
 use Rattle.std.proofs.lemmas.Bool.{leb-true}
 use Rattle.std.proofs.lemmas.List.{append-nil}
@@ -21,7 +21,7 @@ use Rattle.gimli_line.specs.declared.header.file_entry.FileEntryFormat.{FileEntr
 use Rattle.gimli_build.specs.LineText.{LineText, bytes_in, HasNoZero}
 use Rattle.gimli_build.specs.Tables.{File, Details}
 use Rattle.gimli_build.specs.Texts.{Sections, OneByOne}
-use Rattle.gimli_build.specs.Stored.{Stored, stored_details}
+use Rattle.gimli_build.specs.Stored.{Stored}
 use Rattle.gimli_build.specs.Built.{Built}
 use Rattle.gimli_build.specs.inside.Conditions.{IsBuilt}
 use Rattle.gimli_build.specs.ReadsBack.{IsDirectory, IsFile, IsFound}
@@ -90,12 +90,6 @@ module _ (sections : Sections) (texts : StringTables) where
       → AreDirectories (with_handed (option_map (bytes_in texts) (slice_get ds 0)) ds) ds
   handed_back [] some = absurd (omega (arith))
   handed_back (d ∷ ds) some = (refl, texts_back _)
-
-  -- what a file keeps
-  stored_old : (p : Built) (d : Details) → nat_le p.encoding.version 4 ≡ true
-      → stored_details p texts d
-      ≡ record { timestamp = d.timestamp; size = d.size; md5 = replicate 16 0; source = None }
-  stored_old p d old = rw old refl
 
   file_back : (p : Built) (f : File) → nat_le p.encoding.version 4 ≡ true
       → IsFile sections p texts (read_file texts f) f

@@ -1,5 +1,5 @@
 -- The first part of a program that is refused.
-use Rattle.std.proofs.Common.{◌≡◌, ℕ, ◌<◌, List, Some, map, length, get_or, arith, refl, ap, sym, subst, ◌∙◌}
+use Rattle.std.proofs.Common.{◌≡◌, ℕ, ◌<◌, List, Some, map, length, get_or, arith, refl, ap, sym, ◌∙◌}
 use Rattle.std.specs.Prelude.{All, slice_get, option_map, false, ◌&&◌, nat_eq, nat_le}
 use Rattle.gimli_bytes.specs.Texts.{StringTables}
 use Rattle.gimli_build.specs.LineText.{LineText}

@@ -1,8 +1,8 @@
 -- How many instructions and bytes a row has.
 use Rattle.std.proofs.Common.{◌≡◌, ℕ, ◌+◌, ◌-◌, ◌*◌, ◌/◌, ◌%◌, ◌<◌, ◌≤◌, Bool, true, false, not, List, [], ◌∷◌, ◌++◌}
-use Rattle.std.proofs.Common.{length, refl, sym, ap, ◌∙◌, arith, lit≤}
+use Rattle.std.proofs.Common.{length, refl, ap, ◌∙◌, arith, lit≤}
 use Rattle.std.proofs.Common.{nat_eq, nat_le, if◌then◌else◌, ℤ, pos, ◌+ℤ◌, ◌-ℤ◌, ◌≤ℤ◌, ◌<ℤ◌, Some}
-use Rattle.std.specs.Prelude.{unsigned_abs, int_le, int_lt}
+use Rattle.std.specs.Prelude.{unsigned_abs}
 use Rattle.std.proofs.Math.Nat.{mod-lt, div-add-mod'}
 use Rattle.std.proofs.lemmas.List.{length-append}
 use Rattle.std.proofs.lemmas.Int.{ints}
@@ -23,10 +23,9 @@ use Rattle.gimli_line.specs.declared.run.instruction.LineInstruction.TheVariants
 use Rattle.gimli_line.specs.run.Instruction.{Ins}
 use Rattle.gimli_line.specs.run.OperationPointer.{operation_advance}
 use Rattle.gimli_build.specs.declared.built.row.LineRow.{LineRow}
-use Rattle.gimli_build.specs.FileNumber.{file_number}
 use Rattle.gimli_build.specs.Advance.{CanEncode, operations}
 use Rattle.gimli_build.specs.Due.{when}
-use Rattle.gimli_build.specs.Encode.{marks, changes, differ, line_part, line_opcode, is_special_advance, still_opcode}
+use Rattle.gimli_build.specs.Encode.{marks, changes, differ, line_part, is_special_advance}
 use Rattle.gimli_build.specs.Encode.{row_maker, constant_advance}
 use Rattle.gimli_build.specs.Encode.{operation_part, row_instructions}
 use Rattle.gimli_build.specs.InstructionBytes.{instruction_bytes, instructions_bytes}

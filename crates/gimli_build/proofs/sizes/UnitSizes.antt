@@ -1,5 +1,5 @@
 -- How many bytes the parts of a unit have, its tables, and a unit.
-use Rattle.std.proofs.Common.{◌≡◌, ℕ, ◌+◌, Bool, true, false, List, [], ◌∷◌, Ok, Err, refl, arith, if◌then◌else◌}
+use Rattle.std.proofs.Common.{◌≡◌, ℕ, ◌+◌, Bool, true, false, List, [], ◌∷◌, Ok, Err, arith, if◌then◌else◌}
 use Rattle.std.proofs.Common.{nat_le, ◌++◌, length, drop, sym, ap, ◌∙◌}
 use Rattle.std.specs.Prelude.{Result, sum_by, unwrap_or}
 use Rattle.gimli_core.specs.Numbers.{word_size}
@@ -13,8 +13,8 @@ use Rattle.gimli_bytes.proofs.RelocationLemmas.{length-number}
 use Rattle.gimli_build.specs.Built.{Built}
 use Rattle.gimli_build.specs.FormatWord.{format_word}
 use Rattle.gimli_build.specs.Joined.{result_append, result_concat, after_length}
-use Rattle.gimli_build.specs.Unit.{version_bytes, opening_bytes, operations_bytes, line_encoding_bytes, flag_byte}
-use Rattle.gimli_build.specs.Unit.{base_byte, opcode_bytes, tables_bytes, fields_bytes, header_bytes, program_bytes}
+use Rattle.gimli_build.specs.Unit.{opening_bytes, line_encoding_bytes}
+use Rattle.gimli_build.specs.Unit.{opcode_bytes, tables_bytes, fields_bytes, header_bytes, program_bytes}
 use Rattle.gimli_build.specs.Unit.{inside_bytes}
 use Rattle.gimli_build.specs.Cause.{tables_size, header_length, size_of, unit_length, text_size, file_size, entry_size}
 use Rattle.std.proofs.lemmas.List.{length-append}
@@ -118,9 +118,6 @@ files_size format files =
 
 -- ---- texts of version 5
 
-nothing_first : (n : ℕ) → n ≡ 0 + n
-nothing_first n = omega arith
-
 module _ (big : Bool) (format : Format) (texts : StringTables) where
   stored_size : (t : LineText) → HasSize (text_bytes plain big format texts t) (text_size format t)
   stored_size (Inline text) = name_size format (Inline text)
@@ -218,32 +215,12 @@ module _ (big : Bool) (p : Built) (texts : StringTables) where
 
 -- ---- the version and what stands with it
 
-version_size : (big : Bool) (version : ℕ) → HasSize (version_bytes big version) 2
-version_size big version =
-    size_as _ _ 2 (length-number _ 2 _)
-    (size_tested _ _ _)
-
-opened_size : (old : Bool) (version : Result (List ℕ) Error) (address_size : ℕ) → HasSize version 2
-    → HasSize (result_append version (Ok (if old then [] else address_size ∷ 0 ∷ []))) (if old then 2 else 4)
-opened_size true version address_size size = size_joined _ _ 2 0 size (size_of_ok _)
-opened_size false version address_size size = size_joined _ _ 2 2 size (size_of_ok _)
-
 opening_size : (big : Bool) (encoding : Encoding)
     → HasSize (opening_bytes big encoding) (if nat_le encoding.version 4 then 2 else 4)
 opening_size big encoding =
     grind (arith)
 
 -- ---- what the header length counts
-
-operations_size : (fourth one : Bool) (operations : ℕ)
-    → HasSize (if fourth then Ok (operations ∷ []) else (if one then Ok [] else Err (NeedVersion 4)))
-    (if fourth then 1 else 0)
-operations_size true one operations = size_of_ok _
-operations_size false one operations = size_tested _ _ _
-
-encoding_count : (fourth : Bool) → 1 + ((if fourth then 1 else 0) + 3) ≡ (if fourth then 5 else 4)
-encoding_count true = refl
-encoding_count false = refl
 
 line_encoding_size : (version : ℕ) (e : LineEncoding)
     → HasSize (line_encoding_bytes version e) (if nat_le 4 version then 5 else 4)

@@ -1,6 +1,6 @@
 -- The bytes of the fixed fields of a unit spell them.
 use Rattle.std.proofs.Common.{◌≡◌, ℕ, ◌<◌, ◌≤◌, ◌^◌, Bool, true, false, List, [], ◌∷◌, ◌++◌, length, Ok, Err, refl, sym}
-use Rattle.std.proofs.Common.{ap, arith, lit<}
+use Rattle.std.proofs.Common.{arith, lit<}
 use Rattle.std.specs.Prelude.{Result, not, nat_eq, nat_le, nat_lt, ◌&&◌, if◌then◌else◌, ℤ, FitsSigned, IsTrue}
 use Rattle.std.specs.Int.{w8, cast_signed}
 use Rattle.std.proofs.Common.{rules}

@@ -1,5 +1,5 @@
 -- The formats of a table of version 5: their bytes spell them, and one of them is a path.
-use Rattle.std.proofs.Common.{◌≡◌, ℕ, ◌<◌, ◌^◌, Bool, true, false, List, [], ◌∷◌, ◌++◌, length, map, refl, sym, ap, ◌∙◌}
+use Rattle.std.proofs.Common.{◌≡◌, ℕ, ◌<◌, ◌^◌, Bool, true, false, List, [], ◌∷◌, ◌++◌, length, map, refl, sym, ◌∙◌}
 use Rattle.std.proofs.Common.{subst, append_assoc, arith, lit<}
 use Rattle.std.specs.Prelude.{min}
 use Rattle.std.specs.List.{flat_map, count_by}

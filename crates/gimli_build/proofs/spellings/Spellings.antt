@@ -1,22 +1,20 @@
 -- The bytes of an instruction spell it.
 use Rattle.std.proofs.Common.{◌≡◌, ℕ, ◌+◌, ◌-◌, ◌*◌, ◌^◌, ◌<◌, ◌≤◌, Bool, true, false, List, [], ◌∷◌, ◌++◌, length}
-use Rattle.std.proofs.Common.{refl, sym, ap, arith, lit<, Ok}
-use Rattle.std.specs.Prelude.{nat_lt, nat_eq, nat_le, ◌||◌, not, if◌then◌else◌, Result, Err, ℤ, pos, ◌+ℤ◌, ◌-ℤ◌, ◌≤ℤ◌}
-use Rattle.std.specs.Prelude.{◌<ℤ◌, unsigned_abs, int_le, int_lt}
+use Rattle.std.proofs.Common.{refl, sym, arith, lit<, Ok}
+use Rattle.std.specs.Prelude.{nat_eq, nat_le, ◌||◌, if◌then◌else◌, Result, Err, ℤ, ◌+ℤ◌, ◌-ℤ◌, ◌≤ℤ◌}
+use Rattle.std.specs.Prelude.{◌<ℤ◌}
 use Rattle.std.specs.Prelude.{FitsSigned}
 use Rattle.std.specs.Int.{w64}
 use Rattle.std.proofs.Common.{rules}
 use Rattle.std.proofs.lemmas.Int.{ints}
 use Rattle.std.specs.List.{AllByRecursion}
-use Rattle.std.proofs.lemmas.Bool.Decides.{nat_tests}
 use borrow.Author.Tests.{ltb-true}
 use Rattle.std.proofs.lemmas.List.{append-nil}
-use Rattle.std.proofs.lemmas.Bool.{lt-ltb, lt-leb, le-leb, ne_eqb, and_parts}
+use Rattle.std.proofs.lemmas.Bool.{lt-ltb, lt-leb, le-leb, ne_eqb}
 use Rattle.gimli_core.specs.declared.common.LineEncoding.{LineEncoding}
 use Rattle.gimli_core.specs.Notation.{Notation}
 use Rattle.gimli_core.specs.Numbers.{SpellsUleb128, SpellsNumber, number_bytes}
-use Rattle.gimli_core.specs.Reading.{result_map}
-use Rattle.gimli_core.specs.Production.{below_limit, unsigned, Each}
+use Rattle.gimli_core.specs.Production.{Each}
 use Rattle.gimli_core.proofs.Written.{number_spelled}
 use Rattle.gimli_bytes.specs.Hand.{plain}
 use Rattle.gimli_bytes.specs.Number.{uleb, sleb}
@@ -43,11 +41,8 @@ use Rattle.gimli_line.specs.declared.run.instruction.LineInstruction.TheVariants
   SetDiscriminator,
 }
 use Rattle.gimli_build.specs.declared.built.row.LineRow.{LineRow}
-use Rattle.gimli_build.specs.FileNumber.{file_number}
 use Rattle.gimli_build.specs.Advance.{CanEncode, CanFollow, operations}
-use Rattle.gimli_build.specs.Due.{when}
-use Rattle.gimli_build.specs.Encode.{marks, changes, differ, line_part, line_opcode, is_special_advance, still_opcode}
-use Rattle.gimli_build.specs.Encode.{row_maker, constant_advance}
+use Rattle.gimli_build.specs.Encode.{marks, changes, line_part, line_opcode}
 use Rattle.gimli_build.specs.Encode.{operation_part, row_instructions, end_instructions}
 use Rattle.gimli_build.specs.InstructionBytes.{instruction_bytes, instructions_bytes, set_address_bytes, IsWritten}
 use Rattle.gimli_build.specs.InstructionBytes.{FitsInstructions}
@@ -145,15 +140,6 @@ all_append : (is js : List Ins) → AllByRecursion IsWritten is → AllByRecursi
 all_append [] js p q = q
 all_append (i ∷ is) js p q = grind arith
 
-all_when : (due : Bool) (i : Ins) → IsWritten i → AllByRecursion IsWritten (when due i)
-all_when true i w = (w, tt)
-all_when false i w = tt
-
-all_four : (a b c d : Bool) (i j k l : Ins) → IsWritten i → IsWritten j → IsWritten k → IsWritten l
-    → AllByRecursion IsWritten (when a i ++ when b j ++ when c k ++ when d l)
-all_four a b c d i j k l p q r s =
-    grind (arith)
-
 all_marks : (version : ℕ) (built : LineRow) → FitsInstructions version built → AllByRecursion IsWritten (marks built)
 all_marks version built fits =
     grind (arith)
@@ -162,9 +148,6 @@ all_changes : (version : ℕ) (previous built : LineRow) → FitsInstructions ve
     → AllByRecursion IsWritten (changes version previous built)
 all_changes version previous built fits =
     grind (arith)
-
-maker_written : (e : LineEncoding) (s : ℕ) → 13 ≤ s → s ≤ 255 → IsWritten (row_maker e s)
-maker_written e s low high = grind arith
 
 all_line : (e : LineEncoding) (d : ℤ) → FitsSigned w64 d → AllByRecursion IsWritten (line_part e d)
 all_line e d fits = grind arith

@@ -25,8 +25,7 @@ use Rattle.gimli_build.specs.Joined.{result_append}
 use Rattle.gimli_build.specs.Unit.{opening_bytes, line_encoding_bytes, operand_counts, opcode_bytes, tables_bytes}
 use Rattle.gimli_build.specs.Unit.{fields_bytes}
 use Rattle.gimli_build.specs.Unit.{program_bytes, escape_bytes, whole_bytes}
-use Rattle.gimli_build.proofs.writing.Frames.{size_4, size_8}
-use Rattle.gimli_build.proofs.writing.WrittenParts.{same_written, both_written, after_written, before_written}
+use Rattle.gimli_build.proofs.writing.WrittenParts.{both_written, after_written, before_written}
 use Rattle.gimli_build.proofs.writing.WrittenParts.{counted_written}
 use Rattle.gimli_build.proofs.spellings.EncodingSpellings.{positive-spelled, encoding-spelled, version-spelled}
 use Rattle.gimli_build.proofs.spellings.EncodingSpellings.{address-spelled, offset-spelled, length-spelled}

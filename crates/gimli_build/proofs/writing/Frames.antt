@@ -1,6 +1,6 @@
 -- A length that is written once what it counts is there.
-use Rattle.std.proofs.Common.{◌≡◌, ℕ, ◌+◌, ◌-◌, ◌<◌, ◌≤◌, ◌^◌, Bool, true, false, List, [], ◌++◌, length, take, drop}
-use Rattle.std.proofs.Common.{refl, sym, ap, ◌∙◌, arith, append_assoc}
+use Rattle.std.proofs.Common.{◌≡◌, ℕ, ◌+◌, ◌-◌, ◌<◌, ◌≤◌, ◌^◌, Bool, true, false, List, [], ◌++◌, length}
+use Rattle.std.proofs.Common.{refl, sym, ◌∙◌, arith, append_assoc}
 use Rattle.std.proofs.Common.{length-append, nat_lt, if◌then◌else◌, Ok, Err, OnOk, IfErr, IsTrue, ◌⊎◌, inr}
 use Rattle.std.proofs.lemmas.Bool.{le-ltb, lt-ltb}
 use Rattle.std.proofs.lemmas.List.{take_at, drop_at}

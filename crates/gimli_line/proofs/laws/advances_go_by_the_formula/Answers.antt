@@ -1,7 +1,5 @@
-use Rattle.std.proofs.Common.{◌≡◌, ℕ, ◌+◌, ◌*◌, ◌/◌, ◌%◌, ◌^◌, ◌<◌, Bool, true, false, refl, arith}
-use Rattle.std.specs.Prelude.{nat_eq}
-use Rattle.std.proofs.lemmas.Bool.{eqb-true}
-use Rattle.gimli_line.specs.run.OperationPointer.{OperationPointer, advanced_by, advanced_by_formula}
+use Rattle.std.proofs.Common.{◌≡◌, ℕ, ◌+◌, ◌*◌, ◌/◌, ◌%◌, ◌^◌, ◌<◌, Bool, arith}
+use Rattle.gimli_line.specs.run.OperationPointer.{OperationPointer}
 use Rattle.gimli_line.proofs.laws.advances_go_by_the_formula.Goals as goal
 
 -- where an instruction has one operation

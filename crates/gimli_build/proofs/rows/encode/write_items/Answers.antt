@@ -1,4 +1,4 @@
-use Rattle.std.proofs.Common.{◌≡◌, ℕ, ap, ◌<◌, length, ◌∙◌, arith, lit<}
+use Rattle.std.proofs.Common.{◌≡◌, ℕ, ap, ◌<◌, length, ◌∙◌, arith}
 use Rattle.gimli_build.specs.Rows.{at_position}
 use Rattle.gimli_build.specs.Items.{next_previous}
 use Rattle.gimli_build.proofs.reading.ItemRuns.{start_position}

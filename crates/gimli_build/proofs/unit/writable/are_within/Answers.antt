@@ -1,6 +1,6 @@
-use Rattle.std.proofs.Common.{◌<◌, length, map, refl, arith}
+use Rattle.std.proofs.Common.{◌<◌, length, map, arith}
 use Rattle.gimli_bytes.specs.Texts.{texts_in}
-use Rattle.gimli_build.specs.LineText.{line_text, IsWithin}
+use Rattle.gimli_build.specs.LineText.{IsWithin}
 use Rattle.gimli_build.proofs.writing.Joined.{next_seen, all_seen}
 use Rattle.gimli_build.proofs.writing.Joined.{all_passed}
 use Rattle.gimli_build.proofs.unit.writable.are_within.Goals as goal

@@ -1,5 +1,4 @@
-use Rattle.std.proofs.Common.{rules, ◌≡◌, ◌≤◌, ◌+◌, ◌-◌, ◌++◌, length, refl, sym, arith, false, true≢false}
-use Rattle.std.specs.Vec.{vec_len, vec_capacity}
+use Rattle.std.proofs.Common.{rules, ◌≡◌, ◌≤◌, ◌+◌, ◌-◌, ◌++◌, length, arith}
 use Rattle.gimli_bytes.proofs.PieceLemmas.{count-below, HoldPieces-grown, HoldPieces-same, bytes-within, bytes-length}
 use Rattle.gimli_bytes.proofs.PieceLemmas.{bytes-more, no_piece}
 use Rattle.gimli_bytes.proofs.piece_vec.PieceVec.write.Goals as goal

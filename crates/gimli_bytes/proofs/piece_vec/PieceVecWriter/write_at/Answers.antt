@@ -1,8 +1,6 @@
-use Rattle.std.proofs.Common.{arith, ◌≡◌, ◌∙◌, ◌+◌, ◌≤◌, length, take, List, ℕ, refl, ap, sym, inr}
+use Rattle.std.proofs.Common.{arith, ◌≡◌, ◌∙◌, ◌+◌, ◌≤◌, length, take, List, ℕ, refl}
 use Rattle.std.specs.List.{concat}
 use Rattle.gimli_bytes.proofs.PieceLemmas.{HoldPieces-same, bytes-within, bytes-length, bytes-over, take-before}
-use Rattle.gimli_bytes.proofs.PieceLemmas.{patched-inside, patched-past}
-use Rattle.gimli_bytes.proofs.WrittenAs.{no_truth}
 use Rattle.gimli_bytes.proofs.piece_vec.PieceVecWriter.write_at.Goals as goal
 
 pub returns-then-bytes-self : goal.returns-then-bytes-self

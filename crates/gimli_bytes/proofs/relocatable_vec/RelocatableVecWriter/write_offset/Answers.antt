@@ -1,9 +1,8 @@
-use Rattle.std.proofs.Common.{◌<◌, ◌^◌, inl, refl, arith, w64}
+use Rattle.std.proofs.Common.{◌<◌, ◌^◌, inl, arith, w64}
 use Rattle.std.specs.Int.{cast_signed}
 use Rattle.gimli_bytes.specs.declared.relocation.RelocationTarget.TheVariants.{OfSection}
 use Rattle.gimli_bytes.proofs.Parts.{begins_self}
-use Rattle.gimli_bytes.proofs.WrittenAs.{no_truth}
-use Rattle.gimli_bytes.proofs.Completing.{either, on_ok, on_err, grows_offset, completed_offset}
+use Rattle.gimli_bytes.proofs.Completing.{either, grows_offset, completed_offset}
 use Rattle.gimli_bytes.proofs.RelocatableRefusals.{if_err, place_refused}
 use Rattle.gimli_bytes.proofs.relocatable_vec.RelocatableVecWriter.write_offset.Goals as goal
 

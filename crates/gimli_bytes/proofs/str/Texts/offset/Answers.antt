@@ -1,7 +1,5 @@
-use Rattle.std.proofs.Common.{◌+◌, take, sym, ap, ◌∙◌, arith, Vec, ℕ, Global, List}
+use Rattle.std.proofs.Common.{◌+◌, ◌∙◌, arith, Vec, ℕ, Global, List}
 use Rattle.std.proofs.lemmas.List.{take-map, take_all}
-use Rattle.gimli_bytes.specs.Texts.{byte_count, offset_of}
-use Rattle.gimli_bytes.specs.inside.TextFields.{texts_of}
 use Rattle.gimli_bytes.proofs.TextLemmas.{byte_count-part, byte_count-more}
 use Rattle.gimli_bytes.proofs.str.Texts.offset.Goals as goal
 

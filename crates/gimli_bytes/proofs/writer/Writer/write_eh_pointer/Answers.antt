@@ -1,5 +1,5 @@
-use Rattle.std.proofs.Common.{◌≡◌, ◌≢◌, sym, ◌∙◌, arith}
-use Rattle.gimli_bytes.proofs.WrittenAs.{append_as, refused_at_once, absolute_pointer, relative_pointer, other_pointer}
+use Rattle.std.proofs.Common.{◌≡◌, ◌≢◌, ◌∙◌, arith}
+use Rattle.gimli_bytes.proofs.WrittenAs.{refused_at_once, absolute_pointer, relative_pointer, other_pointer}
 use Rattle.gimli_bytes.proofs.writer.Writer.write_eh_pointer.Goals as goal
 
 pub returns-in-DW_EH_PE_absptr : goal.returns-in-DW_EH_PE_absptr

@@ -1,6 +1,4 @@
-use Rattle.std.proofs.Common.{◌≡◌, arith, to_z, of_z, w64, sym, ◌∙◌, ap, true}
-use Rattle.std.proofs.lemmas.Int.{ints}
-use Rattle.gimli_bytes.specs.Number.{low_bits, has_seven_bits}
+use Rattle.std.proofs.Common.{◌≡◌, arith, ◌∙◌}
 use Rattle.gimli_bytes.proofs.LebLemmas.{sleb_one}
 use Rattle.gimli_bytes.proofs.ShortestSleb.{sleb_shortest}
 use Rattle.gimli_bytes.proofs.writer.Writer.write_sleb128.Goals as goal
