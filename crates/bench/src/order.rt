@@ -20,7 +20,7 @@ pub(crate) const INDEX: u8 = 3;
 pub(crate) struct OrderOf<const WORK: u8>;
 
 impl<const WORK: u8> Endianity for OrderOf<WORK> {
-    ghost big = { λ _. false };
+    ghost is_big = { λ _. false };
 
     fn is_big_endian(self) -> bool {
         false

@@ -64,7 +64,7 @@ impl<'i> Reader for NarrowReader<'i> {
 
     ghost bytes = { λ r. ⟦<EndianSlice<'static, LittleEndian> as Reader>⟧.bytes r.left };
 
-    ghost big = { λ r. ⟦<EndianSlice<'static, LittleEndian> as Reader>⟧.big r.left };
+    ghost is_big = { λ r. ⟦<EndianSlice<'static, LittleEndian> as Reader>⟧.is_big r.left };
 
     fn endian(&self) -> LittleEndian {
         self.left.endian()

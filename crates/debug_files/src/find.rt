@@ -4,7 +4,7 @@
 use crate::debug_paths::debug_file_paths;
 use crate::missing::Missing;
 use crate::program_file::{ProgramFile, open};
-use crate::source::{Found, Source, Wanted};
+use crate::source::{Found, FoundSections, Wanted};
 use std::alloc::{AllocError, Global};
 use std::fs;
 use std::io::{Read, Seek};
@@ -62,7 +62,7 @@ fn find_apart<R: Files + AllocGlobal>(
     program: &mut ProgramFile<R::File>,
     wanted: Wanted,
     limit: Option<u64>,
-) -> Result<Source, Missing> {
+) -> Result<FoundSections, Missing> {
     let alloc = rt.alloc();
     let whole = whole_path(rt, path)?;
     let mut reasons = String::new(alloc);
@@ -110,7 +110,7 @@ fn try_each<R: Files + AllocGlobal>(
     places: &[String],
     search: Search<'_>,
     reasons: &mut String,
-) -> Result<Option<Source>, Missing> {
+) -> Result<Option<FoundSections>, Missing> {
     for place in places {
         match signed_source(rt, place, search) {
             Ok(source) => return Ok(Some(source)),
@@ -129,7 +129,7 @@ fn signed_source<R: Files + AllocGlobal>(
     rt: &R,
     place: &str,
     search: Search<'_>,
-) -> Result<Source, Missing> {
+) -> Result<FoundSections, Missing> {
     let alloc = rt.alloc();
     let mut file = open(rt, place, search.limit)?;
     check_sign(alloc, &mut file, search.sign)?;

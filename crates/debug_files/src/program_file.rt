@@ -6,7 +6,7 @@ ghost use Rattle.debug_files.specs.Outlines.{section_in, Holds};
 use crate::directories::need_units;
 use crate::missing::Missing;
 use crate::outline::{Outline, checksum, whole};
-use crate::source::{PathSections, Source, Wanted};
+use crate::source::{PathSections, FoundSections, Wanted};
 use elf_sections::usual_limit;
 use std::alloc::Global;
 use std::fs::File;
@@ -60,7 +60,7 @@ impl<F: Read + Seek> ProgramFile<F> {
         &mut self,
         alloc: Global,
         wanted: Wanted,
-    ) -> Result<Option<Source>, Missing>
+    ) -> Result<Option<FoundSections>, Missing>
         ensures { let outline = self.old.outline in let name = codes ".debug_line" in
             IfOk result (λ found. MatchOption found (section_in outline name ≡ Ok None)
             (λ source. Holds outline self.old.limit name source.lines.items)) }
@@ -83,7 +83,7 @@ impl<F: Read + Seek> ProgramFile<F> {
             Wanted::Symbols => sections.code_ends(alloc)?,
             _ => Vec::new(alloc),
         };
-        Ok(Some(Source {
+        Ok(Some(FoundSections {
             is_big_endian: sections.is_big_endian(),
             address_size: sections.address_size(),
             lowest,

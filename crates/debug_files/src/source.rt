@@ -36,14 +36,14 @@ pub enum Wanted {
 ///     Found::Whole(_) => request.kind,
 ///     Found::Sections(of) => {
 ///         let notation = Notation::new(of.is_big_endian, of.address_size, of.lowest, of.code_end);
-///         Kind::Raw(notation)
+///         InputKind::Raw(notation)
 ///     }
 /// };
 /// ```
 #[derive(Drop)]
 pub enum Found {
     /// The sections, of a program that is linked.
-    Sections(Source),
+    Sections(FoundSections),
     /// All bytes of an object file, whose sections are still to be relocated.
     Whole(Vec<u8>),
 }
@@ -55,7 +55,7 @@ pub enum Found {
 /// let notation = Notation::new(of.is_big_endian, of.address_size, of.lowest, of.code_end);
 /// ```
 #[derive(Drop)]
-pub struct Source {
+pub struct FoundSections {
     /// Whether the most significant byte of a number comes first.
     pub is_big_endian: bool,
     /// The bytes of an address: 4 or 8.

@@ -6,7 +6,7 @@ use Rattle.std.proofs.lemmas.Bool.Decides.{nat_tests}
 use Rattle.std.proofs.lemmas.List.{get_or-take, drop-take, take-take}
 use Rattle.std.specs.List.{range_with_len, starts_with}
 use Rattle.gimli_core.specs.Numbers.{value_of}
-use Rattle.gimli_core.specs.Order.{is_big}
+use Rattle.gimli_core.specs.Order.{is_big_endian}
 use Rattle.elf_sections.specs.Steps.{◌>>=◌}
 use Rattle.elf_sections.specs.Layout.{address_size, number_at, magic, class_of, order_of, layout_at}
 use Rattle.elf_sections.specs.Header.{header_size, header_fields, header_at}
@@ -30,7 +30,7 @@ same_part offset size n bytes h =
 
 pub number_in : (layout : Layout) (size offset n : ℕ) (bytes : List ℕ) → offset + size ≤ n
     → number_at layout size offset (take n bytes) ≡ number_at layout size offset bytes
-number_in layout size offset n bytes h = ap (value_of (is_big layout.order)) (same_part offset size n bytes h)
+number_in layout size offset n bytes h = ap (value_of (is_big_endian layout.order)) (same_part offset size n bytes h)
 
 -- ---- the header
 

@@ -14,7 +14,7 @@ use Rattle.elf_sections.specs.Table.{Table, section_headers, count_of, names_ind
 use Rattle.elf_sections.specs.Table.{names_at}
 use Rattle.elf_sections.specs.File.{File, file_at, bytes_in, section_named, section_at}
 use Rattle.elf_sections.specs.FileRange.{bytes_at, nowhere, range_in, or_refused, header_range}
-use Rattle.elf_sections.specs.Seeking.{Place, Listed, first_range, no_table, table_with, table_by, table_in}
+use Rattle.elf_sections.specs.Seeking.{TablePlace, Listed, first_range, no_table, table_with, table_by, table_in}
 use Rattle.elf_sections.specs.Seeking.{range_or_cut, names_of_header, names_in_table}
 use Rattle.elf_sections.specs.Seeking.{names_range, list_by, range_of, range_named, listed, listed_of, listed_at}
 use Rattle.elf_sections.specs.Seeking.{section_in, read_at}
@@ -89,7 +89,7 @@ names_found bytes table =
 
 -- ---- the sections, by a table
 
-abbrev with_table : Place → Table → List ℕ → Listed
+abbrev with_table : TablePlace → Table → List ℕ → Listed
 with_table place table names = record {
   layout = place.layout;
   kind = place.kind;
@@ -98,12 +98,12 @@ with_table place table names = record {
   names = names;
 }
 
-abbrev rest_of : List ℕ → Place → Result Listed ElfError
+abbrev rest_of : List ℕ → TablePlace → Result Listed ElfError
 rest_of bytes place =
     names_range place (bytes_at bytes place.range) >>= λ names.
     list_by place (bytes_at bytes place.range) (bytes_at bytes names)
 
-list_found : (bytes : List ℕ) (place : Place) (table : Table) → place.length ≡ length bytes
+list_found : (bytes : List ℕ) (place : TablePlace) (table : Table) → place.length ≡ length bytes
     → table_in place (bytes_at bytes place.range) ≡ Ok table
     → rest_of bytes place ≡ (names_at bytes table >>= λ names. Ok (with_table place table names))
 list_found bytes place table size is =
@@ -131,7 +131,7 @@ module _ (bytes : List ℕ) (layout : Layout) (header : Header) where
       }))
       >>= λ file. Ok (listed_of file)
 
-  at_place : (place : Place) (table : Table) → place.layout ≡ layout → place.kind ≡ header.kind
+  at_place : (place : TablePlace) (table : Table) → place.layout ≡ layout → place.kind ≡ header.kind
       → place.length ≡ length bytes
       → table_in place (bytes_at bytes place.range) ≡ Ok table → rest_of bytes place ≡ whole table
   at_place place table same kind size is =
@@ -165,7 +165,7 @@ module _ (bytes : List ℕ) (layout : Layout) (header : Header) where
   abbrev entries_range : FileRange
   entries_range = record { offset = header.table_offset; size = size }
 
-  abbrev place : Place
+  abbrev place : TablePlace
   place = record {
     layout = layout;
     kind = header.kind;

@@ -8,7 +8,7 @@ use borrow.Rule.Slice.PartMut.{put_mid}
 use Rattle.gimli_core.specs.Numbers.{number_bytes}
 
 -- the lowest byte of a number
-pub one_byte : (big : Bool) (n : ℕ) → number_bytes big 1 (n % 256) ≡ n % 256 ∷ []
+pub one_byte : (is_big : Bool) (n : ℕ) → number_bytes is_big 1 (n % 256) ≡ n % 256 ∷ []
 one_byte true n = ap (λ b. b ∷ []) (mod-mod n 256)
 one_byte false n = ap (λ b. b ∷ []) (mod-mod n 256)
 

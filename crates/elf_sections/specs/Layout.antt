@@ -3,7 +3,7 @@ use Rattle.std.specs.Prelude.{ℕ, ◌+◌, ◌%◌, ◌^◌, List, [], ◌∷�
 use Rattle.std.specs.Prelude.{slice_index, nat_eq, nat_lt, not, if◌then◌else◌, Result, Ok, Err}
 use Rattle.std.specs.List.{starts_with}
 use Rattle.gimli_core.specs.Numbers.{value_of, number_bytes}
-use Rattle.gimli_core.specs.Order.{is_big}
+use Rattle.gimli_core.specs.Order.{is_big_endian}
 use Rattle.gimli_core.specs.declared.endianity.RunTimeEndian.{RunTimeEndian}
 use Rattle.gimli_core.specs.declared.endianity.RunTimeEndian.TheVariants.{Little, Big}
 use Rattle.elf_sections.specs.Steps.{◌>>=◌}
@@ -26,12 +26,12 @@ address_size Elf64 = 8
 
 -- the number in so many bytes at an offset
 abbrev pub number_at : Layout → ℕ → ℕ → List ℕ → ℕ
-number_at layout size offset bytes = value_of (is_big layout.order) (take size (drop offset bytes))
+number_at layout size offset bytes = value_of (is_big_endian layout.order) (take size (drop offset bytes))
 
 -- the bytes in which the lowest so many bytes of a number stand at an offset
 abbrev pub with_number : Layout → ℕ → ℕ → ℕ → List ℕ → List ℕ
 with_number layout size offset n bytes =
-    take offset bytes ++ number_bytes (is_big layout.order) size (n % 256 ^ size)
+    take offset bytes ++ number_bytes (is_big_endian layout.order) size (n % 256 ^ size)
     ++ drop (offset + size) bytes
 
 -- the bytes that each file begins with: 7f, E, L and F

@@ -41,7 +41,7 @@ first_range file =
 
 -- where a table is: the file's header without what the table has no need of, and the numbers that
 -- the first entry may hold
-pub record Place : Type 0 where
+pub record TablePlace : Type 0 where
   pub layout : Layout
   pub kind : ℕ
   pub length : ℕ
@@ -50,7 +50,7 @@ pub record Place : Type 0 where
   pub count : ℕ
   pub names_index : ℕ
 
-abbrev pub no_table : FileHeader → Place
+abbrev pub no_table : FileHeader → TablePlace
 no_table file = record {
   layout = file.layout;
   kind = file.header.kind;
@@ -61,7 +61,7 @@ no_table file = record {
   names_index = 0;
 }
 
-abbrev pub table_with : FileHeader → SectionHeader → Result Place ElfError
+abbrev pub table_with : FileHeader → SectionHeader → Result TablePlace ElfError
 table_with file first =
     or_refused SectionTableCut
     (range_in file.header.table_offset (count_of file.header first * file.header.entry_size)
@@ -78,7 +78,7 @@ table_with file first =
     })
 
 -- by the bytes of the first entry
-abbrev pub table_by : FileHeader → List ℕ → Result Place ElfError
+abbrev pub table_by : FileHeader → List ℕ → Result TablePlace ElfError
 table_by file first =
     first_range file >>= λ range.
     if nat_eq file.header.table_offset 0 then Ok (no_table file)
@@ -86,7 +86,7 @@ table_by file first =
     else table_with file (section_header file.layout first))
 
 -- by the bytes of all entries
-abbrev pub table_in : Place → List ℕ → Result Table ElfError
+abbrev pub table_in : TablePlace → List ℕ → Result Table ElfError
 table_in place entries =
     if nat_lt (length entries) (place.count * place.entry_size) then Err SectionTableCut
     else Ok (record {
@@ -109,7 +109,7 @@ names_in_table length table =
     if nat_eq table.names_index 0 then Ok nowhere
     else names_of_header length (slice_get table.headers table.names_index)
 
-abbrev pub names_range : Place → List ℕ → Result FileRange ElfError
+abbrev pub names_range : TablePlace → List ℕ → Result FileRange ElfError
 names_range place entries = table_in place entries >>= λ table. names_in_table place.length table
 
 -- ---- the sections
@@ -122,7 +122,7 @@ pub record Listed : Type 0 where
   pub headers : List SectionHeader
   pub names : List ℕ
 
-abbrev pub list_by : Place → List ℕ → List ℕ → Result Listed ElfError
+abbrev pub list_by : TablePlace → List ℕ → List ℕ → Result Listed ElfError
 list_by place entries names =
     table_in place entries >>= λ table.
     Ok (record {

@@ -1,10 +1,10 @@
 -- What a table and a list of the program are.
-use Rattle.elf_sections.specs.Seeking.{Place, Listed}
+use Rattle.elf_sections.specs.Seeking.{TablePlace, Listed}
 use Rattle.elf_sections.specs.SectionTable.{table_of}
 use Rattle.elf_sections.specs.declared.seeking.FileTable.{FileTable}
 use Rattle.elf_sections.specs.declared.seeking.SectionList.{SectionList}
 
-abbrev pub place_of : FileTable → Place
+abbrev pub place_of : FileTable → TablePlace
 place_of table = record {
   layout = table.layout;
   kind = table.kind;

@@ -2,7 +2,7 @@
 
 ghost use Rattle.std.specs.Prelude.{◌≡◌, ◌≢◌, nat_eq, map, IfOk, IfErr, MatchOption, [], None};
 ghost use Rattle.std.specs.Option.{option_copied, option_map};
-ghost use Rattle.gimli_core.specs.Order.{is_big};
+ghost use Rattle.gimli_core.specs.Order.{is_big_endian};
 ghost use Rattle.gimli_core.specs.Reading.{result_map};
 ghost use Rattle.elf_sections.specs.Layout.{address_size};
 ghost use Rattle.elf_sections.specs.SectionHeader.{code_end_of};
@@ -82,7 +82,7 @@ impl<'a> Elf<'a> {
 
     /// Whether the most significant byte of a number comes first (`EI_DATA`).
     pub fn is_big_endian(&self) -> bool
-        ensures { result ≡ is_big (file_of self.now).layout.order }
+        ensures { result ≡ is_big_endian (file_of self.now).layout.order }
     {
         self.layout.order.is_big_endian()
     }

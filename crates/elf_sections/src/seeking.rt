@@ -8,7 +8,7 @@
 ghost use Rattle.std.specs.Prelude.{◌≡◌, ◌≤◌, ◌*◌, nat_eq, ℕ, List, MatchOption, []};
 ghost use Rattle.std.specs.Prelude.{map, IfOk};
 ghost use Rattle.std.specs.Option.{option_map, option_copied};
-ghost use Rattle.gimli_core.specs.Order.{is_big};
+ghost use Rattle.gimli_core.specs.Order.{is_big_endian};
 ghost use Rattle.gimli_core.specs.Reading.{result_map};
 ghost use Rattle.elf_sections.specs.Layout.{address_size};
 ghost use Rattle.elf_sections.specs.SectionHeader.{section_header_size, code_end_of};
@@ -286,7 +286,7 @@ impl<'a> SectionList<'a> {
 
     /// Whether the most significant byte of a number comes first (`EI_DATA`).
     pub fn is_big_endian(&self) -> bool
-        ensures { result ≡ is_big (list_of self.now).layout.order }
+        ensures { result ≡ is_big_endian (list_of self.now).layout.order }
     {
         self.layout.order.is_big_endian()
     }

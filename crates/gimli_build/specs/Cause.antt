@@ -126,9 +126,9 @@ size_of (Err e) = 0
 -- how many bytes the unit length counts: the version and what stands with it, the header length and
 -- what it counts, and the instructions
 abbrev pub unit_length : Bool → Built → StringTables → ℕ
-unit_length big p texts =
+unit_length is_big p texts =
     (if nat_le p.encoding.version 4 then 2 else 4) + word_size p.encoding.format
-    + header_length p texts + size_of (program_bytes plain big p)
+    + header_length p texts + size_of (program_bytes plain is_big p)
 
 -- the greatest words of the 32-bit format are reserved
 abbrev pub unit_length_cause : Format → ℕ → Option Error
@@ -141,7 +141,7 @@ unit_length_cause Dwarf64 n = None
 
 -- why a program can't be written for a unit of this encoding, with these tables
 abbrev pub first_cause : Bool → Encoding → Built → StringTables → Option Error
-first_cause big unit p handed =
+first_cause is_big unit p handed =
     let texts = texts_after p handed in
     first_of (
     cause_if (is_incompatible unit p.encoding) IncompatibleLineProgramEncoding
@@ -154,7 +154,7 @@ first_cause big unit p handed =
     ∷ first_of (map (text_cause p.encoding.format texts) (emitted_texts p texts))
     ∷ word_cause p.encoding.format (header_length p texts)
     ∷ first_of (map (item_cause p.encoding.address_size) p.items)
-    ∷ unit_length_cause p.encoding.format (unit_length big p texts)
+    ∷ unit_length_cause p.encoding.format (unit_length is_big p texts)
     ∷ [])
 
 -- what bytes are refused for

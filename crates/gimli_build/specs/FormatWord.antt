@@ -7,4 +7,4 @@ use Rattle.gimli_bytes.specs.declared.error.Error.{Error}
 
 -- four bytes in the 32-bit format; eight in the 64-bit format, which hold the length of any section
 abbrev pub format_word : Bool → Format → ℕ → Result (List ℕ) Error
-format_word big format n = section_word big n (word_size format)
+format_word is_big format n = section_word is_big n (word_size format)

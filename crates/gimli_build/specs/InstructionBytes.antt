@@ -59,9 +59,9 @@ instructions_bytes list = flat_map instruction_bytes list
 
 -- a set address, by a hand
 abbrev pub set_address_bytes : Hand → Bool → Address → ℕ → Result (List ℕ) Error
-set_address_bytes hand big address size =
+set_address_bytes hand is_big address size =
     result_map (λ operand. 0 ∷ uleb (size + 1) ++ DW_LNE_set_address ∷ operand)
-    (hand.address big address size)
+    (hand.address is_big address size)
 
 -- an instruction that rows and ends are written with, whose operand 64 bits hold
 abbrev pub IsWritten : Ins → Type 0

@@ -75,20 +75,20 @@ AddressesFit size base position (End offset op_index ∷ items) =
 
 abbrev pub item_bytes : Hand → Bool → Encoding → LineEncoding → LineRow → BuiltItem
     → Result (List ℕ) Error
-item_bytes hand big encoding e previous (SetAddress a) =
-    set_address_bytes hand big a encoding.address_size
-item_bytes hand big encoding e previous (Row r) =
+item_bytes hand is_big encoding e previous (SetAddress a) =
+    set_address_bytes hand is_big a encoding.address_size
+item_bytes hand is_big encoding e previous (Row r) =
     Ok (instructions_bytes (row_instructions encoding.version e previous r))
-item_bytes hand big encoding e previous (End offset op_index) =
+item_bytes hand is_big encoding e previous (End offset op_index) =
     Ok (instructions_bytes (end_instructions e previous offset op_index))
 
 -- items, from the row before the first, or the refusal of the first set address that has one
 abbrev pub items_bytes : Hand → Bool → Encoding → LineEncoding → LineRow → List BuiltItem
     → Result (List ℕ) Error
-items_bytes hand big encoding e previous [] = Ok []
-items_bytes hand big encoding e previous (item ∷ items) =
-    result_append (item_bytes hand big encoding e previous item)
-    (items_bytes hand big encoding e
+items_bytes hand is_big encoding e previous [] = Ok []
+items_bytes hand is_big encoding e previous (item ∷ items) =
+    result_append (item_bytes hand is_big encoding e previous item)
+    (items_bytes hand is_big encoding e
     (next_previous encoding.version e.default_is_stmt previous item) items)
 
 -- 64 bits hold the numbers of the rows, as they do in any program

@@ -1,7 +1,7 @@
 -- A run that defines no file.
 use Rattle.std.specs.Prelude.{◌≡◌, Bool, false, List, None, All}
 use Rattle.gimli_line.specs.header.Header.{Header}
-use Rattle.gimli_line.specs.header.Orders.{Source}
+use Rattle.gimli_line.specs.header.Orders.{HeaderSource}
 use Rattle.gimli_line.specs.run.Instruction.{Ins, defines_file}
 use Rattle.gimli_line.specs.run.InstructionGrammar.{Decodes}
 use Rattle.gimli_line.specs.run.RunState.{RunState}
@@ -11,10 +11,10 @@ use Rattle.gimli_line.specs.run.Unread.{whole_program}
 -- what is left of the program is whole instructions, and none of them defines a file
 pub record DefinesNoFile (a : RunState) : Type 0 where
   pub list : List Ins
-  pub decoding : Decodes a.unread.notation a.fixed a.unread.bytes list None
+  pub decoding : Decodes a.unread.layout a.fixed a.unread.bytes list None
   pub none : All (λ i. defines_file i ≡ false) list
 
 -- rows at the start of the program of a header
-abbrev pub program_started : Bool → Header → Source → RunState
+abbrev pub program_started : Bool → Header → HeaderSource → RunState
 program_started appends h source =
-    start_of_run appends h source (whole_program h source.notation)
+    start_of_run appends h source (whole_program h source.layout)

@@ -2,7 +2,7 @@
 use Rattle.std.specs.Prelude.{◌≡◌, ℕ, ◌-◌, ◌<◌, ◌≤◌, All, List, [], ◌++◌, length, map, slice_get}
 use Rattle.std.specs.Prelude.{Bool, false, None, option_map, nat_le, if◌then◌else◌, IfSome}
 use Rattle.std.specs.Option.{option_to_list}
-use Rattle.gimli_core.specs.Notation.{Notation}
+use Rattle.gimli_core.specs.Layout.{OrderAndLimit}
 use Rattle.gimli_core.specs.Values.{Value}
 use Rattle.gimli_core.specs.declared.common.Format.TheVariants.{Dwarf64}
 use Rattle.gimli_core.specs.declared.common.SectionId.TheVariants.{DebugStr, DebugLineStr}
@@ -10,7 +10,7 @@ use Rattle.gimli_core.specs.declared.attribute_value.AttributeValue.TheVariants.
 use Rattle.gimli_line.specs.declared.header.file_entry.FileEntryFormat.{FileEntryFormat}
 use Rattle.gimli_build.specs.Version5Tables.{directory_formats, file_formats}
 use Rattle.gimli_line.specs.header.Header.{Header, UnitEntry}
-use Rattle.gimli_line.specs.header.HeaderGrammar.{Opening, header_production, fields_production}
+use Rattle.gimli_line.specs.header.HeaderGrammar.{HeaderOpening, header_production, fields_production}
 use Rattle.gimli_line.specs.header.File.{File as ReadFile}
 use Rattle.gimli_line.specs.run.InstructionGrammar.{Decodes}
 use Rattle.gimli_line.specs.run.Events.{Events, row}
@@ -30,16 +30,16 @@ use Rattle.gimli_build.specs.Cause.{emitted_texts}
 
 -- the bytes are a unit with this header and nothing after it, and between the tables and the
 -- program there is nothing
-pub record IsUnit (notation : Notation) (unit_entry : UnitEntry) (unit : List ℕ) (h : Header)
+pub record IsUnit (layout : OrderAndLimit) (unit_entry : UnitEntry) (unit : List ℕ) (h : Header)
     : Type 0 where
-  pub spelled : (header_production notation unit_entry).Spells unit h
+  pub spelled : (header_production layout unit_entry).Spells unit h
   -- the version, the header length and so on; its `fields` are the bytes that the header length
   -- counts
-  pub opening : Opening
+  pub opening : HeaderOpening
   pub before : List ℕ
   pub parts : unit ≡ before ++ opening.fields ++ h.program
   pub whole : length opening.fields ≡ h.header_length
-  pub no_slack : (fields_production notation unit_entry h.unit_length opening h.program).Spells
+  pub no_slack : (fields_production layout unit_entry h.unit_length opening h.program).Spells
       opening.fields h
 
 -- the directories from index 0 on: up to version 4 the one that was handed is the first
@@ -72,26 +72,26 @@ pub record IsFile (sections : Sections) (p : Built) (texts : StringTables) (read
   pub source : IsOptionalText sections read.source (stored_details p texts built.1).source
 
 -- the program of a header is the instructions of a built program, and nothing else
-abbrev pub DecodesAs : Notation → Header → Built → Type 0
-DecodesAs notation h p = Decodes notation h h.program (program_instructions p) None
+abbrev pub DecodesAs : OrderAndLimit → Header → Built → Type 0
+DecodesAs layout h p = Decodes layout h h.program (program_instructions p) None
 
 -- the bytes are a unit, and what is read of it is what was built: the encodings, the directories
 -- and the files with these tables and these sections, and the instructions of each item, up to the
 -- end of the program. Where addresses hold the items, and none is a tombstone, its events are the
 -- built rows and ends
-pub record ReadsBack (notation : Notation) (unit_entry : UnitEntry) (sections : Sections)
+pub record ReadsBack (layout : OrderAndLimit) (unit_entry : UnitEntry) (sections : Sections)
     (p : Built) (texts : StringTables) (unit : List ℕ) : Type 0 where
   pub header : Header
-  pub is_unit : IsUnit notation unit_entry unit header
+  pub is_unit : IsUnit layout unit_entry unit header
   pub parameters : header.parameters ≡ built_rules p.encoding p.line_encoding
   pub counts : header.operand_counts ≡ operand_counts
   pub formats : nat_le p.encoding.version 4 ≡ false → AreFormats p header
   pub directories : OneByOne (IsDirectory sections texts) (directories_from_zero header)
       p.directories
   pub files : OneByOne (IsFile sections p texts) header.files p.files
-  pub decoding : DecodesAs notation header p
+  pub decoding : DecodesAs layout header p
   pub rows : AddressesFit p.encoding.address_size 0 (0, 0) p.items
-      → (rows : List ReadRow) × Events notation header header.program (map row rows)
+      → (rows : List ReadRow) × Events layout header header.program (map row rows)
       × RowsMatch p.encoding.version [] p.items rows
 
 -- an offset of a reader is below this limit, and holds what the offset of a text becomes
@@ -117,30 +117,30 @@ IsFound sections at texts (InLineStrings i) =
 -- how such a unit has to be read: in the order in which it was written, with its address size, up
 -- to version 4 with the working directory, and beside sections in which its offsets, as they are
 -- placed, lead to its texts; by a reader whose offsets hold the numbers of the unit
-pub record IsReadWell (at : Placement) (notation : Notation) (unit_entry : UnitEntry)
-    (sections : Sections) (big : Bool) (p : Built) (texts : StringTables) (unit : List ℕ)
+pub record IsReadWell (at : Placement) (layout : OrderAndLimit) (unit_entry : UnitEntry)
+    (sections : Sections) (is_big : Bool) (p : Built) (texts : StringTables) (unit : List ℕ)
     : Type 0 where
-  pub order : notation.big ≡ big
+  pub order : layout.is_big ≡ is_big
   pub address_size : unit_entry.address_size ≡ p.encoding.address_size
   pub directory : p.encoding.version ≤ 4
       → unit_entry.directory ≡ option_map (bytes_in texts) (slice_get p.directories 0)
   pub texts_found : 5 ≤ p.encoding.version
       → All (λ t. IsFound sections at texts t.1) (emitted_texts p texts)
   -- an extended instruction has at most 11 bytes after its length
-  pub instructions_held : 11 < notation.limit
+  pub instructions_held : 11 < layout.limit
   -- any offset holds a word of the 32-bit format; in the 64-bit format the unit length counts all
   -- but the first 12 bytes
-  pub length_held : p.encoding.format ≡ Dwarf64 → length unit - 12 < notation.limit
+  pub length_held : p.encoding.format ≡ Dwarf64 → length unit - 12 < layout.limit
   -- and from version 5 on, a text may be an offset
   pub texts_held : 5 ≤ p.encoding.version → p.encoding.format ≡ Dwarf64
-      → All (λ t. IsOffsetHeld notation.limit at texts t.1) (emitted_texts p texts)
+      → All (λ t. IsOffsetHeld layout.limit at texts t.1) (emitted_texts p texts)
 
 -- whoever reads these bytes well, with the offsets of texts so placed, reads the program back
 abbrev pub ReadsBackAt : Placement → Bool → Built → StringTables → List ℕ → Type 0
-ReadsBackAt at big p texts unit =
-    (notation : Notation) (unit_entry : UnitEntry) (sections : Sections)
-    → IsReadWell at notation unit_entry sections big p texts unit
-    → ReadsBack notation unit_entry sections p texts unit
+ReadsBackAt at is_big p texts unit =
+    (layout : OrderAndLimit) (unit_entry : UnitEntry) (sections : Sections)
+    → IsReadWell at layout unit_entry sections is_big p texts unit
+    → ReadsBack layout unit_entry sections p texts unit
 
 -- or as they are written
 abbrev pub ReadsBackAs : Bool → Built → StringTables → List ℕ → Type 0

@@ -30,14 +30,14 @@ use Rattle.gimli_build.specs.Built.{Built}
 -- ---- the fixed fields
 
 abbrev pub version_bytes : Bool → ℕ → Result (List ℕ) Error
-version_bytes big version =
-    if nat_le 2 version && nat_le version 5 then Ok (number_bytes big 2 version)
+version_bytes is_big version =
+    if nat_le 2 version && nat_le version 5 then Ok (number_bytes is_big 2 version)
     else Err (UnsupportedVersion version)
 
 -- the version, and in version 5 the address size and a segment selector size of 0
 abbrev pub opening_bytes : Bool → Encoding → Result (List ℕ) Error
-opening_bytes big encoding =
-    result_append (version_bytes big encoding.version)
+opening_bytes is_big encoding =
+    result_append (version_bytes is_big encoding.version)
     (Ok (if nat_le encoding.version 4 then [] else encoding.address_size ∷ 0 ∷ []))
 
 -- how many operations an instruction of the machine has: before version 4 it is one, and no byte
@@ -73,18 +73,18 @@ opcode_bytes = built_opcode_base ∷ operand_counts
 
 -- what tells the format, in front of the word of a length
 abbrev pub escape_bytes : Bool → Format → List ℕ
-escape_bytes big Dwarf32 = []
-escape_bytes big Dwarf64 = number_bytes big 4 0xffff_ffff
+escape_bytes is_big Dwarf32 = []
+escape_bytes is_big Dwarf64 = number_bytes is_big 4 0xffff_ffff
 
 -- by a hand, which writes addresses and the offsets of texts; `plain` writes them as numbers
-module _ (hand : Hand) (big : Bool) where
+module _ (hand : Hand) (is_big : Bool) where
   -- the directories and the files
   abbrev pub tables_bytes : Built → StringTables → Result (List ℕ) Error
   tables_bytes p texts =
       if nat_le p.encoding.version 4
       then result_append (directories_bytes p.directories) (files_bytes p.files)
-      else result_append (directory_table_bytes hand big p.encoding.format texts p)
-      (file_table_bytes hand big p.encoding.format texts p)
+      else result_append (directory_table_bytes hand is_big p.encoding.format texts p)
+      (file_table_bytes hand is_big p.encoding.format texts p)
 
   -- what the header length counts
   abbrev pub fields_bytes : Built → StringTables → Result (List ℕ) Error
@@ -96,26 +96,26 @@ module _ (hand : Hand) (big : Bool) where
   -- the header length, and what it counts
   abbrev pub header_bytes : Built → StringTables → Result (List ℕ) Error
   header_bytes p texts =
-      after_length (λ n. format_word big p.encoding.format n) (fields_bytes p texts)
+      after_length (λ n. format_word is_big p.encoding.format n) (fields_bytes p texts)
 
   -- the instructions
   abbrev pub program_bytes : Built → Result (List ℕ) Error
   program_bytes p =
-      items_bytes hand big p.encoding p.line_encoding
+      items_bytes hand is_big p.encoding p.line_encoding
       (initial_row p.encoding.version p.line_encoding.default_is_stmt) p.items
 
   -- what the unit length counts
   abbrev pub inside_bytes : Built → StringTables → Result (List ℕ) Error
   inside_bytes p texts =
-      result_append (opening_bytes big p.encoding)
+      result_append (opening_bytes is_big p.encoding)
       (result_append (header_bytes p texts) (program_bytes p))
 
   -- the unit length, and what it counts
   abbrev pub whole_bytes : Built → StringTables → Result (List ℕ) Error
   whole_bytes p texts =
       after_length
-      (λ n. result_append (Ok (escape_bytes big p.encoding.format))
-      (length_word big p.encoding.format n))
+      (λ n. result_append (Ok (escape_bytes is_big p.encoding.format))
+      (length_word is_big p.encoding.format n))
       (inside_bytes p texts)
 
 -- a unit of this encoding has no line program of that one: up to version 4 a file number is never
@@ -128,6 +128,6 @@ is_incompatible unit program =
 -- what is written of a program for a unit of this encoding, with these tables of strings and line
 -- strings, which gain the empty text where it is needed
 abbrev pub unit_bytes : Hand → Bool → Encoding → Built → StringTables → Result (List ℕ) Error
-unit_bytes hand big unit p texts =
+unit_bytes hand is_big unit p texts =
     if is_incompatible unit p.encoding then Err IncompatibleLineProgramEncoding
-    else whole_bytes hand big p (texts_after p texts)
+    else whole_bytes hand is_big p (texts_after p texts)

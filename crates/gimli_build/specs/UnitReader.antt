@@ -1,6 +1,6 @@
 -- How the instructions of a built program are spelled in a unit.
 use Rattle.std.specs.Prelude.{◌≡◌, ℕ, ◌<◌, ◌^◌, List, Result}
-use Rattle.gimli_core.specs.Notation.{Notation}
+use Rattle.gimli_core.specs.Layout.{OrderAndLimit}
 use Rattle.gimli_core.specs.Production.{Each}
 use Rattle.gimli_bytes.specs.Hand.{plain}
 use Rattle.gimli_bytes.specs.declared.address.Address.TheVariants.{Constant}
@@ -20,14 +20,14 @@ use Rattle.gimli_build.specs.Runs.{Run, Follows, position_of}
 -- a reader at a unit: the header has the opcode base of what is built, and the reader's offsets
 -- hold the length of the longest instruction
 pub record UnitReader : Type 0 where
-  pub notation : Notation
+  pub layout : OrderAndLimit
   pub header : Header
   pub opcode_base : header.parameters.opcode_base ≡ built_opcode_base
-  pub longest : 11 < notation.limit
+  pub longest : 11 < layout.limit
 
 -- the bytes are a spelling of the instruction there
 abbrev pub Spells : UnitReader → List ℕ → Ins → Type 0
-Spells u bytes i = SpellsInstruction u.notation u.header bytes i
+Spells u bytes i = SpellsInstruction u.layout u.header bytes i
 
 -- the bytes are the spellings of these instructions there, one after the other
 abbrev pub AreSpelled : UnitReader → List Ins → List ℕ → Type 0
@@ -38,13 +38,13 @@ AreSpelled u instructions bytes = Each (Spells u) bytes instructions
 -- the bytes of a set address, or their refusal
 abbrev pub bytes_of_address : UnitReader → ℕ → Result (List ℕ) Error
 bytes_of_address u address =
-    set_address_bytes plain u.notation.big (Constant address)
+    set_address_bytes plain u.layout.is_big (Constant address)
     u.header.parameters.encoding.address_size
 
 -- the bytes of items, or the first refusal
 abbrev pub bytes_of_items : UnitReader → Run → List BuiltItem → Result (List ℕ) Error
 bytes_of_items u here items =
-    items_bytes plain u.notation.big here.encoding here.line_encoding here.previous items
+    items_bytes plain u.layout.is_big here.encoding here.line_encoding here.previous items
 
 -- ---- what can be written
 

@@ -100,14 +100,14 @@ detail_bytes p f =
     ++ (if p.file_has_md5 then f.1.md5 else [])
 
 -- each by a hand, which writes the offsets of texts
-module _ (hand : Hand) (big : Bool) (format : Format) (texts : StringTables) where
+module _ (hand : Hand) (is_big : Bool) (format : Format) (texts : StringTables) where
   -- a text: its bytes and a zero byte, or its offset in the section of its table
   abbrev pub text_bytes : LineText → Result (List ℕ) Error
   text_bytes (Inline text) = Ok (text ++ 0 ∷ [])
   text_bytes (InStrings i) =
-      hand.offset big DebugStr (offset_of texts.strings i) (word_size format)
+      hand.offset is_big DebugStr (offset_of texts.strings i) (word_size format)
   text_bytes (InLineStrings i) =
-      hand.offset big DebugLineStr (offset_of texts.line_strings i) (word_size format)
+      hand.offset is_big DebugLineStr (offset_of texts.line_strings i) (word_size format)
 
   -- a text of a table whose texts have this form
   abbrev pub text_in_form : ℕ → LineText → Result (List ℕ) Error

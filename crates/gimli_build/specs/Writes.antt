@@ -12,7 +12,7 @@ pub record WritesOr {W X : Type 0} (sink : Ghosts W) (Own : Error → Type 0) (o
     (result : Result X Error) (wanted : Hand → Result (List ℕ) Error) : Type 0 where
   -- whatever the writer, also where the call is refused
   pub keeps : Begins (sink.contents old) (sink.contents new)
-  pub ordered : sink.big new ≡ sink.big old
+  pub ordered : sink.is_big new ≡ sink.is_big old
   pub stays : IsTrue (sink.completes old) → IsTrue (sink.completes new)
   -- of a writer that keeps its bytes: the wanted bytes come after the old ones; or the refusal is
   -- for memory, or is one of the call's own, or is what is wanted

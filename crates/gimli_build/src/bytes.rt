@@ -31,7 +31,7 @@ pub(crate) fn write_section_offset<W: Writer>(
     section: SectionId,
 ) -> Result<()>
     ensures { Writes W.Sink w.old w.new result
-        (λ hand. hand.offset (W.big w.old) section offset (word_size format)) }
+        (λ hand. hand.offset (W.is_big w.old) section offset (word_size format)) }
 {
     w.write_offset(offset, section, format.word_size())
 }

@@ -6,7 +6,7 @@ ghost use Rattle.std.specs.Prelude.{◌≡◌, ℕ, Bool, false, All, ◌≤◌,
 ghost use Rattle.std.specs.Prelude.{IfOk};
 ghost use Rattle.std.specs.Bool.{Decides};
 ghost use Rattle.gimli_core.specs.Equality.{ClonesGiveSame, IsSameClone};
-ghost use Rattle.gimli_core.specs.Notation.{Notation};
+ghost use Rattle.gimli_core.specs.Layout.{OrderAndLimit};
 ghost use Rattle.gimli_bytes.specs.HashAlike.{HashAlike};
 ghost use Rattle.gimli_core.specs.declared.error.Error.{Error};
 ghost use Rattle.gimli_core.specs.declared.error.Error.TheVariants.{AddressOverflow};
@@ -16,11 +16,11 @@ ghost use Rattle.gimli_bytes.specs.declared.error.Error.TheVariants.{OutOfMemory
 ghost use Rattle.gimli_core.specs.declared.common.Encoding.{Encoding};
 ghost use Rattle.gimli_core.specs.declared.common.LineEncoding.{LineEncoding};
 ghost use Rattle.gimli_line.specs.header.Header.{Header};
-ghost use Rattle.gimli_line.specs.header.Orders.{Source};
+ghost use Rattle.gimli_line.specs.header.Orders.{HeaderSource};
 ghost use Rattle.gimli_line.specs.run.Instruction.{Ins, defines_file};
 ghost use Rattle.gimli_line.specs.run.Events.{Event, row};
 ghost use Rattle.gimli_line.specs.run.RunState.{RunState};
-ghost use Rattle.gimli_line.specs.run.Progress.{with_reset_row, Progress};
+ghost use Rattle.gimli_line.specs.run.Passing.{with_reset_row, PassesOver};
 ghost use Rattle.gimli_line.specs.run.Rows.{live_events, FaultIs};
 ghost use Rattle.gimli_line.specs.run.Machine.{initial};
 ghost use Rattle.gimli_line.specs.declared.run.instruction.LineInstruction.TheVariants.{SetAddress};
@@ -170,10 +170,10 @@ pub fn items_define_no_file()
 /// is left once the run has gone on; and `next_row` is refused by `AddressOverflow` alone then,
 /// never by `OutOfMemory`.
 pub fn written_rows_take_no_memory()
-    ensures start { (source : Source) (h : Header) (p : Built) → DecodesAs source.notation h p →
+    ensures start { (source : HeaderSource) (h : Header) (p : Built) → DecodesAs source.layout h p →
         (appends : Bool) → DefinesNoFile (program_started appends h source) }
     ensures goes { (old new : RunState) (events : List Event) → DefinesNoFile old →
-        Progress old new events → DefinesNoFile new }
+        PassesOver old new events → DefinesNoFile new }
     ensures refused { (old new : RunState) (e : Error) → DefinesNoFile old →
         FaultIs live_events (with_reset_row old) new e → e ≡ AddressOverflow }
 {}
@@ -234,14 +234,14 @@ pub fn equal_texts_hash_alike()
 /// is written, as numbers, of the same program with its symbols replaced; an offset of a text is
 /// what the linker makes of it, and the number itself where its section begins at 0.
 pub fn placed_units_are_numbers()
-    ensures counted { (at : Placement) (big : Bool) (unit : Encoding) (p : Built)
+    ensures counted { (at : Placement) (is_big : Bool) (unit : Encoding) (p : Built)
         (handed : StringTables) → SumsFit at p (texts_after p handed) →
-        unit_bytes (placed at) big unit p handed
-        ≡ unit_bytes (counted at) big unit (placed_program at p) handed }
-    ensures plain { (at : Placement) (big : Bool) (unit : Encoding) (p : Built)
+        unit_bytes (placed at) is_big unit p handed
+        ≡ unit_bytes (counted at) is_big unit (placed_program at p) handed }
+    ensures plain { (at : Placement) (is_big : Bool) (unit : Encoding) (p : Built)
         (handed : StringTables) → SumsFit at p (texts_after p handed) → TextsBeginAtZero at →
-        unit_bytes (placed at) big unit p handed
-        ≡ unit_bytes plain big unit (placed_program at p) handed }
+        unit_bytes (placed at) is_big unit p handed
+        ≡ unit_bytes plain is_big unit (placed_program at p) handed }
 {}
 
 /// The texts that a program refers to are found, as `linked` and `reads_back` ask, in sections that

@@ -55,21 +55,21 @@ impl LineProgram {
     ) -> Result<DebugLineOffset>
         requires { CanWrite self.now (texts_in strings.old line_strings.old) }
         ensures writes { WritesOr W.Sink (OfMemoryOr W.refuses) w.old.0 w.new.0 result
-            (λ hand. unit_bytes hand (W.big w.old.0) encoding self.now
+            (λ hand. unit_bytes hand (W.is_big w.old.0) encoding self.now
             (texts_in strings.old line_strings.old)) }
         ensures offset { IfOk result (λ offset. offset.0 ≡ length (W.contents w.old.0)) }
         ensures reads_back { IsTrue W.keeps_bytes → OnOk result (AppendsThat
-            (ReadsBackAs (W.big w.old.0) self.now (texts_in strings.new line_strings.new))
+            (ReadsBackAs (W.is_big w.old.0) self.now (texts_in strings.new line_strings.new))
             (W.contents w.old.0) (W.contents w.new.0)) }
         ensures linked { (at : Placement) → IsTrue (W.completes w.old.0) → W.hand at ≡ placed at →
             SumsFit at self.now (texts_in strings.new line_strings.new) →
             OnOk result
-            (AppendsThat (ReadsBackAt at (W.big w.old.0) (placed_program at self.now)
+            (AppendsThat (ReadsBackAt at (W.is_big w.old.0) (placed_program at self.now)
             (texts_in strings.new line_strings.new))
             (W.completed at w.old.0) (W.completed at w.new.0)) }
-        ensures cause { first_cause (W.big w.old.0) encoding self.now
+        ensures cause { first_cause (W.is_big w.old.0) encoding self.now
             (texts_in strings.old line_strings.old)
-            ≡ refusal (unit_bytes plain (W.big w.old.0) encoding self.now
+            ≡ refusal (unit_bytes plain (W.is_big w.old.0) encoding self.now
             (texts_in strings.old line_strings.old)) }
         ensures incompatible { IsTrue (is_incompatible encoding self.now.encoding) →
             (result ≡ Err Error.IncompatibleLineProgramEncoding) × (w.new ≡ w.old) }
@@ -100,7 +100,7 @@ fn is_incompatible(unit: Encoding, program: Encoding) -> bool
 /// Appends the unit length, and what it counts.
 fn write_whole<W: Writer>(w: &mut W, input: &UnitInput<'_>) -> Result<()>
     ensures writes { Writes W.Sink w.old w.new result
-        (λ hand. whole_bytes hand (W.big w.old) input.now.program input.now.texts) }
+        (λ hand. whole_bytes hand (W.is_big w.old) input.now.program input.now.texts) }
     ensures built { OnOk result (IsBuilt input.now.program) }
     ensures short { OnOk result (length (W.contents w.new) < 2 ^ 64) }
     ensures completed_short { (at : Placement) → IsTrue (W.completes w.old) → OnOk result
@@ -117,7 +117,7 @@ fn write_whole<W: Writer>(w: &mut W, input: &UnitInput<'_>) -> Result<()>
 /// Appends what the unit length counts: the version, the header, and the instructions.
 fn write_inside<W: Writer>(w: &mut W, input: &UnitInput<'_>) -> Result<()>
     ensures writes { Writes W.Sink w.old w.new result
-        (λ hand. inside_bytes hand (W.big w.old) input.now.program input.now.texts) }
+        (λ hand. inside_bytes hand (W.is_big w.old) input.now.program input.now.texts) }
     ensures built { OnOk result (IsBuilt input.now.program) }
 {
     let program = input.program();
@@ -133,7 +133,7 @@ fn write_inside<W: Writer>(w: &mut W, input: &UnitInput<'_>) -> Result<()>
 
 /// Appends the version, and in version 5 the address size and a segment selector size of 0.
 fn write_opening<W: Writer>(w: &mut W, encoding: Encoding) -> Result<()>
-    ensures { Writes W.Sink w.old w.new result (always (opening_bytes (W.big w.old) encoding)) }
+    ensures { Writes W.Sink w.old w.new result (always (opening_bytes (W.is_big w.old) encoding)) }
 {
     write_version(w, encoding.version)?;
     if encoding.version <= 4 {
@@ -144,7 +144,7 @@ fn write_opening<W: Writer>(w: &mut W, encoding: Encoding) -> Result<()>
 
 /// Appends the version.
 fn write_version<W: Writer>(w: &mut W, version: u16) -> Result<()>
-    ensures { Writes W.Sink w.old w.new result (always (version_bytes (W.big w.old) version)) }
+    ensures { Writes W.Sink w.old w.new result (always (version_bytes (W.is_big w.old) version)) }
 {
     if !(2..=5).contains(&version) {
         return Err(Error::UnsupportedVersion(version));

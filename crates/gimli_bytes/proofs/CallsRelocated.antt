@@ -74,25 +74,25 @@ size_short size is = by (cases_lt 8 size)
     by (inr short) = short
 
 -- what is known of a size where a number of it is written
-pub record Sized (big : Bool) (m size : ℕ) (word : List ℕ) : Type 0 where
+pub record Sized (is_big : Bool) (m size : ℕ) (word : List ℕ) : Type 0 where
   pub short : size ≤ 8
   pub small : m < 256 ^ size
-  pub word_is : word ≡ number_bytes big size m
-  pub other : (n : ℕ) → n < 256 ^ size → udata big n size ≡ Ok (number_bytes big size n)
+  pub word_is : word ≡ number_bytes is_big size m
+  pub other : (n : ℕ) → n < 256 ^ size → udata is_big n size ≡ Ok (number_bytes is_big size n)
 
-udata_parts : (big : Bool) (m size : ℕ) (word : List ℕ) → udata big m size ≡ Ok word
-    → Sized big m size word
-udata_parts big m size word h = grind arith
+udata_parts : (is_big : Bool) (m size : ℕ) (word : List ℕ) → udata is_big m size ≡ Ok word
+    → Sized is_big m size word
+udata_parts is_big m size word h = grind arith
 
 -- ---- places
 
 -- a linker puts this number where a place with this addend stands
 abbrev pub PutsNumber : Placement → Relocatable → RelocationTarget → ℤ → ℕ → ℕ → Type 0
 PutsNumber p v target z size n = size ≤ 8 → number_in_place v.addends z size < 256 ^ size
-    → number_bytes v.big size
-    (place_of p target ((cast_unsigned w64 (addend_in_list v.addends z) + value_of v.big
-    (number_bytes v.big size (number_in_place v.addends z size))) % 256 ^ size))
-    ≡ number_bytes v.big size n
+    → number_bytes v.is_big size
+    (place_of p target ((cast_unsigned w64 (addend_in_list v.addends z) + value_of v.is_big
+    (number_bytes v.is_big size (number_in_place v.addends z size))) % 256 ^ size))
+    ≡ number_bytes v.is_big size n
 
 pub puts_sum : (p : Placement) (v : Relocatable) (target : RelocationTarget) (z : ℤ)
     (size n : ℕ)
@@ -100,9 +100,9 @@ pub puts_sum : (p : Placement) (v : Relocatable) (target : RelocationTarget) (z 
     → PutsNumber p v target z size n
 puts_sum p v target z size n is =
     λ short small.
-    ap (λ k. number_bytes v.big size (place_of p target k)) (addend_is _ _ z _ small)
+    ap (λ k. number_bytes v.is_big size (place_of p target k)) (addend_is _ _ z _ small)
     ∙ number-mod _ _ _
-    ∙ ap (number_bytes v.big size) (is short)
+    ∙ ap (number_bytes v.is_big size) (is short)
 
 pub puts_lowest : (p : Placement) (v : Relocatable) (target : RelocationTarget) (z : ℤ) (size : ℕ)
     → PutsNumber p v target z size
@@ -111,31 +111,31 @@ puts_lowest p v target z size = puts_sum p v target z size _ (λ short. refl)
 
 -- what a call leaves that writes this number once the relocations are applied
 pub record Puts (p : Placement) (v w : Relocatable) (size n : ℕ) : Type 0 where
-  pub wanted : udata v.big n size ≡ Ok (number_bytes v.big size n)
-  pub bytes_are : applied p w ≡ applied p v ++ number_bytes v.big size n
+  pub wanted : udata v.is_big n size ≡ Ok (number_bytes v.is_big size n)
+  pub bytes_are : applied p w ≡ applied p v ++ number_bytes v.is_big size n
   pub inside : AreInside w
-  pub big_is : w.big ≡ v.big
+  pub big_is : w.is_big ≡ v.is_big
 
 pub puts_place : (p : Placement) (v w : Relocatable) (target : RelocationTarget) (z : ℤ)
     (size n : ℕ) → AreInside v → with_place v target z size ≡ Ok w
     → PutsNumber p v target z size n → n < 256 ^ size → Puts p v w size n
 puts_place p v w target z size n inside called sum fits =
-    by (udata v.big (number_in_place v.addends z size) size) refl called
+    by (udata v.is_big (number_in_place v.addends z size) size) refl called
   where
     r : Relocation
     r = relocation_at v (length v.bytes) target z size
 
-    by : (u : Result (List ℕ) Error) → udata v.big (number_in_place v.addends z size) size ≡ u
+    by : (u : Result (List ℕ) Error) → udata v.is_big (number_in_place v.addends z size) size ≡ u
         → result_map (λ word. with_relocation v r (v.bytes ++ word)) u ≡ Ok w → Puts p v w size n
     by (Ok word) is e =
         let sized = udata_parts _ _ _ _ is in
         let long : length word ≡ size = ap length sized.word_is
-        ∙ length-number v.big size (number_in_place v.addends z size) in
-        let old = all_relocated p v.big v.bytes v.relocations in
+        ∙ length-number v.is_big size (number_in_place v.addends z size) in
+        let old = all_relocated p v.is_big v.bytes v.relocations in
         let here : length v.bytes ≡ length old =
-        sym (length-all p v.big _ _ inside) in
-        let number : word_at p v.big r word ≡ number_bytes v.big size n =
-        ap (word_at p v.big r) sized.word_is
+        sym (length-all p v.is_big _ _ inside) in
+        let number : word_at p v.is_big r word ≡ number_bytes v.is_big size n =
+        ap (word_at p v.is_big r) sized.word_is
         ∙ sum sized.short sized.small
         in
         let all : length (v.bytes ++ word) ≡ length v.bytes + size =
@@ -144,10 +144,10 @@ puts_place p v w target z size n inside called sum fits =
         (record {
           wanted = sized.other n fits;
           bytes_are =
-              all-last p v.big v.relocations r (v.bytes ++ word)
-              ∙ ap (λ (l : List ℕ). relocated p v.big l r)
-              (all-more p v.big _ _ word inside)
-              ∙ relocated-end p v.big _ _ r here (sym long)
+              all-last p v.is_big v.relocations r (v.bytes ++ word)
+              ∙ ap (λ (l : List ℕ). relocated p v.is_big l r)
+              (all-more p v.is_big _ _ word inside)
+              ∙ relocated-end p v.is_big _ _ r here (sym long)
               ∙ ap (λ (l : List ℕ). old ++ l) number;
           inside = inside_last _ _ r
               (inside_more _ (length (v.bytes ++ word)) _ (omega arith)
@@ -172,49 +172,49 @@ overwrite_parts old new at x h =
 pub puts_place_at : (p : Placement) (v w : Relocatable) (at : ℕ) (target : RelocationTarget) (z : ℤ)
     (size n : ℕ) → AreInside v → with_place_at v at target z size ≡ Ok w
     → PutsNumber p v target z size n → n < 256 ^ size
-    → (patch (udata v.big n size) (applied p v) at ≡ Ok (applied p w)) × AreInside w ×
-    (w.big ≡ v.big)
+    → (patch (udata v.is_big n size) (applied p v) at ≡ Ok (applied p w)) × AreInside w ×
+    (w.is_big ≡ v.is_big)
 puts_place_at p v w at target z size n inside called sum fits =
     free (list_any (touches at size) v.relocations) refl called
   where
     Is : Relocatable → Type 0
-    Is x = (patch (udata v.big n size) (applied p v) at ≡ Ok (applied p x)) × AreInside x ×
-        (x.big ≡ v.big)
+    Is x = (patch (udata v.is_big n size) (applied p v) at ≡ Ok (applied p x)) × AreInside x ×
+        (x.is_big ≡ v.is_big)
 
     r : Relocation
     r = relocation_at v at target z size
 
     old : List ℕ
-    old = all_relocated p v.big v.bytes v.relocations
+    old = all_relocated p v.is_big v.bytes v.relocations
 
     over : All (IsApart at size) v.relocations → (word new : List ℕ)
-        → udata v.big (number_in_place v.addends z size) size ≡ Ok word
+        → udata v.is_big (number_in_place v.addends z size) size ≡ Ok word
         → overwrite_of v.bytes at word ≡ Ok new → Is (with_relocation v r new)
     over apart word new is h =
         let sized = udata_parts _ _ _ _ is in
         let long : length word ≡ size = ap length sized.word_is
-        ∙ length-number v.big size (number_in_place v.addends z size) in
+        ∙ length-number v.is_big size (number_in_place v.addends z size) in
         let put = overwrite_parts v.bytes new at word h in
-        let same : length old ≡ length v.bytes = length-all p v.big _ _ inside in
-        let number : word_at p v.big r word ≡ number_bytes v.big size n =
-        ap (word_at p v.big r) sized.word_is
+        let same : length old ≡ length v.bytes = length-all p v.is_big _ _ inside in
+        let number : word_at p v.is_big r word ≡ number_bytes v.is_big size n =
+        ap (word_at p v.is_big r) sized.word_is
         ∙ sum sized.short sized.small
         in
         let there : All (IsApart at (length word)) v.relocations =
         subst (λ k. All (IsApart at k) v.relocations) (sym long) apart in
-        let bytes_are : all_relocated p v.big new (v.relocations ++ r ∷ []) ≡ put_over old at
-        (number_bytes v.big size n) =
-        ap (λ (l : List ℕ). all_relocated p v.big l (v.relocations ++ r ∷ [])) put.new_is
-        ∙ all-last p v.big v.relocations r (put_over v.bytes at word)
-        ∙ ap (λ (l : List ℕ). relocated p v.big l r)
-        (all-over p v.big v.relocations v.bytes at word inside put.fits there)
-        ∙ relocated-put p v.big old _ r (sym long) (omega (arith))
+        let bytes_are : all_relocated p v.is_big new (v.relocations ++ r ∷ []) ≡ put_over old at
+        (number_bytes v.is_big size n) =
+        ap (λ (l : List ℕ). all_relocated p v.is_big l (v.relocations ++ r ∷ [])) put.new_is
+        ∙ all-last p v.is_big v.relocations r (put_over v.bytes at word)
+        ∙ ap (λ (l : List ℕ). relocated p v.is_big l r)
+        (all-over p v.is_big v.relocations v.bytes at word inside put.fits there)
+        ∙ relocated-put p v.is_big old _ r (sym long) (omega (arith))
         ∙ ap (λ (l : List ℕ). put_over old at l) number in
-        let size_is = length-number v.big size n in
-        let plain : overwrite_of old at (number_bytes v.big size n) ≡ Ok
-        (all_relocated p v.big new (v.relocations ++ r ∷ [])) =
-        patched-inside old at (number_bytes v.big size n)
-        (all_relocated p v.big new (v.relocations ++ r ∷ [])) (omega (arith))
+        let size_is = length-number v.is_big size n in
+        let plain : overwrite_of old at (number_bytes v.is_big size n) ≡ Ok
+        (all_relocated p v.is_big new (v.relocations ++ r ∷ [])) =
+        patched-inside old at (number_bytes v.is_big size n)
+        (all_relocated p v.is_big new (v.relocations ++ r ∷ [])) (omega (arith))
         bytes_are in
         let kept : length new ≡ length v.bytes = ap length put.new_is
         ∙ length-put_over v.bytes at word put.fits in (
@@ -226,7 +226,7 @@ puts_place_at p v w at target z size n inside called sum fits =
         )
 
     by : All (IsApart at size) v.relocations → (u : Result (List ℕ) Error)
-        → udata v.big (number_in_place v.addends z size) size ≡ u
+        → udata v.is_big (number_in_place v.addends z size) size ≡ u
         → result_map (with_relocation v r) (patch u v.bytes at) ≡ Ok w → Is w
     by apart (Err x) is e = cc
     by apart (Ok word) is e = after (overwrite_of v.bytes at word) refl e
@@ -238,10 +238,10 @@ puts_place_at p v w at target z size n inside called sum fits =
 
     free : (b : Bool) → list_any (touches at size) v.relocations ≡ b
         → result_map (with_relocation v r) (if b then Err InvalidRange else
-        patch (udata v.big (number_in_place v.addends z size) size) v.bytes at) ≡ Ok w → Is w
+        patch (udata v.is_big (number_in_place v.addends z size) size) v.bytes at) ≡ Ok w → Is w
     free true is e = cc
     free false is e =
-        by (apart-from at size v.relocations is) (udata v.big (number_in_place v.addends z size) size)
+        by (apart-from at size v.relocations is) (udata v.is_big (number_in_place v.addends z size) size)
         refl e
 
 -- ---- sums
@@ -255,9 +255,9 @@ wraps t (negsuc a) n e f = (1, omega (arith, ints))
 
 -- a call that is plain writes the same plainly
 pub record SameCall (p : Placement) (v w : Relocatable) (call : Call) : Type 0 where
-  pub same : plainly_after p v.big (applied p v) call ≡ Ok (applied p w)
+  pub same : plainly_after p v.is_big (applied p v) call ≡ Ok (applied p w)
   pub inside : AreInside w
-  pub big_is : w.big ≡ v.big
+  pub big_is : w.is_big ≡ v.is_big
 
 -- bytes after the others
 pub more_same : (p : Placement) (v w : Relocatable) (x : List ℕ) → AreInside v
@@ -267,11 +267,11 @@ more_same p v w x inside is = grind (arith, all-more, length-append)
 -- a number after the others
 pub number_same : (p : Placement) (v w : Relocatable) (n size : ℕ) → AreInside v
     → result_map (λ word. let u : Relocatable =
-    record v { bytes = v.bytes ++ word } in u) (udata v.big n size) ≡ Ok w
+    record v { bytes = v.bytes ++ word } in u) (udata v.is_big n size) ≡ Ok w
     → SameCall p v w (AddressOf (Constant n) size)
-number_same p v w n size inside called = by (udata v.big n size) refl called
+number_same p v w n size inside called = by (udata v.is_big n size) refl called
   where
-    by : (r : Result (List ℕ) Error) → udata v.big n size ≡ r
+    by : (r : Result (List ℕ) Error) → udata v.is_big n size ≡ r
         → result_map (λ word. let u : Relocatable =
         record v { bytes = v.bytes ++ word } in u) r ≡ Ok w
         → SameCall p v w (AddressOf (Constant n) size)
@@ -283,7 +283,7 @@ number_same p v w n size inside called = by (udata v.big n size) refl called
 
 -- a number that a linker puts
 placed_same : (p : Placement) (v w : Relocatable) (size n : ℕ) → Puts p v w size n
-    → result_map (λ word. applied p v ++ word) (udata v.big n size) ≡ Ok (applied p w)
+    → result_map (λ word. applied p v ++ word) (udata v.is_big n size) ≡ Ok (applied p w)
 placed_same p v w size n puts = grind arith
 
 -- bytes over others
@@ -367,7 +367,7 @@ call_same p v w (OffsetAt at section n size) inside fits called =
 
 pub calls_same : (p : Placement) (v w : Relocatable) (calls : List Call) → AreInside v
     → CallsFit p calls → after_calls v calls ≡ Ok w
-    → plainly_after_calls p v.big (applied p v) calls ≡ Ok (applied p w)
+    → plainly_after_calls p v.is_big (applied p v) calls ≡ Ok (applied p w)
 calls_same p v w [] inside fit called =
     ap (λ u. let r : Result (List ℕ) Error = Ok (applied p u) in r) (same_ok v w called)
 calls_same p v w (call ∷ calls) inside fit called =
@@ -376,11 +376,11 @@ calls_same p v w (call ∷ calls) inside fit called =
   where
     Others : Type 0
     Others = (u : Relocatable) → after_call v call ≡ Ok u → AreInside u → after_calls u calls ≡ Ok w
-        → plainly_after_calls p u.big (applied p u) calls ≡ Ok (applied p w)
+        → plainly_after_calls p u.is_big (applied p u) calls ≡ Ok (applied p w)
 
     by : Others → (r : Result Relocatable Error) → after_call v call ≡ r
         → result_then r (λ u. after_calls u calls) ≡ Ok w
-        → plainly_after_calls p v.big (applied p v) (call ∷ calls) ≡ Ok (applied p w)
+        → plainly_after_calls p v.is_big (applied p v) (call ∷ calls) ≡ Ok (applied p w)
     by others (Ok u) is e =
         let first = call_same p v u _ inside (All-head (CallFits p) call calls fit) is in
         rw first.same (subst (λ b. ◌≡◌ {A =

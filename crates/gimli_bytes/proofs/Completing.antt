@@ -54,7 +54,7 @@ same_ok x y h = cc
 -- what a call that appends leaves
 pub record Grows (v w : Relocatable) : Type 0 where
   pub begins : Begins v.bytes w.bytes
-  pub big_is : w.big ≡ v.big
+  pub big_is : w.is_big ≡ v.is_big
   pub stays : are_inside v ≡ true → are_inside w ≡ true
 
 begins_more : (old word : List ℕ) → Begins old (old ++ word)
@@ -81,7 +81,7 @@ grows_bytes v w x called =
     })
 
 grows_number : (v w : Relocatable) (n size : ℕ) → after_call v (AddressOf (Constant n) size) ≡ Ok w → Grows v w
-grows_number v w n size called = by (udata v.big n size) called
+grows_number v w n size called = by (udata v.is_big n size) called
   where
     by : (r : Result (List ℕ) Error)
         → result_map (λ word. let u : Relocatable = record v { bytes = v.bytes ++ word } in u) r ≡ Ok w → Grows v w
@@ -91,15 +91,15 @@ grows_number v w n size called = by (udata v.big n size) called
 grows_place : (v w : Relocatable) (target : RelocationTarget) (z : ℤ) (size : ℕ) → with_place v target z size ≡ Ok w
     → Grows v w
 grows_place v w target z size called = record {
-  begins = (by (udata v.big (number_in_place v.addends z size) size) called).0;
-  big_is = (by (udata v.big (number_in_place v.addends z size) size) called).1;
+  begins = (by (udata v.is_big (number_in_place v.addends z size) size) called).0;
+  big_is = (by (udata v.is_big (number_in_place v.addends z size) size) called).1;
   stays = λ is.
       inside-to (length w.bytes) w.relocations
       (puts unplaced v w target z size (inside-from (length v.bytes) v.relocations is) called).inside;
 }
   where
     Is : Relocatable → Type 0
-    Is u = Begins v.bytes u.bytes × (u.big ≡ v.big)
+    Is u = Begins v.bytes u.bytes × (u.is_big ≡ v.is_big)
 
     by : (r : Result (List ℕ) Error)
         → result_map (λ word. with_relocation v (relocation_at v (length v.bytes) target z size) (v.bytes ++ word)) r
@@ -134,14 +134,14 @@ mapped (Ok word) old new e = sym (same_ok _ _ e)
 mapped (Err d) old new e = cc
 
 put_there : (p : Placement) (v w : Relocatable) (size n : ℕ) → Puts p v w size n
-    → Appends (udata v.big n size) (applied p v) (applied p w)
+    → Appends (udata v.is_big n size) (applied p v) (applied p w)
 put_there p v w size n so = grind arith
 
 pub completed_address : (p : Placement) (v w : Relocatable) (a : Address) (size : ℕ) → are_inside v ≡ true
     → after_call v (AddressOf a size) ≡ Ok w
-    → Appends (placed_address p v.big a size) (applied p v) (applied p w)
+    → Appends (placed_address p v.is_big a size) (applied p v) (applied p w)
 completed_address p v w (Constant n) size is called =
-    mapped (udata v.big n size) (applied p v) (applied p w)
+    mapped (udata v.is_big n size) (applied p v) (applied p w)
     (number_same p v w n size (inside-from (length v.bytes) v.relocations is) called).same
 completed_address p v w (Symbol symbol addend) size is called =
     let low = low_sum (p.symbol symbol) (cast_unsigned w64 addend) (256 ^ size) in
@@ -151,7 +151,7 @@ completed_address p v w (Symbol symbol addend) size is called =
 pub completed_offset : (p : Placement) (v w : Relocatable) (section : SectionId) (n size : ℕ) → n < 2 ^ 64
     → are_inside v ≡ true
     → after_call v (OffsetInto section n size) ≡ Ok w
-    → Appends (placed_offset p v.big section n size) (applied p v) (applied p w)
+    → Appends (placed_offset p v.is_big section n size) (applied p v) (applied p w)
 completed_offset p v w section n size small is called =
     let bits : cast_unsigned w64 (cast_signed w64 n) ≡ n = of_z-to_z w64 n small in
     let so =
@@ -161,7 +161,7 @@ completed_offset p v w section n size small is called =
 
 pub completed_reference : (p : Placement) (v w : Relocatable) (symbol size : ℕ) → are_inside v ≡ true
     → after_call v (ReferenceTo symbol size) ≡ Ok w
-    → Appends (placed_reference p v.big symbol size) (applied p v) (applied p w)
+    → Appends (placed_reference p v.is_big symbol size) (applied p v) (applied p w)
 completed_reference p v w symbol size is called =
     let none : p.symbol symbol + 0 ≡ p.symbol symbol = omega arith in
     let low = low_sum (p.symbol symbol) 0 (256 ^ size) ∙ ap (λ k. k % 256 ^ size) none in
@@ -173,7 +173,7 @@ completed_reference p v w symbol size is called =
 pub record Stays (v w : Relocatable) (at : ℕ) : Type 0 where
   pub len : length w.bytes ≡ length v.bytes
   pub before : take at w.bytes ≡ take at v.bytes
-  pub big_is : w.big ≡ v.big
+  pub big_is : w.is_big ≡ v.is_big
 
 pub stays_inside : (v w : Relocatable) (x : List ℕ) (at : ℕ) → after_call v (BytesAt at x) ≡ Ok w → are_inside v ≡ true
     → are_inside w ≡ true
@@ -188,7 +188,7 @@ completed_over p v w x at is called = grind (arith, over_same, inside-from)
 puts_at : (p : Placement) (v w : Relocatable) (at : ℕ) (section : SectionId) (n size : ℕ) → n < 2 ^ 64
     → are_inside v ≡ true
     → after_call v (OffsetAt at section n size) ≡ Ok w
-    → (patch (placed_offset p v.big section n size) (applied p v) at ≡ Ok (applied p w)) × AreInside w × (w.big ≡ v.big)
+    → (patch (placed_offset p v.is_big section n size) (applied p v) at ≡ Ok (applied p w)) × AreInside w × (w.is_big ≡ v.is_big)
 puts_at p v w at section n size small is called =
     let bits : cast_unsigned w64 (cast_signed w64 n) ≡ n = of_z-to_z w64 n small in
     let sum = p.section section (cast_unsigned w64 (cast_signed w64 n) % 256 ^ size) % 256 ^ size in
@@ -207,7 +207,7 @@ stays_inside_at v w at section n size small called is =
 pub completed_offset_at : (p : Placement) (v w : Relocatable) (at : ℕ) (section : SectionId) (n size : ℕ) → n < 2 ^ 64
     → are_inside v ≡ true
     → after_call v (OffsetAt at section n size) ≡ Ok w
-    → Overwrites at (placed_offset p v.big section n size) (applied p v) (applied p w)
+    → Overwrites at (placed_offset p v.is_big section n size) (applied p v) (applied p w)
 completed_offset_at p v w at section n size small is called = grind (arith, puts_at)
 
 -- what an overwrite leaves

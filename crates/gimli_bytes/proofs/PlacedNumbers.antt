@@ -12,27 +12,27 @@ use Rattle.gimli_bytes.proofs.SectionWords.{word-is}
 use Rattle.gimli_bytes.proofs.Relocating.{sum_low}
 use Rattle.gimli_bytes.proofs.CallsRelocated.{is_size, size_short, wraps}
 
-pub placed-word : (big : Bool) (n size : ℕ) → n < 256 ^ size → lowest_bytes big n size ≡ section_word big n size
-placed-word big n size fits = ap (λ k. udata big k size) (mod-eq_of_lt fits) ∙ by (nat_eq size 8) refl
+pub placed-word : (is_big : Bool) (n size : ℕ) → n < 256 ^ size → lowest_bytes is_big n size ≡ section_word is_big n size
+placed-word is_big n size fits = ap (λ k. udata is_big k size) (mod-eq_of_lt fits) ∙ by (nat_eq size 8) refl
   where
-    by : (b : Bool) → nat_eq size 8 ≡ b → udata big n size ≡ section_word big n size
+    by : (b : Bool) → nat_eq size 8 ≡ b → udata is_big n size ≡ section_word is_big n size
     by false is = rw is refl
     by true is =
         let eight : size ≡ 8 = eqb-true size 8 is in
         let small : n < 2 ^ 64 = rw eight at fits in
         sym (word-is _ n size small)
 
-pub placed-address : (at : Placement) (big : Bool) (address : Address) (size : ℕ) → CallFits at (AddressOf address size)
-    → placed_address at big address size ≡ address_bytes big (address_placed at address) size
-placed-address at big (Constant n) size fits = refl
-placed-address at big (Symbol symbol addend) size fits =
+pub placed-address : (at : Placement) (is_big : Bool) (address : Address) (size : ℕ) → CallFits at (AddressOf address size)
+    → placed_address at is_big address size ≡ address_bytes is_big (address_placed at address) size
+placed-address at is_big (Constant n) size fits = refl
+placed-address at is_big (Symbol symbol addend) size fits =
     let n = fits.0.0 in
     let sum = wraps _ _ n fits.0.1 fits.1 in
     rw fits.0.1 (by n sum.0 sum.1 fits.0.2 (is_size size) refl)
   where
     by : (n q : ℕ) → at.symbol symbol + cast_unsigned w64 addend ≡ n + q * 2 ^ 64 → n < 256 ^ size → (b : Bool)
         → is_size size ≡ b
-        → lowest_bytes big (at.symbol symbol + cast_unsigned w64 addend) size ≡ udata big n size
+        → lowest_bytes is_big (at.symbol symbol + cast_unsigned w64 addend) size ≡ udata is_big n size
     by n q sum small true is =
-        ap (λ k. udata big k size) (sum_low _ _ _ n q (size_short _ is) sum small)
+        ap (λ k. udata is_big k size) (sum_low _ _ _ n q (size_short _ is) sum small)
     by n q sum small false is = rw is refl

@@ -49,13 +49,13 @@ in_place_fits : (addends : Addends) (z : ℤ) (size : ℕ) → number_in_place a
 in_place_fits Listed z size = pow_positive _
 in_place_fits InPlace z size = mod-lt _ (pow_positive _)
 
-size_refused : (big : Bool) (n size : ℕ) (e : Error) → n < 256 ^ size → udata big n size ≡ Err e
+size_refused : (is_big : Bool) (n size : ℕ) (e : Error) → n < 256 ^ size → udata is_big n size ≡ Err e
     → IsRelocatableRefusal e
-size_refused big n size e fits h = by (is_size size) refl h
+size_refused is_big n size e fits h = by (is_size size) refl h
   where
     by : (b : Bool) → is_size size ≡ b
         → (let r : Result (List ℕ) Error =
-        if b then (if nat_lt n (256 ^ size) then Ok (number_bytes big size n) else Err ValueTooLarge)
+        if b then (if nat_lt n (256 ^ size) then Ok (number_bytes is_big size n) else Err ValueTooLarge)
         else Err (UnsupportedWordSize size) in r)
         ≡ Err e
         → IsRelocatableRefusal e
@@ -85,20 +85,20 @@ bytes_refused v x e (inl memory) = memory_is e memory
 bytes_refused v x e (inr is) = never is
 
 number_refused : (v : Relocatable) (n size : ℕ) (e : Error) → IsRefusal v (AddressOf (Constant n) size) e
-    → IsRelocatableRefusal e ⊎ (udata v.big n size ≡ Err e)
+    → IsRelocatableRefusal e ⊎ (udata v.is_big n size ≡ Err e)
 number_refused v n size e (inl memory) = inl (memory_is e memory)
 number_refused v n size e (inr is) =
     inr (mapped_refused _ _ e is)
 
 -- by plain numbers, and once a linker has placed all
 pub address_refused : (v : Relocatable) (a : Address) (size : ℕ) (e : Error) → IsRefusal v (AddressOf a size) e
-    → IsRelocatableRefusal e ⊎ (address_bytes v.big a size ≡ Err e)
+    → IsRelocatableRefusal e ⊎ (address_bytes v.is_big a size ≡ Err e)
 address_refused v (Constant n) size e refused = number_refused v n size e refused
 address_refused v (Symbol symbol addend) size e refused = inl (place_refused v _ addend size e refused)
 
 pub placed_refused : (at : Placement) (v : Relocatable) (a : Address) (size : ℕ) (e : Error)
     → IsRefusal v (AddressOf a size) e
-    → IsRelocatableRefusal e ⊎ (placed_address at v.big a size ≡ Err e)
+    → IsRelocatableRefusal e ⊎ (placed_address at v.is_big a size ≡ Err e)
 placed_refused at v (Constant n) size e refused = number_refused v n size e refused
 placed_refused at v (Symbol symbol addend) size e refused = inl (place_refused v _ addend size e refused)
 
@@ -147,7 +147,7 @@ place_at_refused v at target z size e (inl memory) = memory_is e memory
 place_at_refused v at target z size e (inr is) =
     let n = number_in_place v.addends z size in
     let touched = list_any (touches at size) v.relocations in
-    let written = patch (udata v.big n size) v.bytes at in
+    let written = patch (udata v.is_big n size) v.bytes at in
     let free : Result (List ℕ) Error = if touched then Err InvalidRange else written in
     free_refused _ _ e (patch_refused _ _ _ e (size_refused _ n _ e (in_place_fits _ z _)))
     (mapped_refused _ _ e is)

@@ -35,11 +35,11 @@ use Rattle.gimli_bytes.proofs.RelocationLemmas.{
 
 -- the number that a linker puts at a place where this stands
 abbrev pub sum_at : Placement → Bool → Relocation → List ℕ → ℕ
-sum_at p big r there =
-    place_of p r.target ((cast_unsigned w64 r.addend + value_of big there) % 256 ^ r.size)
+sum_at p is_big r there =
+    place_of p r.target ((cast_unsigned w64 r.addend + value_of is_big there) % 256 ^ r.size)
 
 abbrev pub word_at : Placement → Bool → Relocation → List ℕ → List ℕ
-word_at p big r there = number_bytes big r.size (sum_at p big r there)
+word_at p is_big r there = number_bytes is_big r.size (sum_at p is_big r there)
 
 abbrev pub stands_at : Relocation → List ℕ → List ℕ
 stands_at r bytes = take r.size (drop r.offset bytes)
@@ -82,102 +82,102 @@ apart-from offset size (r ∷ rs) is =
     by others false e h =
         grind arith
 
-word_fits : (p : Placement) (big : Bool) (r : Relocation) (n : ℕ) (there : List ℕ)
-    → r.offset + r.size ≤ n → r.offset + length (word_at p big r there) ≤ n
-word_fits p big r n there inside =
+word_fits : (p : Placement) (is_big : Bool) (r : Relocation) (n : ℕ) (there : List ℕ)
+    → r.offset + r.size ≤ n → r.offset + length (word_at p is_big r there) ≤ n
+word_fits p is_big r n there inside =
     grind (arith, length-number)
 
-pub length-relocated : (p : Placement) (big : Bool) (bytes : List ℕ) (r : Relocation)
-    → r.offset + r.size ≤ length bytes → length (relocated p big bytes r) ≡ length bytes
-length-relocated p big bytes r inside =
+pub length-relocated : (p : Placement) (is_big : Bool) (bytes : List ℕ) (r : Relocation)
+    → r.offset + r.size ≤ length bytes → length (relocated p is_big bytes r) ≡ length bytes
+length-relocated p is_big bytes r inside =
     grind (arith, length-put_over, word_fits)
 
-pub relocated-more : (p : Placement) (big : Bool) (bytes more : List ℕ) (r : Relocation)
+pub relocated-more : (p : Placement) (is_big : Bool) (bytes more : List ℕ) (r : Relocation)
     → r.offset + r.size ≤ length bytes
-    → relocated p big (bytes ++ more) r ≡ relocated p big bytes r ++ more
-relocated-more p big bytes more r inside =
+    → relocated p is_big (bytes ++ more) r ≡ relocated p is_big bytes r ++ more
+relocated-more p is_big bytes more r inside =
     grind (arith, front_same, put_over-front, word_fits)
 
 -- bytes that are put apart from its place
-pub relocated-over : (p : Placement) (big : Bool) (bytes : List ℕ) (at : ℕ) (x : List ℕ)
+pub relocated-over : (p : Placement) (is_big : Bool) (bytes : List ℕ) (at : ℕ) (x : List ℕ)
     (r : Relocation) → r.offset + r.size ≤ length bytes → at + length x ≤ length bytes
     → IsApart at (length x) r
-    → relocated p big (put_over bytes at x) r ≡ put_over (relocated p big bytes r) at x
-relocated-over p big bytes at x r inside fits (inl before) =
+    → relocated p is_big (put_over bytes at x) r ≡ put_over (relocated p is_big bytes r) at x
+relocated-over p is_big bytes at x r inside fits (inl before) =
     grind (arith, before-put_over, put_over-apart, word_fits)
-relocated-over p big bytes at x r inside fits (inr after) =
+relocated-over p is_big bytes at x r inside fits (inr after) =
     grind (arith, after-put_over, put_over-apart)
 
 -- a place after the bytes
-pub relocated-end : (p : Placement) (big : Bool) (bytes word : List ℕ) (r : Relocation)
+pub relocated-end : (p : Placement) (is_big : Bool) (bytes word : List ℕ) (r : Relocation)
     → r.offset ≡ length bytes → r.size ≡ length word
-    → relocated p big (bytes ++ word) r ≡ bytes ++ word_at p big r word
-relocated-end p big bytes word r at size =
+    → relocated p is_big (bytes ++ word) r ≡ bytes ++ word_at p is_big r word
+relocated-end p is_big bytes word r at size =
     let rest : drop r.offset (bytes ++ word) ≡ word = drop_at bytes word r.offset (sym at) in
     let there : stands_at r (bytes ++ word) ≡ word = ap (λ (l : List ℕ). take r.size l) rest
     ∙ take_all r.size word (omega arith) in
-    let long = length-number big r.size (sum_at p big r word) in
-    let whole : put_over (bytes ++ word) (length bytes + 0) (word_at p big r word) ≡ bytes ++
-    put_over word 0 (word_at p big r word) =
-    put_over-after bytes word 0 (word_at p big r word) in
+    let long = length-number is_big r.size (sum_at p is_big r word) in
+    let whole : put_over (bytes ++ word) (length bytes + 0) (word_at p is_big r word) ≡ bytes ++
+    put_over word 0 (word_at p is_big r word) =
+    put_over-after bytes word 0 (word_at p is_big r word) in
     let place : r.offset ≡ length bytes + 0 = omega arith in
-    let none : drop (0 + length (word_at p big r word)) word ≡ [] =
-    drop_all (0 + length (word_at p big r word)) word (omega arith) in
-    ap (λ (l : List ℕ). put_over (bytes ++ word) r.offset (word_at p big r l)) there
-    ∙ ap (λ (k : ℕ). put_over (bytes ++ word) k (word_at p big r word)) place
+    let none : drop (0 + length (word_at p is_big r word)) word ≡ [] =
+    drop_all (0 + length (word_at p is_big r word)) word (omega arith) in
+    ap (λ (l : List ℕ). put_over (bytes ++ word) r.offset (word_at p is_big r l)) there
+    ∙ ap (λ (k : ℕ). put_over (bytes ++ word) k (word_at p is_big r word)) place
     ∙ whole
-    ∙ ap (λ (l : List ℕ). bytes ++ (word_at p big r word ++ l)) none
-    ∙ ap (λ (l : List ℕ). bytes ++ l) (append-nil (word_at p big r word))
+    ∙ ap (λ (l : List ℕ). bytes ++ (word_at p is_big r word ++ l)) none
+    ∙ ap (λ (l : List ℕ). bytes ++ l) (append-nil (word_at p is_big r word))
 
 -- a place over some of the bytes
-pub relocated-put : (p : Placement) (big : Bool) (bytes word : List ℕ) (r : Relocation)
+pub relocated-put : (p : Placement) (is_big : Bool) (bytes word : List ℕ) (r : Relocation)
     → r.size ≡ length word → r.offset + length word ≤ length bytes
-    → relocated p big (put_over bytes r.offset word) r ≡ put_over bytes r.offset
-    (word_at p big r word)
-relocated-put p big bytes word r size fits =
+    → relocated p is_big (put_over bytes r.offset word) r ≡ put_over bytes r.offset
+    (word_at p is_big r word)
+relocated-put p is_big bytes word r size fits =
     grind (arith, there-put_over, length-number, put_over-again)
 
 -- ---- all of them
 
-pub all-more : (p : Placement) (big : Bool) (rs : List Relocation) (bytes more : List ℕ)
+pub all-more : (p : Placement) (is_big : Bool) (rs : List Relocation) (bytes more : List ℕ)
     → Inside (length bytes) rs
-    → all_relocated p big (bytes ++ more) rs ≡ all_relocated p big bytes rs ++ more
-all-more p big [] bytes more inside = refl
-all-more p big (r ∷ rs) bytes more inside =
+    → all_relocated p is_big (bytes ++ more) rs ≡ all_relocated p is_big bytes rs ++ more
+all-more p is_big [] bytes more inside = refl
+all-more p is_big (r ∷ rs) bytes more inside =
     let first = All-head (λ r. r.offset + r.size ≤ length bytes) r rs inside in
     let others = All-tail (λ r. r.offset + r.size ≤ length bytes) r rs inside in
-    ap (λ (l : List ℕ). all_relocated p big l rs) (relocated-more p big _ more r first)
-    ∙ all-more p big rs (relocated p big bytes r) more
-    (subst (λ n. Inside n rs) (sym (length-relocated p big _ r first)) others)
+    ap (λ (l : List ℕ). all_relocated p is_big l rs) (relocated-more p is_big _ more r first)
+    ∙ all-more p is_big rs (relocated p is_big bytes r) more
+    (subst (λ n. Inside n rs) (sym (length-relocated p is_big _ r first)) others)
 
-pub length-all : (p : Placement) (big : Bool) (rs : List Relocation) (bytes : List ℕ)
-    → Inside (length bytes) rs → length (all_relocated p big bytes rs) ≡ length bytes
-length-all p big [] bytes inside = refl
-length-all p big (r ∷ rs) bytes inside =
+pub length-all : (p : Placement) (is_big : Bool) (rs : List Relocation) (bytes : List ℕ)
+    → Inside (length bytes) rs → length (all_relocated p is_big bytes rs) ≡ length bytes
+length-all p is_big [] bytes inside = refl
+length-all p is_big (r ∷ rs) bytes inside =
     let first = All-head (λ r. r.offset + r.size ≤ length bytes) r rs inside in
     let others = All-tail (λ r. r.offset + r.size ≤ length bytes) r rs inside in
-    length-all p big rs (relocated p big bytes r)
-    (subst (λ n. Inside n rs) (sym (length-relocated p big _ r first)) others)
-    ∙ length-relocated p big _ r first
+    length-all p is_big rs (relocated p is_big bytes r)
+    (subst (λ n. Inside n rs) (sym (length-relocated p is_big _ r first)) others)
+    ∙ length-relocated p is_big _ r first
 
-pub all-over : (p : Placement) (big : Bool) (rs : List Relocation) (bytes : List ℕ) (at : ℕ)
+pub all-over : (p : Placement) (is_big : Bool) (rs : List Relocation) (bytes : List ℕ) (at : ℕ)
     (x : List ℕ) → Inside (length bytes) rs → at + length x ≤ length bytes
     → All (IsApart at (length x)) rs
-    → all_relocated p big (put_over bytes at x) rs ≡ put_over (all_relocated p big bytes rs) at x
-all-over p big [] bytes at x inside fits apart = refl
-all-over p big (r ∷ rs) bytes at x inside fits apart =
+    → all_relocated p is_big (put_over bytes at x) rs ≡ put_over (all_relocated p is_big bytes rs) at x
+all-over p is_big [] bytes at x inside fits apart = refl
+all-over p is_big (r ∷ rs) bytes at x inside fits apart =
     let first = All-head (λ r. r.offset + r.size ≤ length bytes) r rs inside in
     let others = All-tail (λ r. r.offset + r.size ≤ length bytes) r rs inside in
-    let same = length-relocated p big _ r first in
-    ap (λ (l : List ℕ). all_relocated p big l rs)
-    (relocated-over p big bytes at x r first fits (All-head (IsApart at (length x)) r rs apart))
-    ∙ all-over p big rs (relocated p big bytes r) at x (subst (λ n. Inside n rs) (sym same) others)
+    let same = length-relocated p is_big _ r first in
+    ap (λ (l : List ℕ). all_relocated p is_big l rs)
+    (relocated-over p is_big bytes at x r first fits (All-head (IsApart at (length x)) r rs apart))
+    ∙ all-over p is_big rs (relocated p is_big bytes r) at x (subst (λ n. Inside n rs) (sym same) others)
     (omega arith) (All-tail (IsApart at (length x)) r rs apart)
 
-pub all-last : (p : Placement) (big : Bool) (rs : List Relocation) (r : Relocation) (bytes : List ℕ)
-    → all_relocated p big bytes (rs ++ r ∷ []) ≡ relocated p big (all_relocated p big bytes rs) r
-all-last p big [] r bytes = refl
-all-last p big (q ∷ rs) r bytes = all-last p big rs r (relocated p big bytes q)
+pub all-last : (p : Placement) (is_big : Bool) (rs : List Relocation) (r : Relocation) (bytes : List ℕ)
+    → all_relocated p is_big bytes (rs ++ r ∷ []) ≡ relocated p is_big (all_relocated p is_big bytes rs) r
+all-last p is_big [] r bytes = refl
+all-last p is_big (q ∷ rs) r bytes = all-last p is_big rs r (relocated p is_big bytes q)
 
 pub inside_more : (n m : ℕ) (rs : List Relocation) → n ≤ m → Inside n rs → Inside m rs
 inside_more n m rs le inside = grind arith
@@ -208,13 +208,13 @@ low_sum t c m =
     sym (add-mul-mod_self_right (t + c % m) (c / m) m) ∙ ap (λ k. k % m) (sym split)
 
 -- what stands at a place and what the list has make one addend
-pub addend_is : (big : Bool) (addends : Addends) (z : ℤ) (size : ℕ)
+pub addend_is : (is_big : Bool) (addends : Addends) (z : ℤ) (size : ℕ)
     → number_in_place addends z size < 256 ^ size
     → (cast_unsigned w64 (addend_in_list addends z)
-    + value_of big (number_bytes big size (number_in_place addends z size)))
+    + value_of is_big (number_bytes is_big size (number_in_place addends z size)))
     % 256 ^ size
     ≡ cast_unsigned w64 z % 256 ^ size
-addend_is big addends z size small =
+addend_is is_big addends z size small =
     let there = (number_spelled _ _ _ small).value_is in
     ap (λ k. (cast_unsigned w64 (addend_in_list addends z) + k) % 256 ^ size) there ∙ low _
   where

@@ -21,7 +21,7 @@ length_high : (size n : ℕ) → length (bytes_high_first size n) ≡ size
 length_high zero n = refl
 length_high (suc size) n = ap suc (length_high _ n)
 
-pub length-number : (big : Bool) (size n : ℕ) → length (number_bytes big size n) ≡ size
+pub length-number : (is_big : Bool) (size n : ℕ) → length (number_bytes is_big size n) ≡ size
 length-number true size n = length_high _ n
 length-number false size n = length_low _ 0 n
 
@@ -141,14 +141,14 @@ high_same (suc size) k n q below =
     let others = high_same size k n q (omega arith) in
     rw (first, others) refl
 
-number_same : (big : Bool) (size n q : ℕ)
-    → number_bytes big size (n + q * 256 ^ size) ≡ number_bytes big size n
+number_same : (is_big : Bool) (size n q : ℕ)
+    → number_bytes is_big size (n + q * 256 ^ size) ≡ number_bytes is_big size n
 number_same true size n q = grind (arith, high_same)
 number_same false size n q = grind (arith, low_same)
 
-pub number-mod : (big : Bool) (size n : ℕ)
-    → number_bytes big size n ≡ number_bytes big size (n % 256 ^ size)
-number-mod big size n =
+pub number-mod : (is_big : Bool) (size n : ℕ)
+    → number_bytes is_big size n ≡ number_bytes is_big size (n % 256 ^ size)
+number-mod is_big size n =
     let parts : n % 256 ^ size + n / 256 ^ size * 256 ^ size ≡ n =
     omega (arith) in
-    ap (number_bytes big size) (sym parts) ∙ number_same _ _ _ _
+    ap (number_bytes is_big size) (sym parts) ∙ number_same _ _ _ _

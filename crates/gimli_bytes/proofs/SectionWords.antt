@@ -5,9 +5,9 @@ use Rattle.gimli_bytes.specs.Number.{udata}
 use Rattle.gimli_bytes.specs.Hand.{section_word}
 
 -- of 64 bits
-pub word-is : (big : Bool) (n size : ℕ) → n < 2 ^ 64 → section_word big n size ≡ udata big n size
-word-is big n size small = by _ refl
+pub word-is : (is_big : Bool) (n size : ℕ) → n < 2 ^ 64 → section_word is_big n size ≡ udata is_big n size
+word-is is_big n size small = by _ refl
   where
-    by : (b : Bool) → nat_eq size 8 ≡ b → section_word big n size ≡ udata big n size
+    by : (b : Bool) → nat_eq size 8 ≡ b → section_word is_big n size ≡ udata is_big n size
     by false is = rw is refl
     by true is = let eight : size ≡ 8 = eqb-true size 8 is in rw (eight, lt-ltb n (2 ^ 64) small) refl

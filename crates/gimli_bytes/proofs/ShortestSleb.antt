@@ -8,10 +8,10 @@ use Rattle.std.proofs.lemmas.Nat.{pow-add}
 use Rattle.std.proofs.lemmas.Int.{ints}
 use Rattle.std.proofs.lemmas.Bool.{cases_lt, lt-ltb, le-ltb, leb-true, leb-false}
 use lib.Signed.{mag}
-use Rattle.gimli_core.specs.Numbers.{Groups, is_negative, signed_value, SpellsSleb128, IsShortest}
+use Rattle.gimli_core.specs.Numbers.{IsLeb128, is_negative, signed_value, SpellsSleb128, IsShortest}
 use Rattle.gimli_bytes.specs.Number.{sleb, sleb_within, high_bits, has_seven_bits}
 use Rattle.gimli_bytes.proofs.LebLemmas.{sleb_last, sleb_more}
-use Rattle.gimli_bytes.proofs.ShortestUleb.{Groups-below, Groups-cons}
+use Rattle.gimli_bytes.proofs.ShortestUleb.{IsLeb128-below, IsLeb128-cons}
 
 -- seven bits a byte
 power_of_128 : (k : ℕ) → 2 ^ (7 * k) ≡ 128 ^ k
@@ -23,19 +23,19 @@ power_of_128 (suc k) =
 
 -- ---- any spelling: the last byte is the sign, and the number is within what the bytes hold
 
-Groups-positive : (b : ℕ) (bytes : List ℕ) (n : ℕ) → Groups (b ∷ bytes) n → is_negative (b ∷ bytes) ≡ false
+IsLeb128-positive : (b : ℕ) (bytes : List ℕ) (n : ℕ) → IsLeb128 (b ∷ bytes) n → is_negative (b ∷ bytes) ≡ false
     → n < 64 * 128 ^ length bytes
-Groups-positive b [] n h sign = omega (arith, leb-false 64 b sign)
-Groups-positive b (c ∷ bytes) n h sign =
-    let high : h.1 < 64 * 128 ^ length bytes = Groups-positive c bytes h.1 h.3 sign in
+IsLeb128-positive b [] n h sign = omega (arith, leb-false 64 b sign)
+IsLeb128-positive b (c ∷ bytes) n h sign =
+    let high : h.1 < 64 * 128 ^ length bytes = IsLeb128-positive c bytes h.1 h.3 sign in
     let power : 128 ^ suc (length bytes) ≡ 128 * 128 ^ length bytes = pow-succ' 128 (length bytes) in
     omega (arith)
 
-Groups-negative : (b : ℕ) (bytes : List ℕ) (n : ℕ) → Groups (b ∷ bytes) n → is_negative (b ∷ bytes) ≡ true
+IsLeb128-negative : (b : ℕ) (bytes : List ℕ) (n : ℕ) → IsLeb128 (b ∷ bytes) n → is_negative (b ∷ bytes) ≡ true
     → 64 * 128 ^ length bytes ≤ n
-Groups-negative b [] n h sign = omega (arith, leb-true 64 b sign)
-Groups-negative b (c ∷ bytes) n h sign =
-    let high : 64 * 128 ^ length bytes ≤ h.1 = Groups-negative c bytes h.1 h.3 sign in
+IsLeb128-negative b [] n h sign = omega (arith, leb-true 64 b sign)
+IsLeb128-negative b (c ∷ bytes) n h sign =
+    let high : 64 * 128 ^ length bytes ≤ h.1 = IsLeb128-negative c bytes h.1 h.3 sign in
     let power : 128 ^ suc (length bytes) ≡ 128 * 128 ^ length bytes = pow-succ' 128 (length bytes) in
     omega (arith)
 
@@ -53,20 +53,20 @@ sign_taken : (negative : Bool) (n p : ℕ)
 sign_taken true n p = refl
 sign_taken false n p = omega (arith, ints)
 
-within : (b : ℕ) (bytes : List ℕ) (n : ℕ) (z : ℤ) → Groups (b ∷ bytes) n → signed_value (b ∷ bytes) n ≡ z
+within : (b : ℕ) (bytes : List ℕ) (n : ℕ) (z : ℤ) → IsLeb128 (b ∷ bytes) n → signed_value (b ∷ bytes) n ≡ z
     → mag z < 64 * 128 ^ length bytes
 within b bytes n z h value = by (is_negative (b ∷ bytes)) refl (sym (sign_taken _ n _) ∙ value)
   where
     by : (sign : Bool) → is_negative (b ∷ bytes) ≡ sign
         → (if sign then pos n -ℤ pos (2 ^ (7 * suc (length bytes))) else pos n) ≡ z
         → mag z < 64 * 128 ^ length bytes
-    by false sign e = within_positive n _ z (Groups-positive b _ n h sign) e
+    by false sign e = within_positive n _ z (IsLeb128-positive b _ n h sign) e
     by true sign e =
         let power : 2 ^ (7 * suc (length bytes)) ≡ 128 * 128 ^ length bytes = power_of_128 _
         ∙ pow-succ' 128 (length bytes) in
         let below : n
-        < 128 * 128 ^ length bytes = omega (arith, Groups-below (b ∷ bytes) n h, pow-succ' 128 (length bytes)) in
-        within_negative n _ z (Groups-negative b _ n h sign) below (ap (λ p. pos n -ℤ pos p) (sym power) ∙ e)
+        < 128 * 128 ^ length bytes = omega (arith, IsLeb128-below (b ∷ bytes) n h, pow-succ' 128 (length bytes)) in
+        within_negative n _ z (IsLeb128-negative b _ n h sign) below (ap (λ p. pos n -ℤ pos p) (sym power) ∙ e)
 
 -- ---- the written one: no more groups than hold the number
 
@@ -96,13 +96,13 @@ length-sleb_within (suc more) j z h = by (has_seven_bits z) refl j h (λ i. leng
 -- ---- the written one is a spelling
 
 -- one more group in front leaves the sign
-sign-cons : (b : ℕ) (bytes : List ℕ) (n : ℕ) → Groups bytes n → is_negative (b ∷ bytes) ≡ is_negative bytes
+sign-cons : (b : ℕ) (bytes : List ℕ) (n : ℕ) → IsLeb128 bytes n → is_negative (b ∷ bytes) ≡ is_negative bytes
 sign-cons b [] n h = absurd h
 sign-cons b (c ∷ bytes) n h = refl
 
 -- a number that isn't negative is its groups
 record Positive (n : ℕ) (bytes : List ℕ) : Type 0 where
-  groups : Groups bytes n
+  groups : IsLeb128 bytes n
   sign : is_negative bytes ≡ false
 
 positive_last : (n : ℕ) → n < 64 → Positive n (n % 128 ∷ [])
@@ -119,7 +119,7 @@ positive (suc more) n h = elim (cases_lt n 64) [
       let rest : Positive (n / 128) (sleb_within more (pos (n / 128))) =
       positive more (n / 128) (omega (arith, h, power)) in
       rw (sleb_more more _ (le-ltb n 64 high)) (record {
-        groups = Groups-cons (n % 128 + 128) _ n _ (omega arith) (omega arith) rest.groups;
+        groups = IsLeb128-cons (n % 128 + 128) _ n _ (omega arith) (omega arith) rest.groups;
         sign = sign-cons (n % 128 + 128) _ _ rest.groups ∙ rest.sign;
       })
 ]
@@ -127,7 +127,7 @@ positive (suc more) n h = elim (cases_lt n 64) [
 -- the groups of a negative number are short of the next power by its size
 record Negative (n : ℕ) (bytes : List ℕ) : Type 0 where
   unsigned : ℕ
-  groups : Groups bytes unsigned
+  groups : IsLeb128 bytes unsigned
   short_by : unsigned + suc n ≡ 128 ^ length bytes
   sign : is_negative bytes ≡ true
 
@@ -148,7 +148,7 @@ negative (suc more) n h = elim (cases_lt n 64) [
       rw (sleb_more more _ (le-ltb n 64 high)) (record {
         unsigned = 127 - n % 128 + 128 * rest.unsigned;
         groups =
-            Groups-cons (127 - n % 128 + 128) _ (127 - n % 128 + 128 * rest.unsigned) _ (omega arith) (omega arith)
+            IsLeb128-cons (127 - n % 128 + 128) _ (127 - n % 128 + 128 * rest.unsigned) _ (omega arith) (omega arith)
             rest.groups;
         short_by = omega (arith, next, rest.short_by);
         sign = sign-cons (127 - n % 128 + 128) _ _ rest.groups ∙ rest.sign;

@@ -341,7 +341,7 @@ room_in_the_last_piece = refl
 
 -- one byte, and whether addends stand in the list or in place
 abbrev begun : Addends → Relocatable
-begun addends = record { bytes = 0xaa ∷ []; big = false; relocations = []; addends = addends }
+begun addends = record { bytes = 0xaa ∷ []; is_big = false; relocations = []; addends = addends }
 
 abbrev refusal_of : Call → Result Relocatable Error
 refusal_of call = after_calls (begun Listed) (AddressOf (Symbol 3 (pos 5)) 4 ∷ call ∷ [])

@@ -39,26 +39,26 @@ no_truth h = cc
 same_format : (format encoding : DwEhPe) → format.0 ≡ bit_and encoding.0 0x0f → format_of encoding ≡ format
 same_format format encoding is = ap (λ n. let f : DwEhPe = record { 0 = n } in f) (sym is)
 
-pub absolute_pointer : (big : Bool) (old : List ℕ) (address : Address) (n : ℕ) (encoding : DwEhPe) (format : DwEhPe)
+pub absolute_pointer : (is_big : Bool) (old : List ℕ) (address : Address) (n : ℕ) (encoding : DwEhPe) (format : DwEhPe)
     (size : ℕ)
     → address ≡ Constant n
     → bit_and encoding.0 0x70 ≡ 0 → format.0 ≡ bit_and encoding.0 0x0f
-    → pointer_at_end big old address encoding size ≡ pointer_data big n format size
-absolute_pointer big old address n encoding format size constant kind is =
-    rw (constant, kind) (ap (λ f. pointer_data big n f size) (same_format _ _ is))
+    → pointer_at_end is_big old address encoding size ≡ pointer_data is_big n format size
+absolute_pointer is_big old address n encoding format size constant kind is =
+    rw (constant, kind) (ap (λ f. pointer_data is_big n f size) (same_format _ _ is))
 
-pub relative_pointer : (big : Bool) (old : List ℕ) (address : Address) (n place : ℕ) (encoding : DwEhPe)
+pub relative_pointer : (is_big : Bool) (old : List ℕ) (address : Address) (n place : ℕ) (encoding : DwEhPe)
     (format : DwEhPe) (size : ℕ)
     → address ≡ Constant n
     → bit_and encoding.0 0x70 ≡ 0x10 → place ≡ length old → format.0 ≡ bit_and encoding.0 0x0f
-    → pointer_at_end big old address encoding size ≡ pointer_data big ((n + (2 ^ 64 - place)) % 2 ^ 64) format size
-relative_pointer big old address n place encoding format size constant kind later is =
+    → pointer_at_end is_big old address encoding size ≡ pointer_data is_big ((n + (2 ^ 64 - place)) % 2 ^ 64) format size
+relative_pointer is_big old address n place encoding format size constant kind later is =
     rw (constant, kind, ← later)
-    (ap (λ f. pointer_data big ((n + (2 ^ 64 - place)) % 2 ^ 64) f size) (same_format _ _ is))
+    (ap (λ f. pointer_data is_big ((n + (2 ^ 64 - place)) % 2 ^ 64) f size) (same_format _ _ is))
 
-pub other_pointer : (big : Bool) (old : List ℕ) (address : Address) (n : ℕ) (encoding : DwEhPe) (size : ℕ)
+pub other_pointer : (is_big : Bool) (old : List ℕ) (address : Address) (n : ℕ) (encoding : DwEhPe) (size : ℕ)
     → address ≡ Constant n → bit_and encoding.0 0x70 ≢ 0
     → bit_and encoding.0 0x70 ≢ 0x10
-    → pointer_at_end big old address encoding size ≡ Err (UnsupportedPointerEncoding encoding)
-other_pointer big old address n encoding size constant not_absolute not_relative =
+    → pointer_at_end is_big old address encoding size ≡ Err (UnsupportedPointerEncoding encoding)
+other_pointer is_big old address n encoding size constant not_absolute not_relative =
     rw (constant, ne_eqb _ _ not_absolute, ne_eqb _ _ not_relative) refl

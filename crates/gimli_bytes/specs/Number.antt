@@ -1,4 +1,4 @@
--- The bytes of a number as it is written, or the refusal of its value or its size. "big" says that
+-- The bytes of a number as it is written, or the refusal of its value or its size. "is_big" says that
 -- the most significant byte comes first.
 use Rattle.std.specs.Prelude.{ℕ, zero, suc, ◌+◌, ◌-◌, ◌*◌, ◌/◌, ◌%◌, ◌^◌, Bool, ◌||◌, nat_lt}
 use Rattle.std.specs.Prelude.{nat_eq, if◌then◌else◌, List, [], ◌∷◌, ◌++◌, length, Result, Ok, Err}
@@ -24,9 +24,9 @@ use Rattle.gimli_bytes.specs.declared.error.Error.TheVariants.{
 
 -- an unsigned number of 1, 2, 3, 4 or 8 bytes
 abbrev pub udata : Bool → ℕ → ℕ → Result (List ℕ) Error
-udata big n size =
+udata is_big n size =
     if nat_eq size 1 || nat_eq size 2 || nat_eq size 3 || nat_eq size 4 || nat_eq size 8
-    then (if nat_lt n (256 ^ size) then Ok (number_bytes big size n) else Err ValueTooLarge)
+    then (if nat_lt n (256 ^ size) then Ok (number_bytes is_big size n) else Err ValueTooLarge)
     else Err (UnsupportedWordSize size)
 
 -- the number of so many bytes that stands for z in two's complement
@@ -37,9 +37,9 @@ twos_complement size (negsuc n) =
 
 -- a signed number of 1, 2, 4 or 8 bytes
 abbrev pub sdata : Bool → ℤ → ℕ → Result (List ℕ) Error
-sdata big z size =
+sdata is_big z size =
     if nat_eq size 1 || nat_eq size 2 || nat_eq size 4 || nat_eq size 8
-    then result_map (number_bytes big size) (twos_complement size z)
+    then result_map (number_bytes is_big size) (twos_complement size z)
     else Err (UnsupportedWordSize size)
 
 -- ---- LEB128 (DWARF 5, section 7.6)
@@ -86,8 +86,8 @@ sleb z = sleb_within 9 z
 
 -- an address of a size: what a symbol stands for isn't known
 abbrev pub address_bytes : Bool → Address → ℕ → Result (List ℕ) Error
-address_bytes big (Constant n) size = udata big n size
-address_bytes big (Symbol symbol addend) size = Err InvalidAddress
+address_bytes is_big (Constant n) size = udata is_big n size
+address_bytes is_big (Symbol symbol addend) size = Err InvalidAddress
 
 -- ---- initial lengths (DWARF 5, section 7.4)
 
@@ -98,15 +98,15 @@ escape_size Dwarf64 = 4
 
 -- a length whose word is still 0
 abbrev pub open_length : Bool → Format → List ℕ
-open_length big Dwarf32 = number_bytes big 4 0
-open_length big Dwarf64 = number_bytes big 4 0xffff_ffff ++ number_bytes big 8 0
+open_length is_big Dwarf32 = number_bytes is_big 4 0
+open_length is_big Dwarf64 = number_bytes is_big 4 0xffff_ffff ++ number_bytes is_big 8 0
 
 -- the word of a length: in the 32-bit format the greatest sixteen words are reserved
 abbrev pub length_word : Bool → Format → ℕ → Result (List ℕ) Error
-length_word big Dwarf32 n =
-    if nat_lt n 0xffff_fff0 then Ok (number_bytes big 4 n)
+length_word is_big Dwarf32 n =
+    if nat_lt n 0xffff_fff0 then Ok (number_bytes is_big 4 n)
     else (if nat_lt n (2 ^ 32) then Err InitialLengthOverflow else Err ValueTooLarge)
-length_word big Dwarf64 n = Ok (number_bytes big 8 n)
+length_word is_big Dwarf64 n = Ok (number_bytes is_big 8 n)
 
 -- ---- pointers of .eh_frame
 
@@ -144,16 +144,16 @@ DW_EH_PE_pcrel = 0x10
 
 -- a value in a pointer format; the size is that of the format absptr
 abbrev pub pointer_data : Bool → ℕ → DwEhPe → ℕ → Result (List ℕ) Error
-pointer_data big n format size =
-    if nat_eq format.0 DW_EH_PE_absptr then udata big n size
+pointer_data is_big n format size =
+    if nat_eq format.0 DW_EH_PE_absptr then udata is_big n size
     else (if nat_eq format.0 DW_EH_PE_uleb128 then Ok (uleb n)
-    else (if nat_eq format.0 DW_EH_PE_udata2 then udata big n 2
-    else (if nat_eq format.0 DW_EH_PE_udata4 then udata big n 4
-    else (if nat_eq format.0 DW_EH_PE_udata8 then udata big n 8
+    else (if nat_eq format.0 DW_EH_PE_udata2 then udata is_big n 2
+    else (if nat_eq format.0 DW_EH_PE_udata4 then udata is_big n 4
+    else (if nat_eq format.0 DW_EH_PE_udata8 then udata is_big n 8
     else (if nat_eq format.0 DW_EH_PE_sleb128 then Ok (sleb (cast_signed w64 n))
-    else (if nat_eq format.0 DW_EH_PE_sdata2 then sdata big (cast_signed w64 n) 2
-    else (if nat_eq format.0 DW_EH_PE_sdata4 then sdata big (cast_signed w64 n) 4
-    else (if nat_eq format.0 DW_EH_PE_sdata8 then sdata big (cast_signed w64 n) 8
+    else (if nat_eq format.0 DW_EH_PE_sdata2 then sdata is_big (cast_signed w64 n) 2
+    else (if nat_eq format.0 DW_EH_PE_sdata4 then sdata is_big (cast_signed w64 n) 4
+    else (if nat_eq format.0 DW_EH_PE_sdata8 then sdata is_big (cast_signed w64 n) 8
     else Err (UnsupportedPointerEncoding format)))))))))
 
 -- the format of an encoding: its low four bits
@@ -163,14 +163,14 @@ format_of encoding = record { 0 = bit_and encoding.0 0x0f }
 -- an address in a pointer encoding, as it is or relative to the place where it is written; the bit
 -- 0x80 (indirect) isn't looked at
 abbrev pub pointer_bytes : Bool → ℕ → Address → DwEhPe → ℕ → Result (List ℕ) Error
-pointer_bytes big place (Constant n) encoding size =
+pointer_bytes is_big place (Constant n) encoding size =
     if nat_eq (bit_and encoding.0 0x70) DW_EH_PE_absptr
-    then pointer_data big n (format_of encoding) size
+    then pointer_data is_big n (format_of encoding) size
     else (if nat_eq (bit_and encoding.0 0x70) DW_EH_PE_pcrel
-    then pointer_data big ((n + (2 ^ 64 - place)) % 2 ^ 64) (format_of encoding) size
+    then pointer_data is_big ((n + (2 ^ 64 - place)) % 2 ^ 64) (format_of encoding) size
     else Err (UnsupportedPointerEncoding encoding))
-pointer_bytes big place (Symbol symbol addend) encoding size = Err InvalidAddress
+pointer_bytes is_big place (Symbol symbol addend) encoding size = Err InvalidAddress
 
 -- the same for an address that is written after these bytes
 abbrev pub pointer_at_end : Bool → List ℕ → Address → DwEhPe → ℕ → Result (List ℕ) Error
-pointer_at_end big old address encoding size = pointer_bytes big (length old) address encoding size
+pointer_at_end is_big old address encoding size = pointer_bytes is_big (length old) address encoding size

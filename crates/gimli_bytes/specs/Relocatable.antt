@@ -8,6 +8,6 @@ use Rattle.gimli_bytes.specs.declared.relocation.Relocation.{Relocation}
 -- addends stand
 pub record Relocatable : Type 0 where
   pub bytes : List ℕ
-  pub big : Bool
+  pub is_big : Bool
   pub relocations : List Relocation
   pub addends : Addends

@@ -72,20 +72,20 @@ bytes_over old at bytes = take at old ++ bytes ++ drop (at + length bytes) old
 -- what a linker puts at a place, in as many bytes as the place has. The addend is that of the list
 -- and the number at the place, of which one is 0, in as many of their lowest bytes
 abbrev pub relocated : Placement → Bool → List ℕ → Relocation → List ℕ
-relocated placement big bytes r =
-    let there = value_of big (take r.size (drop r.offset bytes)) in
+relocated placement is_big bytes r =
+    let there = value_of is_big (take r.size (drop r.offset bytes)) in
     bytes_over bytes r.offset
-    (number_bytes big r.size
+    (number_bytes is_big r.size
     (place_of placement r.target ((cast_unsigned w64 r.addend + there) % 256 ^ r.size)))
 
 -- the bytes once the relocations are applied, one after the other
 abbrev pub all_relocated : Placement → Bool → List ℕ → List Relocation → List ℕ
-all_relocated placement big bytes [] = bytes
-all_relocated placement big bytes (r ∷ others) =
-    all_relocated placement big (relocated placement big bytes r) others
+all_relocated placement is_big bytes [] = bytes
+all_relocated placement is_big bytes (r ∷ others) =
+    all_relocated placement is_big (relocated placement is_big bytes r) others
 
 abbrev pub applied : Placement → Relocatable → List ℕ
-applied placement v = all_relocated placement v.big v.bytes v.relocations
+applied placement v = all_relocated placement v.is_big v.bytes v.relocations
 
 -- ---- what is written
 
@@ -127,7 +127,7 @@ abbrev pub with_place : Relocatable → RelocationTarget → ℤ → ℕ → Res
 with_place v target addend size =
     result_map (λ word. with_relocation v (relocation_at v (length v.bytes) target addend size)
     (v.bytes ++ word))
-    (udata v.big (number_in_place v.addends addend size) size)
+    (udata v.is_big (number_in_place v.addends addend size) size)
 
 -- a place has one of so many bytes from an offset on
 abbrev pub touches : ℕ → ℕ → Relocation → Bool
@@ -144,7 +144,7 @@ abbrev pub with_place_at : Relocatable → ℕ → RelocationTarget → ℤ → 
 with_place_at v offset target addend size =
     result_map (with_relocation v (relocation_at v offset target addend size))
     (unless_touched v.relocations offset size
-    (patch (udata v.big (number_in_place v.addends addend size) size) v.bytes offset))
+    (patch (udata v.is_big (number_in_place v.addends addend size) size) v.bytes offset))
 
 abbrev pub result_then : {A B : Type 0} → Result A Error → (A → Result B Error) → Result B Error
 result_then (Ok x) f = f x
@@ -154,7 +154,7 @@ result_then (Err e) f = Err e
 abbrev pub after_call : Relocatable → Call → Result Relocatable Error
 after_call v (Bytes bytes) = Ok (record v { bytes = v.bytes ++ bytes })
 after_call v (AddressOf (Constant n) size) =
-    result_map (λ word. record v { bytes = v.bytes ++ word }) (udata v.big n size)
+    result_map (λ word. record v { bytes = v.bytes ++ word }) (udata v.is_big n size)
 after_call v (AddressOf (Symbol symbol addend) size) = with_place v (OfSymbol symbol) addend size
 after_call v (OffsetInto section n size) = with_place v (OfSection section) (cast_signed w64 n) size
 after_call v (ReferenceTo symbol size) = with_place v (OfSymbol symbol) (pos 0) size
@@ -187,30 +187,30 @@ after_calls v (call ∷ calls) = result_then (after_call v call) (λ w. after_ca
 
 -- a sum of so many bytes: a negative one is none
 abbrev pub sum_bytes : Bool → ℤ → ℕ → Result (List ℕ) Error
-sum_bytes big (pos n) size = udata big n size
-sum_bytes big (negsuc n) size = Err ValueTooLarge
+sum_bytes is_big (pos n) size = udata is_big n size
+sum_bytes is_big (negsuc n) size = Err ValueTooLarge
 
 -- what a vector of bytes alone holds after a call in which each symbol is a number, and an offset
 -- into a section is what it becomes
 abbrev pub plainly_after : Placement → Bool → List ℕ → Call → Result (List ℕ) Error
-plainly_after placement big old (Bytes bytes) = Ok (old ++ bytes)
-plainly_after placement big old (AddressOf (Constant n) size) =
-    result_map (λ word. old ++ word) (udata big n size)
-plainly_after placement big old (AddressOf (Symbol symbol addend) size) =
-    result_map (λ word. old ++ word) (sum_bytes big (pos (placement.symbol symbol) +ℤ addend) size)
-plainly_after placement big old (OffsetInto section n size) =
-    result_map (λ word. old ++ word) (udata big (placement.section section n) size)
-plainly_after placement big old (ReferenceTo symbol size) =
-    result_map (λ word. old ++ word) (udata big (placement.symbol symbol) size)
-plainly_after placement big old (BytesAt offset bytes) = overwrite_of old offset bytes
-plainly_after placement big old (OffsetAt offset section n size) =
-    patch (udata big (placement.section section n) size) old offset
+plainly_after placement is_big old (Bytes bytes) = Ok (old ++ bytes)
+plainly_after placement is_big old (AddressOf (Constant n) size) =
+    result_map (λ word. old ++ word) (udata is_big n size)
+plainly_after placement is_big old (AddressOf (Symbol symbol addend) size) =
+    result_map (λ word. old ++ word) (sum_bytes is_big (pos (placement.symbol symbol) +ℤ addend) size)
+plainly_after placement is_big old (OffsetInto section n size) =
+    result_map (λ word. old ++ word) (udata is_big (placement.section section n) size)
+plainly_after placement is_big old (ReferenceTo symbol size) =
+    result_map (λ word. old ++ word) (udata is_big (placement.symbol symbol) size)
+plainly_after placement is_big old (BytesAt offset bytes) = overwrite_of old offset bytes
+plainly_after placement is_big old (OffsetAt offset section n size) =
+    patch (udata is_big (placement.section section n) size) old offset
 
 abbrev pub plainly_after_calls : Placement → Bool → List ℕ → List Call → Result (List ℕ) Error
-plainly_after_calls placement big old [] = Ok old
-plainly_after_calls placement big old (call ∷ calls) =
-    result_then (plainly_after placement big old call)
-    (λ new. plainly_after_calls placement big new calls)
+plainly_after_calls placement is_big old [] = Ok old
+plainly_after_calls placement is_big old (call ∷ calls) =
+    result_then (plainly_after placement is_big old call)
+    (λ new. plainly_after_calls placement is_big new calls)
 
 -- ---- what each call asks for
 
@@ -243,19 +243,19 @@ are_inside v = are_within (length v.bytes) v.relocations
 -- ---- what stands at the places once a linker has filled them in: the lowest bytes of each sum
 
 abbrev pub lowest_bytes : Bool → ℕ → ℕ → Result (List ℕ) Error
-lowest_bytes big sum size = udata big (sum % 256 ^ size) size
+lowest_bytes is_big sum size = udata is_big (sum % 256 ^ size) size
 
 abbrev pub placed_address : Placement → Bool → Address → ℕ → Result (List ℕ) Error
-placed_address placement big (Constant n) size = udata big n size
-placed_address placement big (Symbol symbol addend) size =
-    lowest_bytes big (placement.symbol symbol + cast_unsigned w64 addend) size
+placed_address placement is_big (Constant n) size = udata is_big n size
+placed_address placement is_big (Symbol symbol addend) size =
+    lowest_bytes is_big (placement.symbol symbol + cast_unsigned w64 addend) size
 
 abbrev pub placed_offset : Placement → Bool → SectionId → ℕ → ℕ → Result (List ℕ) Error
-placed_offset placement big section n size =
-    lowest_bytes big (placement.section section (n % 256 ^ size)) size
+placed_offset placement is_big section n size =
+    lowest_bytes is_big (placement.section section (n % 256 ^ size)) size
 
 abbrev pub placed_reference : Placement → Bool → ℕ → ℕ → Result (List ℕ) Error
-placed_reference placement big symbol size = lowest_bytes big (placement.symbol symbol) size
+placed_reference placement is_big symbol size = lowest_bytes is_big (placement.symbol symbol) size
 
 abbrev pub placed : Placement → Hand
 placed placement = record {
@@ -274,8 +274,8 @@ address_placed placement (Symbol symbol addend) =
 
 -- an offset into a section, as what it becomes
 abbrev pub counted_offset : Placement → Bool → SectionId → ℕ → ℕ → Result (List ℕ) Error
-counted_offset placement big section n size =
-    section_word big (placement.section section n) size
+counted_offset placement is_big section n size =
+    section_word is_big (placement.section section n) size
 
 -- as `plain` has them, but for such offsets
 abbrev pub counted : Placement → Hand

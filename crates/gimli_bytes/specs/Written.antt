@@ -65,7 +65,7 @@ pub record IsAppend {W X : Type 0} (sink : Ghosts W) (old new : W) (result : Res
   -- whatever the writer, also where the call is refused: the old bytes are a beginning, and the
   -- order stays
   pub keeps : Begins (sink.contents old) (sink.contents new)
-  pub ordered : sink.big new ≡ sink.big old
+  pub ordered : sink.is_big new ≡ sink.is_big old
   pub stays : IsTrue (sink.completes old) → IsTrue (sink.completes new)
   -- where it returns Ok, exactly the wanted bytes come after the old ones
   pub ok : IsTrue sink.keeps_bytes
@@ -91,7 +91,7 @@ pub record IsAppend {W X : Type 0} (sink : Ghosts W) (old new : W) (result : Res
 pub record IsAppendInParts {W X : Type 0} (sink : Ghosts W) (old new : W) (result : Result X Error)
     (bytes : List ℕ) : Type 0 where
   pub keeps : Begins (sink.contents old) (sink.contents new)
-  pub ordered : sink.big new ≡ sink.big old
+  pub ordered : sink.is_big new ≡ sink.is_big old
   pub stays : IsTrue (sink.completes old) → IsTrue (sink.completes new)
   pub ok : IsTrue sink.keeps_bytes
       → OnOk result (sink.contents new ≡ sink.contents old ++ bytes)
@@ -107,7 +107,7 @@ pub record IsOverwrite {W X : Type 0} (sink : Ghosts W) (old new : W) (result : 
   -- and the order stay
   pub len : length (sink.contents new) ≡ length (sink.contents old)
   pub before : take at (sink.contents new) ≡ take at (sink.contents old)
-  pub ordered : sink.big new ≡ sink.big old
+  pub ordered : sink.is_big new ≡ sink.is_big old
   pub stays : IsTrue (sink.completes old) → IsTrue (sink.completes new)
   -- whatever the writer, where it refuses, no byte is changed
   pub refused : OnErr result (sink.contents new ≡ sink.contents old)

@@ -105,7 +105,7 @@ impl<E: Endianity> Sink for EndianVec<E> {
 
     ghost contents = { λ v. v.bytes };
 
-    ghost big = { λ v. E.big v.endian };
+    ghost is_big = { λ v. E.is_big v.endian };
 
     ghost keeps_bytes = { true };
 

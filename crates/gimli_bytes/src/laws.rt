@@ -99,14 +99,14 @@ pub fn table_bytes_length()
 pub fn relocations_give_the_same()
     ensures { (placement : Placement) (v w : Relocatable) (calls : List Call) →
         IsTrue (are_inside v) → CallsFit placement calls → after_calls v calls ≡ Ok w →
-        plainly_after_calls placement v.big (applied placement v) calls ≡ Ok (applied placement w) }
+        plainly_after_calls placement v.is_big (applied placement v) calls ≡ Ok (applied placement w) }
 {}
 
 /// What a linker puts at a place is the sum itself, where it fits the size.
 pub fn placed_sums_are_numbers()
-    ensures address { (at : Placement) (big : Bool) (address : Address) (size : ℕ) →
-        CallFits at (AddressOf address size) → placed_address at big address size
-        ≡ address_bytes big (address_placed at address) size }
-    ensures other { (big : Bool) (n size : ℕ) → n < 256 ^ size →
-        lowest_bytes big n size ≡ section_word big n size }
+    ensures address { (at : Placement) (is_big : Bool) (address : Address) (size : ℕ) →
+        CallFits at (AddressOf address size) → placed_address at is_big address size
+        ≡ address_bytes is_big (address_placed at address) size }
+    ensures other { (is_big : Bool) (n size : ℕ) → n < 256 ^ size →
+        lowest_bytes is_big n size ≡ section_word is_big n size }
 {}

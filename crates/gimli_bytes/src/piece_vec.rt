@@ -188,7 +188,7 @@ impl<E: Endianity, const N: usize> Sink for PieceVec<E, N> {
 
     ghost contents = { λ v. v.bytes };
 
-    ghost big = { λ v. E.big v.endian };
+    ghost is_big = { λ v. E.is_big v.endian };
 
     ghost keeps_bytes = { true };
 

@@ -35,7 +35,7 @@ impl<E: Endianity> Model for RelocatableVec<E> {
 
     ghost view = { λ v. record {
       bytes = v.section.bytes;
-      big = E.big v.section.endian;
+      is_big = E.is_big v.section.endian;
       relocations = v.relocations.items;
       addends = v.addends;
     } };
@@ -46,7 +46,7 @@ impl<E: Endianity> RelocatableVec<E> {
     pub fn new(alloc: Global, endian: E, addends: Addends) -> RelocatableVec<E>
         ensures { result ≡ record {
           bytes = [];
-          big = E.big endian;
+          is_big = E.is_big endian;
           relocations = [];
           addends = addends;
         } }
@@ -185,7 +185,7 @@ impl<E: Endianity> RelocatableVec<E> {
         ensures ok { OnOk result (with_place_at self.old offset target addend size ≡ Ok self.new) }
         ensures len { length self.new.bytes ≡ length self.old.bytes }
         ensures before { take offset self.new.bytes ≡ take offset self.old.bytes }
-        ensures ordered { self.new.big ≡ self.old.big }
+        ensures ordered { self.new.is_big ≡ self.old.is_big }
         ensures err { OnErr result (self.new ≡ self.old) }
         ensures cause { IfErr result (λ e. (e ≡ Error.OutOfMemory)
             ⊎ (with_place_at self.old offset target addend size ≡ Err e)) }
@@ -233,8 +233,8 @@ fn addend_in_list(addends: Addends, addend: i64) -> i64
 
 /// The number that stands at the place of a relocation until it is applied.
 fn number_in_place(addends: Addends, addend: i64, size: u8) -> u64
-    ensures { (big : Bool) →
-        udata big result size ≡ udata big (number_in_place addends addend size) size }
+    ensures { (is_big : Bool) →
+        udata is_big result size ≡ udata is_big (number_in_place addends addend size) size }
 {
     match addends {
         Addends::Listed => 0,
@@ -244,7 +244,7 @@ fn number_in_place(addends: Addends, addend: i64, size: u8) -> u64
 
 /// The number that the lowest `size` bytes of a word are.
 fn low_bytes(word: u64, size: u8) -> u64
-    ensures { (big : Bool) → udata big result size ≡ udata big (word % 256 ^ size) size }
+    ensures { (is_big : Bool) → udata is_big result size ≡ udata is_big (word % 256 ^ size) size }
 {
     match size {
         1 => word % 0x100,
@@ -261,7 +261,7 @@ impl<E: Endianity> Sink for RelocatableVec<E> {
 
     ghost contents = { λ v. v.bytes };
 
-    ghost big = { λ v. v.big };
+    ghost is_big = { λ v. v.is_big };
 
     ghost keeps_bytes = { false };
 

@@ -13,7 +13,7 @@ pub trait Sink {
     ghost contents: { Self → List ℕ };
 
     /// Whether the most significant byte of a number comes first.
-    ghost big: { Self → Bool };
+    ghost is_big: { Self → Bool };
 
     /// Whether a writer of this type keeps exactly the bytes given to it.
     ghost keeps_bytes: { Bool };

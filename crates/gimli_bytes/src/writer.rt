@@ -28,7 +28,7 @@ pub trait Writer: Sink {
 
     /// The order of bytes.
     fn endian(&self) -> Self::Endian
-        ensures { Self.Endian.big result ≡ Self.big self.now };
+        ensures { Self.Endian.is_big result ≡ Self.is_big self.now };
 
     /// The length of the section in bytes, which is also the offset of what is appended next.
     fn len(&self) -> usize
@@ -51,7 +51,7 @@ pub trait Writer: Sink {
     /// would promise for every writer what addresses become.
     fn write_address(&mut self, address: Address, size: u8) -> Result<()>
         ensures { IsAppend Self.Sink self.old self.new result
-            (λ hand. hand.address (Self.big self.old) address size) };
+            (λ hand. hand.address (Self.is_big self.old) address size) };
 
     /// Appends an address in a pointer encoding of `.eh_frame`: as it is, or relative to the end
     /// of the section. A symbol is `InvalidAddress`, an address that is relative to anything else
@@ -59,7 +59,7 @@ pub trait Writer: Sink {
     /// 0x80 of the encoding, by which the pointer is the place of the address, isn't looked at.
     fn write_eh_pointer(&mut self, address: Address, eh_pe: DwEhPe, size: u8) -> Result<()>
         ensures { IsAppend Self.Sink self.old self.new result
-            (λ hand. pointer_at_end (Self.big self.old) (Self.contents self.old) address eh_pe
+            (λ hand. pointer_at_end (Self.is_big self.old) (Self.contents self.old) address eh_pe
             size) }
     {
         match address {
@@ -80,7 +80,7 @@ pub trait Writer: Sink {
     /// `UnsupportedPointerEncoding` for other formats.
     fn write_eh_pointer_data(&mut self, val: u64, format: DwEhPe, size: u8) -> Result<()>
         ensures { IsAppend Self.Sink self.old self.new result
-            (λ hand. pointer_data (Self.big self.old) val format size) }
+            (λ hand. pointer_data (Self.is_big self.old) val format size) }
     {
         match format {
             constants::DW_EH_PE_absptr => self.write_udata(val, size),
@@ -100,7 +100,7 @@ pub trait Writer: Sink {
     /// by `write_udata`.
     fn write_offset(&mut self, val: usize, section: SectionId, size: u8) -> Result<()>
         ensures { IsAppend Self.Sink self.old self.new result
-            (λ hand. hand.offset (Self.big self.old) section val size) };
+            (λ hand. hand.offset (Self.is_big self.old) section val size) };
 
     /// Writes an offset into a section, of `size` bytes, over the bytes from an offset on. A
     /// writer without relocations does so by `write_udata_at`.
@@ -112,18 +112,18 @@ pub trait Writer: Sink {
         size: u8,
     ) -> Result<()>
         ensures { IsOverwrite Self.Sink self.old self.new result offset
-            (λ hand. hand.offset (Self.big self.old) section val size) };
+            (λ hand. hand.offset (Self.is_big self.old) section val size) };
 
     /// Appends a reference to a symbol, of `size` bytes. A writer that knows of no symbols always
     /// refuses it, by `InvalidReference`.
     fn write_reference(&mut self, symbol: usize, size: u8) -> Result<()>
         ensures { IsAppend Self.Sink self.old self.new result
-            (λ hand. hand.reference (Self.big self.old) symbol size) };
+            (λ hand. hand.reference (Self.is_big self.old) symbol size) };
 
     /// Appends a byte. Refused as `write` is.
     fn write_u8(&mut self, val: u8) -> Result<()>
         ensures { IsAppend Self.Sink self.old self.new result
-            (λ hand. Ok (number_bytes (Self.big self.old) 1 val)) }
+            (λ hand. Ok (number_bytes (Self.is_big self.old) 1 val)) }
     {
         self.write(&[val])
     }
@@ -131,7 +131,7 @@ pub trait Writer: Sink {
     /// Appends a number of two bytes. Refused as `write` is.
     fn write_u16(&mut self, val: u16) -> Result<()>
         ensures { IsAppend Self.Sink self.old self.new result
-            (λ hand. Ok (number_bytes (Self.big self.old) 2 val)) }
+            (λ hand. Ok (number_bytes (Self.is_big self.old) 2 val)) }
     {
         self.write(&bytes_of_u16(self.endian(), val))
     }
@@ -139,7 +139,7 @@ pub trait Writer: Sink {
     /// Appends a number of four bytes. Refused as `write` is.
     fn write_u32(&mut self, val: u32) -> Result<()>
         ensures { IsAppend Self.Sink self.old self.new result
-            (λ hand. Ok (number_bytes (Self.big self.old) 4 val)) }
+            (λ hand. Ok (number_bytes (Self.is_big self.old) 4 val)) }
     {
         self.write(&bytes_of_u32(self.endian(), val))
     }
@@ -147,7 +147,7 @@ pub trait Writer: Sink {
     /// Appends a number of eight bytes. Refused as `write` is.
     fn write_u64(&mut self, val: u64) -> Result<()>
         ensures { IsAppend Self.Sink self.old self.new result
-            (λ hand. Ok (number_bytes (Self.big self.old) 8 val)) }
+            (λ hand. Ok (number_bytes (Self.is_big self.old) 8 val)) }
     {
         self.write(&bytes_of_u64(self.endian(), val))
     }
@@ -155,7 +155,7 @@ pub trait Writer: Sink {
     /// Appends a number of sixteen bytes. Refused as `write` is.
     fn write_u128(&mut self, val: u128) -> Result<()>
         ensures { IsAppend Self.Sink self.old self.new result
-            (λ hand. Ok (number_bytes (Self.big self.old) 16 val)) }
+            (λ hand. Ok (number_bytes (Self.is_big self.old) 16 val)) }
     {
         self.write(&bytes_of_u128(self.endian(), val))
     }
@@ -163,7 +163,7 @@ pub trait Writer: Sink {
     /// Writes a byte over that at an offset. Refused as by `write_at`.
     fn write_u8_at(&mut self, offset: usize, val: u8) -> Result<()>
         ensures { IsOverwrite Self.Sink self.old self.new result
-            offset (λ hand. Ok (number_bytes (Self.big self.old) 1 val)) }
+            offset (λ hand. Ok (number_bytes (Self.is_big self.old) 1 val)) }
     {
         self.write_at(offset, &[val])
     }
@@ -171,7 +171,7 @@ pub trait Writer: Sink {
     /// Writes a number over the two bytes from an offset on. Refused as by `write_at`.
     fn write_u16_at(&mut self, offset: usize, val: u16) -> Result<()>
         ensures { IsOverwrite Self.Sink self.old self.new result
-            offset (λ hand. Ok (number_bytes (Self.big self.old) 2 val)) }
+            offset (λ hand. Ok (number_bytes (Self.is_big self.old) 2 val)) }
     {
         self.write_at(offset, &bytes_of_u16(self.endian(), val))
     }
@@ -179,7 +179,7 @@ pub trait Writer: Sink {
     /// Writes a number over the four bytes from an offset on. Refused as by `write_at`.
     fn write_u32_at(&mut self, offset: usize, val: u32) -> Result<()>
         ensures { IsOverwrite Self.Sink self.old self.new result
-            offset (λ hand. Ok (number_bytes (Self.big self.old) 4 val)) }
+            offset (λ hand. Ok (number_bytes (Self.is_big self.old) 4 val)) }
     {
         self.write_at(offset, &bytes_of_u32(self.endian(), val))
     }
@@ -187,7 +187,7 @@ pub trait Writer: Sink {
     /// Writes a number over the eight bytes from an offset on. Refused as by `write_at`.
     fn write_u64_at(&mut self, offset: usize, val: u64) -> Result<()>
         ensures { IsOverwrite Self.Sink self.old self.new result
-            offset (λ hand. Ok (number_bytes (Self.big self.old) 8 val)) }
+            offset (λ hand. Ok (number_bytes (Self.is_big self.old) 8 val)) }
     {
         self.write_at(offset, &bytes_of_u64(self.endian(), val))
     }
@@ -195,7 +195,7 @@ pub trait Writer: Sink {
     /// Writes a number over the sixteen bytes from an offset on. Refused as by `write_at`.
     fn write_u128_at(&mut self, offset: usize, val: u128) -> Result<()>
         ensures { IsOverwrite Self.Sink self.old self.new result
-            offset (λ hand. Ok (number_bytes (Self.big self.old) 16 val)) }
+            offset (λ hand. Ok (number_bytes (Self.is_big self.old) 16 val)) }
     {
         self.write_at(offset, &bytes_of_u128(self.endian(), val))
     }
@@ -204,7 +204,7 @@ pub trait Writer: Sink {
     /// size isn't 1, 2, 3, 4 or 8, and by `ValueTooLarge` where the number doesn't fit it.
     fn write_udata(&mut self, val: u64, size: u8) -> Result<()>
         ensures { IsAppend Self.Sink self.old self.new result (λ hand.
-            udata (Self.big self.old) val size) }
+            udata (Self.is_big self.old) val size) }
     {
         match size {
             1 => {
@@ -241,7 +241,7 @@ pub trait Writer: Sink {
     /// number doesn't fit it.
     fn write_sdata(&mut self, val: i64, size: u8) -> Result<()>
         ensures { IsAppend Self.Sink self.old self.new result (λ hand.
-            sdata (Self.big self.old) val size) }
+            sdata (Self.is_big self.old) val size) }
     {
         match size {
             1 => self.write_u8(bits_of_i8(val)?),
@@ -256,7 +256,7 @@ pub trait Writer: Sink {
     /// `write_udata`, and then as by `write_at`.
     fn write_udata_at(&mut self, offset: usize, val: u64, size: u8) -> Result<()>
         ensures { IsOverwrite Self.Sink self.old self.new result
-            offset (λ hand. udata (Self.big self.old) val size) }
+            offset (λ hand. udata (Self.is_big self.old) val size) }
     {
         match size {
             1 => {
@@ -316,7 +316,7 @@ pub trait Writer: Sink {
     /// `write_initial_length_at`. Refused as `write` is, which it may call twice.
     fn write_initial_length(&mut self, format: Format) -> Result<InitialLengthOffset>
         ensures appends { IsAppendInParts Self.Sink self.old self.new result
-            (open_length (Self.big self.old) format) }
+            (open_length (Self.is_big self.old) format) }
         ensures after { IfOk result (λ word. length (Self.contents self.old) ≤ word.0) }
         ensures place { IsTrue Self.keeps_bytes →
             IfOk result (λ word. word.0 ≡ length (Self.contents self.old) + escape_size format) }
@@ -348,7 +348,7 @@ pub trait Writer: Sink {
         format: Format,
     ) -> Result<()>
         ensures { IsOverwrite Self.Sink self.old self.new result
-            offset.0 (λ hand. length_word (Self.big self.old) format val) }
+            offset.0 (λ hand. length_word (Self.is_big self.old) format val) }
     {
         if is_reserved(format, val) {
             return Err(Error::InitialLengthOverflow);
@@ -363,17 +363,17 @@ pub struct InitialLengthOffset(pub usize);
 
 /// Whether a length is one that the 32-bit format reserves.
 fn is_reserved(format: Format, val: u64) -> bool
-    ensures reserved { (big : Bool) → result ≡ true →
-        length_word big format val ≡ Err Error.InitialLengthOverflow }
-    ensures other { (big : Bool) → result ≡ false →
-        length_word big format val ≡ udata big val (word_size format) }
+    ensures reserved { (is_big : Bool) → result ≡ true →
+        length_word is_big format val ≡ Err Error.InitialLengthOverflow }
+    ensures other { (is_big : Bool) → result ≡ false →
+        length_word is_big format val ≡ udata is_big val (word_size format) }
 {
     format == Format::Dwarf32 && (0xffff_fff0..=0xffff_ffff).contains(&val)
 }
 
 /// The two bytes of a number in an order.
 fn bytes_of_u16<E: Endianity>(endian: E, val: u16) -> [u8; 2]
-    ensures { result ≡ number_bytes (E.big endian) 2 val }
+    ensures { result ≡ number_bytes (E.is_big endian) 2 val }
 {
     let mut bytes = [0; 2];
     endian.write_u16(&mut bytes, val);
@@ -383,7 +383,7 @@ fn bytes_of_u16<E: Endianity>(endian: E, val: u16) -> [u8; 2]
 /// The three bytes of a number in an order.
 fn bytes_of_u24<E: Endianity>(endian: E, val: u32) -> [u8; 3]
     requires { val < 0x100_0000 }
-    ensures { result ≡ number_bytes (E.big endian) 3 val }
+    ensures { result ≡ number_bytes (E.is_big endian) 3 val }
 {
     let bytes = bytes_of_u32(endian, val);
     if endian.is_big_endian() {
@@ -395,7 +395,7 @@ fn bytes_of_u24<E: Endianity>(endian: E, val: u32) -> [u8; 3]
 
 /// The four bytes of a number in an order.
 fn bytes_of_u32<E: Endianity>(endian: E, val: u32) -> [u8; 4]
-    ensures { result ≡ number_bytes (E.big endian) 4 val }
+    ensures { result ≡ number_bytes (E.is_big endian) 4 val }
 {
     let mut bytes = [0; 4];
     endian.write_u32(&mut bytes, val);
@@ -404,7 +404,7 @@ fn bytes_of_u32<E: Endianity>(endian: E, val: u32) -> [u8; 4]
 
 /// The eight bytes of a number in an order.
 fn bytes_of_u64<E: Endianity>(endian: E, val: u64) -> [u8; 8]
-    ensures { result ≡ number_bytes (E.big endian) 8 val }
+    ensures { result ≡ number_bytes (E.is_big endian) 8 val }
 {
     let mut bytes = [0; 8];
     endian.write_u64(&mut bytes, val);
@@ -413,7 +413,7 @@ fn bytes_of_u64<E: Endianity>(endian: E, val: u64) -> [u8; 8]
 
 /// The sixteen bytes of a number in an order.
 fn bytes_of_u128<E: Endianity>(endian: E, val: u128) -> [u8; 16]
-    ensures { result ≡ number_bytes (E.big endian) 16 val }
+    ensures { result ≡ number_bytes (E.is_big endian) 16 val }
 {
     let mut bytes = [0; 16];
     endian.write_u128(&mut bytes, val);

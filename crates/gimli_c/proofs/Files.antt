@@ -4,7 +4,7 @@ use Rattle.std.proofs.Common.{append_assoc}
 use Rattle.std.specs.Prelude.{Option, Some, nat_le, if◌then◌else◌, slice_get}
 use Rattle.std.proofs.lemmas.List.{append-nil}
 use Rattle.std.proofs.lemmas.Option.{none-some}
-use Rattle.gimli_core.specs.Notation.{Notation}
+use Rattle.gimli_core.specs.Layout.{OrderAndLimit}
 use Rattle.gimli_line.specs.header.File.{File}
 use Rattle.gimli_line.specs.declared.run.instruction.LineInstruction.TheVariants.{Special, Copy, AdvancePc, AdvanceLine}
 use Rattle.gimli_line.specs.declared.run.instruction.LineInstruction.TheVariants.{SetFile, SetColumn, NegateStatement}
@@ -22,24 +22,24 @@ use Rattle.gimli_line.specs.declared.run.instruction.LineInstruction.TheVariants
 use Rattle.gimli_line.specs.header.Header.{Header, files_with, without_files, directory_of, file_of, from_one}
 use Rattle.gimli_line.specs.run.Instruction.{Ins, files_after}
 use Rattle.gimli_line.specs.run.InstructionReading.{decoded_at}
-use Rattle.gimli_line.specs.run.Progress.{files_from}
+use Rattle.gimli_line.specs.run.Passing.{files_from}
 use Rattle.gimli_line.specs.run.Rows.{files_at_end}
 use Rattle.gimli_line.specs.run.RunState.{RunState}
 use Rattle.gimli_line.specs.run.EventsWithFiles.{FilesAtEnd}
-use Rattle.gimli_c.specs.Location.{Location, notation_at, HasUnit}
+use Rattle.gimli_c.specs.Location.{Location, layout_at, HasUnit}
 use Rattle.gimli_c.specs.FileSeen.{HasFiles, file_seen_by_c}
 use Rattle.gimli_c.specs.inside.Run.{header_with}
 
 -- a header that is another one but for its files
-pub has_files : (p : Location) (notation : Notation) (h complete : Header) (files : List File) → HasUnit p h
-    → notation ≡ notation_at p
-    → FilesAtEnd notation true h h.program files → without_files complete ≡ without_files h → complete.files ≡ files
+pub has_files : (p : Location) (layout : OrderAndLimit) (h complete : Header) (files : List File) → HasUnit p h
+    → layout ≡ layout_at p
+    → FilesAtEnd layout true h h.program files → without_files complete ≡ without_files h → complete.files ≡ files
     → HasFiles p complete
-has_files p notation h complete files unit n at_end same are = record {
+has_files p layout h complete files unit n at_end same are = record {
   header = h;
   unit = unit;
   files = files;
-  at_end = subst (λ (m : Notation). FilesAtEnd m true h h.program files) n at_end;
+  at_end = subst (λ (m : OrderAndLimit). FilesAtEnd m true h h.program files) n at_end;
   complete_is =
       ap (λ (k : Header). record k { files = complete.files }) same
       ∙ ap (λ (fs : List File). record h { files = fs }) are;
@@ -93,7 +93,7 @@ more_from appends files (i ∷ list) =
     }
 
 more_at_end : (a : RunState) → HasFirst a.files (files_at_end a)
-more_at_end a = more_from a.appends a.files (decoded_at a.unread.notation a.fixed a.unread.bytes).0
+more_at_end a = more_from a.appends a.files (decoded_at a.unread.layout a.fixed a.unread.bytes).0
 
 slice_get-front : {A : Type 0} (xs ys : List A) (k : ℕ) (x : A) → slice_get xs k ≡ Some x
     → slice_get (xs ++ ys) k ≡ Some x
@@ -165,10 +165,10 @@ directory_is start now h index i l =
     ∙ ap (λ (k : Header). directory_of (record k { files = files_at_end start }) i) l.fixed
 
 -- the header with all files, of a run from its start
-pub has_complete : (p : Location) (notation : Notation) (h : Header) (start : RunState) → HasUnit p h
-    → notation ≡ notation_at p
-    → FilesAtEnd notation true h h.program (files_at_end start) → start.fixed ≡ without_files h
+pub has_complete : (p : Location) (layout : OrderAndLimit) (h : Header) (start : RunState) → HasUnit p h
+    → layout ≡ layout_at p
+    → FilesAtEnd layout true h h.program (files_at_end start) → start.fixed ≡ without_files h
     → HasFiles p (complete start)
-has_complete p notation h start unit n at_end fixed =
-    has_files p notation h (complete start) (files_at_end start) unit n at_end
+has_complete p layout h start unit n at_end fixed =
+    has_files p layout h (complete start) (files_at_end start) unit n at_end
     (ap (λ (k : Header). record k { files = [] }) fixed) refl

@@ -100,10 +100,10 @@ no_line_strings p is =
     ap (λ (b : Bool). if b && nat_eq (first_form (sources p.files)) 0x1f then with_text [] [] else []) (no_empty p is)
 
 -- so what was written to an empty section with empty tables is read back with empty tables
-pub read_back : (written big : Bool) (p : Built) (texts : StringTables) (old new : List ℕ) → written ≡ big → old ≡ []
+pub read_back : (written is_big : Bool) (p : Built) (texts : StringTables) (old new : List ℕ) → written ≡ is_big → old ≡ []
     → p.file_has_source ≡ false → HaveEmptySource p no_texts texts
-    → (unit : List ℕ) × (new ≡ old ++ unit) × ReadsBackAs written p texts unit → ReadsBackAs big p no_texts new
-read_back written big p texts old new big_is old_is none gained given =
+    → (unit : List ℕ) × (new ≡ old ++ unit) × ReadsBackAs written p texts unit → ReadsBackAs is_big p no_texts new
+read_back written is_big p texts old new big_is old_is none gained given =
     subst (λ (b : Bool). ReadsBackAs b p no_texts new) big_is
     (subst (ReadsBackAs written p no_texts) (sym (given.1 ∙ ap (λ (xs : List ℕ). xs ++ given.0) old_is))
     (subst (λ (l : List (List ℕ)). ReadsBackAs written p (texts_in [] l) given.0)

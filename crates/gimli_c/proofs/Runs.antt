@@ -7,7 +7,7 @@ use Rattle.std.proofs.lemmas.List.{map-append, length-append, length-map, append
 use Rattle.std.proofs.lemmas.List.{length-drop}
 use Rattle.std.proofs.lemmas.Bool.{ltb-true, ltb-false}
 use Rattle.gimli_core.specs.declared.error.Error.{Error}
-use Rattle.gimli_core.specs.Notation.{Notation}
+use Rattle.gimli_core.specs.Layout.{OrderAndLimit}
 use Rattle.gimli_line.specs.declared.run.row.LineRow.{LineRow}
 use Rattle.gimli_line.specs.header.File.{File}
 use Rattle.gimli_line.specs.header.Header.{Header}
@@ -16,7 +16,7 @@ use Rattle.gimli_line.specs.run.Events.{Event, row, fault, Events}
 use Rattle.gimli_line.specs.run.EventsWithFiles.{EventWithFiles, EventsWithFiles}
 use Rattle.gimli_line.specs.run.Sequences.{events_of}
 use Rattle.gimli_line.specs.run.InstructionReading.{decoded_at, decoded_upto}
-use Rattle.gimli_line.specs.run.Progress.{files_from}
+use Rattle.gimli_line.specs.run.Passing.{files_from}
 use Rattle.gimli_line.specs.run.Rows.{files_at_end}
 use Rattle.gimli_line.specs.run.RunState.{RunState}
 use Rattle.gimli_c.specs.declared.row.GimliRow.{GimliRow}
@@ -24,7 +24,7 @@ use Rattle.gimli_line.proofs.Bounds.{unit_bounded}
 use Rattle.gimli_line.proofs.HeaderLaws.{one_header}
 use Rattle.gimli_line.proofs.RowBounds.{events_bounded}
 use Rattle.gimli_line.proofs.RunLists.{given_without_files}
-use Rattle.gimli_c.specs.Location.{Location, notation_at, unit_entry_at, HasUnit}
+use Rattle.gimli_c.specs.Location.{Location, layout_at, unit_entry_at, HasUnit}
 use Rattle.gimli_c.specs.Run.{rows_of, fault_of, Begun, Copied, HasEvents}
 use Rattle.gimli_c.specs.Seen.{row_seen}
 use Rattle.gimli_c.specs.Written.{slots_with}
@@ -134,10 +134,10 @@ counted events left rest skip count old now r way is fits =
 -- ---- the events of a program
 
 -- events that have files are events
-pub without_files : (notation : Notation) (a : Bool) (h : Header) (bytes : List ℕ) (events : List EventWithFiles)
-    → EventsWithFiles notation a h bytes events
-    → Events notation h bytes (events_of events)
-without_files notation a h bytes events given = record {
+pub without_files : (layout : OrderAndLimit) (a : Bool) (h : Header) (bytes : List ℕ) (events : List EventWithFiles)
+    → EventsWithFiles layout a h bytes events
+    → Events layout h bytes (events_of events)
+without_files layout a h bytes events given = record {
   list = given.list;
   end = given.end;
   decoding = given.decoding;
@@ -158,29 +158,29 @@ pub rows_at_most : (p : Location) (h k : Header) (events : List Event) → HasEv
     → length (rows_of events) ≤ k.unit_length
 rows_at_most p h k events given unit =
     let bytes = drop p.offset p.section in
-    let same = one_header (notation_at p) (unit_entry_at p) bytes h k given.unit.1 unit.1 in
-    let bounds = unit_bounded (notation_at p) (unit_entry_at p) bytes h given.unit.1 in
+    let same = one_header (layout_at p) (unit_entry_at p) bytes h k given.unit.1 unit.1 in
+    let bounds = unit_bounded (layout_at p) (unit_entry_at p) bytes h given.unit.1 in
     omega (
       arith,
       few_of_events events,
-      events_bounded (notation_at p) h h.program events given.given,
+      events_bounded (layout_at p) h h.program events given.given,
       bounds.1,
       ap (λ (x : Header). x.unit_length) same,
     )
 
--- what the unit at a location gives, whatever the name of its notation
-pub has_events : (p : Location) (notation : Notation) (h : Header) (events : List EventWithFiles) → HasUnit p h
-    → notation ≡ notation_at p
-    → EventsWithFiles notation true h h.program events → HasEvents p h (events_of events)
-has_events p notation h events unit is given = record {
+-- what the unit at a location gives, whatever the name of its layout
+pub has_events : (p : Location) (layout : OrderAndLimit) (h : Header) (events : List EventWithFiles) → HasUnit p h
+    → layout ≡ layout_at p
+    → EventsWithFiles layout true h h.program events → HasEvents p h (events_of events)
+has_events p layout h events unit is given = record {
   unit = unit;
   given =
-      subst (λ (n : Notation). Events n h h.program (events_of events)) is
-      (without_files notation true h h.program events given);
+      subst (λ (n : OrderAndLimit). Events n h h.program (events_of events)) is
+      (without_files layout true h h.program events given);
 }
 
 -- where no bytes are left, no more files come
 pub files_ended : (a : RunState) → a.unread.bytes ≡ [] → files_at_end a ≡ a.files
 unfolding decoded_upto
 files_ended a none =
-    ap (λ (bytes : List ℕ). files_from a.appends a.files (decoded_at a.unread.notation a.fixed bytes).0) none
+    ap (λ (bytes : List ℕ). files_from a.appends a.files (decoded_at a.unread.layout a.fixed bytes).0) none

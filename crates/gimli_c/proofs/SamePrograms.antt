@@ -72,17 +72,17 @@ is_program_of h p b =
     items
 
 -- so each of them has the same first cause
-same_cause : (h : Handed) (big : Bool) (p q : Built) → IsBuiltOf h p → IsBuiltOf h q
-    → first_cause big p.encoding p no_texts ≡ first_cause big q.encoding q no_texts
-same_cause h big p q a b =
-    let cause : Built → Option Error = λ r. first_cause big r.encoding r no_texts in
+same_cause : (h : Handed) (is_big : Bool) (p q : Built) → IsBuiltOf h p → IsBuiltOf h q
+    → first_cause is_big p.encoding p no_texts ≡ first_cause is_big q.encoding q no_texts
+same_cause h is_big p q a b =
+    let cause : Built → Option Error = λ r. first_cause is_big r.encoding r no_texts in
     let same : cause (program_of h p.row p.in_sequence) ≡ cause (program_of h q.row q.in_sequence) = refl in
     ap cause (is_program_of h p a) ∙ same ∙ sym (ap cause (is_program_of h q b))
 
 -- where a program that is built was written, nothing has a cause
 pub no_cause : (h : Handed) (p : Built) (status : ℕ) → HasNone (HasHandedFault h) → IsBuiltOf h p
-    → first_cause h.big p.encoding p no_texts ≡ None
+    → first_cause h.is_big p.encoding p no_texts ≡ None
     → HasCause h status → ⊥
 no_cause h p status well built none (of_handed fault) = well status fault
 no_cause h p status well built none (of_unit unit) =
-    none-some unit.cause (sym none ∙ same_cause h h.big p unit.program built unit.built ∙ unit.first)
+    none-some unit.cause (sym none ∙ same_cause h h.is_big p unit.program built unit.built ∙ unit.first)

@@ -4,7 +4,7 @@ use Rattle.std.proofs.Common.{sym, ap, subst, ◌∙◌, inl, inr, arith}
 use Rattle.std.specs.Prelude.{Result}
 use Rattle.std.proofs.lemmas.Bool.{cases_lt}
 use Rattle.std.proofs.lemmas.List.{append-nil, drop_all, length-append, length-drop}
-use Rattle.gimli_core.specs.Notation.{Notation, notation_of}
+use Rattle.gimli_core.specs.Layout.{OrderAndLimit, layout_of}
 use Rattle.gimli_core.specs.Numbers.{word_size}
 use Rattle.gimli_core.specs.Reading.{Read, eof, initial_length_at}
 use Rattle.gimli_core.specs.declared.error.Error.{Error}
@@ -17,7 +17,7 @@ use Rattle.gimli_line.specs.run.Events.{Event, Events}
 use Rattle.gimli_line.specs.run.EventsWithFiles.{FilesAtEnd}
 use Rattle.gimli_line.proofs.UnitLaws.{reads_any_unit, unit_follows}
 use Rattle.gimli_c.specs.declared.unit.GimliUnit.{GimliUnit}
-use Rattle.gimli_c.specs.Location.{Location, notation_at, unit_entry_at, HasUnit}
+use Rattle.gimli_c.specs.Location.{Location, layout_at, unit_entry_at, HasUnit}
 use Rattle.gimli_c.specs.Run.{rows_of, fault_of}
 use Rattle.gimli_c.specs.Status.{fault_status}
 use Rattle.gimli_c.specs.Unit.{unit_seen, GivesUnit, IsNext, TellsNext}
@@ -27,26 +27,26 @@ use Rattle.gimli_c.proofs.Runs.{rows_at_most}
 -- ---- the next unit
 
 -- no bytes begin with no unit
-none_empty : (notation : Notation) → (any_unit_at notation []).0 ≡ Err (eof [])
+none_empty : (layout : OrderAndLimit) → (any_unit_at layout []).0 ≡ Err (eof [])
 unfolding any_unit_at initial_length_at
-none_empty notation = refl
+none_empty layout = refl
 
 -- after a unit, or at the end where none was taken, the next one begins
-pub next_is : (notation : Notation) (section : List ℕ) (offset next : ℕ) (after : List ℕ)
-    → after ≡ after_unit (any_unit_at notation (drop offset section)) → next + length after ≡ length section
-    → IsNext notation section offset next
-next_is notation section offset next after is ends = at_answer (any_unit_at notation (drop offset section)) refl is
+pub next_is : (layout : OrderAndLimit) (section : List ℕ) (offset next : ℕ) (after : List ℕ)
+    → after ≡ after_unit (any_unit_at layout (drop offset section)) → next + length after ≡ length section
+    → IsNext layout section offset next
+next_is layout section offset next after is ends = at_answer (any_unit_at layout (drop offset section)) refl is
   where
-    at_answer : (r : Read (List ℕ)) → any_unit_at notation (drop offset section) ≡ r → after ≡ after_unit r
-        → IsNext notation section offset next
+    at_answer : (r : Read (List ℕ)) → any_unit_at layout (drop offset section) ≡ r → after ≡ after_unit r
+        → IsNext layout section offset next
     at_answer (Ok content, rest) read left =
-        let f = (reads_any_unit notation).found (drop offset section) content rest read in
+        let f = (reads_any_unit layout).found (drop offset section) content rest read in
         let within : offset < length section = elim (cases_lt offset (length section)) [
           | inl lt ↦ lt
           | inr le ↦
               let wrong : (let r : Result (List ℕ) Error = Err (eof []) in r) ≡ Ok content =
-              sym (none_empty notation)
-              ∙ ap (λ (xs : List ℕ). (any_unit_at notation xs).0) (sym (drop_all offset section le))
+              sym (none_empty layout)
+              ∙ ap (λ (xs : List ℕ). (any_unit_at layout xs).0) (sym (drop_all offset section le))
               ∙ ap (λ (r : Read (List ℕ)). r.0) read in
               absurd cc
         ] in
@@ -62,22 +62,22 @@ next_is notation section offset next after is ends = at_answer (any_unit_at nota
         })
     at_answer (Err e, rest) read left =
         inr (
-          (e, (reads_any_unit notation).fault (drop offset section) e (ap (λ (r : Read (List ℕ)). r.0) read)),
+          (e, (reads_any_unit layout).fault (drop offset section) e (ap (λ (r : Read (List ℕ)). r.0) read)),
           omega (arith, ends, ap length left),
         )
 
 -- the same by other names of the section and of its order
-pub same_next : (section other : List ℕ) (big other_big : Bool) (offset next : ℕ) → other ≡ section → other_big ≡ big
-    → IsNext (notation_of other_big (2 ^ 64)) other offset next → IsNext (notation_of big (2 ^ 64)) section offset next
-same_next section other big other_big offset next s b is =
-    subst (λ (x : List ℕ). IsNext (notation_of big (2 ^ 64)) x offset next) s
-    (subst (λ (x : Bool). IsNext (notation_of x (2 ^ 64)) other offset next) b is)
+pub same_next : (section other : List ℕ) (is_big other_big : Bool) (offset next : ℕ) → other ≡ section → other_big ≡ is_big
+    → IsNext (layout_of other_big (2 ^ 64)) other offset next → IsNext (layout_of is_big (2 ^ 64)) section offset next
+same_next section other is_big other_big offset next s b is =
+    subst (λ (x : List ℕ). IsNext (layout_of is_big (2 ^ 64)) x offset next) s
+    (subst (λ (x : Bool). IsNext (layout_of x (2 ^ 64)) other offset next) b is)
 
 -- a unit with a header is a unit, whatever its content is
-unit_any : (notation : Notation) (unit_entry : UnitEntry) (unit : List ℕ) (h : Header)
-    → (header_production notation unit_entry).Spells unit h
-    → (content : List ℕ) × (any_unit notation).Spells unit content
-unit_any notation unit_entry unit h s =
+unit_any : (layout : OrderAndLimit) (unit_entry : UnitEntry) (unit : List ℕ) (h : Header)
+    → (header_production layout unit_entry).Spells unit h
+    → (content : List ℕ) × (any_unit layout).Spells unit content
+unit_any layout unit_entry unit h s =
     let i = s.5 in
     let o = i.5 in
     let f = o.5 in
@@ -88,13 +88,13 @@ unit_any notation unit_entry unit h s =
     (i.1, (s.0, s.1, i.1, whole, s.4, (i.4.0, refl)))
 
 -- its size is that of its length and as many bytes as that says: another unit may follow it
-unit_size : (notation : Notation) (unit_entry : UnitEntry) (offset : ℕ) (unit : List ℕ) (h : Header)
-    → (header_production notation unit_entry).Spells unit h
+unit_size : (layout : OrderAndLimit) (unit_entry : UnitEntry) (offset : ℕ) (unit : List ℕ) (h : Header)
+    → (header_production layout unit_entry).Spells unit h
     → offset + length unit ≡ offset_after offset h
-unit_size notation unit_entry offset unit h s =
-    let any = unit_any notation unit_entry unit h s in
+unit_size layout unit_entry offset unit h s =
+    let any = unit_any layout unit_entry unit h s in
     let one : List ℕ = 1 ∷ [] in
-    unit_follows notation unit_entry offset (offset + length unit) (unit ++ one) [] h (unit, one, refl, s) (
+    unit_follows layout unit_entry offset (offset + length unit) (unit ++ one) [] h (unit, one, refl, s) (
       refl,
       inl (record {
         unit = unit;
@@ -111,31 +111,31 @@ unit_size notation unit_entry offset unit h s =
     )
 
 -- what follows a unit with a header stands after its bytes
-pub next_follows : (notation : Notation) (unit_entry : UnitEntry) (section : List ℕ) (offset next : ℕ) (h : Header)
-    → SpellsUnit notation unit_entry (drop offset section) h → IsNext notation section offset next
+pub next_follows : (layout : OrderAndLimit) (unit_entry : UnitEntry) (section : List ℕ) (offset next : ℕ) (h : Header)
+    → SpellsUnit layout unit_entry (drop offset section) h → IsNext layout section offset next
     → next ≡ offset_after offset h
-next_follows notation unit_entry section offset next h u (inl b) =
-    let any = unit_any notation unit_entry u.0 h u.3 in
-    let read : any_unit_at notation (drop offset section) ≡ (Ok any.0, u.1) = ap (any_unit_at notation) u.2
-    ∙ (reads_any_unit notation).only u.0 any.0 u.1 any.1 in
-    let again : any_unit_at notation (drop offset section) ≡ (Ok b.content, b.rest) = ap (any_unit_at notation) b.parts
-    ∙ (reads_any_unit notation).only b.unit b.content b.rest b.spelled in
+next_follows layout unit_entry section offset next h u (inl b) =
+    let any = unit_any layout unit_entry u.0 h u.3 in
+    let read : any_unit_at layout (drop offset section) ≡ (Ok any.0, u.1) = ap (any_unit_at layout) u.2
+    ∙ (reads_any_unit layout).only u.0 any.0 u.1 any.1 in
+    let again : any_unit_at layout (drop offset section) ≡ (Ok b.content, b.rest) = ap (any_unit_at layout) b.parts
+    ∙ (reads_any_unit layout).only b.unit b.content b.rest b.spelled in
     let same : u.1 ≡ b.rest = ap (λ (r : Read (List ℕ)). r.1) (sym read ∙ again) in
     omega (
       arith,
       b.follow,
-      unit_size notation unit_entry offset u.0 h u.3,
+      unit_size layout unit_entry offset u.0 h u.3,
       ap length same,
       ap length u.2,
       ap length b.parts,
       length-append u.0 u.1,
       length-append b.unit b.rest,
     )
-next_follows notation unit_entry section offset next h u (inr none) =
-    let any = unit_any notation unit_entry u.0 h u.3 in
-    let read : any_unit_at notation (drop offset section) ≡ (Ok any.0, u.1) = ap (any_unit_at notation) u.2
-    ∙ (reads_any_unit notation).only u.0 any.0 u.1 any.1 in
-    let refused = (reads_any_unit notation).refused (drop offset section) none.0.0 none.0.1 in
+next_follows layout unit_entry section offset next h u (inr none) =
+    let any = unit_any layout unit_entry u.0 h u.3 in
+    let read : any_unit_at layout (drop offset section) ≡ (Ok any.0, u.1) = ap (any_unit_at layout) u.2
+    ∙ (reads_any_unit layout).only u.0 any.0 u.1 any.1 in
+    let refused = (reads_any_unit layout).refused (drop offset section) none.0.0 none.0.1 in
     let wrong : (let r : Result (List ℕ) Error = Ok any.0 in r)
     ≡ Err none.0.0 = sym (ap (λ (r : Read (List ℕ)). r.0) read)
     ∙ refused in
@@ -168,19 +168,19 @@ unit_is next h events files unit directories file_count rows version address_siz
     rw (a, c, d, e, f, g, i, j) refl
 
 -- what is read of the unit at a location
-pub unit_given : (p : Location) (next : ℕ) (h : Header) (notation : Notation) (unit : GimliUnit) → HasUnit p h
-    → notation ≡ notation_at p → TellsNext p next
-    → IsReadUnit next h notation unit → GivesUnit p unit
-unit_given p next h notation unit has is tells read = record {
+pub unit_given : (p : Location) (next : ℕ) (h : Header) (layout : OrderAndLimit) (unit : GimliUnit) → HasUnit p h
+    → layout ≡ layout_at p → TellsNext p next
+    → IsReadUnit next h layout unit → GivesUnit p unit
+unit_given p next h layout unit has is tells read = record {
   header = h;
   events = read.events;
-  has_events = record { unit = has; given = subst (λ (n : Notation). Events n h h.program read.events) is read.given };
+  has_events = record { unit = has; given = subst (λ (n : OrderAndLimit). Events n h h.program read.events) is read.given };
   files = read.files;
-  at_end = subst (λ (n : Notation). FilesAtEnd n true h h.program read.files) is read.at_end;
+  at_end = subst (λ (n : OrderAndLimit). FilesAtEnd n true h h.program read.files) is read.at_end;
   seen =
       read.seen
       ∙ ap (λ (n : ℕ). unit_seen n h read.events read.files)
-      (next_follows (notation_at p) (unit_entry_at p) p.section p.offset next h has.1 tells);
+      (next_follows (layout_at p) (unit_entry_at p) p.section p.offset next h has.1 tells);
 }
 
 -- it has no more rows than bytes

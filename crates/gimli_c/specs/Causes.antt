@@ -112,7 +112,7 @@ pub record HasUnitFault (h : Handed) (status : ℕ) : Type 0 where
   pub program : Built
   pub built : IsBuiltOf h program
   pub cause : Error
-  pub first : first_cause h.big program.encoding program no_texts ≡ Some cause
+  pub first : first_cause h.is_big program.encoding program no_texts ≡ Some cause
   pub status_is : status ≡ write_status cause
 
 -- why what is handed over is refused before anything is written

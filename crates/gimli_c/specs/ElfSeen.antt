@@ -1,7 +1,7 @@
 -- What C sees of an ELF file (System V ABI, chapter 4).
 use Rattle.std.specs.Prelude.{◌≡◌, ◌≤◌, ◌<◌, ◌⊎◌, ℕ, List, [], length, nat_eq, Option, Some}
 use Rattle.std.specs.Prelude.{None, Result, Ok, Err}
-use Rattle.gimli_core.specs.Order.{is_big}
+use Rattle.gimli_core.specs.Order.{is_big_endian}
 use Rattle.elf_sections.specs.File.{File, file_at, code_addresses, IsLeast}
 use Rattle.elf_sections.specs.Layout.{address_size}
 use Rattle.elf_sections.specs.Relocating.{relocated_at}
@@ -26,7 +26,7 @@ pub record SeesElf (bytes : List ℕ) (seen : GimliElf) : Type 0 where
   pub is : file_at bytes ≡ Ok file
   pub lowest : IsLowest file seen.lowest
   pub size : seen.address_size ≡ address_size file.layout.class
-  pub big : seen.big ≡ is_big file.layout.order
+  pub is_big : seen.is_big ≡ is_big_endian file.layout.order
   pub relocatable : seen.relocatable ≡ nat_eq file.kind 1
 
 -- what the first section of a name holds, made whole if it has no more bytes than there is room for

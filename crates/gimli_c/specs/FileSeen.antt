@@ -17,7 +17,7 @@ use Rattle.gimli_line.specs.header.Header.{Header, directory_of, file_of, has_co
 use Rattle.gimli_line.specs.run.EventsWithFiles.{FilesAtEnd}
 use Rattle.gimli_c.specs.declared.file.GimliText.{GimliText}
 use Rattle.gimli_c.specs.declared.file.GimliFile.{GimliFile}
-use Rattle.gimli_c.specs.Location.{Location, notation_at, HasUnit}
+use Rattle.gimli_c.specs.Location.{Location, layout_at, HasUnit}
 use Rattle.gimli_c.specs.Seen.{flag}
 use Rattle.gimli_c.specs.Written.{IsPut}
 
@@ -71,7 +71,7 @@ pub record HasFiles (p : Location) (complete : Header) : Type 0 where
   pub header : Header
   pub unit : HasUnit p header
   pub files : List File
-  pub at_end : FilesAtEnd (notation_at p) true header header.program files
+  pub at_end : FilesAtEnd (layout_at p) true header header.program files
   pub complete_is : complete ≡ record header { files = files }
 
 -- the file of an index of the unit at the location, and the bytes of its path and directory where

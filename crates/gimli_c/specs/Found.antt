@@ -7,7 +7,7 @@ use Rattle.gimli_line.specs.run.Sequences.{HasFirstFault}
 use Rattle.gimli_lookup.specs.FirstPair.{HasNoPair, IsFirstPair}
 use Rattle.gimli_lookup.specs.Run.{AreRowsOfSequences}
 use Rattle.gimli_c.specs.declared.row.GimliRow.{GimliRow}
-use Rattle.gimli_c.specs.Location.{Location, notation_at, HasUnit, HasNoUnit}
+use Rattle.gimli_c.specs.Location.{Location, layout_at, HasUnit, HasNoUnit}
 use Rattle.gimli_c.specs.Seen.{row_seen}
 use Rattle.gimli_c.specs.Status.{error_status}
 
@@ -16,7 +16,7 @@ use Rattle.gimli_c.specs.Status.{error_status}
 pub record HasSequences (p : Location) (rows : List (List LineRow)) : Type 0 where
   pub header : Header
   pub unit : HasUnit p header
-  pub are : AreRowsOfSequences (notation_at p) header rows
+  pub are : AreRowsOfSequences (layout_at p) header rows
 
 -- the first two rows that cover the address
 pub record GivesPair (p : Location) (address : ℕ) (first second : GimliRow) : Type 0 where
@@ -39,7 +39,7 @@ pub record HasFault (p : Location) (status : ℕ) : Type 0 where
   pub header : Header
   pub unit : HasUnit p header
   pub fault : Error
-  pub first : HasFirstFault (notation_at p) header fault
+  pub first : HasFirstFault (layout_at p) header fault
   pub status_is : status ≡ error_status fault
 
 -- nothing can be looked up at the location, since it has no unit, or the run of its program has a

@@ -23,7 +23,7 @@ use Rattle.gimli_c.specs.Written.{slots_with}
 -- all that is handed over but for the room
 pub record Handed : Type 0 where
   pub encoding : GimliEncoding
-  pub big : Bool
+  pub is_big : Bool
   pub details : ℕ
   pub texts : List ℕ
   pub directories : List GimliName
@@ -34,9 +34,9 @@ pub record Handed : Type 0 where
 
 abbrev pub handed_of : GimliEncoding → Bool → ℕ → List ℕ → List GimliName → List GimliFileName
     → List GimliRow → List GimliSymbol → Handed
-handed_of encoding big details texts directories files rows symbols = record {
+handed_of encoding is_big details texts directories files rows symbols = record {
   encoding = encoding;
-  big = big;
+  is_big = is_big;
   details = details;
   texts = texts;
   directories = directories;
@@ -95,9 +95,9 @@ abbrev pub numbers_of : ℕ → List ℕ → List ℕ
 numbers_of version file_ids = map (file_number version) file_ids
 
 -- bytes are the unit of a program whose texts all stand in it, and read back as it
-pub record IsUnitOf (big : Bool) (p : Built) (bytes : List ℕ) : Type 0 where
-  pub unit : unit_bytes plain big p.encoding p no_texts ≡ Ok bytes
-  pub reads_back : ReadsBackAs big p no_texts bytes
+pub record IsUnitOf (is_big : Bool) (p : Built) (bytes : List ℕ) : Type 0 where
+  pub unit : unit_bytes plain is_big p.encoding p no_texts ≡ Ok bytes
+  pub reads_back : ReadsBackAs is_big p no_texts bytes
 
 -- the unit stands at the front of the room, and the numbers of the files at the front of another
 pub record GivesUnitOf (h : Handed) (old new : List ℕ) (size : ℕ)
@@ -105,7 +105,7 @@ pub record GivesUnitOf (h : Handed) (old new : List ℕ) (size : ℕ)
   pub program : Built
   pub built : IsBuiltOf h program
   pub bytes : List ℕ
-  pub is_unit : IsUnitOf h.big program bytes
+  pub is_unit : IsUnitOf h.is_big program bytes
   pub fits : length bytes ≤ length old
   pub written_is : new ≡ slots_with bytes old
   pub size_is : size ≡ length bytes
@@ -117,6 +117,6 @@ pub record NeedsRoom (h : Handed) (old : List ℕ) (size : ℕ) : Type 0 where
   pub program : Built
   pub built : IsBuiltOf h program
   pub bytes : List ℕ
-  pub is_unit : IsUnitOf h.big program bytes
+  pub is_unit : IsUnitOf h.is_big program bytes
   pub passes : length old < length bytes
   pub size_is : size ≡ length bytes

@@ -1,10 +1,10 @@
 -- Where a unit stands: a section, how its numbers are read, and an offset.
 use Rattle.std.specs.Prelude.{◌≡◌, ◌^◌, ◌⊎◌, ℕ, Bool, true, false, List, None, drop}
-use Rattle.gimli_core.specs.Notation.{Notation, notation_of}
+use Rattle.gimli_core.specs.Layout.{OrderAndLimit, layout_of}
 use Rattle.gimli_core.specs.Numbers.{is_address_size}
 use Rattle.gimli_core.specs.declared.error.Error.{Error}
 use Rattle.gimli_line.specs.header.Header.{Header, UnitEntry}
-use Rattle.gimli_line.specs.header.HeaderGrammar.{SpellsUnit, HasHeaderFault}
+use Rattle.gimli_line.specs.header.HeaderGrammar.{SpellsUnit, HasUnitFault}
 use Rattle.gimli_c.specs.declared.status.TheConstants.{UNSUPPORTED_ADDRESS_SIZE}
 use Rattle.gimli_c.specs.Status.{error_status}
 
@@ -12,17 +12,17 @@ use Rattle.gimli_c.specs.Status.{error_status}
 -- addresses up to version 4, and the offset of a unit
 pub record Location : Type 0 where
   pub section : List ℕ
-  pub big : Bool
+  pub is_big : Bool
   pub address_size : ℕ
   pub offset : ℕ
 
 abbrev pub location : List ℕ → Bool → ℕ → ℕ → Location
-location section big address_size offset =
-    record { section = section; big = big; address_size = address_size; offset = offset }
+location section is_big address_size offset =
+    record { section = section; is_big = is_big; address_size = address_size; offset = offset }
 
 -- offsets have 64 bits
-abbrev pub notation_at : Location → Notation
-notation_at p = notation_of p.big (2 ^ 64)
+abbrev pub layout_at : Location → OrderAndLimit
+layout_at p = layout_of p.is_big (2 ^ 64)
 
 -- no directory and no name is handed in
 abbrev pub unit_entry_at : Location → UnitEntry
@@ -33,13 +33,13 @@ unit_entry_at p = record { address_size = p.address_size; directory = None; name
 abbrev pub HasUnit : Location → Header → Type 0
 HasUnit p h =
     (is_address_size p.address_size ≡ true)
-    × SpellsUnit (notation_at p) (unit_entry_at p) (drop p.offset p.section) h
+    × SpellsUnit (layout_at p) (unit_entry_at p) (drop p.offset p.section) h
 
 -- addresses can have that size, and the bytes begin with no unit; this is the number of the refusal
 abbrev pub HasBadHeader : Location → ℕ → Type 0
 HasBadHeader p status =
     (is_address_size p.address_size ≡ true)
-    × (e : Error) × HasHeaderFault (notation_at p) (unit_entry_at p) (drop p.offset p.section) e
+    × (e : Error) × HasUnitFault (layout_at p) (unit_entry_at p) (drop p.offset p.section) e
     × (status ≡ error_status e)
 
 -- no unit can be read there, and this is the number of the refusal; the size that was handed in

@@ -1,6 +1,6 @@
 -- The index that is made of a program (docs/INDEX.md).
 use Rattle.std.specs.Prelude.{◌≡◌, ◌≤◌, ◌<◌, ◌^◌, ℕ, Bool, Option, None, List, [], length, map, All}
-use Rattle.gimli_core.specs.Notation.{notation_of}
+use Rattle.gimli_core.specs.Layout.{layout_of}
 use Rattle.gimli_compilation.specs.Directories.{TellsDirectories}
 use Rattle.gimli_compilation.specs.Sections.{Sections}
 use Rattle.gimli_index.specs.Found.{Given, IsIndexAppended}
@@ -20,18 +20,18 @@ use Rattle.gimli_c.specs.Written.{slots_with}
 
 -- the sections of a program, its order of bytes, the size of its addresses up to version 4, and the
 -- address below which there is no code
-pub record Program : Type 0 where
+pub record IndexedProgram : Type 0 where
   pub section : List ℕ
-  pub big : Bool
+  pub is_big : Bool
   pub address_size : ℕ
   pub lowest : ℕ
   pub line_strings : List ℕ
   pub strings : List ℕ
 
-abbrev pub program : List ℕ → Bool → ℕ → ℕ → List ℕ → List ℕ → Program
-program section big address_size lowest line_strings strings = record {
+abbrev pub program : List ℕ → Bool → ℕ → ℕ → List ℕ → List ℕ → IndexedProgram
+program section is_big address_size lowest line_strings strings = record {
   section = section;
-  big = big;
+  is_big = is_big;
   address_size = address_size;
   lowest = lowest;
   line_strings = line_strings;
@@ -41,26 +41,26 @@ program section big address_size lowest line_strings strings = record {
 -- a program, the sections that tell the directories of its compilations, and the name of what the
 -- index is made of
 pub record IndexSource : Type 0 where
-  pub program : Program
+  pub program : IndexedProgram
   pub compilations : Sections
   pub identity : List ℕ
 
-abbrev pub index_source : Program → Sections → List ℕ → IndexSource
+abbrev pub index_source : IndexedProgram → Sections → List ℕ → IndexSource
 index_source program compilations identity =
     record { program = program; compilations = compilations; identity = identity }
 
 -- offsets have 64 bits, and no directory and no name is handed in with a unit
 abbrev pub section_read : List ℕ → Bool → Unread
-section_read section big = record { bytes = section; notation = notation_of big (2 ^ 64) }
+section_read section is_big = record { bytes = section; layout = layout_of is_big (2 ^ 64) }
 
 abbrev pub entry_of : ℕ → UnitEntry
 entry_of address_size = record { address_size = address_size; directory = None; name = None }
 
 -- these are all units of a program, each with its header and the sequences that are kept of it
-pub record AreAllUnitsOf (p : Program) (units : List KeptUnit) : Type 0 where
-  pub offsets : AreUnits (notation_of p.big (2 ^ 64)) 0 p.section
+pub record AreAllUnitsOf (p : IndexedProgram) (units : List KeptUnit) : Type 0 where
+  pub offsets : AreUnits (layout_of p.is_big (2 ^ 64)) 0 p.section
       (map (λ u. u.unit.offset) units)
-  pub each : All (IsUnitOf (section_read p.section p.big) (entry_of p.address_size) p.lowest) units
+  pub each : All (IsUnitOf (section_read p.section p.is_big) (entry_of p.address_size) p.lowest) units
 
 -- ---- the index
 

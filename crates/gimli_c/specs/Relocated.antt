@@ -56,8 +56,8 @@ IsWriterRefusal status = (error : Error) × (status ≡ write_status error)
 -- wherever a linker puts the symbols: once it has filled the places in, the bytes are the unit of
 -- the program, in which each symbol and its addend are the sum of both
 abbrev pub IsUnitOnceLinked : Bool → Built → Relocatable → Type 0
-IsUnitOnceLinked big program section =
-    (at : Placement) → Appends (unit_bytes (placed at) big program.encoding program no_texts) []
+IsUnitOnceLinked is_big program section =
+    (at : Placement) → Appends (unit_bytes (placed at) is_big program.encoding program no_texts) []
     (applied at section)
 
 -- the unit, its relocations and the numbers of its files stand at the front of the three arrays
@@ -67,8 +67,8 @@ pub record GivesRelocatable (h : Handed) (old new : List ℕ) (size : ℕ)
   pub program : Built
   pub built : IsBuiltOf h program
   pub section : Relocatable
-  pub order : section.big ≡ h.big
-  pub is_unit : IsUnitOnceLinked h.big program section
+  pub order : section.is_big ≡ h.is_big
+  pub is_unit : IsUnitOnceLinked h.is_big program section
   pub inside : IsTrue (are_inside section)
   pub fits : length section.bytes ≤ length old
   pub written_is : new ≡ slots_with section.bytes old
@@ -85,8 +85,8 @@ pub record NeedsRelocatableRoom (h : Handed) (old : List ℕ) (size : ℕ)
   pub program : Built
   pub built : IsBuiltOf h program
   pub section : Relocatable
-  pub order : section.big ≡ h.big
-  pub is_unit : IsUnitOnceLinked h.big program section
+  pub order : section.is_big ≡ h.is_big
+  pub is_unit : IsUnitOnceLinked h.is_big program section
   pub inside : IsTrue (are_inside section)
   pub passes : (length old < length section.bytes) ⊎ (length slots_old < length section.relocations)
   pub size_is : size ≡ length section.bytes

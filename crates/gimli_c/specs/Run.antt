@@ -6,7 +6,7 @@ use Rattle.gimli_line.specs.declared.run.row.LineRow.{LineRow}
 use Rattle.gimli_line.specs.header.Header.{Header}
 use Rattle.gimli_line.specs.run.Events.{Event, row, fault, Events}
 use Rattle.gimli_c.specs.declared.row.GimliRow.{GimliRow}
-use Rattle.gimli_c.specs.Location.{Location, notation_at, HasUnit, HasNoUnit}
+use Rattle.gimli_c.specs.Location.{Location, layout_at, HasUnit, HasNoUnit}
 use Rattle.gimli_c.specs.Seen.{row_seen}
 use Rattle.gimli_c.specs.Status.{fault_status}
 use Rattle.gimli_c.specs.Written.{slots_with}
@@ -42,7 +42,7 @@ pub record Begun (events : List Event) (skip : ℕ) (old new : List GimliRow) : 
 -- the program of the unit at the location gives these events
 pub record HasEvents (p : Location) (h : Header) (events : List Event) : Type 0 where
   pub unit : HasUnit p h
-  pub given : Events (notation_at p) h h.program events
+  pub given : Events (layout_at p) h h.program events
 
 -- the rows of the unit at the location, from the skip-th on, stand in an array of the caller, with
 -- their whole number beside it; and the status is that of their first fault

@@ -1,7 +1,7 @@
 //! The directory of a compilation, which `.debug_info` has, and whole paths go on from.
 
 ghost use Rattle.std.specs.Prelude.{◌≡◌, ◌≢◌, ◌⊎◌, ◌^◌, None};
-ghost use Rattle.gimli_core.specs.Order.{is_big};
+ghost use Rattle.gimli_core.specs.Order.{is_big_endian};
 ghost use Rattle.gimli_compilation.specs.Sections.{sections_of};
 ghost use Rattle.gimli_c.specs.CompDir.{sections_handed, NeedsDirectoryRoom, TellsDirectory};
 ghost use Rattle.gimli_c.specs.CompDir.{WritesDirectory};
@@ -20,13 +20,13 @@ pub(crate) fn sections_in<'s>(
     line_strings: &'s [u8],
     strings: &'s [u8],
     string_offsets: &'s [u8],
-    big: bool,
+    is_big: bool,
 ) -> CompilationSections<EndianSlice<'s, RunTimeEndian>>
-    ensures { sections_of (λ s. s.slice.now) (λ s. is_big s.endian) (2 ^ 64) result
+    ensures { sections_of (λ s. s.slice.now) (λ s. is_big_endian s.endian) (2 ^ 64) result
         ≡ sections_handed info.now abbreviations.now line_strings.now strings.now
-        string_offsets.now big }
+        string_offsets.now is_big }
 {
-    let order = order(big);
+    let order = order(is_big);
     CompilationSections {
         debug_info: EndianSlice::new(info, order),
         debug_abbrev: EndianSlice::new(abbreviations, order),
@@ -50,19 +50,19 @@ pub extern "C" fn gimli_line_proved_comp_dir(
     line_strings: &[u8],
     strings: &[u8],
     string_offsets: &[u8],
-    big: bool,
+    is_big: bool,
     offset: u64,
     directory: &mut [u8],
     size: &mut usize,
 ) -> u32
     ensures found { let sections = sections_handed info.now abbreviations.now
-        line_strings.now strings.now string_offsets.now big in
+        line_strings.now strings.now string_offsets.now is_big in
         result ≡ OK → WritesDirectory sections offset directory.old directory.new size.new }
     ensures larger { let sections = sections_handed info.now abbreviations.now
-        line_strings.now strings.now string_offsets.now big in
+        line_strings.now strings.now string_offsets.now is_big in
         result ≡ NO_ROOM → NeedsDirectoryRoom sections offset directory.old size.new }
     ensures none { let sections = sections_handed info.now abbreviations.now
-        line_strings.now strings.now string_offsets.now big in
+        line_strings.now strings.now string_offsets.now is_big in
         result ≡ NO_COMP_DIR → TellsDirectory sections offset None }
     ensures refused { result ≢ OK → result ≢ NO_ROOM
         → (result ≡ NO_COMP_DIR) ⊎ (result ≡ OUT_OF_MEMORY) }
@@ -75,7 +75,7 @@ pub extern "C" fn gimli_line_proved_comp_dir(
         line_strings,
         strings,
         string_offsets,
-        big,
+        is_big,
     );
     let Ok(compilations) = Compilations::new(alloc, &sections) else {
         return OUT_OF_MEMORY;

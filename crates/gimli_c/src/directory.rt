@@ -24,7 +24,7 @@ use std::alloc::Global;
 pub extern "C" fn gimli_line_proved_read_directory(
     alloc: Global,
     section: &[u8],
-    big: bool,
+    is_big: bool,
     address_size: u8,
     offset: usize,
     number: u64,
@@ -32,18 +32,18 @@ pub extern "C" fn gimli_line_proved_read_directory(
     bytes: &mut [u8],
 ) -> u32
     ensures found { result ≡ OK → WritesDirectoryText
-        (location section.now big address_size offset) number directory.new bytes.old bytes.new }
+        (location section.now is_big address_size offset) number directory.new bytes.old bytes.new }
     ensures larger { result ≡ NO_ROOM → NeedsTextRoom
-        (location section.now big address_size offset) number directory.new bytes.old }
+        (location section.now is_big address_size offset) number directory.new bytes.old }
     ensures none { result ≡ NO_SUCH_DIRECTORY →
-        GivesNoDirectory (location section.now big address_size offset) number }
+        GivesNoDirectory (location section.now is_big address_size offset) number }
     ensures refused { result ≢ OK → result ≢ NO_ROOM → result ≢ NO_SUCH_DIRECTORY
-        → result ≢ OUT_OF_MEMORY → HasNoUnit (location section.now big address_size offset) result }
+        → result ≢ OUT_OF_MEMORY → HasNoUnit (location section.now is_big address_size offset) result }
     ensures size { is_address_size address_size ≡ false → result ≡ UNSUPPORTED_ADDRESS_SIZE }
     ensures kept { result ≢ OK → bytes.new ≡ bytes.old }
     ensures no_text { result ≢ OK → result ≢ NO_ROOM → directory.new ≡ directory.old }
 {
-    let program = match program_at(alloc, section, big, address_size, offset) {
+    let program = match program_at(alloc, section, is_big, address_size, offset) {
         Ok(program) => program,
         Err(status) => return status,
     };

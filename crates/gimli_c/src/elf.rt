@@ -21,7 +21,7 @@ pub struct GimliElf {
     /// The number of bytes of an address: 4 or 8.
     pub address_size: u8,
     /// Whether the most significant byte of a number comes first.
-    pub big: bool,
+    pub is_big: bool,
     /// Whether it is an object file, whose sections all stand at 0.
     pub relocatable: bool,
 }
@@ -60,7 +60,7 @@ pub extern "C" fn gimli_line_proved_elf_open(file: &[u8], found: &mut GimliElf) 
             *found = GimliElf {
                 lowest: lowest_in(&elf),
                 address_size: elf.address_size(),
-                big: elf.is_big_endian(),
+                is_big: elf.is_big_endian(),
                 relocatable: elf.is_relocatable(),
             };
             OK

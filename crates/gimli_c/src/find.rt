@@ -21,7 +21,7 @@ use std::alloc::Global;
 pub extern "C" fn gimli_line_proved_find_row(
     alloc: Global,
     section: &[u8],
-    big: bool,
+    is_big: bool,
     address_size: u8,
     offset: usize,
     address: u64,
@@ -29,15 +29,15 @@ pub extern "C" fn gimli_line_proved_find_row(
     second: &mut GimliRow,
 ) -> u32
     ensures found { result ≡ OK →
-        GivesPair (location section.now big address_size offset) address first.new second.new }
+        GivesPair (location section.now is_big address_size offset) address first.new second.new }
     ensures none { result ≡ NO_ROW →
-        GivesNoPair (location section.now big address_size offset) address }
+        GivesNoPair (location section.now is_big address_size offset) address }
     ensures refused { result ≢ OK → result ≢ NO_ROW → result ≢ OUT_OF_MEMORY →
-        HasNoSequences (location section.now big address_size offset) result }
+        HasNoSequences (location section.now is_big address_size offset) result }
     ensures size { is_address_size address_size ≡ false → result ≡ UNSUPPORTED_ADDRESS_SIZE }
     ensures kept { result ≢ OK → (first.new ≡ first.old) × (second.new ≡ second.old) }
 {
-    let program = match program_at(alloc, section, big, address_size, offset) {
+    let program = match program_at(alloc, section, is_big, address_size, offset) {
         Ok(program) => program,
         Err(status) => return status,
     };

@@ -1,9 +1,9 @@
 //! The unit at an offset of a section.
 
-ghost use Rattle.gimli_core.specs.Order.{is_big};
+ghost use Rattle.gimli_core.specs.Order.{is_big_endian};
 ghost use Rattle.gimli_core.specs.Numbers.{is_address_size};
 ghost use Rattle.std.specs.Prelude.{◌≡◌, ◌≢◌, Err, IfErr, IfOk, false};
-ghost use Rattle.gimli_c.specs.Location.{location, notation_at, HasUnit, HasNoUnit};
+ghost use Rattle.gimli_c.specs.Location.{location, layout_at, HasUnit, HasNoUnit};
 
 use crate::status::{NO_ROOM, OK, OUT_OF_MEMORY, UNSUPPORTED_ADDRESS_SIZE, error_status};
 use gimli_core::{DebugLineOffset, EndianSlice, RunTimeEndian};
@@ -15,23 +15,23 @@ use std::alloc::Global;
 pub(crate) fn program_at<'s>(
     alloc: Global,
     section: &'s [u8],
-    big: bool,
+    is_big: bool,
     address_size: u8,
     offset: usize,
 ) -> Result<IncompleteLineProgram<EndianSlice<'s, RunTimeEndian>>, u32>
     ensures unit { IfOk result (λ program.
-        HasUnit (location section.now big address_size offset) program.meaning) }
-    ensures notation { IfOk result (λ program.
-        program.notation ≡ notation_at (location section.now big address_size offset)) }
+        HasUnit (location section.now is_big address_size offset) program.meaning) }
+    ensures layout { IfOk result (λ program.
+        program.layout ≡ layout_at (location section.now is_big address_size offset)) }
     ensures refused { IfErr result (λ status. status ≢ OUT_OF_MEMORY →
-        HasNoUnit (location section.now big address_size offset) status) }
+        HasNoUnit (location section.now is_big address_size offset) status) }
     ensures other { IfErr result (λ status. (status ≢ OK) × (status ≢ NO_ROOM)) }
     ensures size { is_address_size address_size ≡ false → result ≡ Err UNSUPPORTED_ADDRESS_SIZE }
 {
     if !is_address_size(address_size) {
         return Err(UNSUPPORTED_ADDRESS_SIZE);
     }
-    let section = DebugLine::new(section, order(big));
+    let section = DebugLine::new(section, order(is_big));
     match section.program(alloc, DebugLineOffset(offset), address_size, None, None) {
         Ok(program) => Ok(program),
         Err(e) => Err(error_status(e)),
@@ -46,10 +46,10 @@ pub(crate) fn is_address_size(size: u8) -> bool
 }
 
 /// An order of bytes.
-pub(crate) fn order(big: bool) -> RunTimeEndian
-    ensures { is_big result ≡ big }
+pub(crate) fn order(is_big: bool) -> RunTimeEndian
+    ensures { is_big_endian result ≡ is_big }
 {
-    if big {
+    if is_big {
         RunTimeEndian::Big
     } else {
         RunTimeEndian::Little

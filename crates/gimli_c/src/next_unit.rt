@@ -1,7 +1,7 @@
 //! Where the next unit of a section begins.
 
 ghost use Rattle.std.specs.Prelude.{◌≡◌, ◌^◌, drop};
-ghost use Rattle.gimli_core.specs.Notation.{notation_of};
+ghost use Rattle.gimli_core.specs.Layout.{layout_of};
 ghost use Rattle.gimli_core.specs.Reading.{result_map};
 ghost use Rattle.gimli_line.specs.UnitReading.{after_unit, any_unit_at};
 ghost use Rattle.gimli_c.specs.Unit.{IsNext};
@@ -11,15 +11,15 @@ use gimli_core::{EndianSlice, Reader, Result};
 
 /// Where the next unit of a section begins: after the one at an offset, whatever its content is; at
 /// the end of the section where none begins there.
-pub(crate) fn next_unit(section: &[u8], big: bool, offset: usize) -> u64
-    ensures { IsNext (notation_of big (2 ^ 64)) section.now offset result }
+pub(crate) fn next_unit(section: &[u8], is_big: bool, offset: usize) -> u64
+    ensures { IsNext (layout_of is_big (2 ^ 64)) section.now offset result }
 {
-    next_offset(EndianSlice::new(section, order(big)), offset) as u64
+    next_offset(EndianSlice::new(section, order(is_big)), offset) as u64
 }
 
 /// The same, of any reader over the section.
 fn next_offset<R: Reader>(section: R, offset: R::Offset) -> R::Offset
-    ensures { IsNext (notation_of (R.big section) R.Offset.limit) (R.bytes section)
+    ensures { IsNext (layout_of (R.is_big section) R.Offset.limit) (R.bytes section)
         (R.Offset.number offset) (R.Offset.number result) }
 {
     let mut rest = bytes_from(section, offset);
@@ -30,7 +30,7 @@ fn next_offset<R: Reader>(section: R, offset: R::Offset) -> R::Offset
 /// The bytes from an offset on; none where it is past the end.
 fn bytes_from<R: Reader>(section: R, offset: R::Offset) -> R
     ensures bytes { R.bytes result ≡ drop (R.Offset.number offset) (R.bytes section) }
-    ensures order { R.big result ≡ R.big section }
+    ensures order { R.is_big result ≡ R.is_big section }
 {
     let mut rest = section;
     if rest.skip(offset).is_err() {
@@ -43,7 +43,7 @@ fn bytes_from<R: Reader>(section: R, offset: R::Offset) -> R
 fn skip_unit<R: Reader>(input: &mut R)
     ensures { R.bytes input.new
         ≡ after_unit
-        (any_unit_at (notation_of (R.big input.old) R.Offset.limit) (R.bytes input.old)) }
+        (any_unit_at (layout_of (R.is_big input.old) R.Offset.limit) (R.bytes input.old)) }
 {
     if split_unit(input).is_err() {
         input.empty();
@@ -55,7 +55,7 @@ fn skip_unit<R: Reader>(input: &mut R)
 #[tactic(auto, unfolding(gimli_line::specs::UnitReading::any_unit_at))]
 fn split_unit<R: Reader>(input: &mut R) -> Result<R>
     ensures { (result_map R.bytes result, R.bytes input.new)
-        ≡ any_unit_at (notation_of (R.big input.old) R.Offset.limit) (R.bytes input.old) }
+        ≡ any_unit_at (layout_of (R.is_big input.old) R.Offset.limit) (R.bytes input.old) }
 {
     let (length, _format) = input.read_initial_length()?;
     input.split(length)

@@ -64,22 +64,22 @@ fn path_of<'s>(
     alloc: Global,
     section: &'s [u8],
     texts: StringSections<Slice<'s>>,
-    big: bool,
+    is_big: bool,
     address_size: u8,
     offset: usize,
     number: u64,
     comp_dir: &[u8],
 ) -> Result<Vec<u8>, u32>
-    ensures ok { IfOk result (λ path. GivesPath (location section.now big address_size offset)
+    ensures ok { IfOk result (λ path. GivesPath (location section.now is_big address_size offset)
         (strings (λ s. s.slice.now) texts.entry) number comp_dir.now path.items) }
     ensures err { IfErr result (λ s. s ≢ OUT_OF_MEMORY → HasNoPath
-        (location section.now big address_size offset) (strings (λ s. s.slice.now) texts.entry)
+        (location section.now is_big address_size offset) (strings (λ s. s.slice.now) texts.entry)
         number
         comp_dir.now s) }
     ensures other { IfErr result (λ s. (s ≢ OK) × (s ≢ NO_ROOM)) }
     ensures size { is_address_size address_size ≡ false → result ≡ Err UNSUPPORTED_ADDRESS_SIZE }
 {
-    let program = match program_at(alloc, section, big, address_size, offset) {
+    let program = match program_at(alloc, section, is_big, address_size, offset) {
         Ok(program) => program,
         Err(status) => return Err(status),
     };
@@ -113,7 +113,7 @@ pub extern "C" fn gimli_line_proved_read_path(
     section: &[u8],
     line_strings: &[u8],
     strings: &[u8],
-    big: bool,
+    is_big: bool,
     address_size: u8,
     offset: usize,
     number: u64,
@@ -121,18 +121,18 @@ pub extern "C" fn gimli_line_proved_read_path(
     path: &mut [u8],
     size: &mut usize,
 ) -> u32
-    ensures found { result ≡ OK → WritesPath (location section.now big address_size offset)
+    ensures found { result ≡ OK → WritesPath (location section.now is_big address_size offset)
         (texts_handed line_strings.now strings.now) number comp_dir.now path.old path.new size.new }
-    ensures larger { result ≡ NO_ROOM → NeedsPathRoom (location section.now big address_size offset)
+    ensures larger { result ≡ NO_ROOM → NeedsPathRoom (location section.now is_big address_size offset)
         (texts_handed line_strings.now strings.now) number comp_dir.now path.old size.new }
     ensures refused { result ≢ OK → result ≢ NO_ROOM → result ≢ OUT_OF_MEMORY → HasNoPath
-        (location section.now big address_size offset)
+        (location section.now is_big address_size offset)
         (texts_handed line_strings.now strings.now) number comp_dir.now result }
     ensures bad_size { is_address_size address_size ≡ false → result ≡ UNSUPPORTED_ADDRESS_SIZE }
     ensures kept { result ≢ OK → path.new ≡ path.old }
     ensures no_size { result ≢ OK → result ≢ NO_ROOM → size.new ≡ size.old }
 {
-    let order = order(big);
+    let order = order(is_big);
     let texts = StringSections {
         debug_line_str: EndianSlice::new(line_strings, order),
         debug_str: EndianSlice::new(strings, order),
@@ -141,7 +141,7 @@ pub extern "C" fn gimli_line_proved_read_path(
         alloc,
         section,
         texts,
-        big,
+        is_big,
         address_size,
         offset,
         number,

@@ -110,15 +110,15 @@ fn addends_of(in_place: bool) -> Addends
 fn relocatable_of(
     alloc: Global,
     program: &LineProgram,
-    big: bool,
+    is_big: bool,
     addends: Addends,
 ) -> gimli_bytes::Result<RelocatableVec<RunTimeEndian>>
     requires { CanWrite program.now no_texts }
-    ensures order { IfOk result (λ section. section.big ≡ big) }
-    ensures unit { IfOk result (IsUnitOnceLinked big program.now) }
+    ensures order { IfOk result (λ section. section.is_big ≡ is_big) }
+    ensures unit { IfOk result (IsUnitOnceLinked is_big program.now) }
     ensures inside { IfOk result (λ section. IsTrue (are_inside section)) }
 {
-    let section = RelocatableVec::new(alloc, order(big), addends);
+    let section = RelocatableVec::new(alloc, order(is_big), addends);
     let mut section = DebugLine::from(section);
     let mut strings = StringTable::default(alloc);
     let mut line_strings = LineStringTable::default(alloc);
@@ -151,7 +151,7 @@ fn passes(size: usize, room: usize, count: usize, slots: usize) -> bool
 pub extern "C" fn gimli_line_proved_write_relocatable(
     alloc: Global,
     encoding: &GimliEncoding,
-    big: bool,
+    is_big: bool,
     details: u64,
     in_place: bool,
     texts: &[u8],
@@ -165,19 +165,19 @@ pub extern "C" fn gimli_line_proved_write_relocatable(
     count: &mut usize,
     numbers: &mut [u64],
 ) -> u32
-    ensures ok { result ≡ OK → GivesRelocatable (handed_of encoding.now big details texts.now
+    ensures ok { result ≡ OK → GivesRelocatable (handed_of encoding.now is_big details texts.now
         directories.now files.now rows.now symbols.now) unit.old unit.new size.new relocations.old
         relocations.new count.new numbers.old numbers.new }
-    ensures room { result ≡ NO_ROOM → NeedsRelocatableRoom (handed_of encoding.now big details
+    ensures room { result ≡ NO_ROOM → NeedsRelocatableRoom (handed_of encoding.now is_big details
         texts.now directories.now files.now rows.now symbols.now) unit.old size.new
         relocations.old count.new }
     ensures fault { (s : ℕ) → encoding_fault encoding.now ≡ Some s → result ≡ s }
     ensures bad_lines { HasBadLines encoding.now → result ≡ UNSUPPORTED_LINE_ENCODING }
     ensures number { result ≢ OK → result ≢ NO_ROOM → IsRefusal result }
     ensures cause { result ≢ OK → result ≢ NO_ROOM → result ≢ OUT_OF_MEMORY → HasHandedFault
-        (handed_of encoding.now big details texts.now directories.now files.now rows.now
+        (handed_of encoding.now is_big details texts.now directories.now files.now rows.now
         symbols.now) result ⊎ IsWriterRefusal result }
-    ensures refused { (s : ℕ) → HasHandedFault (handed_of encoding.now big details texts.now
+    ensures refused { (s : ℕ) → HasHandedFault (handed_of encoding.now is_big details texts.now
         directories.now files.now rows.now symbols.now) s → IsRefusal result }
     ensures err { result ≢ OK → (unit.new ≡ unit.old) × (relocations.new ≡ relocations.old)
         × (numbers.new ≡ numbers.old) }
@@ -198,7 +198,7 @@ pub extern "C" fn gimli_line_proved_write_relocatable(
         Ok(made) => made,
         Err(status) => return status,
     };
-    let section = match relocatable_of(alloc, &made.0, big, addends_of(in_place)) {
+    let section = match relocatable_of(alloc, &made.0, is_big, addends_of(in_place)) {
         Ok(section) => section,
         Err(e) => return write_status(e),
     };

@@ -22,7 +22,7 @@ use std::alloc::Global;
 pub extern "C" fn gimli_line_proved_read_rows(
     alloc: Global,
     section: &[u8],
-    big: bool,
+    is_big: bool,
     address_size: u8,
     offset: usize,
     skip: u64,
@@ -30,16 +30,16 @@ pub extern "C" fn gimli_line_proved_read_rows(
     count: &mut u64,
 ) -> u32
     ensures rows { result ≢ OUT_OF_MEMORY → GivesRowsOrNone
-        (location section.now big address_size offset) skip rows.old rows.new count.new result }
+        (location section.now is_big address_size offset) skip rows.old rows.new count.new result }
     ensures first_rows { result ≡ OUT_OF_MEMORY → GivesFirstRowsOrNone
-        (location section.now big address_size offset) skip rows.old rows.new }
+        (location section.now is_big address_size offset) skip rows.old rows.new }
     ensures no_count { result ≡ OUT_OF_MEMORY → count.new ≡ 0 }
-    ensures at_most { (h : Header) → HasUnit (location section.now big address_size offset) h
+    ensures at_most { (h : Header) → HasUnit (location section.now is_big address_size offset) h
         → count.new ≤ h.unit_length }
     ensures size { is_address_size address_size ≡ false → result ≡ UNSUPPORTED_ADDRESS_SIZE }
 {
     *count = 0;
-    let program = match program_at(alloc, section, big, address_size, offset) {
+    let program = match program_at(alloc, section, is_big, address_size, offset) {
         Ok(program) => program,
         Err(status) => return status,
     };

@@ -105,7 +105,7 @@ fn put_row(room: &mut [GimliRow], skip: u64, number: u64, row: &LineRow)
 /// A program has fewer rows than a `u64` counts, since it has no fewer bytes.
 pub(crate) fn rows_fit<R: Reader>(program: &IncompleteLineProgram<R>)
     ensures { (events : List EventWithFiles)
-        → EventsWithFiles program.now.notation true program.now.meaning program.now.meaning.program
+        → EventsWithFiles program.now.layout true program.now.meaning program.now.meaning.program
         events
         → length (rows_of (events_of events)) < 2 ^ 64 }
 {

@@ -40,7 +40,7 @@ pub struct GimliUnit {
     pub fault: u32,
 }
 
-/// Reads the unit at an offset, and runs its program. `big` says that the most significant byte of
+/// Reads the unit at an offset, and runs its program. `is_big` says that the most significant byte of
 /// a number comes first. `address_size` is that of the compilation unit, which counts up to version
 /// 4; it has to be 1, 2, 4 or 8. Where another number than 0 is returned, `next` alone is written:
 /// a unit that is refused is passed over too, whatever its content is. Where its length can't be
@@ -50,22 +50,22 @@ pub struct GimliUnit {
 pub extern "C" fn gimli_line_proved_read_unit(
     alloc: Global,
     section: &[u8],
-    big: bool,
+    is_big: bool,
     address_size: u8,
     offset: usize,
     unit: &mut GimliUnit,
 ) -> u32
-    ensures ok { result ≡ OK → GivesUnit (location section.now big address_size offset) unit.new }
+    ensures ok { result ≡ OK → GivesUnit (location section.now is_big address_size offset) unit.new }
     ensures refused { result ≢ OK → result ≢ OUT_OF_MEMORY →
-        HasNoUnit (location section.now big address_size offset) result }
+        HasNoUnit (location section.now is_big address_size offset) result }
     ensures size { is_address_size address_size ≡ false → result ≡ UNSUPPORTED_ADDRESS_SIZE }
-    ensures next { TellsNext (location section.now big address_size offset) unit.new.next }
+    ensures next { TellsNext (location section.now is_big address_size offset) unit.new.next }
     ensures at_most { result ≡ OK → unit.new.rows ≤ unit.new.length }
     ensures kept { result ≢ OK → unit.new ≡ record unit.old { next = unit.new.next } }
 {
-    let next = next_unit(section, big, offset);
+    let next = next_unit(section, is_big, offset);
     unit.next = next;
-    let program = match program_at(alloc, section, big, address_size, offset) {
+    let program = match program_at(alloc, section, is_big, address_size, offset) {
         Ok(program) => program,
         Err(status) => return status,
     };
@@ -81,7 +81,7 @@ pub extern "C" fn gimli_line_proved_read_unit(
 /// What is said of the unit of a program, which the next one follows at an offset. Refused by
 /// `OutOfMemory` alone.
 fn read_unit<R: Reader>(program: IncompleteLineProgram<R>, next: u64) -> Result<GimliUnit>
-    ensures ok { IfOk result (λ unit. IsReadUnit next program.meaning program.notation unit) }
+    ensures ok { IfOk result (λ unit. IsReadUnit next program.meaning program.layout unit) }
     ensures err { IfErr result (λ e. e ≡ Error.OutOfMemory) }
 {
     rows_fit(&program);

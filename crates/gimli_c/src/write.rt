@@ -46,7 +46,7 @@ use std::alloc::Global;
 pub extern "C" fn gimli_line_proved_write(
     alloc: Global,
     encoding: &GimliEncoding,
-    big: bool,
+    is_big: bool,
     details: u64,
     texts: &[u8],
     directories: &[GimliName],
@@ -56,17 +56,17 @@ pub extern "C" fn gimli_line_proved_write(
     size: &mut usize,
     numbers: &mut [u64],
 ) -> u32
-    ensures ok { result ≡ OK → GivesUnitOf (handed_of encoding.now big details texts.now
+    ensures ok { result ≡ OK → GivesUnitOf (handed_of encoding.now is_big details texts.now
         directories.now files.now rows.now []) unit.old unit.new size.new numbers.old numbers.new }
-    ensures room { result ≡ NO_ROOM → NeedsRoom (handed_of encoding.now big details texts.now
+    ensures room { result ≡ NO_ROOM → NeedsRoom (handed_of encoding.now is_big details texts.now
         directories.now files.now rows.now []) unit.old size.new }
     ensures fault { (s : ℕ) → encoding_fault encoding.now ≡ Some s → result ≡ s }
     ensures bad_lines { HasBadLines encoding.now → result ≡ UNSUPPORTED_LINE_ENCODING }
     ensures number { result ≢ OK → result ≢ NO_ROOM → IsRefusal result }
     ensures cause { result ≢ OK → result ≢ NO_ROOM → result ≢ OUT_OF_MEMORY → HasCause
-        (handed_of encoding.now big details texts.now directories.now files.now rows.now [])
+        (handed_of encoding.now is_big details texts.now directories.now files.now rows.now [])
         result }
-    ensures refused { (s : ℕ) → HasCause (handed_of encoding.now big details texts.now
+    ensures refused { (s : ℕ) → HasCause (handed_of encoding.now is_big details texts.now
         directories.now files.now rows.now []) s → IsRefusal result }
     ensures err { result ≢ OK → (unit.new ≡ unit.old) × (numbers.new ≡ numbers.old) }
     ensures none { result ≢ OK → result ≢ NO_ROOM → size.new ≡ 0 }
@@ -85,7 +85,7 @@ pub extern "C" fn gimli_line_proved_write(
         Ok(made) => made,
         Err(status) => return status,
     };
-    let section = match section_of(alloc, &made.0, big) {
+    let section = match section_of(alloc, &made.0, is_big) {
         Ok(section) => section,
         Err(e) => return write_status(e),
     };
@@ -122,19 +122,19 @@ pub(crate) fn built(
     rows: &[GimliRow],
     symbols: &[GimliSymbol],
 ) -> Result<(LineProgram, Vec<FileId>), u32>
-    ensures ok { (big : Bool) → IfOk result (λ made. IsBuiltWith
-        (handed_of encoding.now big details texts.now directories.now files.now rows.now
+    ensures ok { (is_big : Bool) → IfOk result (λ made. IsBuiltWith
+        (handed_of encoding.now is_big details texts.now directories.now files.now rows.now
         symbols.now)
         made.0 made.1.items) }
     ensures fault { (s : ℕ) → encoding_fault encoding.now ≡ Some s → result ≡ Err s }
     ensures bad_lines { HasBadLines encoding.now → result ≡ Err UNSUPPORTED_LINE_ENCODING }
     ensures err { IfErr result IsRefusal }
-    ensures cause { (big : Bool) → IfErr result (λ s. s ≢ OUT_OF_MEMORY → HasHandedFault
-        (handed_of encoding.now big details texts.now directories.now files.now rows.now
+    ensures cause { (is_big : Bool) → IfErr result (λ s. s ≢ OUT_OF_MEMORY → HasHandedFault
+        (handed_of encoding.now is_big details texts.now directories.now files.now rows.now
         symbols.now)
         s) }
-    ensures well { (big : Bool) → OnOk result (HasNone (HasHandedFault
-        (handed_of encoding.now big details texts.now directories.now files.now rows.now
+    ensures well { (is_big : Bool) → OnOk result (HasNone (HasHandedFault
+        (handed_of encoding.now is_big details texts.now directories.now files.now rows.now
         symbols.now))) }
 {
     let (units, lines) = encodings(encoding)?;
@@ -162,20 +162,20 @@ fn with_details(mut program: LineProgram, details: u64) -> LineProgram
 fn section_of(
     alloc: Global,
     program: &LineProgram,
-    big: bool,
+    is_big: bool,
 ) -> gimli_bytes::Result<EndianVec<RunTimeEndian>>
     requires can { CanWrite program.now no_texts }
     requires source { program.now.file_has_source ≡ false }
     ensures unit { IfOk result (λ section.
-        Appends (unit_bytes plain big program.now.encoding program.now no_texts) [] section.bytes) }
+        Appends (unit_bytes plain is_big program.now.encoding program.now no_texts) [] section.bytes) }
     ensures reads_back { IfOk result (λ section.
-        ReadsBackAs big program.now no_texts section.bytes) }
+        ReadsBackAs is_big program.now no_texts section.bytes) }
     ensures no_cause { OnOk result
-        (first_cause big program.now.encoding program.now no_texts ≡ None) }
+        (first_cause is_big program.now.encoding program.now no_texts ≡ None) }
     ensures err { IfErr result (λ e. (e ≡ Error.OutOfMemory)
-        ⊎ (first_cause big program.now.encoding program.now no_texts ≡ Some e)) }
+        ⊎ (first_cause is_big program.now.encoding program.now no_texts ≡ Some e)) }
 {
-    let mut section = DebugLine::from(EndianVec::new(alloc, order(big)));
+    let mut section = DebugLine::from(EndianVec::new(alloc, order(is_big)));
     let mut strings = StringTable::default(alloc);
     let mut line_strings = LineStringTable::default(alloc);
     program.write(

@@ -1,7 +1,7 @@
 -- Taking the attributes of an entry, one by one.
 use Rattle.std.proofs.Common.{◌≡◌, ℕ, true, false, Bool, if◌then◌else◌, List, [], ◌∷◌, Ok, Err, refl, sym, ap, ◌∙◌}
 use Rattle.std.specs.Prelude.{nat_eq}
-use Rattle.gimli_core.specs.Notation.{Notation}
+use Rattle.gimli_core.specs.Layout.{OrderAndLimit}
 use Rattle.gimli_core.specs.Reading.{Read}
 use Rattle.gimli_core.specs.declared.common.Encoding.{Encoding}
 use Rattle.gimli_core.specs.declared.error.Error.{Error}
@@ -35,33 +35,33 @@ seen_with view before name value =
     )
     refl
 
-module _ (notation : Notation) (encoding : Encoding) where
+module _ (layout : OrderAndLimit) (encoding : Encoding) where
   module _ (specified : List ℕ) (s : Specification) (left : List ℕ) (closed : IsListed specified)
       (read : (Ok s, left) ≡ specification_at specified)
       (on : is_end s ≡ false) where
     pub attributes_go_on : (before : Attributes (List ℕ)) (value : Value (List ℕ)) (bytes rest : List ℕ)
         (total : Read (Attributes (List ℕ)))
-        → (Ok value, rest) ≡ form_at notation encoding s.form.0 bytes
-        → attributes_at notation encoding before (listed specified) bytes ≡ total
-        → attributes_at notation encoding (attributes_with before s.name.0 value) (listed left) rest ≡ total
+        → (Ok value, rest) ≡ form_at layout encoding s.form.0 bytes
+        → attributes_at layout encoding before (listed specified) bytes ≡ total
+        → attributes_at layout encoding (attributes_with before s.name.0 value) (listed left) rest ≡ total
     unfolding attributes_at
     attributes_go_on before value bytes rest total e so_far =
-        let here : attributes_at notation encoding before (s ∷ listed left) bytes
-        ≡ attributes_at notation encoding (attributes_with before s.name.0 value) (listed left) rest = rw (← e) refl in
+        let here : attributes_at layout encoding before (s ∷ listed left) bytes
+        ≡ attributes_at layout encoding (attributes_with before s.name.0 value) (listed left) rest = rw (← e) refl in
         sym here
-        ∙ sym (ap (λ (ss : List Specification). attributes_at notation encoding before ss bytes)
+        ∙ sym (ap (λ (ss : List Specification). attributes_at layout encoding before ss bytes)
         (listed_more specified s left closed read on))
         ∙ so_far
 
     pub attributes_refused : (before : Attributes (List ℕ)) (bytes : List ℕ) (e : Error) (rest : List ℕ)
         (total : Read (Attributes (List ℕ)))
-        → (Err e, rest) ≡ form_at notation encoding s.form.0 bytes
-        → attributes_at notation encoding before (listed specified) bytes ≡ total → (Err e, rest) ≡ total
+        → (Err e, rest) ≡ form_at layout encoding s.form.0 bytes
+        → attributes_at layout encoding before (listed specified) bytes ≡ total → (Err e, rest) ≡ total
     unfolding attributes_at
     attributes_refused before bytes e rest total is so_far =
-        let here : attributes_at notation encoding before (s ∷ listed left) bytes ≡ (Err e, rest) = rw (← is) refl in
+        let here : attributes_at layout encoding before (s ∷ listed left) bytes ≡ (Err e, rest) = rw (← is) refl in
         sym here
-        ∙ sym (ap (λ (ss : List Specification). attributes_at notation encoding before ss bytes)
+        ∙ sym (ap (λ (ss : List Specification). attributes_at layout encoding before ss bytes)
         (listed_more specified s left closed read on))
         ∙ so_far
 
@@ -69,11 +69,11 @@ module _ (notation : Notation) (encoding : Encoding) where
       (bytes : List ℕ)
       (total : Read (Attributes (List ℕ)))
       → (Ok s, left) ≡ specification_at specified → is_end s ≡ true
-      → attributes_at notation encoding before (listed specified) bytes ≡ total → (Ok before, bytes) ≡ total
+      → attributes_at layout encoding before (listed specified) bytes ≡ total → (Ok before, bytes) ≡ total
   unfolding attributes_at
   attributes_done specified s left before bytes total read is so_far =
-      let here : attributes_at notation encoding before [] bytes ≡ (Ok before, bytes) = refl in
+      let here : attributes_at layout encoding before [] bytes ≡ (Ok before, bytes) = refl in
       sym here
-      ∙ sym (ap (λ (ss : List Specification). attributes_at notation encoding before ss bytes)
+      ∙ sym (ap (λ (ss : List Specification). attributes_at layout encoding before ss bytes)
       (listed_last specified s left read is))
       ∙ so_far

@@ -1,6 +1,6 @@
 -- Tests, offsets and other bytes, as productions.
 use Rattle.std.proofs.Common.{◌≡◌, ℕ, Bool, true, false, if◌then◌else◌, List, Ok, Err, refl}
-use Rattle.gimli_core.specs.Notation.{Notation}
+use Rattle.gimli_core.specs.Layout.{OrderAndLimit}
 use Rattle.gimli_core.specs.Reading.{Read, ◌>>=◌, within_at, with_rest, offset_of}
 use Rattle.gimli_core.specs.inside.Reading.{check_at}
 use Rattle.gimli_core.specs.declared.error.Error.{Error}
@@ -19,16 +19,16 @@ reads_guard false d m after r =
     reads_both (check false d) (λ ok. m) (check_at false d) (λ ok. after) (reads_check false d) (λ ok. r)
 
 -- a number as an offset
-pub reads_offset : (notation : Notation) (n : ℕ)
-    → Reads (below_limit notation (done n)) (λ bytes. (offset_of notation.limit n, bytes))
-reads_offset notation n = reads_below_limit notation (done n) (λ bytes. (Ok n, bytes)) (reads_done n)
+pub reads_offset : (layout : OrderAndLimit) (n : ℕ)
+    → Reads (below_limit layout (done n)) (λ bytes. (offset_of layout.limit n, bytes))
+reads_offset layout n = reads_below_limit layout (done n) (λ bytes. (Ok n, bytes)) (reads_done n)
 
 -- a production from an offset on
-pub reads_from_offset : {A : Type 0} (notation : Notation) (offset : ℕ) (l : Production A) (read : List ℕ → Read A)
+pub reads_from_offset : {A : Type 0} (layout : OrderAndLimit) (offset : ℕ) (l : Production A) (read : List ℕ → Read A)
     → Reads l read
-    → Reads (from_offset notation offset l) (from_offset_at notation.limit offset read)
-reads_from_offset notation offset l read r =
-    reads_both (below_limit notation (done offset)) _ _ _ (reads_offset notation offset)
+    → Reads (from_offset layout offset l) (from_offset_at layout.limit offset read)
+reads_from_offset layout offset l read r =
+    reads_both (below_limit layout (done offset)) _ _ _ (reads_offset layout offset)
     (λ count. reads_both (some_bytes count) _ _ _ (reads_some_bytes count) (λ before. r))
 
 -- a production on other bytes

@@ -5,7 +5,7 @@ use Rattle.std.proofs.Common.{Result, Ok, Err, refl, sym, ap, ◌∙◌, inl, in
 use Rattle.std.specs.Prelude.{nat_lt, IfOk, IfErr}
 use Rattle.std.proofs.lemmas.Bool.{cases_lt}
 use Rattle.std.proofs.lemmas.List.{append-nil, drop_all, length-append, length-drop, take-append-drop}
-use Rattle.gimli_core.specs.Notation.{Notation}
+use Rattle.gimli_core.specs.Layout.{OrderAndLimit}
 use Rattle.gimli_core.specs.Numbers.{word_size, SpellsInitialLength}
 use Rattle.gimli_core.specs.Reading.{Read, ◌>>=◌, text_at, number_at, result_map}
 use Rattle.gimli_core.specs.Production.{done, number, text, unsigned, some_bytes, initial_length, unit_length, Reads}
@@ -19,9 +19,9 @@ use Rattle.gimli_core.proofs.ProductionLaws.{reads_number, reads_text, reads_som
 use Rattle.gimli_core.proofs.UnsignedLeb.{reads_unsigned}
 use Rattle.gimli_compilation.specs.declared.abbreviation.Specification.{Specification}
 use Rattle.gimli_compilation.specs.declared.attributes.Attributes.{Attributes}
-use Rattle.gimli_compilation.specs.declared.form.Kind.{Kind}
-use Rattle.gimli_compilation.specs.declared.form.Kind.TheVariants.{SectionOffset, StringOffset, LineStringOffset}
-use Rattle.gimli_compilation.specs.declared.form.Kind.TheVariants.{StringIndex, Other}
+use Rattle.gimli_compilation.specs.declared.form.NumberKind.{NumberKind}
+use Rattle.gimli_compilation.specs.declared.form.NumberKind.TheVariants.{SectionOffset, StringOffset, LineStringOffset}
+use Rattle.gimli_compilation.specs.declared.form.NumberKind.TheVariants.{StringIndex, Other}
 use Rattle.gimli_compilation.specs.declared.form.Value.{Value}
 use Rattle.gimli_compilation.specs.declared.form.Value.TheVariants.{Number, Text, Passed}
 use Rattle.gimli_compilation.specs.declared.refusal.Refusal.{Refusal}
@@ -53,22 +53,22 @@ use Rattle.gimli_compilation.proofs.Until.{TakesBytes, takes_both}
 
 -- ---- attributes
 
-reads_attributes : (notation : Notation) (encoding : Encoding) (specifications : List Specification)
+reads_attributes : (layout : OrderAndLimit) (encoding : Encoding) (specifications : List Specification)
     (before : Attributes (List ℕ))
-    → Reads (attributes_production notation encoding before specifications)
-    (attributes_at notation encoding before specifications)
+    → Reads (attributes_production layout encoding before specifications)
+    (attributes_at layout encoding before specifications)
 unfolding attributes_at
-reads_attributes notation encoding [] before = reads_done before
-reads_attributes notation encoding (s ∷ specifications) before =
-    reads_both (form_production notation encoding s.form.0) _ _ _ (reads_form notation encoding s.form.0)
-    (λ value. reads_attributes notation encoding specifications (attributes_with before s.name.0 value))
+reads_attributes layout encoding [] before = reads_done before
+reads_attributes layout encoding (s ∷ specifications) before =
+    reads_both (form_production layout encoding s.form.0) _ _ _ (reads_form layout encoding s.form.0)
+    (λ value. reads_attributes layout encoding specifications (attributes_with before s.name.0 value))
 
 -- ---- texts
 
-reads_text_from : (notation : Notation) (offset : ℕ)
-    → Reads (from_offset notation offset text) (text_from_at notation.limit offset)
+reads_text_from : (layout : OrderAndLimit) (offset : ℕ)
+    → Reads (from_offset layout offset text) (text_from_at layout.limit offset)
 unfolding text_from_at
-reads_text_from notation offset = reads_from_offset notation offset text text_at reads_text
+reads_text_from layout offset = reads_from_offset layout offset text text_at reads_text
 
 place_known : (limit base index size : ℕ) (read : List ℕ → Read ℕ) (bytes : List ℕ)
     → (if nat_lt (base + index * size) (2 ^ 64) then from_offset_at limit (base + index * size) read bytes
@@ -84,37 +84,37 @@ place_known limit base index size read bytes = at_test (nat_lt (base + index * s
     at_test true = refl
     at_test false = refl
 
-reads_string_offset : (notation : Notation) (format : Format) (base index : ℕ)
-    → Reads (string_offset_production notation format base index) (string_offset_at notation format base index)
+reads_string_offset : (layout : OrderAndLimit) (format : Format) (base index : ℕ)
+    → Reads (string_offset_production layout format base index) (string_offset_at layout format base index)
 unfolding string_offset_at
-reads_string_offset notation format base index =
+reads_string_offset layout format base index =
     let place = base + index * word_size format in
-    reads_same (string_offset_production notation format base index) _ _
-    (place_known notation.limit base index (word_size format) (number_at notation.big (word_size format)))
+    reads_same (string_offset_production layout format base index) _ _
+    (place_known layout.limit base index (word_size format) (number_at layout.is_big (word_size format)))
     (reads_guard (nat_lt place (2 ^ 64)) UnsupportedOffset
-    (from_offset notation place (number notation.big (word_size format))) _
-    (reads_from_offset notation place (number notation.big (word_size format)) _
-    (reads_number notation.big (word_size format))))
+    (from_offset layout place (number layout.is_big (word_size format))) _
+    (reads_from_offset layout place (number layout.is_big (word_size format)) _
+    (reads_number layout.is_big (word_size format))))
 
 module _ (sections : Sections) where
   reads_named : (section : List ℕ) (offset : ℕ)
       → Reads (text_from sections section offset) (λ bytes.
-      ((text_from_at sections.notation.limit offset section).0, bytes) >>= λ name rest.
+      ((text_from_at sections.layout.limit offset section).0, bytes) >>= λ name rest.
       (Ok (Some name), rest))
   reads_named section offset =
-      reads_both (apart section (from_offset sections.notation offset text)) _ _ _
-      (reads_apart section _ _ (reads_text_from sections.notation offset)) (λ name.
+      reads_both (apart section (from_offset sections.layout offset text)) _ _ _
+      (reads_apart section _ _ (reads_text_from sections.layout offset)) (λ name.
       reads_done (Some name))
 
-  reads_text_by : (format : Format) (base : Option ℕ) (kind : Kind) (n : ℕ)
+  reads_text_by : (format : Format) (base : Option ℕ) (kind : NumberKind) (n : ℕ)
       → Reads (text_by sections format base kind n) (text_by_at sections format base kind n)
   unfolding text_by_at
   reads_text_by format base StringOffset n = reads_named sections.strings n
   reads_text_by format base LineStringOffset n = reads_named sections.line_strings n
   reads_text_by format (Some base) StringIndex n =
-      reads_both (apart sections.string_offsets (string_offset_production sections.offsets_notation format base n)) _ _
+      reads_both (apart sections.string_offsets (string_offset_production sections.offsets_layout format base n)) _ _
       _
-      (reads_apart sections.string_offsets _ _ (reads_string_offset sections.offsets_notation format base n)) (λ offset.
+      (reads_apart sections.string_offsets _ _ (reads_string_offset sections.offsets_layout format base n)) (λ offset.
       reads_named sections.strings offset)
   reads_text_by format None StringIndex n = reads_done None
   reads_text_by format base SectionOffset n = reads_done None
@@ -180,8 +180,8 @@ module _ (sections : Sections) where
   unfolding found_entry_at
   reads_declared_entry encoding code None = reads_done (MissingAbbreviation code)
   reads_declared_entry encoding code (Some specifications) =
-      reads_both (attributes_production sections.notation encoding no_attributes specifications) _ _ _
-      (reads_attributes sections.notation encoding specifications no_attributes)
+      reads_both (attributes_production sections.layout encoding no_attributes specifications) _ _ _
+      (reads_attributes sections.layout encoding specifications no_attributes)
       (λ attributes. reads_both (compilation_production sections encoding attributes) _ _ _
       (reads_compilation sections encoding attributes) (λ compilation.
       reads_done (Found compilation)))
@@ -197,7 +197,7 @@ module _ (sections : Sections) where
   reads_content : (format : Format) → Reads (content_production sections format) (content_at sections format)
   unfolding content_at
   reads_content format =
-      reads_both (header_production sections.notation format) _ _ _ (reads_header sections.notation format)
+      reads_both (header_production sections.layout format) _ _ _ (reads_header sections.layout format)
       (λ header. reads_if (is_unit_type header.unit_type) (entry_production sections header)
       (done (UnknownUnitType header.unit_type)) _ _ (reads_entry header)
       (reads_done (UnknownUnitType header.unit_type)))
@@ -205,21 +205,21 @@ module _ (sections : Sections) where
   pub reads_unit : Reads (unit_production sections) (unit_at sections)
   unfolding unit_at
   reads_unit =
-      reads_both (frame_production sections.notation) _ _ _ (reads_frame sections.notation)
+      reads_both (frame_production sections.layout) _ _ _ (reads_frame sections.layout)
       (λ unit. reads_apart unit.0 (content_production sections unit.1) (content_at sections unit.1)
       (reads_content unit.1))
 
   -- ---- an answer
 
   pub content_done : (bytes rest left : List ℕ) (unit : List ℕ × Format) (outcome : Result (Outcome (List ℕ)) Error)
-      → (Ok unit, rest) ≡ frame_at sections.notation bytes
+      → (Ok unit, rest) ≡ frame_at sections.layout bytes
       → (outcome, left) ≡ content_at sections unit.1 unit.0 → (outcome, rest) ≡ unit_at sections bytes
   unfolding unit_at
   content_done bytes rest left unit outcome frame content =
       rw (← frame) (ap (λ (r : Read (Outcome (List ℕ))). let s : Read (Outcome (List ℕ)) = (r.0, rest) in s) content)
 
   pub frame_refused : (offset : ℕ) (bytes : List ℕ) (e : Error) (left : List ℕ) → bytes ≡ drop offset sections.info
-      → (Err e, left) ≡ frame_at sections.notation bytes → HasRefusalAt sections offset (Bytes e)
+      → (Err e, left) ≡ frame_at sections.layout bytes → HasRefusalAt sections offset (Bytes e)
   unfolding unit_at
   frame_refused offset bytes e left from is =
       let refused : (unit_at sections bytes).0
@@ -252,30 +252,30 @@ module _ (sections : Sections) where
 
 -- ---- the walk
 
-length_takes : (big : Bool) (n : ℕ) (format : Format) → SpellsInitialLength big [] format n → ⊥
-length_takes big n Dwarf32 s = absurd (omega (arith, s.0.size_is))
-length_takes big n Dwarf64 s = absurd (omega (arith, ap length s.2, length-append s.0 s.1, s.3.size_is))
+length_takes : (is_big : Bool) (n : ℕ) (format : Format) → SpellsInitialLength is_big [] format n → ⊥
+length_takes is_big n Dwarf32 s = absurd (omega (arith, s.0.size_is))
+length_takes is_big n Dwarf64 s = absurd (omega (arith, ap length s.2, length-append s.0 s.1, s.3.size_is))
 
-frame_takes : (notation : Notation) → TakesBytes (frame_production notation)
-frame_takes notation =
-    takes_both (unit_length notation) _
-    (takes_both (initial_length notation.big) _ (record { none = λ unit s. length_takes notation.big unit.0 unit.1 s }))
+frame_takes : (layout : OrderAndLimit) → TakesBytes (frame_production layout)
+frame_takes layout =
+    takes_both (unit_length layout) _
+    (takes_both (initial_length layout.is_big) _ (record { none = λ unit s. length_takes layout.is_big unit.0 unit.1 s }))
 
-some_front : (notation : Notation) (front : List ℕ) (unit : List ℕ × Format)
-    → (frame_production notation).Spells front unit → 0 < length front
-some_front notation [] unit s = absurd ((frame_takes notation).none unit s)
-some_front notation (b ∷ front) unit s = omega arith
+some_front : (layout : OrderAndLimit) (front : List ℕ) (unit : List ℕ × Format)
+    → (frame_production layout).Spells front unit → 0 < length front
+some_front layout [] unit s = absurd ((frame_takes layout).none unit s)
+some_front layout (b ∷ front) unit s = omega arith
 
 -- what is left after a unit is an end of its section
-pub rest_is_end : (notation : Notation) (section : List ℕ) (offset : ℕ) (bytes after : List ℕ)
+pub rest_is_end : (layout : OrderAndLimit) (section : List ℕ) (offset : ℕ) (bytes after : List ℕ)
     → bytes ≡ drop offset section
-    → after ≡ after_frame (frame_at notation bytes) → (front : List ℕ) × (section ≡ front ++ after)
-rest_is_end notation section offset bytes after from is = at_read (frame_at notation bytes) refl is
+    → after ≡ after_frame (frame_at layout bytes) → (front : List ℕ) × (section ≡ front ++ after)
+rest_is_end layout section offset bytes after from is = at_read (frame_at layout bytes) refl is
   where
-    at_read : (r : Read (List ℕ × Format)) → frame_at notation bytes ≡ r → after ≡ after_frame r
+    at_read : (r : Read (List ℕ × Format)) → frame_at layout bytes ≡ r → after ≡ after_frame r
         → (front : List ℕ) × (section ≡ front ++ after)
     at_read (Ok unit, rest) same left =
-        let f = (reads_frame notation).found bytes unit rest same in
+        let f = (reads_frame layout).found bytes unit rest same in
         let end : drop offset section ≡ f.0 ++ after = sym from ∙ f.1 ∙ ap (λ (xs : List ℕ). f.0 ++ xs) (sym left) in (
           take offset section ++ f.0,
           sym (take-append-drop offset section) ∙ ap (λ (xs : List ℕ). take offset section ++ xs) end
@@ -285,26 +285,26 @@ rest_is_end notation section offset bytes after from is = at_read (frame_at nota
         (section, sym (append-nil section) ∙ ap (λ (xs : List ℕ). section ++ xs) (sym left))
 
 -- where the next unit begins
-pub record Steps (notation : Notation) (section : List ℕ) (offset next : ℕ) : Type 0 where
-  pub follows : FollowsUnit notation section offset next
+pub record Steps (layout : OrderAndLimit) (section : List ℕ) (offset next : ℕ) : Type 0 where
+  pub follows : FollowsUnit layout section offset next
   pub onward : offset < next
   pub inside : next ≤ length section
 
-pub next_offset : (notation : Notation) (section : List ℕ) (offset next : ℕ) (bytes after : List ℕ)
+pub next_offset : (layout : OrderAndLimit) (section : List ℕ) (offset next : ℕ) (bytes after : List ℕ)
     → bytes ≡ drop offset section → (bytes ≡ [] → ⊥)
-    → after ≡ after_frame (frame_at notation bytes)
-    → next + length after ≡ length section → Steps notation section offset next
-next_offset notation section offset next bytes after from some is ends =
-    at_read (frame_at notation bytes) refl is
+    → after ≡ after_frame (frame_at layout bytes)
+    → next + length after ≡ length section → Steps layout section offset next
+next_offset layout section offset next bytes after from some is ends =
+    at_read (frame_at layout bytes) refl is
     (elim (cases_lt offset (length section))
     [ inl lt ↦ lt | inr le ↦ absurd (some (from ∙ drop_all offset section le)) ])
   where
-    at_read : (r : Read (List ℕ × Format)) → frame_at notation bytes ≡ r → after ≡ after_frame r
-        → offset < length section → Steps notation section offset next
+    at_read : (r : Read (List ℕ × Format)) → frame_at layout bytes ≡ r → after ≡ after_frame r
+        → offset < length section → Steps layout section offset next
     at_read (Ok unit, rest) same left before =
-        let f = (reads_frame notation).found bytes unit rest same in
+        let f = (reads_frame layout).found bytes unit rest same in
         let whole : drop offset section ≡ f.0 ++ rest = sym from ∙ f.1 in
-        let long = some_front notation f.0 unit f.2 in
+        let long = some_front layout f.0 unit f.2 in
         let size : next
         ≡ offset
         + length f.0 = omega
@@ -316,7 +316,7 @@ next_offset notation section offset next bytes after from some is ends =
         }
     at_read (Err e, rest) same left before =
         let end : next ≡ length section = omega (arith, ap length left) in
-        let fault = (reads_frame notation).fault bytes e (ap (λ (r : Read (List ℕ × Format)). r.0) same) in
+        let fault = (reads_frame layout).fault bytes e (ap (λ (r : Read (List ℕ × Format)). r.0) same) in
         record {
           follows = inr (e, rw (← from) fault, end);
           onward = omega (arith, end, before);

@@ -10,7 +10,7 @@ use Rattle.gimli_core.specs.FormNumbers.{DW_FORM_sec_offset, DW_FORM_strx, DW_FO
 use Rattle.gimli_core.specs.FormNumbers.{DW_FORM_data16, DW_FORM_line_strp, DW_FORM_strx1}
 use Rattle.gimli_core.specs.FormNumbers.{DW_FORM_strx2, DW_FORM_strx3, DW_FORM_strx4}
 use Rattle.gimli_core.specs.FormNumbers.{DW_FORM_GNU_str_index, DW_FORM_GNU_strp_alt}
-use Rattle.gimli_core.specs.Notation.{Notation}
+use Rattle.gimli_core.specs.Layout.{OrderAndLimit}
 use Rattle.gimli_core.specs.Numbers.{word_size}
 use Rattle.gimli_core.specs.Production.{Production, ◌>>=◌, ◌>>◌, done, refuse, choose, number}
 use Rattle.gimli_core.specs.Production.{unsigned}
@@ -26,8 +26,8 @@ use Rattle.gimli_compilation.specs.DwarfNumbers.{DW_FORM_implicit_const, DW_FORM
 use Rattle.gimli_compilation.specs.DwarfNumbers.{DW_FORM_rnglistx, DW_FORM_ref_sup8, DW_FORM_addrx1}
 use Rattle.gimli_compilation.specs.DwarfNumbers.{DW_FORM_addrx2, DW_FORM_addrx3, DW_FORM_addrx4}
 use Rattle.gimli_compilation.specs.DwarfNumbers.{DW_FORM_GNU_addr_index, DW_FORM_GNU_ref_alt}
-use Rattle.gimli_compilation.specs.declared.form.Kind.{Kind}
-use Rattle.gimli_compilation.specs.declared.form.Kind.TheVariants.{
+use Rattle.gimli_compilation.specs.declared.form.NumberKind.{NumberKind}
+use Rattle.gimli_compilation.specs.declared.form.NumberKind.TheVariants.{
   SectionOffset,
   StringOffset,
   LineStringOffset,
@@ -43,7 +43,7 @@ use Rattle.gimli_compilation.specs.declared.form.Shape.TheVariants.{String}
 
 -- what a number of four or eight bytes is: up to version 3 it may be an offset into a section
 -- (DWARF 3, section 7.5.4)
-abbrev pub data_kind : ℕ → Kind
+abbrev pub data_kind : ℕ → NumberKind
 data_kind version = if nat_le version 3 then SectionOffset else Other
 
 -- the size of a reference to an entry anywhere: up to version 2 that of an address (DWARF 2,
@@ -110,17 +110,17 @@ abbrev pub shape_among : ℕ → List (ℕ × Shape) → Option Shape
 shape_among form [] = None
 shape_among form (row ∷ rows) = if nat_eq form row.0 then Some row.1 else shape_among form rows
 
-module _ (notation : Notation) where
+module _ (layout : OrderAndLimit) where
   -- that many bytes, of which nothing is kept
   abbrev pub passed_production : ℕ → Production (Value (List ℕ))
   passed_production n = do
-    count ← below_limit notation (done n)
+    count ← below_limit layout (done n)
     some_bytes count
     done Passed
 
   abbrev pub shape_production : Shape → Production (Value (List ℕ))
   shape_production (Fixed size kind) = do
-    n ← number notation.big size
+    n ← number layout.is_big size
     done (Number kind n)
   shape_production (Unsigned kind) = do
     n ← unsigned
@@ -130,7 +130,7 @@ module _ (notation : Notation) where
     done Passed
   shape_production (Block size) = passed_production size
   shape_production (Counted size) = do
-    n ← number notation.big size
+    n ← number layout.is_big size
     passed_production n
   shape_production UnsignedCounted = do
     n ← unsigned
@@ -140,16 +140,16 @@ module _ (notation : Notation) where
     done (Text name)
 
 -- a value in a form of the table; a form that isn't there is refused, whatever comes
-abbrev pub known_form_production : Notation → Encoding → ℕ → Production (Value (List ℕ))
-known_form_production notation encoding form = elim (shape_among form (shapes encoding)) [
-  | Some shape ↦ shape_production notation shape
+abbrev pub known_form_production : OrderAndLimit → Encoding → ℕ → Production (Value (List ℕ))
+known_form_production layout encoding form = elim (shape_among form (shapes encoding)) [
+  | Some shape ↦ shape_production layout shape
   | None ↦ refuse (UnknownForm (record { 0 = form }))
 ]
 
 -- a value in a form. A value of DW_FORM_implicit_const takes no bytes here, since it stands in the
 -- declaration; one of DW_FORM_indirect begins with its form, which is one of the table
-abbrev pub form_production : Notation → Encoding → ℕ → Production (Value (List ℕ))
-form_production notation encoding form =
+abbrev pub form_production : OrderAndLimit → Encoding → ℕ → Production (Value (List ℕ))
+form_production layout encoding form =
     choose (nat_eq form DW_FORM_implicit_const) (done Passed)
-    (choose (nat_eq form DW_FORM_indirect) (unsigned_16 >>= known_form_production notation encoding)
-    (known_form_production notation encoding form))
+    (choose (nat_eq form DW_FORM_indirect) (unsigned_16 >>= known_form_production layout encoding)
+    (known_form_production layout encoding form))

@@ -1,6 +1,6 @@
 -- The header of a unit (DWARF 5, section 7.5.1; DWARF 2 to 4, section 7.5.1).
 use Rattle.std.specs.Prelude.{ℕ, ◌+◌, List, Bool, ◌&&◌, ◌||◌, nat_eq, nat_le, if◌then◌else◌}
-use Rattle.gimli_core.specs.Notation.{Notation}
+use Rattle.gimli_core.specs.Layout.{OrderAndLimit}
 use Rattle.gimli_core.specs.Numbers.{word_size}
 use Rattle.gimli_core.specs.Production.{Production, ◌>>=◌, ◌>>◌, done, check, choose, byte, number}
 use Rattle.gimli_core.specs.Production.{some_bytes, address_size, offset_word, unit_length}
@@ -12,16 +12,16 @@ use Rattle.gimli_compilation.specs.DwarfNumbers.{DW_UT_split_compile, DW_UT_spli
 
 -- the frame of a unit: its length, and as many bytes as that says; the format goes with these
 -- (section 7.4)
-abbrev pub frame_production : Notation → Production (List ℕ × Format)
-frame_production notation = do
-  unit ← unit_length notation
+abbrev pub frame_production : OrderAndLimit → Production (List ℕ × Format)
+frame_production layout = do
+  unit ← unit_length layout
   content ← some_bytes unit.0
   done (content, unit.1)
 
 -- from version 2 to version 5
 abbrev pub version_production : Bool → Production ℕ
-version_production big = do
-  version ← number big 2
+version_production is_big = do
+  version ← number is_big 2
   check (nat_le 2 version && nat_le version 5) (UnknownVersion version)
   done version
 
@@ -50,11 +50,11 @@ header_of format version unit_type abbreviations size = record {
   abbreviations = abbreviations;
 }
 
-module _ (notation : Notation) (format : Format) where
+module _ (layout : OrderAndLimit) (format : Format) where
   -- the fields after the version, up to version 4 and in version 5
   abbrev pub old_fields_production : ℕ → Production Header
   old_fields_production version = do
-    abbreviations ← offset_word notation format
+    abbreviations ← offset_word layout format
     size ← address_size
     done (header_of format version DW_UT_compile abbreviations size)
 
@@ -62,11 +62,11 @@ module _ (notation : Notation) (format : Format) where
   new_fields_production version = do
     unit_type ← byte
     size ← address_size
-    abbreviations ← offset_word notation format
+    abbreviations ← offset_word layout format
     type_fields ← some_bytes (type_fields_size unit_type format)
     done (header_of format version unit_type abbreviations size)
 
   abbrev pub header_production : Production Header
   header_production = do
-    version ← version_production notation.big
+    version ← version_production layout.is_big
     choose (nat_le version 4) (old_fields_production version) (new_fields_production version)

@@ -1,6 +1,6 @@
 -- The sections from which compilations are read.
 use Rattle.std.specs.Prelude.{ℕ, List, Bool, option_map}
-use Rattle.gimli_core.specs.Notation.{Notation, notation_of}
+use Rattle.gimli_core.specs.Layout.{OrderAndLimit, layout_of}
 use Rattle.gimli_compilation.specs.declared.sections.Compilation.{Compilation}
 use Rattle.gimli_compilation.specs.declared.sections.CompilationSections.{CompilationSections}
 
@@ -14,20 +14,20 @@ pub record Sections : Type 0 where
   -- `.debug_str_offsets`
   pub string_offsets : List ℕ
   -- how numbers are noted in `.debug_info`, and in `.debug_str_offsets`
-  pub notation : Notation
-  pub offsets_notation : Notation
+  pub layout : OrderAndLimit
+  pub offsets_layout : OrderAndLimit
 
 -- the sections of readers, by their bytes, their orders and the limit of their offsets
 abbrev pub sections_of : {R : Type 0} → (R → List ℕ) → (R → Bool) → ℕ → CompilationSections R
     → Sections
-sections_of bytes big limit sections = record {
+sections_of bytes is_big limit sections = record {
   info = bytes sections.debug_info;
   abbreviations = bytes sections.debug_abbrev;
   strings = bytes sections.debug_str;
   line_strings = bytes sections.debug_line_str;
   string_offsets = bytes sections.debug_str_offsets;
-  notation = notation_of (big sections.debug_info) limit;
-  offsets_notation = notation_of (big sections.debug_str_offsets) limit;
+  layout = layout_of (is_big sections.debug_info) limit;
+  offsets_layout = layout_of (is_big sections.debug_str_offsets) limit;
 }
 
 -- a compilation, its texts seen by bytes

@@ -2,7 +2,7 @@
 -- sections 3.1.1, 7.5.1 and 7.5.2).
 use Rattle.std.specs.Prelude.{◌≡◌, ◌⊎◌, ℕ, ◌+◌, ◌*◌, ◌^◌, List, [], ◌∷◌, ◌++◌, length, drop, Option}
 use Rattle.std.specs.Prelude.{Some, None, nat_lt}
-use Rattle.gimli_core.specs.Notation.{Notation}
+use Rattle.gimli_core.specs.Layout.{OrderAndLimit}
 use Rattle.gimli_core.specs.Numbers.{word_size}
 use Rattle.gimli_core.specs.Production.{Production, ◌>>=◌, ◌>>◌, done, check, choose, within}
 use Rattle.gimli_core.specs.Production.{number}
@@ -13,8 +13,8 @@ use Rattle.gimli_core.specs.declared.error.Error.{Error}
 use Rattle.gimli_core.specs.declared.error.Error.TheVariants.{UnsupportedOffset}
 use Rattle.gimli_compilation.specs.declared.abbreviation.Specification.{Specification}
 use Rattle.gimli_compilation.specs.declared.attributes.Attributes.{Attributes}
-use Rattle.gimli_compilation.specs.declared.form.Kind.{Kind}
-use Rattle.gimli_compilation.specs.declared.form.Kind.TheVariants.{
+use Rattle.gimli_compilation.specs.declared.form.NumberKind.{NumberKind}
+use Rattle.gimli_compilation.specs.declared.form.NumberKind.TheVariants.{
   StringOffset,
   LineStringOffset,
   StringIndex,
@@ -48,26 +48,26 @@ apart others l = do
   done x.0
 
 -- a production from an offset of a section on
-abbrev pub from_offset : {A : Type 0} → Notation → ℕ → Production A → Production A
-from_offset notation offset l = do
-  count ← below_limit notation (done offset)
+abbrev pub from_offset : {A : Type 0} → OrderAndLimit → ℕ → Production A → Production A
+from_offset layout offset l = do
+  count ← below_limit layout (done offset)
   some_bytes count
   l
 
 -- the values of an entry, in the order of its specifications; each takes the place of what stood
 -- before for its attribute
-abbrev pub attributes_production : Notation → Encoding → Attributes (List ℕ) → List Specification
+abbrev pub attributes_production : OrderAndLimit → Encoding → Attributes (List ℕ) → List Specification
     → Production (Attributes (List ℕ))
-attributes_production notation encoding before [] = done before
-attributes_production notation encoding before (s ∷ specifications) = do
-  value ← form_production notation encoding s.form.0
-  attributes_production notation encoding (attributes_with before s.name.0 value) specifications
+attributes_production layout encoding before [] = done before
+attributes_production layout encoding before (s ∷ specifications) = do
+  value ← form_production layout encoding s.form.0
+  attributes_production layout encoding (attributes_with before s.name.0 value) specifications
 
 -- the string offset of an index: a word in the table that begins at a base (section 7.26)
-abbrev pub string_offset_production : Notation → Format → ℕ → ℕ → Production ℕ
-string_offset_production notation format base index = do
+abbrev pub string_offset_production : OrderAndLimit → Format → ℕ → ℕ → Production ℕ
+string_offset_production layout format base index = do
   check (nat_lt (base + index * word_size format) (2 ^ 64)) UnsupportedOffset
-  from_offset notation (base + index * word_size format) (number notation.big (word_size format))
+  from_offset layout (base + index * word_size format) (number layout.is_big (word_size format))
 
 -- the specifications of a code in the table at an offset
 abbrev pub table_production : ℕ → ℕ → Production (Option (List Specification))
@@ -77,30 +77,30 @@ table_production offset code = do
 
 -- the offset after the unit that begins at an offset of a section: its own, and the size of its
 -- frame; where it has no frame, the end of the section
-abbrev pub FollowsUnit : Notation → List ℕ → ℕ → ℕ → Type 0
-FollowsUnit notation section offset next =
+abbrev pub FollowsUnit : OrderAndLimit → List ℕ → ℕ → ℕ → Type 0
+FollowsUnit layout section offset next =
     ((unit : List ℕ) × (after : List ℕ) × (content : List ℕ × Format)
     × (drop offset section ≡ unit ++ after)
-    × (frame_production notation).Spells unit content × (next ≡ offset + length unit))
-    ⊎ ((e : Error) × (frame_production notation).Fault (drop offset section) e
+    × (frame_production layout).Spells unit content × (next ≡ offset + length unit))
+    ⊎ ((e : Error) × (frame_production layout).Fault (drop offset section) e
     × (next ≡ length section))
 
 module _ (sections : Sections) where
   -- the text at an offset of a section
   abbrev pub text_from : List ℕ → ℕ → Production (Option (List ℕ))
   text_from section offset = do
-    name ← apart section (from_offset sections.notation offset text)
+    name ← apart section (from_offset sections.layout offset text)
     done (Some name)
 
   -- the text that a number refers to: by its offset, or by its index in the table of the unit,
   -- whose base is known. None where the unit has no base, or where the number is no such reference
-  abbrev pub text_by : Format → Option ℕ → Kind → ℕ → Production (Option (List ℕ))
+  abbrev pub text_by : Format → Option ℕ → NumberKind → ℕ → Production (Option (List ℕ))
   text_by format base StringOffset n = text_from sections.strings n
   text_by format base LineStringOffset n = text_from sections.line_strings n
   text_by format (Some base) StringIndex n = do
     offset ←
         apart sections.string_offsets
-        (string_offset_production sections.offsets_notation format base n)
+        (string_offset_production sections.offsets_layout format base n)
     text_from sections.strings offset
   text_by format None StringIndex n = done None
   text_by format base kind n = done None
@@ -130,7 +130,7 @@ module _ (sections : Sections) where
       → Production (Outcome (List ℕ))
   declared_entry encoding code None = done (missing_abbreviation code)
   declared_entry encoding code (Some specifications) = do
-    attributes ← attributes_production sections.notation encoding no_attributes specifications
+    attributes ← attributes_production sections.layout encoding no_attributes specifications
     compilation ← compilation_production encoding attributes
     done (Found compilation)
 
@@ -145,14 +145,14 @@ module _ (sections : Sections) where
   -- the content of a unit up to its first entry, if its type is known
   abbrev pub content_production : Format → Production (Outcome (List ℕ))
   content_production format = do
-    header ← header_production sections.notation format
+    header ← header_production sections.layout format
     choose (is_unit_type header.unit_type) (entry_production header)
         (done (unknown_unit_type header.unit_type))
 
   -- a unit: its frame, and what stands at the front of its content
   abbrev pub unit_production : Production (Outcome (List ℕ))
   unit_production = do
-    unit ← frame_production sections.notation
+    unit ← frame_production sections.layout
     apart unit.0 (content_production unit.1)
 
   -- the bytes begin with a unit of which this comes
@@ -177,7 +177,7 @@ module _ (sections : Sections) where
 
   -- the offset after the unit of `.debug_info` that begins at an offset
   abbrev pub IsNextOffset : ℕ → ℕ → Type 0
-  IsNextOffset offset next = FollowsUnit sections.notation sections.info offset next
+  IsNextOffset offset next = FollowsUnit sections.layout sections.info offset next
 
 -- a walk through the units of `.debug_info`
 pub record Walk : Type 0 where

@@ -2,7 +2,7 @@
 use Rattle.std.specs.Prelude.{ℕ, nat_eq, if◌then◌else◌, Option, Some, None}
 use Rattle.gimli_compilation.specs.DwarfNumbers.{DW_AT_name, DW_AT_stmt_list, DW_AT_comp_dir}
 use Rattle.gimli_compilation.specs.DwarfNumbers.{DW_AT_str_offsets_base}
-use Rattle.gimli_compilation.specs.declared.form.Kind.TheVariants.{SectionOffset}
+use Rattle.gimli_compilation.specs.declared.form.NumberKind.TheVariants.{SectionOffset}
 use Rattle.gimli_compilation.specs.declared.form.Value.{Value}
 use Rattle.gimli_compilation.specs.declared.form.Value.TheVariants.{Number, Passed}
 use Rattle.gimli_compilation.specs.declared.attributes.Attributes.{Attributes}

@@ -2,7 +2,7 @@
 //! 7.5.4).
 
 ghost use Rattle.std.specs.Prelude.{◌≡◌, IsTrue};
-ghost use Rattle.gimli_core.specs.Notation.{notation_of};
+ghost use Rattle.gimli_core.specs.Layout.{layout_of};
 ghost use Rattle.gimli_core.specs.Numbers.{is_address_size};
 ghost use Rattle.gimli_core.specs.Reading.{result_map};
 ghost use Rattle.gimli_compilation.specs.Value.{no_attributes};
@@ -67,7 +67,7 @@ pub(crate) fn parse_attributes<R: Reader>(
     requires size { IsTrue (is_address_size encoding.address_size) }
     requires closed { IsListed (R.bytes specifications) }
     ensures read { (result_map (attributes_seen R.bytes) result, R.bytes input.new)
-        ≡ attributes_at (notation_of (R.big input.old) R.Offset.limit) encoding no_attributes
+        ≡ attributes_at (layout_of (R.is_big input.old) R.Offset.limit) encoding no_attributes
         (listed (R.bytes specifications)) (R.bytes input.old) }
 {
     let mut specifications = specifications;

@@ -70,7 +70,7 @@ impl<R: Reader> Compilations<R> {
     /// with `OutOfMemory`.
     pub fn new(alloc: Global, sections: &CompilationSections<R>) -> Result<Self>
         ensures ok { IfOk result (λ compilations.
-            TellsDirectories (sections_of R.bytes R.big R.Offset.limit sections.now)
+            TellsDirectories (sections_of R.bytes R.is_big R.Offset.limit sections.now)
             (λ line. option_map R.bytes (directory_for compilations line))) }
         ensures err { IfErr result (λ e. e ≡ Error.OutOfMemory) }
     {

@@ -1,7 +1,7 @@
 //! Values of attributes, by their forms (DWARF 5, sections 7.5.5 and 7.5.6).
 
 ghost use Rattle.std.specs.Prelude.{◌≡◌, ◌++◌, IfSome, IsTrue};
-ghost use Rattle.gimli_core.specs.Notation.{notation_of};
+ghost use Rattle.gimli_core.specs.Layout.{layout_of};
 ghost use Rattle.gimli_core.specs.Numbers.{is_address_size};
 ghost use Rattle.gimli_core.specs.Reading.{result_map};
 ghost use Rattle.gimli_compilation.specs.Form.{block_shapes, data_kind, leb_shapes, number_shapes};
@@ -15,7 +15,7 @@ use gimli_core::{DwForm, Encoding, Error, Reader, ReaderOffset, Result, constant
 
 /// What the number of an attribute is.
 #[derive(Clone, Copy)]
-pub(crate) enum Kind {
+pub(crate) enum NumberKind {
     /// An offset into a section that the attribute names.
     SectionOffset,
     /// The offset of a text in `.debug_str`.
@@ -32,7 +32,7 @@ pub(crate) enum Kind {
 #[derive(Clone, Copy)]
 pub(crate) enum Value<R> {
     /// A number.
-    Number(Kind, u64),
+    Number(NumberKind, u64),
     /// A text that stands in the entry.
     Text(R),
     /// What nothing is asked of.
@@ -43,9 +43,9 @@ pub(crate) enum Value<R> {
 #[derive(Clone, Copy)]
 pub(crate) enum Shape {
     /// A number of so many bytes.
-    Fixed(u8, Kind),
+    Fixed(u8, NumberKind),
     /// An unsigned LEB128 number.
-    Unsigned(Kind),
+    Unsigned(NumberKind),
     /// A signed LEB128 number.
     Signed,
     /// So many bytes.
@@ -59,13 +59,13 @@ pub(crate) enum Shape {
 }
 
 /// What a number of four or eight bytes is: up to version 3 it may be an offset into a section.
-fn data_kind(version: u16) -> Kind
+fn data_kind(version: u16) -> NumberKind
     ensures { result ≡ data_kind version }
 {
     if version <= 3 {
-        Kind::SectionOffset
+        NumberKind::SectionOffset
     } else {
-        Kind::Other
+        NumberKind::Other
     }
 }
 
@@ -87,14 +87,14 @@ fn shape_of(form: DwForm, encoding: Encoding) -> Option<Shape>
 {
     let word_size = encoding.format.word_size();
     match form {
-        constants::DW_FORM_addr => Some(Shape::Fixed(encoding.address_size, Kind::Other)),
-        constants::DW_FORM_ref_addr => Some(Shape::Fixed(reference_size(encoding), Kind::Other)),
-        shared::DW_FORM_sec_offset => Some(Shape::Fixed(word_size, Kind::SectionOffset)),
-        shared::DW_FORM_strp => Some(Shape::Fixed(word_size, Kind::StringOffset)),
-        shared::DW_FORM_line_strp => Some(Shape::Fixed(word_size, Kind::LineStringOffset)),
-        shared::DW_FORM_strp_sup => Some(Shape::Fixed(word_size, Kind::Other)),
-        constants::DW_FORM_GNU_ref_alt => Some(Shape::Fixed(word_size, Kind::Other)),
-        shared::DW_FORM_GNU_strp_alt => Some(Shape::Fixed(word_size, Kind::Other)),
+        constants::DW_FORM_addr => Some(Shape::Fixed(encoding.address_size, NumberKind::Other)),
+        constants::DW_FORM_ref_addr => Some(Shape::Fixed(reference_size(encoding), NumberKind::Other)),
+        shared::DW_FORM_sec_offset => Some(Shape::Fixed(word_size, NumberKind::SectionOffset)),
+        shared::DW_FORM_strp => Some(Shape::Fixed(word_size, NumberKind::StringOffset)),
+        shared::DW_FORM_line_strp => Some(Shape::Fixed(word_size, NumberKind::LineStringOffset)),
+        shared::DW_FORM_strp_sup => Some(Shape::Fixed(word_size, NumberKind::Other)),
+        constants::DW_FORM_GNU_ref_alt => Some(Shape::Fixed(word_size, NumberKind::Other)),
+        shared::DW_FORM_GNU_strp_alt => Some(Shape::Fixed(word_size, NumberKind::Other)),
         shared::DW_FORM_data4 => Some(Shape::Fixed(4, data_kind(encoding.version))),
         shared::DW_FORM_data8 => Some(Shape::Fixed(8, data_kind(encoding.version))),
         _ => number_shape(form),
@@ -110,22 +110,22 @@ fn number_shape(form: DwForm) -> Option<Shape>
         shared::DW_FORM_data1
         | constants::DW_FORM_ref1
         | shared::DW_FORM_flag
-        | constants::DW_FORM_addrx1 => Some(Shape::Fixed(1, Kind::Other)),
+        | constants::DW_FORM_addrx1 => Some(Shape::Fixed(1, NumberKind::Other)),
         shared::DW_FORM_data2 | constants::DW_FORM_ref2 | constants::DW_FORM_addrx2 => {
-            Some(Shape::Fixed(2, Kind::Other))
+            Some(Shape::Fixed(2, NumberKind::Other))
         }
-        constants::DW_FORM_addrx3 => Some(Shape::Fixed(3, Kind::Other)),
+        constants::DW_FORM_addrx3 => Some(Shape::Fixed(3, NumberKind::Other)),
         constants::DW_FORM_ref4 | constants::DW_FORM_ref_sup4 | constants::DW_FORM_addrx4 => {
-            Some(Shape::Fixed(4, Kind::Other))
+            Some(Shape::Fixed(4, NumberKind::Other))
         }
         constants::DW_FORM_ref8 | constants::DW_FORM_ref_sig8 | constants::DW_FORM_ref_sup8 => {
-            Some(Shape::Fixed(8, Kind::Other))
+            Some(Shape::Fixed(8, NumberKind::Other))
         }
-        constants::DW_FORM_flag_present => Some(Shape::Fixed(0, Kind::Other)),
-        shared::DW_FORM_strx1 => Some(Shape::Fixed(1, Kind::StringIndex)),
-        shared::DW_FORM_strx2 => Some(Shape::Fixed(2, Kind::StringIndex)),
-        shared::DW_FORM_strx3 => Some(Shape::Fixed(3, Kind::StringIndex)),
-        shared::DW_FORM_strx4 => Some(Shape::Fixed(4, Kind::StringIndex)),
+        constants::DW_FORM_flag_present => Some(Shape::Fixed(0, NumberKind::Other)),
+        shared::DW_FORM_strx1 => Some(Shape::Fixed(1, NumberKind::StringIndex)),
+        shared::DW_FORM_strx2 => Some(Shape::Fixed(2, NumberKind::StringIndex)),
+        shared::DW_FORM_strx3 => Some(Shape::Fixed(3, NumberKind::StringIndex)),
+        shared::DW_FORM_strx4 => Some(Shape::Fixed(4, NumberKind::StringIndex)),
         _ => leb_shape(form),
     }
 }
@@ -141,8 +141,8 @@ fn leb_shape(form: DwForm) -> Option<Shape>
         | constants::DW_FORM_loclistx
         | constants::DW_FORM_rnglistx
         | constants::DW_FORM_GNU_addr_index
-        | shared::DW_FORM_GNU_str_index => Some(Shape::Unsigned(Kind::Other)),
-        shared::DW_FORM_strx => Some(Shape::Unsigned(Kind::StringIndex)),
+        | shared::DW_FORM_GNU_str_index => Some(Shape::Unsigned(NumberKind::Other)),
+        shared::DW_FORM_strx => Some(Shape::Unsigned(NumberKind::StringIndex)),
         shared::DW_FORM_sdata => Some(Shape::Signed),
         _ => block_shape(form),
     }
@@ -167,7 +167,7 @@ fn block_shape(form: DwForm) -> Option<Shape>
 fn pass_bytes<R: Reader>(input: &mut R, count: u64) -> Result<Value<R>>
     ensures read { (result_map (value_seen R.bytes) result, R.bytes input.new)
         ≡ passed_at R.Offset.limit count (R.bytes input.old) }
-    ensures order { R.big input.new ≡ R.big input.old }
+    ensures order { R.is_big input.new ≡ R.is_big input.old }
 {
     let count = R::Offset::from_u64(count)?;
     input.split(count)?;
@@ -178,8 +178,8 @@ fn pass_bytes<R: Reader>(input: &mut R, count: u64) -> Result<Value<R>>
 fn parse_shape<R: Reader>(input: &mut R, shape: Shape) -> Result<Value<R>>
     requires { IsReadable shape }
     ensures read { (result_map (value_seen R.bytes) result, R.bytes input.new)
-        ≡ shape_at (notation_of (R.big input.old) R.Offset.limit) shape (R.bytes input.old) }
-    ensures order { R.big input.new ≡ R.big input.old }
+        ≡ shape_at (layout_of (R.is_big input.old) R.Offset.limit) shape (R.bytes input.old) }
+    ensures order { R.is_big input.new ≡ R.is_big input.old }
 {
     match shape {
         Shape::Fixed(size, kind) => {
@@ -216,9 +216,9 @@ fn parse_shape<R: Reader>(input: &mut R, shape: Shape) -> Result<Value<R>>
 fn parse_known_form<R: Reader>(input: &mut R, encoding: Encoding, form: DwForm) -> Result<Value<R>>
     requires { IsTrue (is_address_size encoding.address_size) }
     ensures read { (result_map (value_seen R.bytes) result, R.bytes input.new)
-        ≡ known_form_at (notation_of (R.big input.old) R.Offset.limit) encoding form.0
+        ≡ known_form_at (layout_of (R.is_big input.old) R.Offset.limit) encoding form.0
         (R.bytes input.old) }
-    ensures order { R.big input.new ≡ R.big input.old }
+    ensures order { R.is_big input.new ≡ R.is_big input.old }
 {
     match shape_of(form, encoding) {
         Some(shape) => parse_shape(input, shape),
@@ -237,9 +237,9 @@ pub(crate) fn parse_form<R: Reader>(
 ) -> Result<Value<R>>
     requires { IsTrue (is_address_size encoding.address_size) }
     ensures read { (result_map (value_seen R.bytes) result, R.bytes input.new)
-        ≡ form_at (notation_of (R.big input.old) R.Offset.limit) encoding form.0
+        ≡ form_at (layout_of (R.is_big input.old) R.Offset.limit) encoding form.0
         (R.bytes input.old) }
-    ensures order { R.big input.new ≡ R.big input.old }
+    ensures order { R.is_big input.new ≡ R.is_big input.old }
 {
     match form {
         constants::DW_FORM_implicit_const => Ok(Value::Passed),

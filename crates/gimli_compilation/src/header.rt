@@ -1,7 +1,7 @@
 //! The header of a unit (DWARF 5, section 7.5.1; DWARF 2 to 4, section 7.5.1.1).
 
 ghost use Rattle.std.specs.Prelude.{◌≡◌, IfOk, IsTrue};
-ghost use Rattle.gimli_core.specs.Notation.{notation_of};
+ghost use Rattle.gimli_core.specs.Layout.{layout_of};
 ghost use Rattle.gimli_core.specs.Numbers.{is_address_size};
 ghost use Rattle.gimli_core.specs.Reading.{result_map};
 ghost use Rattle.gimli_compilation.specs.inside.HeaderReading.{frame_at, version_at};
@@ -15,9 +15,9 @@ use gimli_core::{Encoding, Error, Format, Reader, ReaderOffset, Result};
 #[tactic(auto, unfolding(crate::specs::inside::HeaderReading::frame_at))]
 pub(crate) fn split_unit<R: Reader>(input: &mut R) -> Result<(R, Format)>
     ensures read { (result_map (frame_seen R.bytes) result, R.bytes input.new)
-        ≡ frame_at (notation_of (R.big input.old) R.Offset.limit) (R.bytes input.old) }
-    ensures order { R.big input.new ≡ R.big input.old }
-    ensures part { IfOk result (λ unit. R.big unit.0 ≡ R.big input.old) }
+        ≡ frame_at (layout_of (R.is_big input.old) R.Offset.limit) (R.bytes input.old) }
+    ensures order { R.is_big input.new ≡ R.is_big input.old }
+    ensures part { IfOk result (λ unit. R.is_big unit.0 ≡ R.is_big input.old) }
 {
     let (length, format) = input.read_initial_length()?;
     let unit = input.split(length)?;
@@ -27,8 +27,8 @@ pub(crate) fn split_unit<R: Reader>(input: &mut R) -> Result<(R, Format)>
 /// Takes a version, from 2 to 5. Refused by `UnknownVersion` at any other.
 #[tactic(auto, unfolding(crate::specs::inside::HeaderReading::version_at))]
 fn parse_version<R: Reader>(input: &mut R) -> Result<u16>
-    ensures read { (result, R.bytes input.new) ≡ version_at (R.big input.old) (R.bytes input.old) }
-    ensures order { R.big input.new ≡ R.big input.old }
+    ensures read { (result, R.bytes input.new) ≡ version_at (R.is_big input.old) (R.bytes input.old) }
+    ensures order { R.is_big input.new ≡ R.is_big input.old }
 {
     let version = input.read_u16()?;
     if version < 2 || version > 5 {
@@ -81,8 +81,8 @@ impl<R: Reader> UnitHeader<R> {
     #[tactic(auto, unfolding(crate::specs::inside::HeaderReading::header_at))]
     pub(crate) fn parse(input: &mut R, format: Format) -> Result<Self>
         ensures read { (result_map (header_seen R.Offset.number) result, R.bytes input.new)
-            ≡ header_at (notation_of (R.big input.old) R.Offset.limit) format (R.bytes input.old) }
-        ensures order { R.big input.new ≡ R.big input.old }
+            ≡ header_at (layout_of (R.is_big input.old) R.Offset.limit) format (R.bytes input.old) }
+        ensures order { R.is_big input.new ≡ R.is_big input.old }
         ensures size { IfOk result
             (λ header. IsTrue (is_address_size header.encoding.address_size)) }
     {
@@ -98,9 +98,9 @@ impl<R: Reader> UnitHeader<R> {
     #[tactic(auto, unfolding(crate::specs::inside::HeaderReading::old_fields_at))]
     fn parse_old(input: &mut R, format: Format, version: u16) -> Result<Self>
         ensures read { (result_map (header_seen R.Offset.number) result, R.bytes input.new)
-            ≡ old_fields_at (notation_of (R.big input.old) R.Offset.limit) format version
+            ≡ old_fields_at (layout_of (R.is_big input.old) R.Offset.limit) format version
             (R.bytes input.old) }
-        ensures order { R.big input.new ≡ R.big input.old }
+        ensures order { R.is_big input.new ≡ R.is_big input.old }
         ensures size { IfOk result
             (λ header. IsTrue (is_address_size header.encoding.address_size)) }
     {
@@ -121,9 +121,9 @@ impl<R: Reader> UnitHeader<R> {
     #[tactic(auto, unfolding(crate::specs::inside::HeaderReading::new_fields_at))]
     fn parse_new(input: &mut R, format: Format, version: u16) -> Result<Self>
         ensures read { (result_map (header_seen R.Offset.number) result, R.bytes input.new)
-            ≡ new_fields_at (notation_of (R.big input.old) R.Offset.limit) format version
+            ≡ new_fields_at (layout_of (R.is_big input.old) R.Offset.limit) format version
             (R.bytes input.old) }
-        ensures order { R.big input.new ≡ R.big input.old }
+        ensures order { R.is_big input.new ≡ R.is_big input.old }
         ensures size { IfOk result
             (λ header. IsTrue (is_address_size header.encoding.address_size)) }
     {

@@ -1,7 +1,7 @@
 //! The sections from which compilations are read, and what a unit says of its own.
 
 ghost use Rattle.std.specs.Prelude.{◌≡◌, ℕ, List, IfErr, IfOk, IsTrue, drop, option_map};
-ghost use Rattle.gimli_core.specs.Notation.{notation_of};
+ghost use Rattle.gimli_core.specs.Layout.{layout_of};
 ghost use Rattle.gimli_core.specs.Numbers.{is_address_size};
 ghost use Rattle.gimli_core.specs.Reading.{result_map};
 ghost use Rattle.gimli_compilation.specs.inside.AbbreviationReading.{IsListed, listed};
@@ -11,7 +11,7 @@ ghost use Rattle.gimli_compilation.specs.inside.UnitReading.{text_from_at};
 
 use crate::abbreviation::{Abbreviations, MemoryResult};
 use crate::attributes::{Attributes, parse_attributes};
-use crate::form::{Kind, Value};
+use crate::form::{NumberKind, Value};
 use crate::header::{UnitHeader, split_unit};
 use crate::refusal::Refusal;
 use gimli_core::{Encoding, Error, Format, Reader, ReaderOffset, Result};
@@ -71,7 +71,7 @@ impl<R> Value<R> {
         ensures { result ≡ section_offset self.now }
     {
         match *self {
-            Value::Number(Kind::SectionOffset, offset) => Some(offset),
+            Value::Number(NumberKind::SectionOffset, offset) => Some(offset),
             _ => None,
         }
     }
@@ -124,7 +124,7 @@ fn place_of(base: u64, index: u64, size: u8) -> Result<u64>
 /// The string offset of an index.
 #[tactic(auto, unfolding(crate::specs::inside::UnitReading::string_offset_at))]
 fn string_offset<R: Reader>(section: &R, format: Format, base: u64, index: u64) -> Result<u64>
-    ensures { result ≡ (string_offset_at (notation_of (R.big section.now) R.Offset.limit) format
+    ensures { result ≡ (string_offset_at (layout_of (R.is_big section.now) R.Offset.limit) format
         base index (R.bytes section.now)).0 }
 {
     let size = format.word_size();
@@ -156,10 +156,10 @@ impl<R: Reader> CompilationSections<R> {
         requires { IsTable R.bytes (R.bytes self.now.debug_abbrev) abbreviations.old }
         ensures table { IsTable R.bytes (R.bytes self.now.debug_abbrev) abbreviations.new }
         ensures compilation { IfOk result (λ answer. IfOk answer (λ compilation.
-            HasCompilationAt (sections_of R.bytes R.big R.Offset.limit self.now)
+            HasCompilationAt (sections_of R.bytes R.is_big R.Offset.limit self.now)
             (R.Offset.number offset) (compilation_seen R.bytes compilation))) }
         ensures refusal { IfOk result (λ answer. IfErr answer
-            (HasRefusalAt (sections_of R.bytes R.big R.Offset.limit self.now)
+            (HasRefusalAt (sections_of R.bytes R.is_big R.Offset.limit self.now)
             (R.Offset.number offset))) }
     {
         let mut input = self.info_at(offset);
@@ -175,7 +175,7 @@ impl<R: Reader> CompilationSections<R> {
     pub(crate) fn info_at(&self, offset: R::Offset) -> R
         ensures bytes { R.bytes result
             ≡ drop (R.Offset.number offset) (R.bytes self.now.debug_info) }
-        ensures order { R.big result ≡ R.big self.now.debug_info }
+        ensures order { R.is_big result ≡ R.is_big self.now.debug_info }
     {
         let mut input = self.debug_info;
         if input.skip(offset).is_err() {
@@ -192,12 +192,12 @@ impl<R: Reader> CompilationSections<R> {
         format: Format,
         abbreviations: &mut Abbreviations<R>,
     ) -> MemoryResult<Result<Outcome<R>>>
-        requires order { R.big unit.old ≡ R.big self.now.debug_info }
+        requires order { R.is_big unit.old ≡ R.is_big self.now.debug_info }
         requires table { IsTable R.bytes (R.bytes self.now.debug_abbrev) abbreviations.old }
         ensures table { IsTable R.bytes (R.bytes self.now.debug_abbrev) abbreviations.new }
         ensures read { IfOk result (λ outcome.
             (result_map (outcome_seen (compilation_seen R.bytes)) outcome, R.bytes unit.new)
-            ≡ content_at (sections_of R.bytes R.big R.Offset.limit self.now) format
+            ≡ content_at (sections_of R.bytes R.is_big R.Offset.limit self.now) format
             (R.bytes unit.old)) }
     {
         let header = match UnitHeader::parse(unit, format) {
@@ -218,13 +218,13 @@ impl<R: Reader> CompilationSections<R> {
         header: UnitHeader<R>,
         abbreviations: &mut Abbreviations<R>,
     ) -> MemoryResult<Result<Outcome<R>>>
-        requires order { R.big unit.old ≡ R.big self.now.debug_info }
+        requires order { R.is_big unit.old ≡ R.is_big self.now.debug_info }
         requires size { IsTrue (is_address_size header.encoding.address_size) }
         requires table { IsTable R.bytes (R.bytes self.now.debug_abbrev) abbreviations.old }
         ensures table { IsTable R.bytes (R.bytes self.now.debug_abbrev) abbreviations.new }
         ensures read { IfOk result (λ outcome.
             (result_map (outcome_seen (compilation_seen R.bytes)) outcome, R.bytes unit.new)
-            ≡ entry_at (sections_of R.bytes R.big R.Offset.limit self.now)
+            ≡ entry_at (sections_of R.bytes R.is_big R.Offset.limit self.now)
             (header_seen R.Offset.number header) (R.bytes unit.old)) }
     {
         let code = match unit.read_uleb128() {
@@ -242,11 +242,11 @@ impl<R: Reader> CompilationSections<R> {
     /// Takes an entry whose specifications are known.
     #[tactic(auto, unfolding(crate::specs::inside::UnitReading::found_entry_at))]
     fn parse_found(&self, unit: &mut R, encoding: Encoding, specifications: R) -> Result<Outcome<R>>
-        requires order { R.big unit.old ≡ R.big self.now.debug_info }
+        requires order { R.is_big unit.old ≡ R.is_big self.now.debug_info }
         requires size { IsTrue (is_address_size encoding.address_size) }
         requires closed { IsListed (R.bytes specifications) }
         ensures { (result_map (outcome_seen (compilation_seen R.bytes)) result, R.bytes unit.new)
-            ≡ found_entry_at (sections_of R.bytes R.big R.Offset.limit self.now) encoding
+            ≡ found_entry_at (sections_of R.bytes R.is_big R.Offset.limit self.now) encoding
             (listed (R.bytes specifications)) (R.bytes unit.old) }
     {
         let attributes = parse_attributes(unit, encoding, specifications)?;
@@ -262,7 +262,7 @@ impl<R: Reader> CompilationSections<R> {
         attributes: &Attributes<R>,
     ) -> Result<Compilation<R>>
         ensures { (bytes : List ℕ) → (result_map (compilation_seen R.bytes) result, bytes)
-            ≡ compilation_at (sections_of R.bytes R.big R.Offset.limit self.now) encoding
+            ≡ compilation_at (sections_of R.bytes R.is_big R.Offset.limit self.now) encoding
             (attributes_seen R.bytes attributes.now) bytes }
     {
         let base = attributes.str_offsets_base.section_offset();
@@ -279,7 +279,7 @@ impl<R: Reader> CompilationSections<R> {
     /// The text of a value; None where it is none, or stands in another file.
     fn text_of(&self, format: Format, base: Option<u64>, value: &Value<R>) -> Result<Option<R>>
         ensures { (bytes : List ℕ) → (result_map (option_map R.bytes) result, bytes)
-            ≡ text_of_at (sections_of R.bytes R.big R.Offset.limit self.now) format base
+            ≡ text_of_at (sections_of R.bytes R.is_big R.Offset.limit self.now) format base
             (value_seen R.bytes value.now) bytes }
     {
         match *value {
@@ -295,23 +295,23 @@ impl<R: Reader> CompilationSections<R> {
         &self,
         format: Format,
         base: Option<u64>,
-        kind: Kind,
+        kind: NumberKind,
         number: u64,
     ) -> Result<Option<R>>
         ensures { (bytes : List ℕ) → (result_map (option_map R.bytes) result, bytes)
-            ≡ text_by_at (sections_of R.bytes R.big R.Offset.limit self.now) format base kind
+            ≡ text_by_at (sections_of R.bytes R.is_big R.Offset.limit self.now) format base kind
             number bytes }
     {
         match kind {
-            Kind::StringOffset => {
+            NumberKind::StringOffset => {
                 let text = text_from(&self.debug_str, number)?;
                 Ok(Some(text))
             }
-            Kind::LineStringOffset => {
+            NumberKind::LineStringOffset => {
                 let text = text_from(&self.debug_line_str, number)?;
                 Ok(Some(text))
             }
-            Kind::StringIndex => match base {
+            NumberKind::StringIndex => match base {
                 Some(base) => {
                     let offset = string_offset(&self.debug_str_offsets, format, base, number)?;
                     let text = text_from(&self.debug_str, offset)?;

@@ -1,7 +1,7 @@
 //! The units of `.debug_info`, one after the other.
 
 ghost use Rattle.std.specs.Prelude.{◌≡◌};
-ghost use Rattle.gimli_core.specs.Notation.{notation_of};
+ghost use Rattle.gimli_core.specs.Layout.{layout_of};
 ghost use Rattle.gimli_compilation.specs.inside.HeaderReading.{after_frame, frame_at};
 
 use crate::abbreviation::Abbreviations;
@@ -15,7 +15,7 @@ use std::marker::Model;
 /// Lets the unit in front go; all bytes where they begin with no unit.
 fn skip_unit<R: Reader>(input: &mut R)
     ensures { R.bytes input.new
-        ≡ after_frame (frame_at (notation_of (R.big input.old) R.Offset.limit)
+        ≡ after_frame (frame_at (layout_of (R.is_big input.old) R.Offset.limit)
         (R.bytes input.old)) }
 {
     if split_unit(input).is_err() {
@@ -49,7 +49,7 @@ impl<R: Reader> Model for CompilationUnits<R> {
     ghost Value = { Walk };
 
     ghost view = { λ a. record {
-      sections = sections_of R.bytes R.big R.Offset.limit a.sections;
+      sections = sections_of R.bytes R.is_big R.Offset.limit a.sections;
       offset = R.Offset.number a.offset;
     } };
 
@@ -64,7 +64,7 @@ impl<R: Reader> CompilationSections<R> {
 
     /// The units of `.debug_info`, from its start on.
     pub fn units(&self, alloc: Global) -> CompilationUnits<R>
-        ensures sections { result.sections ≡ sections_of R.bytes R.big R.Offset.limit self.now }
+        ensures sections { result.sections ≡ sections_of R.bytes R.is_big R.Offset.limit self.now }
         ensures offset { result.offset ≡ 0 }
     {
         let offset = R::Offset::from_u8(0);

@@ -73,15 +73,15 @@ split_ok n bytes slice rest e = elim (cases_lt (length bytes) n) [
 ]
 
 -- their number
-number_of_split : (big : Bool) (n size v : ℕ) (bytes slice rest after : List ℕ) → size ≡ n
+number_of_split : (is_big : Bool) (n size v : ℕ) (bytes slice rest after : List ℕ) → size ≡ n
     → ◌≡◌ {A = Read (List ℕ)} (Ok slice, after) (split_at size bytes)
     → rest ≡ after
-    → (n ≤ length bytes → length slice ≡ n → v ≡ value_of big slice)
-    → ◌≡◌ {A = Read ℕ} (Ok v, rest) (number_at big n bytes)
-number_of_split big n size v bytes slice rest after same e is value =
+    → (n ≤ length bytes → length slice ≡ n → v ≡ value_of is_big slice)
+    → ◌≡◌ {A = Read ℕ} (Ok v, rest) (number_at is_big n bytes)
+number_of_split is_big n size v bytes slice rest after same e is value =
     let taken = split_ok n bytes slice after (rw same at e) in
     let len : length slice ≡ n = ap length taken.1 ∙ length-take-le n bytes taken.0 in
-    let number : v ≡ value_of big (take n bytes) = value taken.0 len ∙ ap (value_of big) taken.1 in
+    let number : v ≡ value_of is_big (take n bytes) = value taken.0 len ∙ ap (value_of is_big) taken.1 in
     rw (le-ltb (length bytes) n taken.0, number, is, taken.2) refl
 
 pub read_little : (n size v : ℕ) (buf bytes slice rest after : List ℕ) → n ≤ 8 → size ≡ n

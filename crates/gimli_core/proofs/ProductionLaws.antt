@@ -15,7 +15,7 @@ use Rattle.gimli_core.specs.declared.error.Error.TheVariants.{
   UnsupportedAddressSize,
   UnsupportedOffset,
 }
-use Rattle.gimli_core.specs.Notation.{Notation}
+use Rattle.gimli_core.specs.Layout.{OrderAndLimit}
 use Rattle.gimli_core.specs.Numbers.{SpellsNumber, SpellsInitialLength, is_address_size}
 use Rattle.gimli_core.specs.Reading.{Read, ◌>>=◌, result_map, eof, byte_at, signed_byte_at, number_at, split_at}
 use Rattle.gimli_core.specs.Reading.{text_at, word_at, initial_length_at}
@@ -66,16 +66,16 @@ reads_signed_byte = search (arith, reads_both, reads_byte, reads_done)
 
 -- ---- numbers
 
-pub reads_number : (big : Bool) (size : ℕ) → Reads (number big size) (number_at big size)
-reads_number big size = record {
+pub reads_number : (is_big : Bool) (size : ℕ) → Reads (number is_big size) (number_at is_big size)
+reads_number is_big size = record {
   found = λ bytes n rest e. number_found bytes n rest e;
   only = grind (arith, front_split, le-ltb);
   fault = grind (arith, want_fault);
   refused = grind (arith, lt-ltb);
 }
   where
-    number_found : (bytes : List ℕ) (n : ℕ) (rest : List ℕ) → number_at big size bytes ≡ (Ok n, rest)
-        → (front : List ℕ) × (bytes ≡ front ++ rest) × SpellsNumber big size front n
+    number_found : (bytes : List ℕ) (n : ℕ) (rest : List ℕ) → number_at is_big size bytes ≡ (Ok n, rest)
+        → (front : List ℕ) × (bytes ≡ front ++ rest) × SpellsNumber is_big size front n
     number_found bytes n rest e = grind (arith, cases_lt, lt-ltb, ok_parts, le-ltb, take-append-drop, length-take-le)
 
 -- ---- texts
@@ -202,45 +202,45 @@ test_of : (limit n : ℕ) (rest : List ℕ)
     ≡ (offset_of limit n, rest)
 test_of limit n rest = grind (arith, cases_lt, lt-ltb, lt-leb, le-ltb, le-leb)
 
-pub reads_below_limit : (notation : Notation) (l : Production ℕ) (read : List ℕ → Read ℕ) → Reads l read
-    → Reads (below_limit notation l) (below_at notation.limit read)
-reads_below_limit notation l read r =
+pub reads_below_limit : (layout : OrderAndLimit) (l : Production ℕ) (read : List ℕ → Read ℕ) → Reads l read
+    → Reads (below_limit layout l) (below_at layout.limit read)
+reads_below_limit layout l read r =
     reads_same _ _ _
-    (λ bytes. bind_same _ _ _ (test_of notation.limit))
+    (λ bytes. bind_same _ _ _ (test_of layout.limit))
     (reads_both l _ read _ r (λ n.
     reads_both _ _
     _ _
     (reads_check _ UnsupportedOffset) (λ fits. reads_done n)))
 
 -- a word that is an offset
-pub reads_offset_word : (notation : Notation) (format : Format)
-    → Reads (offset_word notation format) (word_at notation.big notation.limit format)
+pub reads_offset_word : (layout : OrderAndLimit) (format : Format)
+    → Reads (offset_word layout format) (word_at layout.is_big layout.limit format)
 unfolding word_at
-reads_offset_word notation Dwarf32 =
-    reads_same (offset_word notation Dwarf32) _ (word_at notation.big notation.limit Dwarf32)
-    (λ bytes. bind_done (number_at notation.big 4 bytes))
-    (reads_both (number notation.big 4) _ (number_at notation.big 4) _ (reads_number notation.big 4) (λ n.
+reads_offset_word layout Dwarf32 =
+    reads_same (offset_word layout Dwarf32) _ (word_at layout.is_big layout.limit Dwarf32)
+    (λ bytes. bind_done (number_at layout.is_big 4 bytes))
+    (reads_both (number layout.is_big 4) _ (number_at layout.is_big 4) _ (reads_number layout.is_big 4) (λ n.
     reads_both (check true UnsupportedOffset) _ (check_at true UnsupportedOffset) _ (reads_check true UnsupportedOffset)
     (λ fits. reads_done n)))
-reads_offset_word notation Dwarf64 =
-    reads_same (offset_word notation Dwarf64) _ (word_at notation.big notation.limit Dwarf64)
-    (λ bytes. bind_same (number_at notation.big 8 bytes) _ _ (test_of notation.limit))
-    (reads_both (number notation.big 8) _ (number_at notation.big 8) _ (reads_number notation.big 8) (λ n.
-    reads_both (check (nat_lt n notation.limit) UnsupportedOffset) _
-    (check_at (nat_lt n notation.limit) UnsupportedOffset) _
-    (reads_check (nat_lt n notation.limit) UnsupportedOffset) (λ fits. reads_done n)))
+reads_offset_word layout Dwarf64 =
+    reads_same (offset_word layout Dwarf64) _ (word_at layout.is_big layout.limit Dwarf64)
+    (λ bytes. bind_same (number_at layout.is_big 8 bytes) _ _ (test_of layout.limit))
+    (reads_both (number layout.is_big 8) _ (number_at layout.is_big 8) _ (reads_number layout.is_big 8) (λ n.
+    reads_both (check (nat_lt n layout.limit) UnsupportedOffset) _
+    (check_at (nat_lt n layout.limit) UnsupportedOffset) _
+    (reads_check (nat_lt n layout.limit) UnsupportedOffset) (λ fits. reads_done n)))
 
 -- ---- initial lengths
 
 -- after the first word
 abbrev after_first : Bool → ℕ → List ℕ → Read (ℕ × Format)
-after_first big n rest =
+after_first is_big n rest =
     if nat_lt n 0xffff_fff0 then (Ok (n, Dwarf32), rest)
-    else (if nat_eq n 0xffff_ffff then (number_at big 8 rest >>= λ m left. (Ok (m, Dwarf64), left))
+    else (if nat_eq n 0xffff_ffff then (number_at is_big 8 rest >>= λ m left. (Ok (m, Dwarf64), left))
     else (Err UnknownReservedLength, rest))
 
 abbrev length_at : Bool → List ℕ → Read (ℕ × Format)
-length_at big bytes = number_at big 4 bytes >>= after_first big
+length_at is_big bytes = number_at is_big 4 bytes >>= after_first is_big
 
 -- which of the three it is
 data First (n : ℕ) : Type 0 where
@@ -251,14 +251,14 @@ data First (n : ℕ) : Type 0 where
 first_of : (n : ℕ) → First n
 first_of n = grind (arith, cases_lt, lt-ltb, eqb_tells, le-ltb)
 
-module _ (big : Bool) where
-  number_8 : (rest : List ℕ) (m : ℕ) (left : List ℕ) → number_at big 8 rest ≡ (Ok m, left)
-      → (tail : List ℕ) × (rest ≡ tail ++ left) × SpellsNumber big 8 tail m
-  number_8 = (reads_number big 8).found
+module _ (is_big : Bool) where
+  number_8 : (rest : List ℕ) (m : ℕ) (left : List ℕ) → number_at is_big 8 rest ≡ (Ok m, left)
+      → (tail : List ℕ) × (rest ≡ tail ++ left) × SpellsNumber is_big 8 tail m
+  number_8 = (reads_number is_big 8).found
 
-  after_found : (n : ℕ) → First n → (rest : List ℕ) (u : ℕ × Format) (left first : List ℕ) → SpellsNumber big 4 first n
-      → after_first big n rest ≡ (Ok u, left)
-      → (tail : List ℕ) × (rest ≡ tail ++ left) × SpellsInitialLength big (first ++ tail) u.1 u.0
+  after_found : (n : ℕ) → First n → (rest : List ℕ) (u : ℕ × Format) (left first : List ℕ) → SpellsNumber is_big 4 first n
+      → after_first is_big n rest ≡ (Ok u, left)
+      → (tail : List ℕ) × (rest ≡ tail ++ left) × SpellsInitialLength is_big (first ++ tail) u.1 u.0
   after_found n (short lt is) rest u left first spelled e =
       grind (arith, ok_parts, append-nil)
   after_found n (long same not_short is) rest u left first spelled e =
@@ -268,72 +268,72 @@ module _ (big : Bool) where
       let p = ok_parts _ u q.1 left q.3 in
       let t = number_8 rest q.0 q.1 q.2 in
       subst
-      (λ v. (tail : List ℕ) × (rest ≡ tail ++ left) × SpellsInitialLength big (first ++ tail) v.1 v.0)
+      (λ v. (tail : List ℕ) × (rest ≡ tail ++ left) × SpellsInitialLength is_big (first ++ tail) v.1 v.0)
       p.0
       (t.0, t.1 ∙ ap (λ xs. t.0 ++ xs) p.1, (first, t.0, refl, rw (← same) spelled, t.2))
   after_found n (reserved le other not_short is) rest u left first spelled e =
       grind arith
 
-  length_found : (bytes : List ℕ) (u : ℕ × Format) (rest : List ℕ) → length_at big bytes ≡ (Ok u, rest)
-      → (front : List ℕ) × (bytes ≡ front ++ rest) × SpellsInitialLength big front u.1 u.0
+  length_found : (bytes : List ℕ) (u : ℕ × Format) (rest : List ℕ) → length_at is_big bytes ≡ (Ok u, rest)
+      → (front : List ℕ) × (bytes ≡ front ++ rest) × SpellsInitialLength is_big front u.1 u.0
   length_found bytes u rest e =
       let q = bind_ok _ _ u rest e in
-      let f = (reads_number big 4).found bytes q.0 q.1 q.2 in
+      let f = (reads_number is_big 4).found bytes q.0 q.1 q.2 in
       let b = after_found q.0 (first_of q.0) q.1 u rest f.0 f.2 q.3 in
       (f.0 ++ b.0, f.1 ∙ ap (λ xs. f.0 ++ xs) b.1 ∙ sym (append_assoc f.0 b.0 rest), b.2)
 
-  length_only : (front : List ℕ) (u : ℕ × Format) (rest : List ℕ) → SpellsInitialLength big front u.1 u.0
-      → length_at big (front ++ rest) ≡ (Ok u, rest)
+  length_only : (front : List ℕ) (u : ℕ × Format) (rest : List ℕ) → SpellsInitialLength is_big front u.1 u.0
+      → length_at is_big (front ++ rest) ≡ (Ok u, rest)
   length_only front (n, Dwarf32) rest s =
-      let first = (reads_number big 4).only front n rest s.0 in
+      let first = (reads_number is_big 4).only front n rest s.0 in
       rw (first, lt-ltb n 0xffff_fff0 s.1) refl
   length_only front (n, Dwarf64) rest s =
       let whole = ap (λ (xs : List ℕ). xs ++ rest) s.2
       ∙ append_assoc s.0 s.1 rest in
-      let first = (reads_number big 4).only s.0 0xffff_ffff (s.1 ++ rest) s.3 in
-      let second = (reads_number big 8).only s.1 n rest s.4 in
-      ap (length_at big) whole ∙ rw (first, second) refl
+      let first = (reads_number is_big 4).only s.0 0xffff_ffff (s.1 ++ rest) s.3 in
+      let second = (reads_number is_big 8).only s.1 n rest s.4 in
+      ap (length_at is_big) whole ∙ rw (first, second) refl
 
-  after_fault : (n : ℕ) → First n → (rest : List ℕ) (e : Error) → (after_first big n rest).0 ≡ Err e
+  after_fault : (n : ℕ) → First n → (rest : List ℕ) (e : Error) → (after_first is_big n rest).0 ≡ Err e
       → ((0xffff_fff0 ≤ n) × (n ≢ 0xffff_ffff) × (e ≡ UnknownReservedLength)) ⊎ ((n ≡ 0xffff_ffff) × IsWanting 8 rest e)
   after_fault n (short lt is) rest e f = cc
   after_fault n (long same not_short is) rest e f =
       grind (arith, bind_fault, reads_number)
   after_fault n (reserved le other not_short is) rest e f = grind arith
 
-  length_fault : (bytes : List ℕ) (e : Error) → (length_at big bytes).0 ≡ Err e → (initial_length big).Fault bytes e
+  length_fault : (bytes : List ℕ) (e : Error) → (length_at is_big bytes).0 ≡ Err e → (initial_length is_big).Fault bytes e
   length_fault bytes e f = elim (bind_fault _ _ e f) [
-    | inl p ↦ inl ((reads_number big 4).fault bytes e p)
+    | inl p ↦ inl ((reads_number is_big 4).fault bytes e p)
     | inr q ↦
-        let found = (reads_number big 4).found bytes q.0 q.1 q.2 in
+        let found = (reads_number is_big 4).found bytes q.0 q.1 q.2 in
         inr (found.0, q.1, q.0, found.1, found.2, after_fault q.0 (first_of q.0) q.1 e q.3)
   ]
 
   after_refused : (n : ℕ) (rest : List ℕ) (e : Error)
       → ((0xffff_fff0 ≤ n) × (n ≢ 0xffff_ffff) × (e ≡ UnknownReservedLength)) ⊎ ((n ≡ 0xffff_ffff) × IsWanting 8 rest e)
-      → (after_first big n rest).0 ≡ Err e
+      → (after_first is_big n rest).0 ≡ Err e
   after_refused n rest e (inl f) = grind (arith, le-ltb, ne_eqb)
   after_refused n rest e (inr f) =
       grind (arith, bind_refused, reads_number)
 
-  length_refused : (bytes : List ℕ) (e : Error) → (initial_length big).Fault bytes e → (length_at big bytes).0 ≡ Err e
+  length_refused : (bytes : List ℕ) (e : Error) → (initial_length is_big).Fault bytes e → (length_at is_big bytes).0 ≡ Err e
   length_refused bytes e (inl f) =
       grind (arith, bind_refused, reads_number)
   length_refused bytes e (inr f) =
-      let first = (reads_number big 4).only f.0 f.2 f.1 f.4 in
+      let first = (reads_number is_big 4).only f.0 f.2 f.1 f.4 in
       rw (f.3, first) (after_refused f.2 f.1 e f.5)
 
-  reads_initial_length : Reads (initial_length big) (length_at big)
+  reads_initial_length : Reads (initial_length is_big) (length_at is_big)
   reads_initial_length = search (arith, length_found, length_only, length_fault, length_refused)
 
 -- ---- the length of a unit, and that an offset holds it
 
-module _ (notation : Notation) where
+module _ (layout : OrderAndLimit) where
   abbrev with_test : ℕ × Format → List ℕ → Read (ℕ × Format)
-  with_test u rest = check_at (fits_offset notation u.1 u.0) UnsupportedOffset rest >>= λ fits left. (Ok u, left)
+  with_test u rest = check_at (fits_offset layout u.1 u.0) UnsupportedOffset rest >>= λ fits left. (Ok u, left)
 
   abbrev as_offset : ℕ → List ℕ → Read (ℕ × Format)
-  as_offset m left = (result_map (λ n. (n, Dwarf64)) (offset_of notation.limit m), left)
+  as_offset m left = (result_map (λ n. (n, Dwarf64)) (offset_of layout.limit m), left)
 
   test_long : (m : ℕ) (left : List ℕ) → with_test (m, Dwarf64) left ≡ as_offset m left
   test_long m left = grind (arith, cases_lt, lt-ltb, lt-leb, le-ltb, le-leb)
@@ -341,29 +341,29 @@ module _ (notation : Notation) where
   abbrev after_tested : ℕ → List ℕ → Read (ℕ × Format)
   after_tested n rest =
       if nat_lt n 0xffff_fff0 then (Ok (n, Dwarf32), rest)
-      else (if nat_eq n 0xffff_ffff then (number_at notation.big 8 rest >>= as_offset)
+      else (if nat_eq n 0xffff_ffff then (number_at layout.is_big 8 rest >>= as_offset)
       else (Err UnknownReservedLength, rest))
 
   after_same : (n : ℕ) → First n → (rest : List ℕ)
-      → (after_first notation.big n rest >>= with_test) ≡ after_tested n rest
+      → (after_first layout.is_big n rest >>= with_test) ≡ after_tested n rest
   after_same n (short lt is) rest = rw is refl
   after_same n (long same not_short is) rest =
       grind (arith, bind_assoc, bind_same, test_long)
   after_same n (reserved le other not_short is) rest = cc
 
   unit_same : (bytes : List ℕ)
-      → (length_at notation.big bytes >>= with_test) ≡ initial_length_at notation.big notation.limit bytes
+      → (length_at layout.is_big bytes >>= with_test) ≡ initial_length_at layout.is_big layout.limit bytes
   unfolding initial_length_at
   unit_same bytes =
-      bind_assoc (number_at notation.big 4 bytes) (after_first notation.big) with_test
-      ∙ bind_same (number_at notation.big 4 bytes) (λ n rest. after_first notation.big n rest >>= with_test)
+      bind_assoc (number_at layout.is_big 4 bytes) (after_first layout.is_big) with_test
+      ∙ bind_same (number_at layout.is_big 4 bytes) (λ n rest. after_first layout.is_big n rest >>= with_test)
       after_tested (λ n rest.
       after_same n (first_of n) rest)
 
-  pub reads_unit_length : Reads (unit_length notation) (initial_length_at notation.big notation.limit)
+  pub reads_unit_length : Reads (unit_length layout) (initial_length_at layout.is_big layout.limit)
   reads_unit_length =
       reads_same _ _ _ unit_same
-      (reads_both _ _ _ _ (reads_initial_length notation.big) (λ u.
+      (reads_both _ _ _ _ (reads_initial_length layout.is_big) (λ u.
       reads_both _ _
       _ _
       (reads_check _ UnsupportedOffset) (λ fits. reads_done u)))

@@ -8,7 +8,7 @@ use Rattle.std.proofs.lemmas.Bool.{cases_lt, le-ltb, lt-ltb, eqb-true, eqb-false
 use Rattle.std.proofs.lemmas.Int.{ints}
 use Rattle.gimli_core.specs.declared.error.Error.{Error}
 use Rattle.gimli_core.specs.declared.error.Error.TheVariants.{BadSignedLeb128}
-use Rattle.gimli_core.specs.Numbers.{Groups, is_negative, SpellsSleb128}
+use Rattle.gimli_core.specs.Numbers.{IsLeb128, is_negative, SpellsSleb128}
 use Rattle.gimli_core.specs.Reading.{Read, Difference, last_group, sleb_at, signed_at}
 use Rattle.gimli_core.specs.Production.{signed, IsLebFault, Reads}
 use Rattle.gimli_core.proofs.Leb.{pow_next}
@@ -39,7 +39,7 @@ taken_more false len = refl
 
 record Front (more : ℕ) (bytes : List ℕ) (z : Difference) (rest : List ℕ) : Type 0 where
   front : List ℕ
-  groups : Groups front z.0
+  groups : IsLeb128 front z.0
   sign : z.1 ≡ taken (is_negative front) (length front)
   short : length front ≤ suc more
   below : z.0 < limit more + z.1
@@ -69,7 +69,7 @@ last_small more b false is small = omega (arith, limit_pos)
 
 more_of : (more b : ℕ) (bytes rest front : List ℕ) (high z : Difference) → 128 ≤ b → z.0 ≡ b % 128 + 128 * high.0
     → z.1 ≡ 128 * high.1
-    → Groups front high.0 → high.1 ≡ taken (is_negative front) (length front) → length front ≤ suc more
+    → IsLeb128 front high.0 → high.1 ≡ taken (is_negative front) (length front) → length front ≤ suc more
     → high.0 < limit more + high.1
     → high.1 ≤ high.0 + limit more → bytes ≡ front ++ rest → Front (suc more) (b ∷ bytes) z rest
 more_of more b bytes rest [] high z large zero_is one_is groups sign short low up parts = absurd groups
@@ -128,7 +128,7 @@ tenth_only b n s rest true m is is_m small same sign low up = cc
 tenth_only b n s rest false true is is_m small same sign low up = cc
 tenth_only b n s rest false false is is_m small same sign low up = grind (arith, cases_lt, lt-leb, eqb-false, le-leb)
 
-sleb_only : (more : ℕ) (front : List ℕ) (n s : ℕ) (rest : List ℕ) → Groups front n
+sleb_only : (more : ℕ) (front : List ℕ) (n s : ℕ) (rest : List ℕ) → IsLeb128 front n
     → s ≡ taken (is_negative front) (length front) → length front ≤ suc more
     → n < limit more + s → s ≤ n + limit more → sleb_at more (front ++ rest) ≡ (Ok (n, s), rest)
 unfolding sleb_at

@@ -4,7 +4,7 @@ use Rattle.std.proofs.Common.{sym, ap, ◌∙◌, arith, inl, inr}
 use Rattle.std.proofs.lemmas.Bool.{cases_lt, le-ltb, lt-ltb}
 use Rattle.gimli_core.specs.declared.error.Error.{Error}
 use Rattle.gimli_core.specs.declared.error.Error.TheVariants.{BadUnsignedLeb128}
-use Rattle.gimli_core.specs.Numbers.{Groups}
+use Rattle.gimli_core.specs.Numbers.{IsLeb128}
 use Rattle.gimli_core.specs.Reading.{Read, uleb_at}
 use Rattle.gimli_core.specs.Production.{unsigned, unsigned_16, IsLebFault, AllHigh, Reads}
 use Rattle.gimli_core.proofs.Productions.{bind_ok, bind_fault, bind_refused, ok_parts}
@@ -19,7 +19,7 @@ limit (suc more) top = 128 * limit more top
 -- a spelling in front of the rest
 record Front (more top : ℕ) (bytes : List ℕ) (n : ℕ) (rest : List ℕ) : Type 0 where
   front : List ℕ
-  groups : Groups front n
+  groups : IsLeb128 front n
   short : length front ≤ suc more
   fits : n < limit more top
   parts : bytes ≡ front ++ rest
@@ -39,7 +39,7 @@ last_front more top b n bytes rest small fits same left = record {
 }
 
 more_front : (more top b n high : ℕ) (bytes rest front : List ℕ) → 128 ≤ b → n ≡ b % 128 + 128 * high
-    → Groups front high → length front ≤ suc more
+    → IsLeb128 front high → length front ≤ suc more
     → high < limit more top → bytes ≡ front ++ rest → Front (suc more) top (b ∷ bytes) n rest
 more_front more top b n high bytes rest [] large value groups short fits parts = absurd groups
 more_front more top b n high bytes rest (c ∷ bs) large value groups short fits parts = record {
@@ -78,7 +78,7 @@ uleb_found (suc more) top (b ∷ bytes) n rest small e = elim (cases_lt b 128) [
 
 -- ---- each spelling is taken
 
-uleb_only : (more top : ℕ) (front : List ℕ) (n : ℕ) (rest : List ℕ) → Groups front n → length front ≤ suc more
+uleb_only : (more top : ℕ) (front : List ℕ) (n : ℕ) (rest : List ℕ) → IsLeb128 front n → length front ≤ suc more
     → n < limit more top
     → uleb_at more top (front ++ rest) ≡ (Ok n, rest)
 unfolding uleb_at

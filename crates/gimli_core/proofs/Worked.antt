@@ -6,7 +6,7 @@ use Rattle.gimli_core.specs.Numbers.{value_of, number_bytes, word_size, initial_
 use Rattle.gimli_core.specs.Reading.{split_at, skip_at, truncate_at, find_at, text_at, byte_at, signed_byte_at}
 use Rattle.gimli_core.specs.Reading.{number_at, uleb_at, unsigned_at, unsigned_16_at}
 use Rattle.gimli_core.specs.Reading.{sleb_at, signed_at, word_at, initial_length_at, address_size_at, sized_sum}
-use Rattle.gimli_core.specs.Order.{is_big}
+use Rattle.gimli_core.specs.Order.{is_big_endian}
 use Rattle.gimli_core.specs.Values.{Value, udata_value}
 use Rattle.gimli_core.specs.Form.{Shape, fixed, three_bytes, word_offset, leb, signed_leb, leb_offset, block, counted}
 use Rattle.gimli_core.specs.Form.{leb_counted, string, index, shapes}
@@ -77,7 +77,7 @@ texts = refl
 
 -- ---- numbers of a size
 
-pub orders : is_big Little ∷ is_big Big ∷ [] ≡ false ∷ true ∷ []
+pub orders : is_big_endian Little ∷ is_big_endian Big ∷ [] ≡ false ∷ true ∷ []
 orders = refl
 
 pub little_endian : map (λ size. number_at false size (1 ∷ 2 ∷ 3 ∷ 4 ∷ 5 ∷ 6 ∷ 7 ∷ 8 ∷ [])) (0 ∷ 1 ∷ 2 ∷ 3 ∷ 4 ∷ 8 ∷ [])
@@ -99,11 +99,11 @@ pub numbers_cut : map (λ size. number_at false size (1 ∷ [])) (2 ∷ 3 ∷ 4 
     ≡ replicate 4 (Err (missing 1), 1 ∷ [])
 numbers_cut = refl
 
-pub sixteen_bytes_of_a_number : map (λ big. value_of big (1 ∷ run 14 0 (2 ∷ []))) (false ∷ true ∷ [])
+pub sixteen_bytes_of_a_number : map (λ is_big. value_of is_big (1 ∷ run 14 0 (2 ∷ []))) (false ∷ true ∷ [])
     ≡ 0x0200_0000_0000_0000_0000_0000_0000_0001 ∷ 0x0100_0000_0000_0000_0000_0000_0000_0002 ∷ []
 sixteen_bytes_of_a_number = refl
 
-pub sixteen_bytes_for_a_number : map (λ big. number_bytes big 16 0x0100_0000_0000_0000_0000_0000_0000_0002)
+pub sixteen_bytes_for_a_number : map (λ is_big. number_bytes is_big 16 0x0100_0000_0000_0000_0000_0000_0000_0002)
     (false ∷ true ∷ [])
     ≡ (2 ∷ run 14 0 (1 ∷ [])) ∷ (1 ∷ run 14 0 (2 ∷ [])) ∷ []
 sixteen_bytes_for_a_number = refl

@@ -48,12 +48,12 @@ high_reversed (suc size) n =
     ∙ ap (λ k. bytes_low_first 0 size n ++ byte_at k n ∷ []) (sym same)
     ∙ sym (low_more size 0 n)
 
-pub number_spelled : (big : Bool) (size n : ℕ) → n < 256 ^ size → SpellsNumber big size (number_bytes big size n) n
-number_spelled big size n fits =
+pub number_spelled : (is_big : Bool) (size n : ℕ) → n < 256 ^ size → SpellsNumber is_big size (number_bytes is_big size n) n
+number_spelled is_big size n fits =
     let whole : n / 256 ^ 0 ≡ n = div-one n in
     let below : n / 256 ^ 0 < 256 ^ size = omega arith in
     let low = low_value size 0 n below ∙ whole in
-    spelled big low
+    spelled is_big low
   where
     spelled : (b : Bool) → le_value (bytes_low_first 0 size n) ≡ n → SpellsNumber b size (number_bytes b size n) n
     spelled true low = grind (arith, length_high, high_reversed)

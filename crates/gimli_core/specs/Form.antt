@@ -1,6 +1,6 @@
 -- The forms of the tables of version 5 (DWARF 5, section 7.5.5): how a value lies in the bytes.
 use Rattle.std.specs.Prelude.{ℕ, List, [], ◌∷◌, Option, Some, None, not, nat_eq, if◌then◌else◌, ℤ}
-use Rattle.gimli_core.specs.Notation.{Notation}
+use Rattle.gimli_core.specs.Layout.{OrderAndLimit}
 use Rattle.gimli_core.specs.Values.{Value}
 use Rattle.gimli_core.specs.Production.{Production, ◌>>=◌, done, refuse, number, unsigned, signed}
 use Rattle.gimli_core.specs.Production.{text, some_bytes, below_limit, offset_word}
@@ -82,16 +82,16 @@ block_production n = do
   bytes ← some_bytes n
   done (Block bytes)
 
-module _ (notation : Notation) (format : Format) where
+module _ (layout : OrderAndLimit) (format : Format) where
   abbrev pub shape_production : Shape → Production Value
   shape_production (fixed size make) = do
-    n ← number notation.big size
+    n ← number layout.is_big size
     done (make n)
   shape_production (three_bytes make) = do
-    n ← below_limit notation (number notation.big 3)
+    n ← below_limit layout (number layout.is_big 3)
     done (make n)
   shape_production (word_offset make) = do
-    n ← offset_word notation format
+    n ← offset_word layout format
     done (make n)
   shape_production (leb make) = do
     n ← unsigned
@@ -100,14 +100,14 @@ module _ (notation : Notation) (format : Format) where
     z ← signed
     done (make z)
   shape_production (leb_offset make) = do
-    n ← below_limit notation unsigned
+    n ← below_limit layout unsigned
     done (make n)
   shape_production (block size) = block_production size
   shape_production (counted size) = do
-    n ← number notation.big size
+    n ← number layout.is_big size
     block_production n
   shape_production leb_counted = do
-    n ← below_limit notation unsigned
+    n ← below_limit layout unsigned
     block_production n
   shape_production string = do
     name ← text

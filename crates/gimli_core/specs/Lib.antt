@@ -1,6 +1,6 @@
 pub mod Order
 pub mod Numbers
-pub mod Notation
+pub mod Layout
 pub mod Values
 pub mod Reading
 pub mod Production

@@ -1,4 +1,4 @@
--- Numbers as bytes: what spells a number. "big" says that the most significant byte comes first.
+-- Numbers as bytes: what spells a number. "is_big" says that the most significant byte comes first.
 use Rattle.std.specs.Prelude.{◌≡◌, ℕ, ◌+◌, ◌*◌, ◌%◌, ◌<◌, ◌≤◌, ◌^◌, Bool, false, List, [], ◌∷◌}
 use Rattle.std.specs.Prelude.{◌++◌, length, reverse, ℤ, pos, ◌-ℤ◌, nat_le, nat_eq, ◌||◌}
 use Rattle.std.specs.Prelude.{if◌then◌else◌, FitsSigned}
@@ -15,30 +15,30 @@ le_value (b ∷ bytes) = b + 256 * le_value bytes
 
 -- the number of these bytes, in an order
 abbrev pub value_of : Bool → List ℕ → ℕ
-value_of big bytes = if big then le_value (reverse bytes) else le_value bytes
+value_of is_big bytes = if is_big then le_value (reverse bytes) else le_value bytes
 
 -- so many bytes are n
-pub record SpellsNumber (big : Bool) (size : ℕ) (bytes : List ℕ) (n : ℕ) : Type 0 where
+pub record SpellsNumber (is_big : Bool) (size : ℕ) (bytes : List ℕ) (n : ℕ) : Type 0 where
   pub size_is : length bytes ≡ size
-  pub value_is : value_of big bytes ≡ n
+  pub value_is : value_of is_big bytes ≡ n
 
 -- the one spelling of n in so many bytes
 abbrev pub number_bytes : Bool → ℕ → ℕ → List ℕ
-number_bytes big size n = if big then bytes_high_first size n else bytes_low_first 0 size n
+number_bytes is_big size n = if is_big then bytes_high_first size n else bytes_low_first 0 size n
 
 -- ---- LEB128 (DWARF 5, section 7.6)
 
 -- groups of seven bits, the least significant first; all bytes but the last have the high bit set
-abbrev pub Groups : List ℕ → ℕ → Type 0
-Groups [] n = ⊥
-Groups (b ∷ []) n = (b < 128) × (n ≡ b)
-Groups (b ∷ c ∷ bytes) n =
-    (128 ≤ b) × (high : ℕ) × (n ≡ b % 128 + 128 * high) × Groups (c ∷ bytes) high
+abbrev pub IsLeb128 : List ℕ → ℕ → Type 0
+IsLeb128 [] n = ⊥
+IsLeb128 (b ∷ []) n = (b < 128) × (n ≡ b)
+IsLeb128 (b ∷ c ∷ bytes) n =
+    (128 ≤ b) × (high : ℕ) × (n ≡ b % 128 + 128 * high) × IsLeb128 (c ∷ bytes) high
 
 -- an unsigned number of so many bits, in no more bytes than hold them: ten for 64 bits, three for
 -- 16
 pub record SpellsUleb128 (bits : ℕ) (bytes : List ℕ) (n : ℕ) : Type 0 where
-  pub groups : Groups bytes n
+  pub groups : IsLeb128 bytes n
   pub short : 7 * length bytes < bits + 7
   pub fits : n < 2 ^ bits
 
@@ -55,7 +55,7 @@ signed_value bytes n = pos n -ℤ pos (if is_negative bytes then 2 ^ (7 * length
 -- a signed number of 64 bits, in at most ten bytes
 pub record SpellsSleb128 (bytes : List ℕ) (z : ℤ) : Type 0 where
   pub unsigned : ℕ
-  pub groups : Groups bytes unsigned
+  pub groups : IsLeb128 bytes unsigned
   pub value_is : signed_value bytes unsigned ≡ z
   pub short : length bytes ≤ 10
   pub fits : FitsSigned w64 z
@@ -81,10 +81,10 @@ initial_length_size Dwarf64 = 12
 -- the length of a unit, by which its format is known: four bytes below 0xffff_fff0, or the four
 -- bytes 0xffff_ffff and eight further ones (DWARF 5, section 7.4)
 abbrev pub SpellsInitialLength : Bool → List ℕ → Format → ℕ → Type 0
-SpellsInitialLength big bytes Dwarf32 n = SpellsNumber big 4 bytes n × (n < 0xffff_fff0)
-SpellsInitialLength big bytes Dwarf64 n =
+SpellsInitialLength is_big bytes Dwarf32 n = SpellsNumber is_big 4 bytes n × (n < 0xffff_fff0)
+SpellsInitialLength is_big bytes Dwarf64 n =
     (first : List ℕ) × (tail : List ℕ) × (bytes ≡ first ++ tail)
-    × SpellsNumber big 4 first 0xffff_ffff × SpellsNumber big 8 tail n
+    × SpellsNumber is_big 4 first 0xffff_ffff × SpellsNumber is_big 8 tail n
 
 -- the sizes of addresses, in bytes
 abbrev pub is_address_size : ℕ → Bool

@@ -4,6 +4,6 @@ use Rattle.gimli_core.specs.declared.endianity.RunTimeEndian.{RunTimeEndian}
 use Rattle.gimli_core.specs.declared.endianity.RunTimeEndian.TheVariants.{Little, Big}
 
 -- whether the most significant byte comes first
-abbrev pub is_big : RunTimeEndian → Bool
-is_big Little = false
-is_big Big = true
+abbrev pub is_big_endian : RunTimeEndian → Bool
+is_big_endian Little = false
+is_big_endian Big = true

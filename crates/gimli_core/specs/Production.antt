@@ -7,7 +7,7 @@ use Rattle.std.specs.Int.{w8, cast_signed}
 use Rattle.std.specs.List.{AllByRecursion}
 use Rattle.gimli_core.specs.Numbers.{SpellsNumber, SpellsUleb128, SpellsSleb128}
 use Rattle.gimli_core.specs.Numbers.{SpellsInitialLength, word_size, is_address_size}
-use Rattle.gimli_core.specs.Notation.{Notation}
+use Rattle.gimli_core.specs.Layout.{OrderAndLimit}
 use Rattle.gimli_core.specs.Reading.{Read, eof}
 use Rattle.gimli_core.specs.declared.common.Format.{Format}
 use Rattle.gimli_core.specs.declared.common.Format.TheVariants.{Dwarf32, Dwarf64}
@@ -125,7 +125,7 @@ text = record {
 
 -- a number of so many bytes
 abbrev pub number : Bool → ℕ → Production ℕ
-number big size = record { Spells = SpellsNumber big size; Fault = IsWanting size }
+number is_big size = record { Spells = SpellsNumber is_big size; Fault = IsWanting size }
 
 -- a byte, whatever the order
 abbrev pub byte : Production ℕ
@@ -180,43 +180,43 @@ address_size = do
 
 -- a word of the format
 abbrev pub word : Bool → Format → Production ℕ
-word big format = number big (word_size format)
+word is_big format = number is_big (word_size format)
 
 -- an initial length, and its format
 abbrev pub initial_length : Bool → Production (ℕ × Format)
-initial_length big = record {
-  Spells = λ bytes u. SpellsInitialLength big bytes u.1 u.0;
+initial_length is_big = record {
+  Spells = λ bytes u. SpellsInitialLength is_big bytes u.1 u.0;
   Fault = λ bytes e. IsWanting 4 bytes e
       ⊎ ((first : List ℕ) × (rest : List ℕ) × (n : ℕ) × (bytes ≡ first ++ rest)
-      × SpellsNumber big 4 first n
+      × SpellsNumber is_big 4 first n
       × (((0xffff_fff0 ≤ n) × (n ≢ 0xffff_ffff) × (e ≡ UnknownReservedLength))
       ⊎ ((n ≡ 0xffff_ffff) × IsWanting 8 rest e)));
 }
 
 -- a number that an offset of the reader has to hold
-abbrev pub below_limit : Notation → Production ℕ → Production ℕ
-below_limit notation l = do
+abbrev pub below_limit : OrderAndLimit → Production ℕ → Production ℕ
+below_limit layout l = do
   n ← l
-  check (nat_lt n notation.limit) UnsupportedOffset
+  check (nat_lt n layout.limit) UnsupportedOffset
   done n
 
 -- an offset of the reader holds a word: one of four bytes always fits
-abbrev pub fits_offset : Notation → Format → ℕ → Bool
-fits_offset notation Dwarf32 n = true
-fits_offset notation Dwarf64 n = nat_lt n notation.limit
+abbrev pub fits_offset : OrderAndLimit → Format → ℕ → Bool
+fits_offset layout Dwarf32 n = true
+fits_offset layout Dwarf64 n = nat_lt n layout.limit
 
 -- a word of the format that is an offset or a length
-abbrev pub offset_word : Notation → Format → Production ℕ
-offset_word notation format = do
-  n ← word notation.big format
-  check (fits_offset notation format n) UnsupportedOffset
+abbrev pub offset_word : OrderAndLimit → Format → Production ℕ
+offset_word layout format = do
+  n ← word layout.is_big format
+  check (fits_offset layout format n) UnsupportedOffset
   done n
 
 -- the length of a unit, and its format
-abbrev pub unit_length : Notation → Production (ℕ × Format)
-unit_length notation = do
-  unit ← initial_length notation.big
-  check (fits_offset notation unit.1 unit.0) UnsupportedOffset
+abbrev pub unit_length : OrderAndLimit → Production (ℕ × Format)
+unit_length layout = do
+  unit ← initial_length layout.is_big
+  check (fits_offset layout unit.1 unit.0) UnsupportedOffset
   done unit
 
 -- ---- reading a production

@@ -91,9 +91,9 @@ signed_byte_at bytes = byte_at bytes >>= λ b rest. (Ok (cast_signed w8 b), rest
 
 -- a number of so many bytes, in this order
 abbrev pub number_at : Bool → ℕ → List ℕ → Read ℕ
-number_at big size bytes =
+number_at is_big size bytes =
     if nat_lt (length bytes) size then (Err (eof bytes), bytes)
-    else (Ok (value_of big (take size bytes)), drop size bytes)
+    else (Ok (value_of is_big (take size bytes)), drop size bytes)
 
 -- a number as an offset, below the limit of the offsets
 abbrev pub offset_of : ℕ → ℕ → Result ℕ Error
@@ -143,16 +143,16 @@ signed_at bytes = sleb_at 9 bytes >>= λ z rest. (Ok (pos z.0 -ℤ pos z.1), res
 
 -- a word of the format, as an offset
 unfoldable pub word_at : Bool → ℕ → Format → List ℕ → Read ℕ
-word_at big limit Dwarf32 bytes = number_at big 4 bytes
-word_at big limit Dwarf64 bytes = number_at big 8 bytes >>= λ n rest. (offset_of limit n, rest)
+word_at is_big limit Dwarf32 bytes = number_at is_big 4 bytes
+word_at is_big limit Dwarf64 bytes = number_at is_big 8 bytes >>= λ n rest. (offset_of limit n, rest)
 
 -- the length of a unit, and its format
 unfoldable pub initial_length_at : Bool → ℕ → List ℕ → Read (ℕ × Format)
-initial_length_at big limit bytes =
-    number_at big 4 bytes >>= λ n rest.
+initial_length_at is_big limit bytes =
+    number_at is_big 4 bytes >>= λ n rest.
     if nat_lt n 0xffff_fff0 then (Ok (n, Dwarf32), rest)
     else (if nat_eq n 0xffff_ffff
-    then (number_at big 8 rest >>= λ n rest.
+    then (number_at is_big 8 rest >>= λ n rest.
     (result_map (λ n. (n, Dwarf64)) (offset_of limit n), rest))
     else (Err UnknownReservedLength, rest))
 

@@ -40,26 +40,26 @@ module _ {R Offset Endian : Type 0} (bytes : R → List ℕ) (number : Offset �
   value_seen (DebugStrOffsetsIndex i) = DebugStrOffsetsIndex (record { 0 = number i.0 })
 
 -- the order of bytes of the reader of a value, where it is a text or a block
-module _ {R Offset Endian : Type 0} (big : R → Bool) where
+module _ {R Offset Endian : Type 0} (is_big : R → Bool) where
   abbrev pub value_order : AttributeValue R Offset Endian → Option Bool
-  value_order (Block r) = Some (big r)
-  value_order (String r) = Some (big r)
+  value_order (Block r) = Some (is_big r)
+  value_order (String r) = Some (is_big r)
   value_order v = None
 
 -- a reader, where there is one, has this order
 abbrev pub IsOrder : Bool → Option Bool → Type 0
-IsOrder order o = IfSome o (λ big. big ≡ order)
+IsOrder order o = IfSome o (λ is_big. is_big ≡ order)
 
 -- so has that of a value
-module _ {R Offset Endian : Type 0} (big : R → Bool) (order : Bool) where
+module _ {R Offset Endian : Type 0} (is_big : R → Bool) (order : Bool) where
   abbrev pub ValueHasOrder : AttributeValue R Offset Endian → Type 0
-  ValueHasOrder v = IsOrder order (value_order big v)
+  ValueHasOrder v = IsOrder order (value_order is_big v)
 
 -- a value, its readers seen by bytes and order, and its offsets by number
-module _ {R Offset Endian : Type 0} (bytes : R → List ℕ) (big : R → Bool)
+module _ {R Offset Endian : Type 0} (bytes : R → List ℕ) (is_big : R → Bool)
     (number : Offset → ℕ) where
   abbrev pub value_by : AttributeValue R Offset Endian → Value × Option Bool
-  value_by v = (value_seen bytes number v, value_order big v)
+  value_by v = (value_seen bytes number v, value_order is_big v)
 
 -- the number of a value that is an unsigned number, or a signed one that isn't negative
 abbrev pub udata_value : {R Offset Endian : Type 0} → AttributeValue R Offset Endian → Option ℕ

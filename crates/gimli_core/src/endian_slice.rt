@@ -20,7 +20,7 @@ impl<'i, E: Endianity> EndianSlice<'i, E> {
     /// A reader of these bytes, in this order.
     pub fn new(slice: &'i [u8], endian: E) -> Self
         ensures bytes { ⟦<EndianSlice<'i, E> as Reader>⟧.bytes result ≡ slice.now }
-        ensures order { ⟦<EndianSlice<'i, E> as Reader>⟧.big result ≡ E.big endian }
+        ensures order { ⟦<EndianSlice<'i, E> as Reader>⟧.is_big result ≡ E.is_big endian }
     {
         EndianSlice { slice, endian }
     }
@@ -54,7 +54,7 @@ impl<'i, E: Endianity> Reader for EndianSlice<'i, E> {
 
     ghost bytes = { λ s. s.slice.now };
 
-    ghost big = { λ s. E.big s.endian };
+    ghost is_big = { λ s. E.is_big s.endian };
 
     fn endian(&self) -> E {
         self.endian

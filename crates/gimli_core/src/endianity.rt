@@ -6,15 +6,15 @@ ghost use Rattle.gimli_core.specs.Numbers.{value_of, number_bytes};
 /// An order of bytes.
 pub trait Endianity: Copy + Eq {
     /// Whether the most significant byte comes first.
-    ghost big: { Self → Bool };
+    ghost is_big: { Self → Bool };
 
     /// Whether the most significant byte comes first.
     fn is_big_endian(self) -> bool
-        ensures { result ≡ big self };
+        ensures { result ≡ is_big self };
 
     /// Whether the least significant byte comes first.
     fn is_little_endian(self) -> bool
-        ensures { result ≡ not (big self) }
+        ensures { result ≡ not (is_big self) }
     {
         !self.is_big_endian()
     }
@@ -22,7 +22,7 @@ pub trait Endianity: Copy + Eq {
     /// The number of the first two bytes. Requires a slice of two bytes at least.
     fn read_u16(self, buf: &[u8]) -> u16
         requires { 2 ≤ length buf.now }
-        ensures { result ≡ value_of (big self) (take 2 buf.now) }
+        ensures { result ≡ value_of (is_big self) (take 2 buf.now) }
     {
         let bytes = [buf[0], buf[1]];
         if self.is_big_endian() {
@@ -35,7 +35,7 @@ pub trait Endianity: Copy + Eq {
     /// The number of the first four bytes. Requires a slice of four bytes at least.
     fn read_u32(self, buf: &[u8]) -> u32
         requires { 4 ≤ length buf.now }
-        ensures { result ≡ value_of (big self) (take 4 buf.now) }
+        ensures { result ≡ value_of (is_big self) (take 4 buf.now) }
     {
         let bytes = [buf[0], buf[1], buf[2], buf[3]];
         if self.is_big_endian() {
@@ -48,7 +48,7 @@ pub trait Endianity: Copy + Eq {
     /// The number of the first eight bytes. Requires a slice of eight bytes at least.
     fn read_u64(self, buf: &[u8]) -> u64
         requires { 8 ≤ length buf.now }
-        ensures { result ≡ value_of (big self) (take 8 buf.now) }
+        ensures { result ≡ value_of (is_big self) (take 8 buf.now) }
     {
         let bytes = [
             buf[0], buf[1], buf[2], buf[3], buf[4], buf[5], buf[6], buf[7],
@@ -63,7 +63,7 @@ pub trait Endianity: Copy + Eq {
     /// The number of the first sixteen bytes. Requires a slice of sixteen bytes at least.
     fn read_u128(self, buf: &[u8]) -> u128
         requires { 16 ≤ length buf.now }
-        ensures { result ≡ value_of (big self) (take 16 buf.now) }
+        ensures { result ≡ value_of (is_big self) (take 16 buf.now) }
     {
         let first = self.read_u64(buf);
         let second = self.read_u64(&buf[8..]);
@@ -77,7 +77,7 @@ pub trait Endianity: Copy + Eq {
     /// Writes a number over the first two bytes. Requires a slice of two bytes at least.
     fn write_u16(self, buf: &mut [u8], n: u16)
         requires { 2 ≤ length buf.old }
-        ensures { buf.new ≡ number_bytes (big self) 2 n ++ drop 2 buf.old }
+        ensures { buf.new ≡ number_bytes (is_big self) 2 n ++ drop 2 buf.old }
     {
         if self.is_big_endian() {
             buf[..2].copy_from_slice(&n.to_be_bytes());
@@ -89,7 +89,7 @@ pub trait Endianity: Copy + Eq {
     /// Writes a number over the first four bytes. Requires a slice of four bytes at least.
     fn write_u32(self, buf: &mut [u8], n: u32)
         requires { 4 ≤ length buf.old }
-        ensures { buf.new ≡ number_bytes (big self) 4 n ++ drop 4 buf.old }
+        ensures { buf.new ≡ number_bytes (is_big self) 4 n ++ drop 4 buf.old }
     {
         if self.is_big_endian() {
             buf[..4].copy_from_slice(&n.to_be_bytes());
@@ -101,7 +101,7 @@ pub trait Endianity: Copy + Eq {
     /// Writes a number over the first eight bytes. Requires a slice of eight bytes at least.
     fn write_u64(self, buf: &mut [u8], n: u64)
         requires { 8 ≤ length buf.old }
-        ensures { buf.new ≡ number_bytes (big self) 8 n ++ drop 8 buf.old }
+        ensures { buf.new ≡ number_bytes (is_big self) 8 n ++ drop 8 buf.old }
     {
         if self.is_big_endian() {
             buf[..8].copy_from_slice(&n.to_be_bytes());
@@ -113,7 +113,7 @@ pub trait Endianity: Copy + Eq {
     /// Writes a number over the first sixteen bytes. Requires a slice of sixteen bytes at least.
     fn write_u128(self, buf: &mut [u8], n: u128)
         requires { 16 ≤ length buf.old }
-        ensures { buf.new ≡ number_bytes (big self) 16 n ++ drop 16 buf.old }
+        ensures { buf.new ≡ number_bytes (is_big self) 16 n ++ drop 16 buf.old }
     {
         if self.is_big_endian() {
             buf[..16].copy_from_slice(&n.to_be_bytes());
@@ -149,7 +149,7 @@ pub enum RunTimeEndian {
 }
 
 impl Endianity for LittleEndian {
-    ghost big = { λ _. false };
+    ghost is_big = { λ _. false };
 
     fn is_big_endian(self) -> bool {
         false
@@ -157,7 +157,7 @@ impl Endianity for LittleEndian {
 }
 
 impl Endianity for BigEndian {
-    ghost big = { λ _. true };
+    ghost is_big = { λ _. true };
 
     fn is_big_endian(self) -> bool {
         true
@@ -165,9 +165,9 @@ impl Endianity for BigEndian {
 }
 
 impl Endianity for RunTimeEndian {
-    ghost use Rattle.gimli_core.specs.Order.{is_big};
+    ghost use Rattle.gimli_core.specs.Order.{is_big_endian};
 
-    ghost big = { is_big };
+    ghost is_big = { is_big_endian };
 
     fn is_big_endian(self) -> bool {
         match self {

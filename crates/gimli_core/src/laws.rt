@@ -4,7 +4,7 @@
 ghost use Rattle.std.specs.Prelude.{ℕ, Bool, [], ◌≡◌, ◌<◌, ◌^◌};
 ghost use Rattle.gimli_core.specs.Numbers.{SpellsNumber, number_bytes};
 ghost use Rattle.gimli_core.specs.Equality.{IsExact, ComparesBy, ClonesGiveSame, GivesSame, both};
-ghost use Rattle.gimli_core.specs.Notation.{Notation};
+ghost use Rattle.gimli_core.specs.Layout.{OrderAndLimit};
 ghost use Rattle.gimli_core.specs.Values.{value_by};
 ghost use Rattle.gimli_core.specs.declared.common.Format.{Format};
 ghost use Rattle.gimli_core.specs.Production.{Reads, byte, signed_byte, some_bytes, number, text};
@@ -44,7 +44,7 @@ pub fn signed_numbers()
 /// `read_u16` to `read_u64`, `read_uint` and `read_address` take a spelling of their number, and
 /// each that is there, whatever follows.
 pub fn fixed_numbers()
-    ensures { (big : Bool) (size : ℕ) → Reads (number big size) (number_at big size) }
+    ensures { (is_big : Bool) (size : ℕ) → Reads (number is_big size) (number_at is_big size) }
 {}
 
 /// `read_null_terminated_slice` takes a text and its zero byte, and each that is there, whatever
@@ -76,21 +76,21 @@ pub fn address_sizes()
 /// `read_length` and `read_offset` take a word of the format that an offset holds, and each that is
 /// there, whatever follows.
 pub fn words()
-    ensures { (notation : Notation) (format : Format)
-        → Reads (offset_word notation format) (word_at notation.big notation.limit format) }
+    ensures { (layout : OrderAndLimit) (format : Format)
+        → Reads (offset_word layout format) (word_at layout.is_big layout.limit format) }
 {}
 
 /// `read_initial_length` takes the length of a unit that an offset holds, and each that is there,
 /// whatever follows.
 pub fn unit_lengths()
-    ensures { (notation : Notation)
-        → Reads (unit_length notation) (initial_length_at notation.big notation.limit) }
+    ensures { (layout : OrderAndLimit)
+        → Reads (unit_length layout) (initial_length_at layout.is_big layout.limit) }
 {}
 
 /// What `Endianity::write_u16` to `write_u128` put into a slice spells the number.
 pub fn written_numbers()
-    ensures { (big : Bool) (size n : ℕ) → n < 256 ^ size
-        → SpellsNumber big size (number_bytes big size n) n }
+    ensures { (is_big : Bool) (size n : ℕ) → n < 256 ^ size
+        → SpellsNumber is_big size (number_bytes is_big size n) n }
 {}
 
 /// `==` of values holds exactly where they are of one form and agree in what they hold, if this is
@@ -102,8 +102,8 @@ pub fn equal_values_are_same<R: Reader + PartialEq>()
 /// `==` of values holds exactly where they are of one form and agree in what they hold, readers in
 /// their bytes and order and offsets in their numbers, if this is so of readers and of offsets.
 pub fn equal_values_look_same<R: Reader + PartialEq>()
-    ensures { ComparesBy (both R.bytes R.big) R.eq → ComparesBy R.Offset.number R.Offset.eq →
-        ComparesBy (value_by R.bytes R.big R.Offset.number) ⟦<AttributeValue<R> as PartialEq>⟧.eq }
+    ensures { ComparesBy (both R.bytes R.is_big) R.eq → ComparesBy R.Offset.number R.Offset.eq →
+        ComparesBy (value_by R.bytes R.is_big R.Offset.number) ⟦<AttributeValue<R> as PartialEq>⟧.eq }
 {}
 
 /// `==` of numbers that have a type of their own holds exactly where the two are the same number.
@@ -153,18 +153,18 @@ pub fn equal_orders_are_same()
     ensures little { IsExact ⟦<LittleEndian as PartialEq>⟧.eq }
     ensures big { IsExact ⟦<BigEndian as PartialEq>⟧.eq }
     ensures run_time { IsExact ⟦<RunTimeEndian as PartialEq>⟧.eq }
-    ensures little_by_order { ComparesBy ⟦<LittleEndian as Endianity>⟧.big
+    ensures little_by_order { ComparesBy ⟦<LittleEndian as Endianity>⟧.is_big
         ⟦<LittleEndian as PartialEq>⟧.eq }
-    ensures big_by_order { ComparesBy ⟦<BigEndian as Endianity>⟧.big ⟦<BigEndian as PartialEq>⟧.eq }
-    ensures run_time_by_order { ComparesBy ⟦<RunTimeEndian as Endianity>⟧.big
+    ensures big_by_order { ComparesBy ⟦<BigEndian as Endianity>⟧.is_big ⟦<BigEndian as PartialEq>⟧.eq }
+    ensures run_time_by_order { ComparesBy ⟦<RunTimeEndian as Endianity>⟧.is_big
         ⟦<RunTimeEndian as PartialEq>⟧.eq }
 {}
 
 /// `==` of readers over slices holds exactly where the two have the same bytes left and the same
 /// order, if `==` of orders is so.
 pub fn equal_slices_are_same<'i, E: Endianity>()
-    ensures { ComparesBy E.big E.eq → ComparesBy (both ⟦<EndianSlice<'i, E> as Reader>⟧.bytes
-        ⟦<EndianSlice<'i, E> as Reader>⟧.big) ⟦<EndianSlice<'i, E> as PartialEq>⟧.eq }
+    ensures { ComparesBy E.is_big E.eq → ComparesBy (both ⟦<EndianSlice<'i, E> as Reader>⟧.bytes
+        ⟦<EndianSlice<'i, E> as Reader>⟧.is_big) ⟦<EndianSlice<'i, E> as PartialEq>⟧.eq }
 {}
 
 /// A reader over a slice has no byte left by default, and the order of bytes that its type of
@@ -172,10 +172,10 @@ pub fn equal_slices_are_same<'i, E: Endianity>()
 pub fn default_slices_are_empty<'i, E: Endianity + Default>()
     ensures bytes { (reader : _) → ⟦<EndianSlice<'i, E> as Default>⟧.is_default reader
         → ⟦<EndianSlice<'i, E> as Reader>⟧.bytes reader ≡ [] }
-    ensures order { (reader : _) (big : Bool)
-        → ((endian : E) → E.is_default endian → E.big endian ≡ big)
+    ensures order { (reader : _) (is_big : Bool)
+        → ((endian : E) → E.is_default endian → E.is_big endian ≡ is_big)
         → ⟦<EndianSlice<'i, E> as Default>⟧.is_default reader
-        → ⟦<EndianSlice<'i, E> as Reader>⟧.big reader ≡ big }
+        → ⟦<EndianSlice<'i, E> as Reader>⟧.is_big reader ≡ is_big }
 {}
 
 /// `clone` of errors, sections, formats, encodings and orders of bytes is never refused, and gives

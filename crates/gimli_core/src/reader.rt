@@ -31,11 +31,11 @@ pub trait Reader: Copy {
     ghost bytes: { Self → List ℕ };
 
     /// Whether the most significant byte of a number comes first.
-    ghost big: { Self → Bool };
+    ghost is_big: { Self → Bool };
 
     /// The order of bytes.
     fn endian(&self) -> Self::Endian
-        ensures { Self.Endian.big result ≡ big self.now };
+        ensures { Self.Endian.is_big result ≡ is_big self.now };
 
     /// How many bytes are left.
     fn len(&self) -> Self::Offset
@@ -44,13 +44,13 @@ pub trait Reader: Copy {
     /// Lets all bytes go.
     fn empty(&mut self)
         ensures left { bytes self.new ≡ [] }
-        ensures order { big self.new ≡ big self.old };
+        ensures order { is_big self.new ≡ is_big self.old };
 
     /// Lets all bytes go but the first `len`.
     fn truncate(&mut self, len: Self::Offset) -> Result<()>
         ensures read { (result_map (λ _. tt) result, bytes self.new)
             ≡ truncate_at (Self.Offset.number len) (bytes self.old) }
-        ensures order { big self.new ≡ big self.old };
+        ensures order { is_big self.new ≡ is_big self.old };
 
     /// How many bytes stand in `base` before those that are left here. Requires that those left
     /// here are an end of those that are left in `base`.
@@ -67,14 +67,14 @@ pub trait Reader: Copy {
     fn skip(&mut self, len: Self::Offset) -> Result<()>
         ensures read { (result_map (λ _. tt) result, bytes self.new)
             ≡ skip_at (Self.Offset.number len) (bytes self.old) }
-        ensures order { big self.new ≡ big self.old };
+        ensures order { is_big self.new ≡ is_big self.old };
 
     /// Takes the first `len` bytes, as a reader of their own.
     fn split(&mut self, len: Self::Offset) -> Result<Self>
         ensures read { (result_map bytes result, bytes self.new)
             ≡ split_at (Self.Offset.number len) (bytes self.old) }
-        ensures order { big self.new ≡ big self.old }
-        ensures part { IfOk result (λ part. big part ≡ big self.old) };
+        ensures order { is_big self.new ≡ is_big self.old }
+        ensures part { IfOk result (λ part. is_big part ≡ is_big self.old) };
 
     /// The bytes left, lent where they lie in one piece, else copied. Refused only by
     /// `OutOfMemory`, where the copy found no memory.
@@ -87,7 +87,7 @@ pub trait Reader: Copy {
     fn read_slice(&mut self, buf: &mut [u8]) -> Result<()>
         ensures read { (result_map (λ _. buf.new) result, bytes self.new)
             ≡ split_at (length buf.old) (bytes self.old) }
-        ensures order { big self.new ≡ big self.old }
+        ensures order { is_big self.new ≡ is_big self.old }
         ensures refused { OnErr result (buf.new ≡ buf.old) };
 
     /// Whether no bytes are left.
@@ -100,7 +100,7 @@ pub trait Reader: Copy {
     /// Takes sixteen bytes.
     fn read_u8_array_16(&mut self) -> Result<[u8; 16]>
         ensures read { (result, bytes self.new) ≡ split_at 16 (bytes self.old) }
-        ensures order { big self.new ≡ big self.old }
+        ensures order { is_big self.new ≡ is_big self.old }
     {
         let mut buf = [0; 16];
         self.read_slice(&mut buf)?;
@@ -110,7 +110,7 @@ pub trait Reader: Copy {
     /// Takes an unsigned number of one byte.
     fn read_u8(&mut self) -> Result<u8>
         ensures read { (result, bytes self.new) ≡ byte_at (bytes self.old) }
-        ensures order { big self.new ≡ big self.old }
+        ensures order { is_big self.new ≡ is_big self.old }
     {
         let mut buf = [0; 1];
         self.read_slice(&mut buf)?;
@@ -120,7 +120,7 @@ pub trait Reader: Copy {
     /// Takes a signed number of one byte.
     fn read_i8(&mut self) -> Result<i8>
         ensures read { (result, bytes self.new) ≡ signed_byte_at (bytes self.old) }
-        ensures order { big self.new ≡ big self.old }
+        ensures order { is_big self.new ≡ is_big self.old }
     {
         let byte = self.read_u8()?;
         Ok(byte.cast_signed())
@@ -128,8 +128,8 @@ pub trait Reader: Copy {
 
     /// Takes an unsigned number of two bytes.
     fn read_u16(&mut self) -> Result<u16>
-        ensures read { (result, bytes self.new) ≡ number_at (big self.old) 2 (bytes self.old) }
-        ensures order { big self.new ≡ big self.old }
+        ensures read { (result, bytes self.new) ≡ number_at (is_big self.old) 2 (bytes self.old) }
+        ensures order { is_big self.new ≡ is_big self.old }
     {
         let mut buf = [0; 2];
         self.read_slice(&mut buf)?;
@@ -138,8 +138,8 @@ pub trait Reader: Copy {
 
     /// Takes an unsigned number of four bytes.
     fn read_u32(&mut self) -> Result<u32>
-        ensures read { (result, bytes self.new) ≡ number_at (big self.old) 4 (bytes self.old) }
-        ensures order { big self.new ≡ big self.old }
+        ensures read { (result, bytes self.new) ≡ number_at (is_big self.old) 4 (bytes self.old) }
+        ensures order { is_big self.new ≡ is_big self.old }
     {
         let mut buf = [0; 4];
         self.read_slice(&mut buf)?;
@@ -148,8 +148,8 @@ pub trait Reader: Copy {
 
     /// Takes an unsigned number of eight bytes.
     fn read_u64(&mut self) -> Result<u64>
-        ensures read { (result, bytes self.new) ≡ number_at (big self.old) 8 (bytes self.old) }
-        ensures order { big self.new ≡ big self.old }
+        ensures read { (result, bytes self.new) ≡ number_at (is_big self.old) 8 (bytes self.old) }
+        ensures order { is_big self.new ≡ is_big self.old }
     {
         let mut buf = [0; 8];
         self.read_slice(&mut buf)?;
@@ -159,8 +159,8 @@ pub trait Reader: Copy {
     /// Takes an unsigned number of `n` bytes. Requires that `n` is 8 at most.
     fn read_uint(&mut self, n: usize) -> Result<u64>
         requires { n ≤ 8 }
-        ensures read { (result, bytes self.new) ≡ number_at (big self.old) n (bytes self.old) }
-        ensures order { big self.new ≡ big self.old }
+        ensures read { (result, bytes self.new) ≡ number_at (is_big self.old) n (bytes self.old) }
+        ensures order { is_big self.new ≡ is_big self.old }
     {
         let mut buf = [0; 8];
         if self.endian().is_big_endian() {
@@ -175,8 +175,8 @@ pub trait Reader: Copy {
     /// byte. Refused by `UnexpectedEof` where there is none.
     fn read_null_terminated_slice(&mut self) -> Result<Self>
         ensures read { (result_map bytes result, bytes self.new) ≡ text_at (bytes self.old) }
-        ensures order { big self.new ≡ big self.old }
-        ensures part { IfOk result (λ part. big part ≡ big self.old) }
+        ensures order { is_big self.new ≡ is_big self.old }
+        ensures part { IfOk result (λ part. is_big part ≡ is_big self.old) }
     {
         let len = self.find(0)?;
         let text = self.split(len)?;
@@ -188,7 +188,7 @@ pub trait Reader: Copy {
     /// or has more than ten bytes. A refused call has taken the bytes that it looked at.
     fn read_uleb128(&mut self) -> Result<u64>
         ensures read { (result, bytes self.new) ≡ unsigned_at (bytes self.old) }
-        ensures order { big self.new ≡ big self.old }
+        ensures order { is_big self.new ≡ is_big self.old }
     {
         let mut value = 0;
         for group in 0..9u32 {
@@ -210,7 +210,7 @@ pub trait Reader: Copy {
     #[tactic(auto, unfolding(crate::specs::Reading::uleb_at))]
     fn read_uleb128_u16(&mut self) -> Result<u16>
         ensures read { (result, bytes self.new) ≡ unsigned_16_at (bytes self.old) }
-        ensures order { big self.new ≡ big self.old }
+        ensures order { is_big self.new ≡ is_big self.old }
     {
         let first = self.read_u8()?;
         if first < 128 {
@@ -232,7 +232,7 @@ pub trait Reader: Copy {
     /// has more than ten bytes. A refused call has taken the bytes that it looked at.
     fn read_sleb128(&mut self) -> Result<i64>
         ensures read { (result, bytes self.new) ≡ signed_at (bytes self.old) }
-        ensures order { big self.new ≡ big self.old }
+        ensures order { is_big self.new ≡ is_big self.old }
     {
         let mut value = 0;
         for group in 0..9u32 {
@@ -256,8 +256,8 @@ pub trait Reader: Copy {
           result_map (λ read. (Self.Offset.number read.0, read.1)) result,
           bytes self.new,
         )
-            ≡ initial_length_at (big self.old) Self.Offset.limit (bytes self.old) }
-        ensures order { big self.new ≡ big self.old }
+            ≡ initial_length_at (is_big self.old) Self.Offset.limit (bytes self.old) }
+        ensures order { is_big self.new ≡ is_big self.old }
     {
         let first = self.read_u32()?;
         if first < 0xffff_fff0 {
@@ -275,7 +275,7 @@ pub trait Reader: Copy {
     #[tactic(auto, unfolding(crate::specs::Reading::address_size_at))]
     fn read_address_size(&mut self) -> Result<u8>
         ensures read { (result, bytes self.new) ≡ address_size_at (bytes self.old) }
-        ensures order { big self.new ≡ big self.old }
+        ensures order { is_big self.new ≡ is_big self.old }
     {
         let size = self.read_u8()?;
         match size {
@@ -288,8 +288,8 @@ pub trait Reader: Copy {
     /// `read_address_size` gives it.
     fn read_address(&mut self, size: u8) -> Result<u64>
         requires { IsTrue (is_address_size size) }
-        ensures read { (result, bytes self.new) ≡ number_at (big self.old) size (bytes self.old) }
-        ensures order { big self.new ≡ big self.old }
+        ensures read { (result, bytes self.new) ≡ number_at (is_big self.old) size (bytes self.old) }
+        ensures order { is_big self.new ≡ is_big self.old }
     {
         match size {
             1 => {
@@ -313,8 +313,8 @@ pub trait Reader: Copy {
     #[tactic(auto, unfolding(crate::specs::Reading::word_at))]
     fn read_length(&mut self, format: Format) -> Result<Self::Offset>
         ensures read { (result_map Self.Offset.number result, bytes self.new)
-            ≡ word_at (big self.old) Self.Offset.limit format (bytes self.old) }
-        ensures order { big self.new ≡ big self.old }
+            ≡ word_at (is_big self.old) Self.Offset.limit format (bytes self.old) }
+        ensures order { is_big self.new ≡ is_big self.old }
     {
         match format {
             Format::Dwarf32 => {
@@ -332,8 +332,8 @@ pub trait Reader: Copy {
     /// type is too narrow; the word is taken then.
     fn read_offset(&mut self, format: Format) -> Result<Self::Offset>
         ensures read { (result_map Self.Offset.number result, bytes self.new)
-            ≡ word_at (big self.old) Self.Offset.limit format (bytes self.old) }
-        ensures order { big self.new ≡ big self.old }
+            ≡ word_at (is_big self.old) Self.Offset.limit format (bytes self.old) }
+        ensures order { is_big self.new ≡ is_big self.old }
     {
         self.read_length(format)
     }

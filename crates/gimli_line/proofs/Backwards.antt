@@ -29,7 +29,7 @@ use Rattle.gimli_line.specs.run.Events.{events_of, events_after, files_at}
 use Rattle.gimli_line.specs.run.Events.{past_at_end}
 use Rattle.gimli_line.specs.run.Machine.{initial, reset_row, step_of, is_refused, made_step, next_registers}
 use Rattle.gimli_line.specs.run.Machine.{registers_after, made_from, run}
-use Rattle.gimli_line.specs.run.Progress.{files_from}
+use Rattle.gimli_line.specs.run.Passing.{files_from}
 
 -- the registers before a point
 abbrev pub registers : Parameters → List Ins → LineRow

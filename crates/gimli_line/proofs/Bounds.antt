@@ -6,8 +6,8 @@ use Rattle.std.proofs.Common.{arith, IsTrue}
 use Rattle.std.specs.List.{AllByRecursion}
 use Rattle.std.specs.Prelude.{nat_le}
 use Rattle.std.proofs.lemmas.List.{length-append, length-map}
-use Rattle.gimli_core.specs.Notation.{Notation}
-use Rattle.gimli_core.specs.Numbers.{Groups}
+use Rattle.gimli_core.specs.Layout.{OrderAndLimit}
+use Rattle.gimli_core.specs.Numbers.{IsLeb128}
 use Rattle.gimli_core.specs.declared.error.Error.TheVariants.{UnknownForm}
 use Rattle.gimli_core.specs.Values.{Value}
 use Rattle.gimli_core.specs.Production.{Production, Each, times, refuse, choose}
@@ -20,16 +20,16 @@ use Rattle.gimli_core.specs.declared.common.Format.TheVariants.{Dwarf32, Dwarf64
 use Rattle.gimli_core.specs.declared.common.Encoding.{Encoding}
 use Rattle.gimli_line.specs.header.File.{File}
 use Rattle.gimli_line.specs.header.Header.{Header, UnitEntry}
-use Rattle.gimli_line.specs.header.HeaderGrammar.{Entry, path_of, file_of_entry, paths_production}
+use Rattle.gimli_line.specs.header.HeaderGrammar.{TableEntry, path_of, file_of_entry, paths_production}
 use Rattle.gimli_line.specs.header.HeaderGrammar.{files_production, formats_production}
 use Rattle.gimli_line.specs.header.HeaderGrammar.{entry_production, entries_production, table_production}
 use Rattle.gimli_line.specs.header.HeaderGrammar.{directory_table, file_table, opening_production}
-use Rattle.gimli_line.specs.header.HeaderGrammar.{fields_production, Opening, SpellsUnit, HoldsCount}
+use Rattle.gimli_line.specs.header.HeaderGrammar.{fields_production, HeaderOpening, SpellsUnit, HoldsCount}
 use Rattle.gimli_line.specs.declared.header.file_entry.FileEntryFormat.{FileEntryFormat}
 
 -- ---- a value in a form has bytes
 
-groups_some : (bytes : List ℕ) (n : ℕ) → Groups bytes n → 0 < length bytes
+groups_some : (bytes : List ℕ) (n : ℕ) → IsLeb128 bytes n → 0 < length bytes
 groups_some [] n g = absurd g
 groups_some (b ∷ []) n g = omega arith
 groups_some (b ∷ c ∷ bytes) n g = omega arith
@@ -74,9 +74,9 @@ pub formats_some : (bytes : List ℕ) (formats : List FileEntryFormat) → forma
 formats_some bytes formats s none =
     grind arith
 
-module _ (notation : Notation) (format : Format) where
+module _ (layout : OrderAndLimit) (format : Format) where
   shape_some : (shape : Shape) → HasBytes shape → (bytes : List ℕ) (v : Value)
-      → (shape_production notation format shape).Spells bytes v → 0 < length bytes
+      → (shape_production layout format shape).Spells bytes v → 0 < length bytes
   shape_some (fixed size make) some bytes v s = grind (arith, length-append)
   shape_some (three_bytes make) some bytes v s =
       grind (arith, length-append)
@@ -95,13 +95,13 @@ module _ (notation : Notation) (format : Format) where
   shape_some string some bytes v s =
       grind (arith, length-append)
 
-  form_some : (form : ℕ) (bytes : List ℕ) (v : Value) → (form_production notation format form).Spells bytes v
+  form_some : (form : ℕ) (bytes : List ℕ) (v : Value) → (form_production layout format form).Spells bytes v
       → 0 < length bytes
   form_some form bytes v = at_shape (shape_among form shapes) refl
     where
       at_shape : (found : Option Shape) → shape_among form shapes ≡ found
           → (let l : Production Value = elim found
-          [ Some shape ↦ shape_production notation format shape | None ↦ refuse (UnknownForm (record { 0 = form })) ] in
+          [ Some shape ↦ shape_production layout format shape | None ↦ refuse (UnknownForm (record { 0 = form })) ] in
           l.Spells bytes v)
           → 0 < length bytes
       at_shape (Some shape) is s = grind (arith, shape_some)
@@ -109,20 +109,20 @@ module _ (notation : Notation) (format : Format) where
 
   -- ---- entries
 
-  entry_some : (formats : List FileEntryFormat) → formats ≢ [] → (bytes : List ℕ) (entry : Entry)
-      → (entry_production notation format formats).Spells bytes entry → 0 < length bytes
+  entry_some : (formats : List FileEntryFormat) → formats ≢ [] → (bytes : List ℕ) (entry : TableEntry)
+      → (entry_production layout format formats).Spells bytes entry → 0 < length bytes
   entry_some [] some bytes entry s = absurd (some refl)
   entry_some (f ∷ formats) some bytes entry s =
       grind (arith, length-append, form_some)
 
   -- a table's entries are as many as their count says, and no more than the bytes after it
-  pub entries_bounded : (formats : List FileEntryFormat) → formats ≢ [] → (bytes : List ℕ) (entries : List Entry)
-      → (entries_production notation format formats).Spells bytes entries → HoldsCount bytes (length entries)
+  pub entries_bounded : (formats : List FileEntryFormat) → formats ≢ [] → (bytes : List ℕ) (entries : List TableEntry)
+      → (entries_production layout format formats).Spells bytes entries → HoldsCount bytes (length entries)
   entries_bounded formats some bytes entries s =
       grind (arith, times_counted, times_bounded, entry_some)
 
-  table_bounded : (bytes : List ℕ) (table : List FileEntryFormat × List Entry)
-      → (table_production notation format).Spells bytes table
+  table_bounded : (bytes : List ℕ) (table : List FileEntryFormat × List TableEntry)
+      → (table_production layout format).Spells bytes table
       → length table.1 ≤ length bytes
   table_bounded bytes table s =
       let e = s.5 in
@@ -135,7 +135,7 @@ module _ (notation : Notation) (format : Format) where
         ap length e.3,
         length-append b.0 b.1,
         ap length b.2,
-        ap (λ (t : List FileEntryFormat × List Entry). length t.1) e.5.1)
+        ap (λ (t : List FileEntryFormat × List TableEntry). length t.1) e.5.1)
 
 -- ---- the tables of a header
 
@@ -155,9 +155,9 @@ chosen : {A : Type 0} {P : Type 0} (test : Bool) (l m : Production A) (bytes : L
 chosen true l m bytes x one other s = one s
 chosen false l m bytes x one other s = other s
 
-module _ (notation : Notation) (encoding : Encoding) where
+module _ (layout : OrderAndLimit) (encoding : Encoding) where
   directories_bounded : (bytes : List ℕ) (table : List FileEntryFormat × List Value)
-      → (directory_table notation encoding).Spells bytes table
+      → (directory_table layout encoding).Spells bytes table
       → length table.1 ≤ length bytes
   directories_bounded bytes table =
       chosen (nat_le encoding.version 4) _ _ bytes table
@@ -172,12 +172,12 @@ module _ (notation : Notation) (encoding : Encoding) where
         arith,
         length-append s.1 s.2,
         ap length s.3,
-        table_bounded notation encoding.format s.1 s.0 s.4,
+        table_bounded layout encoding.format s.1 s.0 s.4,
         length-map s.0.1 path_of,
         ap (λ (t : List FileEntryFormat × List Value). length t.1) s.5.1))
 
   all_files_bounded : (bytes : List ℕ) (table : List FileEntryFormat × List File)
-      → (file_table notation encoding).Spells bytes table
+      → (file_table layout encoding).Spells bytes table
       → length table.1 ≤ length bytes
   all_files_bounded bytes table =
       chosen (nat_le encoding.version 4) _ _ bytes table
@@ -191,37 +191,37 @@ module _ (notation : Notation) (encoding : Encoding) where
         arith,
         length-append s.1 s.2,
         ap length s.3,
-        table_bounded notation encoding.format s.1 s.0 s.4,
+        table_bounded layout encoding.format s.1 s.0 s.4,
         length-map s.0.1 file_of_entry,
         ap (λ (t : List FileEntryFormat × List File). length t.1) s.5.1))
 
 -- the bytes that the header length counts are that many, and stand in front of the program
-opening_counted : (notation : Notation) (handed : ℕ) (format : Format) (bytes : List ℕ) (o : Opening)
-    → (opening_production notation handed format).Spells bytes o
+opening_counted : (layout : OrderAndLimit) (handed : ℕ) (format : Format) (bytes : List ℕ) (o : HeaderOpening)
+    → (opening_production layout handed format).Spells bytes o
     → (length o.fields ≡ o.header_length) × (o.header_length ≤ length bytes)
-opening_counted notation handed format bytes o s =
+opening_counted layout handed format bytes o s =
     grind (arith, length-append)
 
-fields_bounded : (notation : Notation) (unit_entry : UnitEntry) (unit : ℕ) (o : Opening) (program bytes : List ℕ)
+fields_bounded : (layout : OrderAndLimit) (unit_entry : UnitEntry) (unit : ℕ) (o : HeaderOpening) (program bytes : List ℕ)
     (h : Header)
-    → (fields_production notation unit_entry unit o program).Spells bytes h
+    → (fields_production layout unit_entry unit o program).Spells bytes h
     → (length h.directories + length h.files ≤ length bytes) × (h.program ≡ program)
     × (h.header_length ≡ o.header_length) × (h.unit_length ≡ unit)
-fields_bounded notation unit_entry unit o program bytes h s =
+fields_bounded layout unit_entry unit o program bytes h s =
     grind (arith, directories_bounded, all_files_bounded, length-append)
 
-pub unit_bounded : (notation : Notation) (unit_entry : UnitEntry) (bytes : List ℕ) (h : Header)
-    → SpellsUnit notation unit_entry bytes h
+pub unit_bounded : (layout : OrderAndLimit) (unit_entry : UnitEntry) (bytes : List ℕ) (h : Header)
+    → SpellsUnit layout unit_entry bytes h
     → (length h.directories + length h.files ≤ h.header_length) × (h.header_length + length h.program ≤ h.unit_length)
     × (h.unit_length ≤ length bytes)
-unit_bounded notation unit_entry bytes h u =
+unit_bounded layout unit_entry bytes h u =
     let s = u.3 in
     let i = s.5 in
     let o = i.5 in
     let f = o.5 in
     let whole = length-append u.0 u.1 in
-    let opened = opening_counted notation unit_entry.address_size s.0.1 o.4.1.0 o.0.0 o.4.1.2 in
-    let fields = fields_bounded notation unit_entry s.0.0 o.0.0 o.0.1 f.4.1.0 f.0.0 f.4.1.2 in
+    let opened = opening_counted layout unit_entry.address_size s.0.1 o.4.1.0 o.0.0 o.4.1.2 in
+    let fields = fields_bounded layout unit_entry s.0.0 o.0.0 o.0.1 f.4.1.0 f.0.0 f.4.1.2 in
     let same : h ≡ f.0.0 = f.5.1 in
     rw same (
       omega (arith, length-append f.4.1.0 f.0.1, ap length f.4.1.1),

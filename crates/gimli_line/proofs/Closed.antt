@@ -10,7 +10,7 @@ use Rattle.gimli_core.specs.Reading.{Read, ◌>>=◌, text_at}
 use Rattle.gimli_core.specs.Production.{Production, ◌>>=◌ as ◌>>>◌, text, Each, IsOpen, list_to_zero, Reads}
 use Rattle.gimli_core.proofs.Productions.{bind_ok, bind_fault, bind_refused, ok_parts}
 use Rattle.gimli_core.proofs.ProductionLaws.{reads_text}
-use Rattle.gimli_line.specs.header.Productions.{name}
+use Rattle.gimli_line.specs.header.Productions.{path_text}
 use Rattle.gimli_line.specs.inside.header.TableReading.{is_closed, closed_below, list_to_zero_at}
 
 -- bytes that begin with one that isn't zero
@@ -36,11 +36,11 @@ empty_text front [] rest s clear e =
     grind arith
 empty_text front (b ∷ xs) rest s clear e = absurd cc
 
-name_opens : (front xs : List ℕ) → name.Spells front xs → Opens front
+name_opens : (front xs : List ℕ) → path_text.Spells front xs → Opens front
 name_opens front [] s = absurd (s.0 refl)
 name_opens front (b ∷ xs) s = grind arith
 
-pub reads_name : ReadsOpen name text_at
+pub reads_name : ReadsOpen path_text text_at
 reads_name = record {
   found = λ bytes xs rest clear e.
       let f = reads_text.found bytes xs rest e in

@@ -2,21 +2,21 @@
 use Rattle.std.proofs.Common.{◌≡◌, ℕ, if◌then◌else◌, List, [], ◌∷◌, Option, Some}
 use Rattle.std.proofs.Common.{None, Ok, Err, refl, sym, ap, ◌∙◌}
 use Rattle.std.specs.Prelude.{nat_eq}
-use Rattle.gimli_core.specs.Notation.{Notation}
+use Rattle.gimli_core.specs.Layout.{OrderAndLimit}
 use Rattle.gimli_core.specs.Values.{Value, udata_value}
 use Rattle.gimli_core.specs.Reading.{Read, ◌>>=◌}
 use Rattle.gimli_core.specs.declared.common.Format.{Format}
 use Rattle.gimli_line.specs.inside.header.Outcome.{read_map}
 use Rattle.gimli_line.specs.header.File.{File}
 use Rattle.gimli_line.specs.header.Header.{plain_file}
-use Rattle.gimli_line.specs.header.HeaderGrammar.{Entry, last_value, digest, file_of_entry}
+use Rattle.gimli_line.specs.header.HeaderGrammar.{TableEntry, last_value, digest, file_of_entry}
 use Rattle.gimli_line.specs.inside.header.FormReading.{form_at}
 use Rattle.gimli_line.specs.inside.header.HeaderReading.{entry_at}
 use Rattle.gimli_line.specs.inside.header.EntryReading.{value_after, file_with, fold_of, folded_at}
 use Rattle.gimli_line.specs.declared.header.file_entry.FileEntryFormat.{FileEntryFormat}
 
 -- the last value of an entry, from its first value on
-last_of : {A : Type 0} (wanted : ℕ) (pick : Value → Option A) (first : A) (content : ℕ) (value : Value) (entry : Entry)
+last_of : {A : Type 0} (wanted : ℕ) (pick : Value → Option A) (first : A) (content : ℕ) (value : Value) (entry : TableEntry)
     → last_value wanted pick first ((content, value) ∷ entry)
     ≡ last_value wanted pick (value_after wanted pick content value first) entry
 last_of {A} wanted pick first content value entry = at_pick (if nat_eq content wanted then pick value else None)
@@ -28,7 +28,7 @@ last_of {A} wanted pick first content value entry = at_pick (if nat_eq content w
     at_pick None = refl
 
 -- the parts of a file, from what stands at first
-abbrev parts_from : File → Entry → File
+abbrev parts_from : File → TableEntry → File
 parts_from first entry = record {
   path_name = last_value 0x0001 Some first.path_name entry;
   directory_index = last_value 0x0002 udata_value first.directory_index entry;
@@ -38,7 +38,7 @@ parts_from first entry = record {
   source = last_value 0x2001 (λ v. Some (Some v)) first.source entry;
 }
 
-file_folded : (first : File) (entry : Entry) → fold_of file_with first entry ≡ parts_from first entry
+file_folded : (first : File) (entry : TableEntry) → fold_of file_with first entry ≡ parts_from first entry
 file_folded first [] = refl
 file_folded first (v ∷ entry) =
     let path = last_of 0x0001 Some first.path_name v.0 v.1 entry in
@@ -49,16 +49,16 @@ file_folded first (v ∷ entry) =
     let source = last_of 0x2001 (λ w. Some (Some w)) first.source v.0 v.1 entry in
     file_folded (file_with first v.0 v.1) entry ∙ sym (cc)
 
-module _ (notation : Notation) (format : Format) {A : Type 0} (step : A → ℕ → Value → A) where
+module _ (layout : OrderAndLimit) (format : Format) {A : Type 0} (step : A → ℕ → Value → A) where
   folded_is : (first : A) (formats : List FileEntryFormat) (bytes : List ℕ)
-      → folded_at notation format step first formats bytes
-      ≡ read_map (fold_of step first) (entry_at notation format formats bytes)
+      → folded_at layout format step first formats bytes
+      ≡ read_map (fold_of step first) (entry_at layout format formats bytes)
   folded_is first [] bytes = refl
   folded_is first (f ∷ formats) bytes =
-      at_value (form_at notation format f.form.0 bytes) (λ value rest.
+      at_value (form_at layout format f.form.0 bytes) (λ value rest.
       folded_is (step first f.content_type.0 value) formats rest)
     where
-      after : (value : Value) (r : Read Entry)
+      after : (value : Value) (r : Read TableEntry)
           → read_map (fold_of step (step first f.content_type.0 value)) r
           ≡ read_map (fold_of step first) (r >>= λ values left. (Ok ((f.content_type.0, value) ∷ values), left))
       after value (Ok values, left) = refl
@@ -66,24 +66,24 @@ module _ (notation : Notation) (format : Format) {A : Type 0} (step : A → ℕ 
 
       at_value : (r : Read Value)
           → ((value : Value) (rest : List ℕ)
-          → folded_at notation format step (step first f.content_type.0 value) formats rest
-          ≡ read_map (fold_of step (step first f.content_type.0 value)) (entry_at notation format formats rest))
-          → (r >>= λ value rest. folded_at notation format step (step first f.content_type.0 value) formats rest)
-          ≡ read_map (fold_of step first) (r >>= λ value rest. entry_at notation format formats rest >>= λ values left.
+          → folded_at layout format step (step first f.content_type.0 value) formats rest
+          ≡ read_map (fold_of step (step first f.content_type.0 value)) (entry_at layout format formats rest))
+          → (r >>= λ value rest. folded_at layout format step (step first f.content_type.0 value) formats rest)
+          ≡ read_map (fold_of step first) (r >>= λ value rest. entry_at layout format formats rest >>= λ values left.
           (Ok ((f.content_type.0, value) ∷ values), left))
-      at_value (Ok value, rest) others = others value rest ∙ after value (entry_at notation format formats rest)
+      at_value (Ok value, rest) others = others value rest ∙ after value (entry_at layout format formats rest)
       at_value (Err e, rest) others = refl
 
 viewed_by : {A B : Type 0} (f g : A → B) → ((x : A) → f x ≡ g x) → (r : Read A) → read_map f r ≡ read_map g r
 viewed_by {A} {B} f g same (Ok x, rest) = ap (λ (y : B). let r : Read B = (Ok y, rest) in r) (same x)
 viewed_by f g same (Err e, rest) = refl
 
-module _ (notation : Notation) (format : Format) where
+module _ (layout : OrderAndLimit) (format : Format) where
   -- from a file of an empty path the file is that of the entry
   pub file_is : (formats : List FileEntryFormat) (bytes : List ℕ)
-      → folded_at notation format file_with (plain_file [] 0 0 0) formats bytes
-      ≡ read_map file_of_entry (entry_at notation format formats bytes)
+      → folded_at layout format file_with (plain_file [] 0 0 0) formats bytes
+      ≡ read_map file_of_entry (entry_at layout format formats bytes)
   file_is formats bytes =
-      folded_is notation format file_with (plain_file [] 0 0 0) formats bytes
+      folded_is layout format file_with (plain_file [] 0 0 0) formats bytes
       ∙ viewed_by (fold_of file_with (plain_file [] 0 0 0)) file_of_entry (file_folded (plain_file [] 0 0 0))
-      (entry_at notation format formats bytes)
+      (entry_at layout format formats bytes)

@@ -1,7 +1,7 @@
 -- What rows at the start of a sequence make and give.
 use Rattle.std.proofs.Common.{Bool, List, Option, ap}
 use Rattle.gimli_core.specs.declared.error.Error.{Error}
-use Rattle.gimli_line.specs.header.Orders.{Source}
+use Rattle.gimli_line.specs.header.Orders.{HeaderSource}
 use Rattle.gimli_line.specs.header.Header.{Header, without_files}
 use Rattle.gimli_line.specs.run.Instruction.{Ins}
 use Rattle.gimli_line.specs.run.Events.{given_of}
@@ -15,14 +15,14 @@ use Rattle.gimli_line.proofs.InstructionLaws.{is_decoded}
 use Rattle.gimli_line.proofs.Runs.{bare_decoding}
 
 -- rows at the start of a sequence, by the bytes that are to come
-module _ (a : Bool) (h : Header) (c : Source) (s : Unread) where
+module _ (a : Bool) (h : Header) (c : HeaderSource) (s : Unread) where
   abbrev parts : List Ins × Option Error
-  parts = decoded_at s.notation (without_files h) s.bytes
+  parts = decoded_at s.layout (without_files h) s.bytes
 
-  decoding : Decodes s.notation h s.bytes parts.0 parts.1
-  decoding = bare_decoding s.notation h s.bytes parts.0 parts.1 (is_decoded s.notation (without_files h) s.bytes)
+  decoding : Decodes s.layout h s.bytes parts.0 parts.1
+  decoding = bare_decoding s.layout h s.bytes parts.0 parts.1 (is_decoded s.layout (without_files h) s.bytes)
 
-  pub started_events : EventsWithFiles s.notation a h s.bytes (events_left (start_of_run a h c s))
+  pub started_events : EventsWithFiles s.layout a h s.bytes (events_left (start_of_run a h c s))
   started_events = record {
     list = parts.0;
     end = parts.1;
@@ -30,7 +30,7 @@ module _ (a : Bool) (h : Header) (c : Source) (s : Unread) where
     given = ap given_of (made_start a h.parameters h.files parts.0 parts.1);
   }
 
-  pub started_made : Makes s.notation a h s.bytes (made_left (start_of_run a h c s))
+  pub started_made : Makes s.layout a h s.bytes (made_left (start_of_run a h c s))
   started_made = record {
     list = parts.0;
     end = parts.1;
@@ -38,7 +38,7 @@ module _ (a : Bool) (h : Header) (c : Source) (s : Unread) where
     made = made_start a h.parameters h.files parts.0 parts.1;
   }
 
-  pub started_files : FilesAtEnd s.notation a h s.bytes (files_at_end (start_of_run a h c s))
+  pub started_files : FilesAtEnd s.layout a h s.bytes (files_at_end (start_of_run a h c s))
   started_files = record {
     list = parts.0;
     end = parts.1;

@@ -4,7 +4,7 @@ use Rattle.std.proofs.Common.{Ok, ℤ}
 use Rattle.std.proofs.Math.Dec.{eqb-suc-zero}
 use Rattle.std.proofs.lemmas.Bool.{le-leb, lt-leb}
 use Rattle.std.specs.Prelude.{nat_le}
-use Rattle.gimli_core.specs.Notation.{Notation}
+use Rattle.gimli_core.specs.Layout.{OrderAndLimit}
 use Rattle.gimli_core.specs.Reading.{byte_at, unsigned_at, signed_at}
 use Rattle.gimli_line.specs.declared.run.from_bytes.Executed.{Executed}
 use Rattle.gimli_line.specs.declared.run.from_bytes.Executed.TheVariants.{No, Quiet, Address, Row}
@@ -24,23 +24,23 @@ use Rattle.gimli_line.specs.run.Unread.{Unread}
 
 -- ---- the standard opcodes that are executed so, from the bytes after them
 
-module _ (notation : Notation) (h : Header) (bytes : List ℕ) (r : LineRow) (opcode : ℕ) where
-  pub copies : opcode ≡ 1 → IsExecutedAs h.parameters (standard_at notation h opcode bytes) bytes r r Row
+module _ (layout : OrderAndLimit) (h : Header) (bytes : List ℕ) (r : LineRow) (opcode : ℕ) where
+  pub copies : opcode ≡ 1 → IsExecutedAs h.parameters (standard_at layout h opcode bytes) bytes r r Row
   unfolding standard_at
   copies is =
       rw is (record { instruction = Copy; reading = refl; defines = refl; refusal = refl; registers = refl }, refl)
 
   pub negates : opcode ≡ 6
-      → IsExecutedAs h.parameters (standard_at notation h opcode bytes) bytes r (record r { is_stmt = not r.is_stmt })
+      → IsExecutedAs h.parameters (standard_at layout h opcode bytes) bytes r (record r { is_stmt = not r.is_stmt })
       Quiet
   unfolding standard_at
   negates is =
       rw is
       (record { instruction = NegateStatement; reading = refl; defines = refl; refusal = refl; registers = refl }, refl)
 
-module _ (notation : Notation) (h : Header) (bytes rest : List ℕ) (r : LineRow) (opcode : ℕ) where
+module _ (layout : OrderAndLimit) (h : Header) (bytes rest : List ℕ) (r : LineRow) (opcode : ℕ) where
   pub advances_line : opcode ≡ 3 → (advance : ℤ) → (Ok advance, rest) ≡ signed_at bytes
-      → IsExecutedAs h.parameters (standard_at notation h opcode bytes) rest r
+      → IsExecutedAs h.parameters (standard_at layout h opcode bytes) rest r
       (record r { line = advanced_line advance r.line }) Quiet
   unfolding standard_at
   advances_line is advance read =
@@ -56,7 +56,7 @@ module _ (notation : Notation) (h : Header) (bytes rest : List ℕ) (r : LineRow
       )
 
   pub sets_file : opcode ≡ 4 → (file : ℕ) → (Ok file, rest) ≡ unsigned_at bytes
-      → IsExecutedAs h.parameters (standard_at notation h opcode bytes) rest r (record r { file = file }) Quiet
+      → IsExecutedAs h.parameters (standard_at layout h opcode bytes) rest r (record r { file = file }) Quiet
   unfolding standard_at
   sets_file is file read = rw is (
     record {
@@ -70,7 +70,7 @@ module _ (notation : Notation) (h : Header) (bytes rest : List ℕ) (r : LineRow
   )
 
   pub sets_column : opcode ≡ 5 → (column : ℕ) → (Ok column, rest) ≡ unsigned_at bytes
-      → IsExecutedAs h.parameters (standard_at notation h opcode bytes) rest r (record r { column = column }) Quiet
+      → IsExecutedAs h.parameters (standard_at layout h opcode bytes) rest r (record r { column = column }) Quiet
   unfolding standard_at
   sets_column is column read =
       rw is (
@@ -86,17 +86,17 @@ module _ (notation : Notation) (h : Header) (bytes rest : List ℕ) (r : LineRow
 
 -- ---- a program whose first byte was taken
 
-module _ (notation : Notation) (h : Header) (bytes rest : List ℕ) where
+module _ (layout : OrderAndLimit) (h : Header) (bytes rest : List ℕ) where
   pub special_first : (opcode : ℕ) → 0 < opcode → nat_le h.parameters.opcode_base opcode ≡ true
       → (Ok opcode, rest) ≡ byte_at bytes
-      → ins_at notation h bytes ≡ (Ok (Special opcode), rest)
+      → ins_at layout h bytes ≡ (Ok (Special opcode), rest)
   unfolding ins_at
   special_first zero some special read = absurd (omega (arith, some))
   special_first (suc o) some special read = rw (← read, eqb-suc-zero o, special) refl
 
   pub standard_first : (opcode : ℕ) → 0 < opcode → nat_le h.parameters.opcode_base opcode ≡ false
       → (Ok opcode, rest) ≡ byte_at bytes
-      → ins_at notation h bytes ≡ standard_at notation h opcode rest
+      → ins_at layout h bytes ≡ standard_at layout h opcode rest
   unfolding ins_at
   standard_first zero some standard read = absurd (omega (arith, some))
   standard_first (suc o) some standard read = rw (← read, eqb-suc-zero o, standard) refl
@@ -106,7 +106,7 @@ module _ (notation : Notation) (h : Header) (bytes rest : List ℕ) where
       → (Ok opcode, rest) ≡ byte_at bytes
       → (old new : LineRow) (refused : Bool) → new ≡ step_of k (Special opcode) old
       → is_refused k (Special opcode) old ≡ refused
-      → IsExecuted h.parameters (ins_at notation h bytes) rest old new refused
+      → IsExecuted h.parameters (ins_at layout h bytes) rest old new refused
   special_executed opcode base k same is some le read old new refused step refusal =
       let above : h.parameters.opcode_base ≤ opcode = omega (arith, le, is) in
       record {
@@ -120,8 +120,8 @@ module _ (notation : Notation) (h : Header) (bytes rest : List ℕ) where
   pub standard_executed : (opcode base : ℕ) → base ≡ h.parameters.opcode_base → 0 < opcode → opcode < base
       → (Ok opcode, rest) ≡ byte_at bytes
       → (after : List ℕ) (old new : LineRow) (told : Executed)
-      → IsExecutedAs h.parameters (standard_at notation h opcode rest) after old new told
-      → IsExecutedAs h.parameters (ins_at notation h bytes) after old new told
+      → IsExecutedAs h.parameters (standard_at layout h opcode rest) after old new told
+      → IsExecutedAs h.parameters (ins_at layout h bytes) after old new told
   standard_executed opcode base is some lt read after old new told x =
       let below : nat_le h.parameters.opcode_base opcode
       ≡ false = lt-leb h.parameters.opcode_base opcode (omega (arith)) in
@@ -131,7 +131,7 @@ module _ (notation : Notation) (h : Header) (bytes rest : List ℕ) where
 
 module _ (h : Header) (old new : Unread) (row after : LineRow) where
   pub executes_it : (told : Executed) → is_executed told ≡ true
-      → IsExecutedAs h.parameters (ins_at old.notation h old.bytes) new.bytes row after told
+      → IsExecutedAs h.parameters (ins_at old.layout h old.bytes) new.bytes row after told
       → ExecutesNext h old new row after told
   executes_it No is x = absurd cc
   executes_it Quiet is x = x

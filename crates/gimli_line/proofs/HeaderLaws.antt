@@ -2,7 +2,7 @@
 use Rattle.std.proofs.Common.{◌≡◌, ℕ, ◌-◌, Bool, true, false, not, if◌then◌else◌, List, [], ◌∷◌, map, Option, Some}
 use Rattle.std.proofs.Common.{None, Ok, Err, refl, sym, ap, ◌∙◌, ◌⊎◌, inl, inr}
 use Rattle.std.specs.Prelude.{nat_eq, nat_le, count_by, ◌&&◌}
-use Rattle.gimli_core.specs.Notation.{Notation}
+use Rattle.gimli_core.specs.Layout.{OrderAndLimit}
 use Rattle.gimli_core.specs.Numbers.{is_address_size}
 use Rattle.gimli_core.specs.Reading.{Read, ◌>>=◌, byte_at, address_size_at}
 use Rattle.gimli_core.specs.Production.{Production, ◌>>=◌ as ◌>>>◌, done, refuse, check, choose, times, byte, number}
@@ -32,16 +32,16 @@ use Rattle.gimli_core.proofs.UnsignedLeb.{reads_unsigned, reads_unsigned_16}
 use Rattle.gimli_core.proofs.SignedLaws.{reads_signed}
 use Rattle.gimli_line.specs.header.File.{File}
 use Rattle.gimli_line.specs.header.Header.{Header, UnitEntry, plain_file}
-use Rattle.gimli_line.specs.header.Productions.{name, positive}
+use Rattle.gimli_line.specs.header.Productions.{path_text, positive}
 use Rattle.gimli_line.specs.inside.header.FormReading.{block_at, shape_at, form_at}
-use Rattle.gimli_line.specs.header.HeaderGrammar.{is_content, Entry, path_of, file_of_entry, Opening, paths_production}
+use Rattle.gimli_line.specs.header.HeaderGrammar.{is_content, TableEntry, path_of, file_of_entry, HeaderOpening, paths_production}
 use Rattle.gimli_line.specs.header.HeaderGrammar.{file_production, files_production, format_production}
 use Rattle.gimli_line.specs.header.HeaderGrammar.{formats_production, entry_production, entries_production}
 use Rattle.gimli_line.specs.header.HeaderGrammar.{table_production, version_production}
 use Rattle.gimli_line.specs.header.HeaderGrammar.{address_size_production, opening_production, line_encoding_production}
 use Rattle.gimli_line.specs.header.HeaderGrammar.{parameters_production, directory_table}
 use Rattle.gimli_line.specs.header.HeaderGrammar.{file_table, fields_production, header_production, SpellsUnit}
-use Rattle.gimli_line.specs.header.HeaderGrammar.{HasHeaderFault}
+use Rattle.gimli_line.specs.header.HeaderGrammar.{HasUnitFault}
 use Rattle.gimli_line.specs.header.HeaderReading.{plain_file_at}
 use Rattle.gimli_line.specs.inside.header.HeaderReading.{positive_at, paths_at, named_file_at, files_at, format_at}
 use Rattle.gimli_line.specs.inside.header.HeaderReading.{formats_at, entry_at, entries_at, table_at}
@@ -71,39 +71,39 @@ reads_positive d =
 reads_block : (n : ℕ) → Reads (block_production n) (block_at n)
 reads_block n = reads_both _ _ _ _ (reads_some_bytes n) (λ xs. reads_done _)
 
-module _ (notation : Notation) (format : Format) where
-  reads_shape : (shape : Shape) → Reads (shape_production notation format shape) (shape_at notation format shape)
+module _ (layout : OrderAndLimit) (format : Format) where
+  reads_shape : (shape : Shape) → Reads (shape_production layout format shape) (shape_at layout format shape)
   reads_shape (fixed size make) =
-      reads_both _ _ _ _ (reads_number notation.big size) (λ n. reads_done _)
+      reads_both _ _ _ _ (reads_number layout.is_big size) (λ n. reads_done _)
   reads_shape (three_bytes make) =
       reads_both _ _ _ _
-      (reads_below_limit notation _ _ (reads_number notation.big 3)) (λ n.
+      (reads_below_limit layout _ _ (reads_number layout.is_big 3)) (λ n.
       reads_done _)
   reads_shape (word_offset make) =
-      reads_both _ _ _ _ (reads_offset_word notation format) (λ n. reads_done _)
+      reads_both _ _ _ _ (reads_offset_word layout format) (λ n. reads_done _)
   reads_shape (leb make) = reads_both unsigned _ _ _ reads_unsigned (λ n. reads_done _)
   reads_shape (signed_leb make) = reads_both signed _ _ _ reads_signed (λ z. reads_done _)
   reads_shape (leb_offset make) =
-      reads_both _ _ _ _ (reads_below_limit notation unsigned _ reads_unsigned) (λ n.
+      reads_both _ _ _ _ (reads_below_limit layout unsigned _ reads_unsigned) (λ n.
       reads_done _)
   reads_shape (block size) = reads_block size
-  reads_shape (counted size) = reads_both _ _ _ _ (reads_number notation.big size) reads_block
+  reads_shape (counted size) = reads_both _ _ _ _ (reads_number layout.is_big size) reads_block
   reads_shape leb_counted =
-      reads_both _ _ _ _ (reads_below_limit notation unsigned _ reads_unsigned)
+      reads_both _ _ _ _ (reads_below_limit layout unsigned _ reads_unsigned)
       reads_block
   reads_shape string = reads_both text _ _ _ reads_text (λ xs. reads_done _)
 
-  pub reads_form : (form : ℕ) → Reads (form_production notation format form) (form_at notation format form)
+  pub reads_form : (form : ℕ) → Reads (form_production layout format form) (form_at layout format form)
   unfolding form_at
   reads_form form = at_shape (shape_among form shapes)
     where
       at_shape : (found : Option Shape)
           → Reads
           (elim found
-          [ Some shape ↦ shape_production notation format shape | None ↦ refuse (UnknownForm (record { 0 = form })) ])
+          [ Some shape ↦ shape_production layout format shape | None ↦ refuse (UnknownForm (record { 0 = form })) ])
           (λ bytes.
           elim found [
-            | Some shape ↦ shape_at notation format shape bytes
+            | Some shape ↦ shape_at layout format shape bytes
             | None ↦ (Err (UnknownForm (record { 0 = form })), bytes)
           ])
       at_shape (Some shape) = reads_shape shape
@@ -112,7 +112,7 @@ module _ (notation : Notation) (format : Format) where
 -- ---- tables up to version 4
 
 pub reads_paths : Reads paths_production paths_at
-reads_paths = reads_closed name _ reads_name
+reads_paths = reads_closed path_text _ reads_name
 
 pub reads_file : (path : List ℕ) → Reads (file_production path) (plain_file_at path)
 unfolding plain_file_at
@@ -123,10 +123,10 @@ reads_file path =
 
 -- a path that isn't empty, and what stands after it
 abbrev pub named_file : Production File
-named_file = name >>> file_production
+named_file = path_text >>> file_production
 
 pub reads_named_file : ReadsOpen named_file named_file_at
-reads_named_file = reads_open_both name file_production _ _ reads_name reads_file
+reads_named_file = reads_open_both path_text file_production _ _ reads_name reads_file
 
 pub reads_files : Reads files_production files_at
 reads_files = reads_closed named_file _ reads_named_file
@@ -147,35 +147,35 @@ reads_formats =
     (λ formats. reads_guard (nat_eq (count_by (is_content 0x0001) formats) 1) MissingFileEntryFormatPath (done formats)
     _ (reads_done formats)))
 
-module _ (notation : Notation) (format : Format) where
+module _ (layout : OrderAndLimit) (format : Format) where
   pub reads_entry : (formats : List FileEntryFormat)
-      → Reads (entry_production notation format formats) (entry_at notation format formats)
+      → Reads (entry_production layout format formats) (entry_at layout format formats)
   reads_entry [] = reads_done []
   reads_entry (f ∷ formats) =
-      reads_both _ _ _ _ (reads_form notation format f.form.0)
+      reads_both _ _ _ _ (reads_form layout format f.form.0)
       (λ value. reads_both _ _ _ _ (reads_entry formats) (λ values.
       reads_done _))
 
   pub reads_entries : (formats : List FileEntryFormat)
-      → Reads (entries_production notation format formats) (entries_at notation format formats)
+      → Reads (entries_production layout format formats) (entries_at layout format formats)
   unfolding entries_at
   reads_entries formats =
       reads_both unsigned _ _ _ reads_unsigned (λ count.
-      reads_times count (entry_production notation format formats) _ (reads_entry formats))
+      reads_times count (entry_production layout format formats) _ (reads_entry formats))
 
-  pub reads_table : Reads (table_production notation format) (table_at notation format)
+  pub reads_table : Reads (table_production layout format) (table_at layout format)
   unfolding table_at
   reads_table =
       reads_both formats_production _ _ _ reads_formats (λ formats.
-      reads_both (entries_production notation format formats) _ _ _ (reads_entries formats) (λ entries.
+      reads_both (entries_production layout format formats) _ _ _ (reads_entries formats) (λ entries.
       reads_done (formats, entries)))
 
 -- ---- the parts of a header
 
-pub reads_version : (big : Bool) → Reads (version_production big) (version_at big)
+pub reads_version : (is_big : Bool) → Reads (version_production is_big) (version_at is_big)
 unfolding version_at
-reads_version big =
-    reads_both (number big 2) _ _ _ (reads_number big 2) (λ version.
+reads_version is_big =
+    reads_both (number is_big 2) _ _ _ (reads_number is_big 2) (λ version.
     reads_guard (nat_le 2 version && nat_le version 5) (UnknownVersion version) (done version) _ (reads_done version))
 
 -- an address size, which the core reads with its test
@@ -201,13 +201,13 @@ reads_size version handed =
     (reads_both byte _ _ _ reads_byte (λ selector.
     reads_guard (nat_eq selector 0) (UnsupportedSegmentSize selector) (done size) _ (reads_done size))))))
 
-pub reads_opening : (notation : Notation) (handed : ℕ) (format : Format)
-    → Reads (opening_production notation handed format) (opening_at notation handed format)
+pub reads_opening : (layout : OrderAndLimit) (handed : ℕ) (format : Format)
+    → Reads (opening_production layout handed format) (opening_at layout handed format)
 unfolding opening_at
-reads_opening notation handed format =
-    reads_both (version_production notation.big) _ _ _ (reads_version notation.big)
+reads_opening layout handed format =
+    reads_both (version_production layout.is_big) _ _ _ (reads_version layout.is_big)
     (λ version. reads_both (address_size_production version handed) _ _ _ (reads_size version handed)
-    (λ address_size. reads_both (offset_word notation format) _ _ _ (reads_offset_word notation format)
+    (λ address_size. reads_both (offset_word layout format) _ _ _ (reads_offset_word layout format)
     (λ header_length. reads_both (some_bytes header_length) _ _ _ (reads_some_bytes header_length)
     (λ fields. reads_done _))))
 
@@ -235,16 +235,16 @@ module _ {A B : Type 0} (f : A → B) where
   paired none (Ok x, rest) = refl
   paired none _ = refl
 
-table_viewed : {B : Type 0} (view : Entry → B) (read : List FileEntryFormat → List ℕ → Read (List Entry))
+table_viewed : {B : Type 0} (view : TableEntry → B) (read : List FileEntryFormat → List ℕ → Read (List TableEntry))
     (r : Read (List FileEntryFormat))
     → ((r >>= λ formats rest. read formats rest >>= λ xs end.
-    (let s : Read (List FileEntryFormat × List Entry) = (Ok (formats, xs), end) in s))
+    (let s : Read (List FileEntryFormat × List TableEntry) = (Ok (formats, xs), end) in s))
     >>= λ table rest. (let t : Read (List FileEntryFormat × List B) = (Ok (table.0, map view table.1), rest) in t))
     ≡ (r >>= λ formats rest. read_map (map view) (read formats rest) >>= λ ys end. (Ok (formats, ys), end))
 table_viewed {B} view read (Ok formats, rest) = inner _
   where
     inner : (r : Read _)
-        → ((r >>= λ xs rest. (let s : Read (List FileEntryFormat × List Entry) = (Ok (formats, xs), rest) in s))
+        → ((r >>= λ xs rest. (let s : Read (List FileEntryFormat × List TableEntry) = (Ok (formats, xs), rest) in s))
         >>= λ table rest.
         (let t : Read (List FileEntryFormat × List B) = (Ok (table.0, map view table.1), rest) in t))
         ≡ (read_map (map view) r >>= λ ys rest. (Ok (formats, ys), rest))
@@ -252,61 +252,61 @@ table_viewed {B} view read (Ok formats, rest) = inner _
     inner _ = refl
 table_viewed view read _ = refl
 
-reads_entries_seen : {B : Type 0} (view : Entry → B) (notation : Notation) (format : Format)
-    → Reads {A = List FileEntryFormat × List B} (table_production notation format >>> λ table.
+reads_entries_seen : {B : Type 0} (view : TableEntry → B) (layout : OrderAndLimit) (format : Format)
+    → Reads {A = List FileEntryFormat × List B} (table_production layout format >>> λ table.
     done (table.0, map view table.1))
     (λ bytes. formats_at bytes >>= λ formats rest.
-    read_map (map view) (entries_at notation format formats rest) >>= λ items rest.
+    read_map (map view) (entries_at layout format formats rest) >>= λ items rest.
     (Ok (formats, items), rest))
 unfolding table_at
-reads_entries_seen view notation format =
-    reads_same _ _ _ (λ bytes. table_viewed view (entries_at notation format) (formats_at bytes))
-    (reads_both (table_production notation format) _ _ _ (reads_table notation format) (λ table. reads_done _))
+reads_entries_seen view layout format =
+    reads_same _ _ _ (λ bytes. table_viewed view (entries_at layout format) (formats_at bytes))
+    (reads_both (table_production layout format) _ _ _ (reads_table layout format) (λ table. reads_done _))
 
-pub reads_directories : (notation : Notation) (encoding : Encoding)
-    → Reads (directory_table notation encoding) (directories_at notation encoding)
+pub reads_directories : (layout : OrderAndLimit) (encoding : Encoding)
+    → Reads (directory_table layout encoding) (directories_at layout encoding)
 unfolding table_of
-reads_directories notation encoding =
+reads_directories layout encoding =
     reads_if (nat_le encoding.version 4) _ _ _ _
     (reads_same _ _ _ (λ bytes. paired (map String) [] (paths_at bytes))
     (reads_both paths_production _ _ _ reads_paths (λ paths. reads_done _)))
-    (reads_entries_seen path_of notation encoding.format)
+    (reads_entries_seen path_of layout encoding.format)
 
-pub reads_file_names : (notation : Notation) (encoding : Encoding)
-    → Reads (file_table notation encoding) (file_names_at notation encoding)
+pub reads_file_names : (layout : OrderAndLimit) (encoding : Encoding)
+    → Reads (file_table layout encoding) (file_names_at layout encoding)
 unfolding table_of
-reads_file_names notation encoding =
+reads_file_names layout encoding =
     reads_if (nat_le encoding.version 4) _ _ _ _ (reads_both files_production _ _ _ reads_files (λ files. reads_done _))
-    (reads_entries_seen file_of_entry notation encoding.format)
+    (reads_entries_seen file_of_entry layout encoding.format)
 
-pub reads_fields : (notation : Notation) (unit_entry : UnitEntry) (unit : ℕ) (opening : Opening) (program : List ℕ)
-    → Reads (fields_production notation unit_entry unit opening program)
-    (fields_at notation unit_entry unit opening program)
+pub reads_fields : (layout : OrderAndLimit) (unit_entry : UnitEntry) (unit : ℕ) (opening : HeaderOpening) (program : List ℕ)
+    → Reads (fields_production layout unit_entry unit opening program)
+    (fields_at layout unit_entry unit opening program)
 unfolding fields_at
-reads_fields notation unit_entry unit opening program =
+reads_fields layout unit_entry unit opening program =
     reads_both (parameters_production opening.encoding) _ _ _ (reads_parameters opening.encoding)
     (λ parameters. reads_both (some_bytes (parameters.opcode_base - 1)) _ _ _
     (reads_some_bytes (parameters.opcode_base - 1))
-    (λ counts. reads_both (directory_table notation opening.encoding) _ _ _
-    (reads_directories notation opening.encoding)
-    (λ directories. reads_both (file_table notation opening.encoding) _ _ _ (reads_file_names notation opening.encoding)
+    (λ counts. reads_both (directory_table layout opening.encoding) _ _ _
+    (reads_directories layout opening.encoding)
+    (λ directories. reads_both (file_table layout opening.encoding) _ _ _ (reads_file_names layout opening.encoding)
     (λ files. reads_done _))))
 
 -- ---- the header
 
-pub reads_header : (notation : Notation) (unit_entry : UnitEntry)
-    → Reads (header_production notation unit_entry) (header_at notation unit_entry)
+pub reads_header : (layout : OrderAndLimit) (unit_entry : UnitEntry)
+    → Reads (header_production layout unit_entry) (header_at layout unit_entry)
 unfolding header_at
-reads_header notation unit_entry =
-    reads_both (unit_length notation) _ _ _ (reads_unit_length notation)
+reads_header layout unit_entry =
+    reads_both (unit_length layout) _ _ _ (reads_unit_length layout)
     (λ unit. reads_both (some_bytes unit.0) _ _ _ (reads_some_bytes unit.0)
-    (λ inside. reads_both (within inside (opening_production notation unit_entry.address_size unit.1)) _ _ _
-    (reads_within inside (opening_production notation unit_entry.address_size unit.1) _
-    (reads_opening notation unit_entry.address_size unit.1))
-    (λ opened. reads_both (within opened.0.fields (fields_production notation unit_entry unit.0 opened.0 opened.1)) _ _
+    (λ inside. reads_both (within inside (opening_production layout unit_entry.address_size unit.1)) _ _ _
+    (reads_within inside (opening_production layout unit_entry.address_size unit.1) _
+    (reads_opening layout unit_entry.address_size unit.1))
+    (λ opened. reads_both (within opened.0.fields (fields_production layout unit_entry unit.0 opened.0 opened.1)) _ _
     _ (reads_within opened.0.fields
-    (fields_production notation unit_entry unit.0 opened.0 opened.1) _
-    (reads_fields notation unit_entry unit.0 opened.0 opened.1))
+    (fields_production layout unit_entry unit.0 opened.0 opened.1) _
+    (reads_fields layout unit_entry unit.0 opened.0 opened.1))
     (λ fields. reads_done _))))
 
 -- ---- a unit, or a refusal
@@ -320,19 +320,19 @@ pub answer_of : {A : Type 0} (r : Read A) → Answer r
 answer_of (Ok x, rest) = given_ok x rest refl
 answer_of (Err e, rest) = given_err e refl
 
-module _ (notation : Notation) (unit_entry : UnitEntry) where
+module _ (layout : OrderAndLimit) (unit_entry : UnitEntry) where
   -- a header that is read is that of the unit in front
-  pub unit_found : (bytes : List ℕ) (h : Header) (rest : List ℕ) → header_at notation unit_entry bytes ≡ (Ok h, rest)
-      → SpellsUnit notation unit_entry bytes h
-  unit_found bytes h rest e = let f = (reads_header notation unit_entry).found bytes h rest e in (f.0, rest, f.1, f.2)
+  pub unit_found : (bytes : List ℕ) (h : Header) (rest : List ℕ) → header_at layout unit_entry bytes ≡ (Ok h, rest)
+      → SpellsUnit layout unit_entry bytes h
+  unit_found bytes h rest e = let f = (reads_header layout unit_entry).found bytes h rest e in (f.0, rest, f.1, f.2)
 
   -- the same where the bytes after it aren't named
-  pub unit_answered : (bytes : List ℕ) (h : Header) → (header_at notation unit_entry bytes).0 ≡ Ok h
-      → SpellsUnit notation unit_entry bytes h
+  pub unit_answered : (bytes : List ℕ) (h : Header) → (header_at layout unit_entry bytes).0 ≡ Ok h
+      → SpellsUnit layout unit_entry bytes h
   unit_answered bytes h is = at_rest _ refl is
     where
-      at_rest : (r : Read Header) → header_at notation unit_entry bytes ≡ r → r.0 ≡ Ok h
-          → SpellsUnit notation unit_entry bytes h
+      at_rest : (r : Read Header) → header_at layout unit_entry bytes ≡ r → r.0 ≡ Ok h
+          → SpellsUnit layout unit_entry bytes h
       at_rest (Ok k, rest) same is =
           let whole : k
           ≡ h = cc in unit_found bytes h rest
@@ -340,36 +340,36 @@ module _ (notation : Notation) (unit_entry : UnitEntry) where
       at_rest _ same is = absurd cc
 
   -- the header of a unit in front is read
-  pub unit_read : (bytes : List ℕ) (h : Header) → SpellsUnit notation unit_entry bytes h
-      → (header_at notation unit_entry bytes).0 ≡ Ok h
+  pub unit_read : (bytes : List ℕ) (h : Header) → SpellsUnit layout unit_entry bytes h
+      → (header_at layout unit_entry bytes).0 ≡ Ok h
   unit_read bytes h s =
-      ap (λ xs. (header_at notation unit_entry xs).0) s.2
-      ∙ ap (λ r. r.0) ((reads_header notation unit_entry).only s.0 h s.1 s.3)
+      ap (λ xs. (header_at layout unit_entry xs).0) s.2
+      ∙ ap (λ r. r.0) ((reads_header layout unit_entry).only s.0 h s.1 s.3)
 
   -- a unit has one header
-  pub one_header : (bytes : List ℕ) (h k : Header) → SpellsUnit notation unit_entry bytes h
-      → SpellsUnit notation unit_entry bytes k → h ≡ k
+  pub one_header : (bytes : List ℕ) (h k : Header) → SpellsUnit layout unit_entry bytes h
+      → SpellsUnit layout unit_entry bytes k → h ≡ k
   one_header bytes h k s t = let e = sym (unit_read bytes h s) ∙ unit_read bytes k t in cc
 
   -- and no refusal
-  pub no_fault : (bytes : List ℕ) (h : Header) (e : Error) → SpellsUnit notation unit_entry bytes h
-      → HasHeaderFault notation unit_entry bytes e → ⊥
+  pub no_fault : (bytes : List ℕ) (h : Header) (e : Error) → SpellsUnit layout unit_entry bytes h
+      → HasUnitFault layout unit_entry bytes e → ⊥
   no_fault bytes h e s f =
-      let both = sym (unit_read bytes h s) ∙ (reads_header notation unit_entry).refused bytes e f in cc
+      let both = sym (unit_read bytes h s) ∙ (reads_header layout unit_entry).refused bytes e f in cc
 
   -- what is no unit has one refusal
-  pub one_fault : (bytes : List ℕ) (e d : Error) → HasHeaderFault notation unit_entry bytes e
-      → HasHeaderFault notation unit_entry bytes d → e ≡ d
+  pub one_fault : (bytes : List ℕ) (e d : Error) → HasUnitFault layout unit_entry bytes e
+      → HasUnitFault layout unit_entry bytes d → e ≡ d
   one_fault bytes e d f g =
-      let both = sym ((reads_header notation unit_entry).refused bytes e f)
-      ∙ (reads_header notation unit_entry).refused bytes d g in
+      let both = sym ((reads_header layout unit_entry).refused bytes e f)
+      ∙ (reads_header layout unit_entry).refused bytes d g in
       cc
 
   -- one of the two is there
   pub unit_or_fault : (bytes : List ℕ)
-      → ((h : Header) × SpellsUnit notation unit_entry bytes h)
-      ⊎ ((e : Error) × HasHeaderFault notation unit_entry bytes e)
+      → ((h : Header) × SpellsUnit layout unit_entry bytes h)
+      ⊎ ((e : Error) × HasUnitFault layout unit_entry bytes e)
   unit_or_fault bytes = elim (answer_of _) [
     | given_ok h rest is ↦ inl (h, unit_found bytes h rest is)
-    | given_err e is ↦ inr (e, (reads_header notation unit_entry).fault bytes e is)
+    | given_err e is ↦ inr (e, (reads_header layout unit_entry).fault bytes e is)
   ]

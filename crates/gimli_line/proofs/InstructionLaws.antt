@@ -4,7 +4,7 @@ use Rattle.std.proofs.Common.{None, Ok, Err, refl, sym, ap, subst, ◌∙◌}
 use Rattle.std.proofs.Common.{append_assoc, arith}
 use Rattle.std.specs.Prelude.{nat_eq, nat_le, slice_index}
 use Rattle.std.proofs.lemmas.List.{length-append, take_at}
-use Rattle.gimli_core.specs.Notation.{Notation}
+use Rattle.gimli_core.specs.Layout.{OrderAndLimit}
 use Rattle.gimli_core.specs.Reading.{Read, ◌>>=◌, within_at}
 use Rattle.gimli_core.specs.Production.{Production, ◌>>=◌ as ◌>>>◌, done, times, byte, number, some_bytes, text}
 use Rattle.gimli_core.specs.Production.{unsigned, signed, below_limit, within, Reads}
@@ -19,9 +19,9 @@ use Rattle.gimli_line.specs.declared.run.instruction.LineInstruction.TheVariants
 use Rattle.gimli_line.specs.declared.run.instruction.LineInstruction.TheVariants.{UnknownExtended}
 use Rattle.gimli_line.specs.run.Instruction.{Ins}
 use Rattle.gimli_line.specs.header.Header.{Header}
-use Rattle.gimli_line.specs.header.Productions.{bytes_of, among}
+use Rattle.gimli_line.specs.header.Productions.{bytes_of, operand_of}
 use Rattle.gimli_line.specs.header.HeaderGrammar.{file_production}
-use Rattle.gimli_line.specs.run.InstructionGrammar.{Operand, none, uleb, sleb, half, address, file, standard_opcodes}
+use Rattle.gimli_line.specs.run.InstructionGrammar.{Operand, none, uleb, sleb, uhalf, address, file, standard_opcodes}
 use Rattle.gimli_line.specs.run.InstructionGrammar.{extended_opcodes, operand_production}
 use Rattle.gimli_line.specs.run.InstructionGrammar.{unknown_production, standard_production, extended_operands}
 use Rattle.gimli_line.specs.run.InstructionGrammar.{extended_production, instruction_production}
@@ -64,23 +64,23 @@ module _ {A : Type 0} (l : Production A) (read : List ℕ → Read A) (r : Reads
 
 -- ---- instructions
 
-module _ (notation : Notation) (h : Header) where
-  reads_operand : (operand : Operand) → Reads (operand_production notation h operand) (operand_at notation h operand)
+module _ (layout : OrderAndLimit) (h : Header) where
+  reads_operand : (operand : Operand) → Reads (operand_production layout h operand) (operand_at layout h operand)
   reads_operand (none i) = reads_done i
   reads_operand (uleb make) = reads_both unsigned _ _ _ reads_unsigned (λ n. reads_done (make n))
   reads_operand (sleb make) = reads_both signed _ _ _ reads_signed (λ z. reads_done (make z))
-  reads_operand (half make) =
-      reads_both (number notation.big 2) _ _ _ (reads_number notation.big 2) (λ n. reads_done (make n))
+  reads_operand (uhalf make) =
+      reads_both (number layout.is_big 2) _ _ _ (reads_number layout.is_big 2) (λ n. reads_done (make n))
   reads_operand (address make) =
-      reads_both (number notation.big h.parameters.encoding.address_size) _ _ _
-      (reads_number notation.big h.parameters.encoding.address_size) (λ a.
+      reads_both (number layout.is_big h.parameters.encoding.address_size) _ _ _
+      (reads_number layout.is_big h.parameters.encoding.address_size) (λ a.
       reads_done (make a))
   reads_operand (file make) =
       reads_both text _ _ _ reads_text (λ path.
       reads_both (file_production path) _ _ _ (reads_file path) (λ f. reads_done (make f)))
 
   reads_unknown : (opcode count : ℕ)
-      → Reads (unknown_production notation h opcode count) (unknown_at notation h opcode count)
+      → Reads (unknown_production layout h opcode count) (unknown_at layout h opcode count)
   unfolding unknown_at
   reads_unknown opcode zero = reads_done (UnknownStandard0 (record { 0 = opcode }))
   reads_unknown opcode (suc zero) =
@@ -90,74 +90,74 @@ module _ (notation : Notation) (h : Header) where
       (reads_bytes_of (times (suc (suc more)) unsigned) _ (reads_times (suc (suc more)) unsigned _ reads_unsigned))
       (λ operands. reads_done (UnknownStandardN (record { 0 = opcode }) operands))
 
-  pub reads_standard : (opcode : ℕ) → Reads (standard_production notation h opcode) (standard_at notation h opcode)
+  pub reads_standard : (opcode : ℕ) → Reads (standard_production layout h opcode) (standard_at layout h opcode)
   unfolding standard_at
-  reads_standard opcode = at_operand (among opcode standard_opcodes)
+  reads_standard opcode = at_operand (operand_of opcode standard_opcodes)
     where
       at_operand : (found : Option Operand) → Reads {A = Ins}
           (elim found [
-            | Some operand ↦ operand_production notation h operand
-            | None ↦ unknown_production notation h opcode (slice_index h.operand_counts (opcode - 1))
+            | Some operand ↦ operand_production layout h operand
+            | None ↦ unknown_production layout h opcode (slice_index h.operand_counts (opcode - 1))
           ])
           (λ bytes. elim found [
             | Some operand ↦
-                operand_at notation h operand bytes
-            | None ↦ unknown_at notation h opcode (slice_index h.operand_counts (opcode - 1)) bytes
+                operand_at layout h operand bytes
+            | None ↦ unknown_at layout h opcode (slice_index h.operand_counts (opcode - 1)) bytes
           ])
       at_operand (Some operand) = reads_operand operand
       at_operand None = reads_unknown opcode (slice_index h.operand_counts (opcode - 1))
 
   reads_extended_operands : (opcode : ℕ) (operands : List ℕ)
-      → Reads (extended_operands notation h opcode operands) (extended_operands_at notation h opcode operands)
+      → Reads (extended_operands layout h opcode operands) (extended_operands_at layout h opcode operands)
   unfolding extended_operands_at
-  reads_extended_operands opcode operands = at_operand (among opcode (extended_opcodes h.parameters.encoding.version))
+  reads_extended_operands opcode operands = at_operand (operand_of opcode (extended_opcodes h.parameters.encoding.version))
     where
       at_operand : (found : Option Operand) → Reads {A = Ins}
           (elim found [
-            | Some operand ↦ within operands (operand_production notation h operand) >>> (λ read. done read.0)
+            | Some operand ↦ within operands (operand_production layout h operand) >>> (λ read. done read.0)
             | None ↦ done (UnknownExtended (record { 0 = opcode }) operands)
           ])
           (λ bytes. elim found [
             | Some operand ↦
-                within_at operands (operand_at notation h operand) bytes >>= (λ read rest. (Ok read.0, rest))
+                within_at operands (operand_at layout h operand) bytes >>= (λ read rest. (Ok read.0, rest))
             | None ↦ (Ok (UnknownExtended (record { 0 = opcode }) operands), bytes)
           ])
       at_operand (Some operand) =
-          reads_both (within operands (operand_production notation h operand)) _ _ _
-          (reads_within operands (operand_production notation h operand) _ (reads_operand operand)) (λ read.
+          reads_both (within operands (operand_production layout h operand)) _ _ _
+          (reads_within operands (operand_production layout h operand) _ (reads_operand operand)) (λ read.
           reads_done read.0)
       at_operand None = reads_done (UnknownExtended (record { 0 = opcode }) operands)
 
-  reads_extended : Reads (extended_production notation h) (extended_at notation h)
+  reads_extended : Reads (extended_production layout h) (extended_at layout h)
   unfolding extended_at
   reads_extended =
-      reads_both (below_limit notation unsigned) _ _ _ (reads_below_limit notation unsigned _ reads_unsigned)
+      reads_both (below_limit layout unsigned) _ _ _ (reads_below_limit layout unsigned _ reads_unsigned)
       (λ size. reads_both (some_bytes size) _ _ _ (reads_some_bytes size)
       (λ inside. reads_both (within inside byte) _ _ _ (reads_within inside byte _ reads_byte)
       (λ opened. reads_extended_operands opened.0 opened.1)))
 
-  pub reads_instruction : Reads (instruction_production notation h) (ins_at notation h)
+  pub reads_instruction : Reads (instruction_production layout h) (ins_at layout h)
   unfolding ins_at
   reads_instruction =
       reads_both byte _ _ _ reads_byte
-      (λ opcode. reads_if (nat_eq opcode 0) (extended_production notation h) _ _ _ reads_extended
+      (λ opcode. reads_if (nat_eq opcode 0) (extended_production layout h) _ _ _ reads_extended
       (reads_if (nat_le h.parameters.opcode_base opcode) (done (Special opcode)) _ _ _ (reads_done (Special opcode))
       (reads_standard opcode)))
 
   -- ---- a program
 
   -- an instruction has bytes
-  pub takes_bytes : (front : List ℕ) (i : Ins) → SpellsInstruction notation h front i → 0 < length front
+  pub takes_bytes : (front : List ℕ) (i : Ins) → SpellsInstruction layout h front i → 0 < length front
   takes_bytes front i s =
       grind (arith)
 
   decoding_is : (more : ℕ) (bytes : List ℕ) → length bytes ≤ more
-      → Decodes notation h bytes (decoded_upto notation h more bytes).0 (decoded_upto notation h more bytes).1
+      → Decodes layout h bytes (decoded_upto layout h more bytes).0 (decoded_upto layout h more bytes).1
   unfolding decoded_upto
   decoding_is zero [] le = record { front = []; rest = []; parts = refl; spelled = refl; ended = refl }
   decoding_is zero (b ∷ bytes) le = absurd (omega arith)
   decoding_is (suc more) [] le = record { front = []; rest = []; parts = refl; spelled = refl; ended = refl }
-  decoding_is (suc more) (b ∷ bytes) le = elim (answer_of (ins_at notation h (b ∷ bytes))) [
+  decoding_is (suc more) (b ∷ bytes) le = elim (answer_of (ins_at layout h (b ∷ bytes))) [
     | given_ok i rest is ↦
         let f = reads_instruction.found (b ∷ bytes) i rest is in
         let some = takes_bytes f.0 i f.2 in
@@ -169,12 +169,12 @@ module _ (notation : Notation) (h : Header) where
           spelled = (f.0, c.front, refl, f.2, c.spelled);
           ended = c.ended;
         })
-    | given_err e is ↦ at_fault e (ins_at notation h (b ∷ bytes)) refl is
+    | given_err e is ↦ at_fault e (ins_at layout h (b ∷ bytes)) refl is
   ]
     where
-      at_fault : (e : Error) (r : Read Ins) → r ≡ ins_at notation h (b ∷ bytes) → r.0 ≡ Err e
-          → Decodes notation h (b ∷ bytes) (decoded_after notation h (decoded_upto notation h more) r).0
-          (decoded_after notation h (decoded_upto notation h more) r).1
+      at_fault : (e : Error) (r : Read Ins) → r ≡ ins_at layout h (b ∷ bytes) → r.0 ≡ Err e
+          → Decodes layout h (b ∷ bytes) (decoded_after layout h (decoded_upto layout h more) r).0
+          (decoded_after layout h (decoded_upto layout h more) r).1
       at_fault e (Ok i, rest) same is = absurd cc
       at_fault e (Err d, rest) same is = record {
         front = [];
@@ -185,79 +185,79 @@ module _ (notation : Notation) (h : Header) where
       }
 
   only_decoding : (list : List Ins) (end : Option Error) (more : ℕ) (bytes : List ℕ) → length bytes ≤ more
-      → Decodes notation h bytes list end
-      → (list, end) ≡ decoded_upto notation h more bytes
+      → Decodes layout h bytes list end
+      → (list, end) ≡ decoded_upto layout h more bytes
   unfolding decoded_upto
   only_decoding [] None more bytes le c = at_end more bytes (c.parts ∙ rw (c.spelled, c.ended) refl)
     where
-      at_end : (more : ℕ) (bytes : List ℕ) → bytes ≡ [] → ([], None) ≡ decoded_upto notation h more bytes
+      at_end : (more : ℕ) (bytes : List ℕ) → bytes ≡ [] → ([], None) ≡ decoded_upto layout h more bytes
       at_end zero bytes is = refl
       at_end (suc more) [] is = refl
       at_end (suc more) (b ∷ bytes) is = absurd cc
   only_decoding [] (Some e) more bytes le c =
       let whole : bytes ≡ c.rest = c.parts ∙ rw c.spelled refl in
       at_fault more bytes le (λ none. c.ended.0 (sym whole ∙ none))
-      (subst (λ (xs : List ℕ). (instruction_production notation h).Fault xs e) (sym whole) c.ended.1)
+      (subst (λ (xs : List ℕ). (instruction_production layout h).Fault xs e) (sym whole) c.ended.1)
     where
       after : (b : ℕ) (bytes : List ℕ) (more : ℕ) (r : Read Ins) → r.0 ≡ Err e
-          → ([], Some e) ≡ decoded_after notation h (decoded_upto notation h more) r
+          → ([], Some e) ≡ decoded_after layout h (decoded_upto layout h more) r
       after b bytes more (Ok i, rest) is = absurd cc
       after b bytes more (Err d, rest) is = let same : d ≡ e = cc in rw same refl
 
       at_fault : (more : ℕ) (bytes : List ℕ) → length bytes ≤ more → bytes ≢ []
-          → (instruction_production notation h).Fault bytes e
-          → ([], Some e) ≡ decoded_upto notation h more bytes
+          → (instruction_production layout h).Fault bytes e
+          → ([], Some e) ≡ decoded_upto layout h more bytes
       at_fault zero [] le some f = absurd (some refl)
       at_fault zero (b ∷ bytes) le some f = absurd (omega arith)
       at_fault (suc more) [] le some f = absurd (some refl)
       at_fault (suc more) (b ∷ bytes) le some f =
-          after b bytes more (ins_at notation h (b ∷ bytes)) (reads_instruction.refused (b ∷ bytes) e f)
+          after b bytes more (ins_at layout h (b ∷ bytes)) (reads_instruction.refused (b ∷ bytes) e f)
   only_decoding (i ∷ list) end more bytes le c =
       let s = c.spelled in
       let some = takes_bytes s.0 i s.3 in
       let whole : bytes ≡ s.0 ++ (s.1 ++ c.rest) = c.parts ∙ ap (λ (xs : List ℕ). xs ++ c.rest) s.2
       ∙ append_assoc s.0 s.1 c.rest in
-      let first : ins_at notation h bytes ≡ (Ok i, s.1 ++ c.rest) = ap (ins_at notation h) whole
+      let first : ins_at layout h bytes ≡ (Ok i, s.1 ++ c.rest) = ap (ins_at layout h) whole
       ∙ reads_instruction.only s.0 i (s.1 ++ c.rest) s.3 in
       at_more more bytes le (s.1 ++ c.rest) first (omega (arith, length-append s.0 (s.1 ++ c.rest), ap length whole))
       (λ less fewer. only_decoding list end less (s.1 ++ c.rest) fewer
       (record { front = s.1; rest = c.rest; parts = refl; spelled = s.4; ended = c.ended }))
     where
       at_more : (more : ℕ) (bytes : List ℕ) → length bytes ≤ more → (rest : List ℕ)
-          → ins_at notation h bytes ≡ (Ok i, rest) → length rest < length bytes
-          → ((less : ℕ) → length rest ≤ less → (list, end) ≡ decoded_upto notation h less rest)
-          → (i ∷ list, end) ≡ decoded_upto notation h more bytes
+          → ins_at layout h bytes ≡ (Ok i, rest) → length rest < length bytes
+          → ((less : ℕ) → length rest ≤ less → (list, end) ≡ decoded_upto layout h less rest)
+          → (i ∷ list, end) ≡ decoded_upto layout h more bytes
       at_more zero bytes le rest first fewer others = absurd (omega arith)
       at_more (suc more) [] le rest first fewer others = absurd (omega arith)
       at_more (suc more) (b ∷ bytes) le rest first fewer others = rw (first, ← others more (omega arith)) refl
 
   -- a program is decoded so
   pub is_decoded : (bytes : List ℕ)
-      → Decodes notation h bytes (decoded_at notation h bytes).0 (decoded_at notation h bytes).1
+      → Decodes layout h bytes (decoded_at layout h bytes).0 (decoded_at layout h bytes).1
   is_decoded bytes = decoding_is (length bytes) bytes (omega arith)
 
   -- and no other way
-  pub one_decoding : (bytes : List ℕ) (list : List Ins) (end : Option Error) → Decodes notation h bytes list end
-      → (list, end) ≡ decoded_at notation h bytes
+  pub one_decoding : (bytes : List ℕ) (list : List Ins) (end : Option Error) → Decodes layout h bytes list end
+      → (list, end) ≡ decoded_at layout h bytes
   one_decoding bytes list end c = only_decoding list end (length bytes) bytes (omega arith) c
 
   -- ---- no more instructions than bytes
 
-  decoded_bounded : (more : ℕ) (bytes : List ℕ) → length (decoded_upto notation h more bytes).0 ≤ more
+  decoded_bounded : (more : ℕ) (bytes : List ℕ) → length (decoded_upto layout h more bytes).0 ≤ more
   unfolding decoded_upto
   decoded_bounded zero bytes = omega arith
   decoded_bounded (suc more) [] = omega arith
-  decoded_bounded (suc more) (b ∷ bytes) = after (λ rest. decoded_bounded more rest) (ins_at notation h (b ∷ bytes))
+  decoded_bounded (suc more) (b ∷ bytes) = after (λ rest. decoded_bounded more rest) (ins_at layout h (b ∷ bytes))
     where
-      after : ((rest : List ℕ) → length (decoded_upto notation h more rest).0 ≤ more) → (r : Read Ins)
-          → length (decoded_after notation h (decoded_upto notation h more) r).0 ≤ suc more
+      after : ((rest : List ℕ) → length (decoded_upto layout h more rest).0 ≤ more) → (r : Read Ins)
+          → length (decoded_after layout h (decoded_upto layout h more) r).0 ≤ suc more
       after bound (Ok i, rest) = omega (arith, bound rest)
       after bound (Err e, rest) = omega arith
 
-  pub instructions_bounded : (bytes : List ℕ) (list : List Ins) (end : Option Error) → Decodes notation h bytes list end
+  pub instructions_bounded : (bytes : List ℕ) (list : List Ins) (end : Option Error) → Decodes layout h bytes list end
       → length list ≤ length bytes
   instructions_bounded bytes list end c =
       let same : length list
-      ≡ length (decoded_at notation h bytes).0 = ap (λ (p : List Ins × Option Error). length p.0)
+      ≡ length (decoded_at layout h bytes).0 = ap (λ (p : List Ins × Option Error). length p.0)
       (one_decoding bytes list end c) in
       omega (arith, decoded_bounded (length bytes) bytes)

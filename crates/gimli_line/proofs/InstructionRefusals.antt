@@ -2,7 +2,7 @@
 use Rattle.std.proofs.Common.{ℕ, zero, suc, ◌-◌, Bool, true, false, List, [], ◌∷◌, Option, Some, None, inl, inr, arith}
 use Rattle.std.proofs.lemmas.Bool.{ltb-false}
 use Rattle.std.specs.Prelude.{nat_eq, nat_le, nat_lt, slice_index}
-use Rattle.gimli_core.specs.Notation.{Notation}
+use Rattle.gimli_core.specs.Layout.{OrderAndLimit}
 use Rattle.gimli_core.specs.Numbers.{SpellsUleb128}
 use Rattle.gimli_core.specs.Production.{Production, ◌>>=◌, done, check, choose, times, within, byte, number, some_bytes}
 use Rattle.gimli_core.specs.Production.{text, unsigned, signed, below_limit}
@@ -14,106 +14,106 @@ use Rattle.gimli_line.specs.declared.run.instruction.LineInstruction.TheVariants
 use Rattle.gimli_line.specs.declared.run.instruction.LineInstruction.TheVariants.{UnknownExtended}
 use Rattle.gimli_line.specs.header.Header.{Header}
 use Rattle.gimli_line.specs.header.HeaderGrammar.{file_production}
-use Rattle.gimli_line.specs.header.Productions.{among, bytes_of}
+use Rattle.gimli_line.specs.header.Productions.{operand_of, bytes_of}
 use Rattle.gimli_line.specs.run.Instruction.{Ins}
-use Rattle.gimli_line.specs.run.InstructionGrammar.{Operand, none, uleb, sleb, half, address, file, standard_opcodes}
+use Rattle.gimli_line.specs.run.InstructionGrammar.{Operand, none, uleb, sleb, uhalf, address, file, standard_opcodes}
 use Rattle.gimli_line.specs.run.InstructionGrammar.{extended_opcodes, operand_production}
 use Rattle.gimli_line.specs.run.InstructionGrammar.{unknown_production, standard_production, extended_operands}
 use Rattle.gimli_line.specs.run.InstructionGrammar.{extended_production, instruction_production}
 use Rattle.gimli_line.specs.run.InstructionGrammar.{IsInstructionRefusal}
 
 -- a production that is refused as an instruction may be
-record IsKnown {A : Type 0} (notation : Notation) (l : Production A) : Type 0 where
-  known : (bytes : List ℕ) (e : Error) → l.Fault bytes e → IsInstructionRefusal notation e
+record IsKnown {A : Type 0} (layout : OrderAndLimit) (l : Production A) : Type 0 where
+  known : (bytes : List ℕ) (e : Error) → l.Fault bytes e → IsInstructionRefusal layout e
 
-module _ (notation : Notation) where
+module _ (layout : OrderAndLimit) where
   -- ---- single productions
 
-  wanting : (size : ℕ) (bytes : List ℕ) (e : Error) → IsWanting size bytes e → IsInstructionRefusal notation e
+  wanting : (size : ℕ) (bytes : List ℕ) (e : Error) → IsWanting size bytes e → IsInstructionRefusal layout e
   wanting size bytes e f = rw f.1 tt
 
-  byte_known : IsKnown notation byte
+  byte_known : IsKnown layout byte
   byte_known = record { known = wanting 1 }
 
-  bytes_known : (size : ℕ) → IsKnown notation (some_bytes size)
+  bytes_known : (size : ℕ) → IsKnown layout (some_bytes size)
   bytes_known size = grind (arith)
 
-  number_known : (big : Bool) (size : ℕ) → IsKnown notation (number big size)
-  number_known big size = grind (arith)
+  number_known : (is_big : Bool) (size : ℕ) → IsKnown layout (number is_big size)
+  number_known is_big size = grind (arith)
 
-  text_known : IsKnown notation text
+  text_known : IsKnown layout text
   text_known = grind arith
 
-  unsigned_known : IsKnown notation unsigned
+  unsigned_known : IsKnown layout unsigned
   unsigned_known = record { known = λ bytes e f. elim f [ inl p ↦ rw p.2 tt | inr p ↦ rw p.7 tt ] }
 
-  signed_known : IsKnown notation signed
+  signed_known : IsKnown layout signed
   signed_known = record { known = λ bytes e f. elim f [ inl p ↦ rw p.2 tt | inr p ↦ rw p.7 tt ] }
 
-  done_known : {A : Type 0} (x : A) → IsKnown notation (done x)
+  done_known : {A : Type 0} (x : A) → IsKnown layout (done x)
   done_known x = grind arith
 
   -- ---- put together
 
-  then_known : {A B : Type 0} (l : Production A) (next : A → Production B) → IsKnown notation l
-      → ((x : A) → IsKnown notation (next x))
-      → IsKnown notation (l >>= next)
+  then_known : {A B : Type 0} (l : Production A) (next : A → Production B) → IsKnown layout l
+      → ((x : A) → IsKnown layout (next x))
+      → IsKnown layout (l >>= next)
   then_known l next first after = record {
     known = λ bytes e f. elim f [ inl p ↦ first.known bytes e p | inr p ↦ (after p.0).known p.2 e p.5 ];
   }
 
-  choose_known : {A : Type 0} (b : Bool) (l m : Production A) → IsKnown notation l → IsKnown notation m
-      → IsKnown notation (choose b l m)
+  choose_known : {A : Type 0} (b : Bool) (l m : Production A) → IsKnown layout l → IsKnown layout m
+      → IsKnown layout (choose b l m)
   choose_known true l m first other = first
   choose_known false l m first other = other
 
-  times_known : {A : Type 0} (n : ℕ) (l : Production A) → IsKnown notation l → IsKnown notation (times n l)
+  times_known : {A : Type 0} (n : ℕ) (l : Production A) → IsKnown layout l → IsKnown layout (times n l)
   times_known zero l known = done_known []
   times_known (suc n) l known =
       then_known l _ known (λ x. then_known (times n l) _ (times_known n l known) (λ xs. done_known (x ∷ xs)))
 
-  bytes_of_known : {A : Type 0} (l : Production A) → IsKnown notation l → IsKnown notation (bytes_of l)
+  bytes_of_known : {A : Type 0} (l : Production A) → IsKnown layout l → IsKnown layout (bytes_of l)
   bytes_of_known l known = grind arith
 
-  within_known : {A : Type 0} (inside : List ℕ) (l : Production A) → IsKnown notation l
-      → IsKnown notation (within inside l)
+  within_known : {A : Type 0} (inside : List ℕ) (l : Production A) → IsKnown layout l
+      → IsKnown layout (within inside l)
   within_known inside l known = grind arith
 
   -- a number that the reader's offsets don't hold is below 2 ^ 64
-  limit_known : IsKnown notation (below_limit notation unsigned)
+  limit_known : IsKnown layout (below_limit layout unsigned)
   limit_known = record {
     known = λ bytes e f.
         elim f [ inl p ↦ unsigned_known.known bytes e p | inr p ↦ at_check p.0 p.1 p.4 p.2 e p.5 ];
   }
     where
       at_check : (n : ℕ) (front : List ℕ) → SpellsUleb128 64 front n → (rest : List ℕ) (e : Error)
-          → (check (nat_lt n notation.limit) UnsupportedOffset >>= λ fits. done n).Fault rest e
-          → IsInstructionRefusal notation e
-      at_check n front s rest e (inl f) = rw f.1 (omega (arith, ltb-false n notation.limit f.0, s.fits))
+          → (check (nat_lt n layout.limit) UnsupportedOffset >>= λ fits. done n).Fault rest e
+          → IsInstructionRefusal layout e
+      at_check n front s rest e (inl f) = rw f.1 (omega (arith, ltb-false n layout.limit f.0, s.fits))
       at_check n front s rest e (inr f) = elim f.5 [ ]
 
   -- ---- instructions
 
-  file_known : (path : List ℕ) → IsKnown notation (file_production path)
+  file_known : (path : List ℕ) → IsKnown layout (file_production path)
   file_known path =
       grind (arith)
 
   module _ (h : Header) where
-    operand_known : (operand : Operand) → IsKnown notation (operand_production notation h operand)
+    operand_known : (operand : Operand) → IsKnown layout (operand_production layout h operand)
     operand_known (none i) = done_known i
     operand_known (uleb make) = then_known unsigned _ unsigned_known (λ n. done_known (make n))
     operand_known (sleb make) = then_known signed _ signed_known (λ z. done_known (make z))
-    operand_known (half make) =
-        then_known (number notation.big 2) _ (number_known notation.big 2) (λ n. done_known (make n))
+    operand_known (uhalf make) =
+        then_known (number layout.is_big 2) _ (number_known layout.is_big 2) (λ n. done_known (make n))
     operand_known (address make) =
-        then_known (number notation.big h.parameters.encoding.address_size) _
-        (number_known notation.big h.parameters.encoding.address_size) (λ a.
+        then_known (number layout.is_big h.parameters.encoding.address_size) _
+        (number_known layout.is_big h.parameters.encoding.address_size) (λ a.
         done_known (make a))
     operand_known (file make) =
         then_known text _ text_known (λ path.
         then_known (file_production path) _ (file_known path) (λ f. done_known (make f)))
 
-    unknown_known : (opcode count : ℕ) → IsKnown notation (unknown_production notation h opcode count)
+    unknown_known : (opcode count : ℕ) → IsKnown layout (unknown_production layout h opcode count)
     unknown_known opcode zero = done_known (UnknownStandard0 (record { 0 = opcode }))
     unknown_known opcode (suc zero) =
         then_known unsigned _ unsigned_known (λ n. done_known (UnknownStandard1 (record { 0 = opcode }) n))
@@ -123,45 +123,45 @@ module _ (notation : Notation) where
         (λ operands.
         done_known (UnknownStandardN (record { 0 = opcode }) operands))
 
-    standard_known : (opcode : ℕ) → IsKnown notation (standard_production notation h opcode)
-    standard_known opcode = at_operand (among opcode standard_opcodes)
+    standard_known : (opcode : ℕ) → IsKnown layout (standard_production layout h opcode)
+    standard_known opcode = at_operand (operand_of opcode standard_opcodes)
       where
-        at_operand : (found : Option Operand) → IsKnown {A = Ins} notation
+        at_operand : (found : Option Operand) → IsKnown {A = Ins} layout
             (elim found [
-              | Some operand ↦ operand_production notation h operand
-              | None ↦ unknown_production notation h opcode (slice_index h.operand_counts (opcode - 1))
+              | Some operand ↦ operand_production layout h operand
+              | None ↦ unknown_production layout h opcode (slice_index h.operand_counts (opcode - 1))
             ])
         at_operand (Some operand) = operand_known operand
         at_operand None = unknown_known opcode (slice_index h.operand_counts (opcode - 1))
 
-    operands_known : (opcode : ℕ) (operands : List ℕ) → IsKnown notation (extended_operands notation h opcode operands)
-    operands_known opcode operands = at_operand (among opcode (extended_opcodes h.parameters.encoding.version))
+    operands_known : (opcode : ℕ) (operands : List ℕ) → IsKnown layout (extended_operands layout h opcode operands)
+    operands_known opcode operands = at_operand (operand_of opcode (extended_opcodes h.parameters.encoding.version))
       where
-        at_operand : (found : Option Operand) → IsKnown {A = Ins} notation
+        at_operand : (found : Option Operand) → IsKnown {A = Ins} layout
             (elim found [
-              | Some operand ↦ within operands (operand_production notation h operand) >>= (λ read. done read.0)
+              | Some operand ↦ within operands (operand_production layout h operand) >>= (λ read. done read.0)
               | None ↦ done (UnknownExtended (record { 0 = opcode }) operands)
             ])
         at_operand (Some operand) =
-            then_known (within operands (operand_production notation h operand)) _
-            (within_known operands (operand_production notation h operand) (operand_known operand)) (λ read.
+            then_known (within operands (operand_production layout h operand)) _
+            (within_known operands (operand_production layout h operand) (operand_known operand)) (λ read.
             done_known read.0)
         at_operand None = done_known (UnknownExtended (record { 0 = opcode }) operands)
 
-    extended_known : IsKnown notation (extended_production notation h)
+    extended_known : IsKnown layout (extended_production layout h)
     extended_known =
-        then_known (below_limit notation unsigned) _ limit_known (λ size.
+        then_known (below_limit layout unsigned) _ limit_known (λ size.
         then_known (some_bytes size) _ (bytes_known size) (λ inside.
         then_known (within inside byte) _ (within_known inside byte byte_known) (λ opened.
         operands_known opened.0 opened.1)))
 
-    instruction_known : IsKnown notation (instruction_production notation h)
+    instruction_known : IsKnown layout (instruction_production layout h)
     instruction_known =
         then_known byte _ byte_known (λ opcode.
-        choose_known (nat_eq opcode 0) (extended_production notation h) _ extended_known
+        choose_known (nat_eq opcode 0) (extended_production layout h) _ extended_known
         (choose_known (nat_le h.parameters.opcode_base opcode) (done (Special opcode)) _ (done_known (Special opcode))
         (standard_known opcode)))
 
-    pub instruction_refused : (bytes : List ℕ) (e : Error) → (instruction_production notation h).Fault bytes e
-        → IsInstructionRefusal notation e
+    pub instruction_refused : (bytes : List ℕ) (e : Error) → (instruction_production layout h).Fault bytes e
+        → IsInstructionRefusal layout e
     instruction_refused = instruction_known.known

@@ -6,7 +6,7 @@ use Rattle.std.specs.Prelude.{nat_eq, IsTrue, ◌↔◌}
 use Rattle.std.specs.List.{AllByRecursion}
 use Rattle.std.proofs.lemmas.List.{append-nil, length-append}
 use Rattle.gimli_core.specs.declared.error.Error.{Error}
-use Rattle.gimli_core.specs.Notation.{Notation}
+use Rattle.gimli_core.specs.Layout.{OrderAndLimit, layout_of}
 use Rattle.gimli_core.specs.Reading.{Read, ◌>>=◌, text_at, unsigned_at, times_at}
 use Rattle.gimli_core.specs.declared.common.Format.{Format}
 use Rattle.gimli_core.specs.Production.{Production, IsOpen}
@@ -15,7 +15,7 @@ use Rattle.gimli_core.proofs.ProductionLaws.{reads_text}
 use Rattle.gimli_line.specs.inside.header.Outcome.{read_map}
 use Rattle.gimli_line.specs.inside.header.TableReading.{is_closed, closed_below, list_to_zero_at}
 use Rattle.gimli_line.specs.header.File.{File}
-use Rattle.gimli_line.specs.header.HeaderGrammar.{Entry}
+use Rattle.gimli_line.specs.header.HeaderGrammar.{TableEntry}
 use Rattle.gimli_line.specs.header.HeaderReading.{plain_file_at}
 use Rattle.gimli_line.specs.inside.header.HeaderReading.{named_file_at, entry_at, entries_at}
 use Rattle.gimli_line.specs.declared.header.file_entry.FileEntryFormat.{FileEntryFormat}
@@ -212,22 +212,22 @@ named_fault bytes mid e is =
 
 -- ---- the entries of a table of version 5, whose count is read first
 
-module _ (notation : Notation) (format : Format) {B : Type 0} (f : Entry → B) (formats : List FileEntryFormat) where
+module _ (layout : OrderAndLimit) (format : Format) {B : Type 0} (f : TableEntry → B) (formats : List FileEntryFormat) where
   pub entries_start : (bytes : List ℕ) (count : ℕ) (left : List ℕ) → (Ok count, left) ≡ unsigned_at bytes
-      → collected [] f (times_at (count - 0) (entry_at notation format formats) left)
-      ≡ read_map (map f) (entries_at notation format formats bytes)
+      → collected [] f (times_at (count - 0) (entry_at layout format formats) left)
+      ≡ read_map (map f) (entries_at layout format formats bytes)
   unfolding entries_at
   entries_start bytes count left is =
       let all : count - 0 ≡ count = omega arith in
       rw all
-      (ap (λ (r : Read ℕ). read_map (map f) (r >>= λ n rest. times_at n (entry_at notation format formats) rest)) is)
+      (ap (λ (r : Read ℕ). read_map (map f) (r >>= λ n rest. times_at n (entry_at layout format formats) rest)) is)
 
 -- the order of bytes, which a loop keeps
-pub entry_kept : (format : Format) {B : Type 0} (f : Entry → B) (formats : List FileEntryFormat) (now first : Bool)
+pub entry_kept : (format : Format) {B : Type 0} (f : TableEntry → B) (formats : List FileEntryFormat) (now first : Bool)
     (limit : ℕ) (bytes : List ℕ)
     (answer : Read B)
     → now ≡ first
-    → answer ≡ read_map f (entry_at (record { big = now; limit = limit }) format formats bytes)
-    → answer ≡ read_map f (entry_at (record { big = first; limit = limit }) format formats bytes)
+    → answer ≡ read_map f (entry_at (layout_of now limit) format formats bytes)
+    → answer ≡ read_map f (entry_at (layout_of first limit) format formats bytes)
 entry_kept format f formats now first limit bytes answer same is =
     grind arith

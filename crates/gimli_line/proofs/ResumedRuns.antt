@@ -4,16 +4,16 @@ use Rattle.std.specs.List.{All}
 use Rattle.std.proofs.lemmas.List.{map-append}
 use Rattle.std.proofs.lemmas.List.Elements.{All-nil, All-cons}
 use Rattle.gimli_core.specs.declared.error.Error.{Error}
-use Rattle.gimli_core.specs.Notation.{Notation}
+use Rattle.gimli_core.specs.Layout.{OrderAndLimit}
 use Rattle.gimli_line.specs.declared.run.row.LineRow.{LineRow}
 use Rattle.gimli_line.specs.header.Header.{Header, without_files}
-use Rattle.gimli_line.specs.header.Orders.{Source}
+use Rattle.gimli_line.specs.header.Orders.{HeaderSource}
 use Rattle.gimli_line.specs.run.Instruction.{Ins}
 use Rattle.gimli_line.specs.run.InstructionGrammar.{Decodes}
 use Rattle.gimli_line.specs.run.InstructionReading.{decoded_at}
 use Rattle.gimli_line.specs.run.Events.{Event, row, EventWithFiles, Events, events_of, program_events}
 use Rattle.gimli_line.specs.run.Rows.{events_left, start_of_run, GivesRowsAlone, IsRow}
-use Rattle.gimli_line.specs.run.Sequences.{Part, HasRun, HaveRuns, ResumesToRows}
+use Rattle.gimli_line.specs.run.Sequences.{Sequence, HasRun, HaveRuns, ResumesToRows}
 use Rattle.gimli_line.specs.run.Unread.{Unread}
 use Rattle.gimli_line.proofs.InstructionLaws.{is_decoded, one_decoding}
 use Rattle.gimli_line.proofs.Runs.{bare_decoding}
@@ -21,7 +21,7 @@ use Rattle.gimli_line.proofs.RunLists.{given_from_start}
 
 -- ---- bytes give one run
 
-module _ (n : Notation) (h : Header) (bytes : List ℕ) where
+module _ (n : OrderAndLimit) (h : Header) (bytes : List ℕ) where
   same_decoding : (list other : List Ins) (end finish : Option Error) → Decodes n h bytes list end
       → Decodes n h bytes other finish
       → program_events h.parameters list end ≡ program_events h.parameters other finish
@@ -32,7 +32,7 @@ module _ (n : Notation) (h : Header) (bytes : List ℕ) where
   pub one_run : (run other : List Event) → Events n h bytes run → Events n h bytes other → run ≡ other
   one_run run other a b = a.given ∙ same_decoding a.list b.list a.end b.end a.decoding b.decoding ∙ sym b.given
 
-pub one_list_of_runs : (h : Header) (parts : List Part) (runs others : List (List Event)) → HaveRuns h parts runs
+pub one_list_of_runs : (h : Header) (parts : List Sequence) (runs others : List (List Event)) → HaveRuns h parts runs
     → HaveRuns h parts others → runs ≡ others
 one_list_of_runs h [] [] [] a b = refl
 one_list_of_runs h [] [] (other ∷ others) a b = absurd b
@@ -40,7 +40,7 @@ one_list_of_runs h [] (run ∷ runs) others a b = absurd a
 one_list_of_runs h (s ∷ parts) [] others a b = absurd a
 one_list_of_runs h (s ∷ parts) (run ∷ runs) [] a b = absurd b
 one_list_of_runs h (s ∷ parts) (run ∷ runs) (other ∷ others) a b =
-    let first : run ≡ other = one_run s.unread.notation h s.unread.bytes run other a.0.given b.0.given in
+    let first : run ≡ other = one_run s.unread.layout h s.unread.bytes run other a.0.given b.0.given in
     let later : runs ≡ others = one_list_of_runs h parts runs others a.1 b.1 in
     cc
 
@@ -57,23 +57,23 @@ are_rows (e ∷ events) (r ∷ rows) same = All-cons IsRow e events (r, at_head)
     at_tail : events_of events ≡ map row rows
     at_tail = cc
 
-module _ (h : Header) (c : Source) (s : Unread) where
+module _ (h : Header) (c : HeaderSource) (s : Unread) where
   abbrev decoded : List Ins × Option Error
-  decoded = decoded_at s.notation (without_files h) s.bytes
+  decoded = decoded_at s.layout (without_files h) s.bytes
 
-  decoding : Decodes s.notation h s.bytes decoded.0 decoded.1
-  decoding = bare_decoding s.notation h s.bytes decoded.0 decoded.1 (is_decoded s.notation (without_files h) s.bytes)
+  decoding : Decodes s.layout h s.bytes decoded.0 decoded.1
+  decoding = bare_decoding s.layout h s.bytes decoded.0 decoded.1 (is_decoded s.layout (without_files h) s.bytes)
 
   -- they give the run of the bytes
-  pub gives_run : (run : List Event) → Events s.notation h s.bytes run
+  pub gives_run : (run : List Event) → Events s.layout h s.bytes run
       → events_of (events_left (start_of_run false h c s)) ≡ run
   gives_run run has =
       given_from_start false h.parameters h.files decoded.0 decoded.1
-      ∙ same_decoding s.notation h s.bytes decoded.0 has.list decoded.1 has.end decoding has.decoding
+      ∙ same_decoding s.layout h s.bytes decoded.0 has.list decoded.1 has.end decoding has.decoding
       ∙ sym has.given
 
   -- and rows alone, where that has rows alone
-  pub gives_rows_alone : (rows : List LineRow) → Events s.notation h s.bytes (map row rows)
+  pub gives_rows_alone : (rows : List LineRow) → Events s.layout h s.bytes (map row rows)
       → GivesRowsAlone (start_of_run false h c s)
   gives_rows_alone rows has = record {
     complete = refl;
@@ -82,16 +82,16 @@ module _ (h : Header) (c : Source) (s : Unread) where
 
 -- ---- sequences with runs
 
-to_rows : (h : Header) (s : Part) (run : List Event) → HasRun h s run → ResumesToRows h s
+to_rows : (h : Header) (s : Sequence) (run : List Event) → HasRun h s run → ResumesToRows h s
 to_rows h s run has = record {
   rows = has.is.rows ++ has.is.last ∷ [];
   given =
-      subst (λ (events : List Event). Events s.unread.notation h s.unread.bytes events)
+      subst (λ (events : List Event). Events s.unread.layout h s.unread.bytes events)
       (has.is.given ∙ sym (map-append row has.is.rows (has.is.last ∷ [])))
       has.given;
 }
 
-pub resume_to_rows : (h : Header) (parts : List Part) (runs : List (List Event)) → HaveRuns h parts runs
+pub resume_to_rows : (h : Header) (parts : List Sequence) (runs : List (List Event)) → HaveRuns h parts runs
     → All (ResumesToRows h) parts
 resume_to_rows h [] runs all = All-nil (ResumesToRows h)
 resume_to_rows h (s ∷ parts) [] all = absurd all

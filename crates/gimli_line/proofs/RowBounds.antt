@@ -2,7 +2,7 @@
 use Rattle.std.proofs.Common.{◌≡◌, ℕ, zero, suc, ◌+◌, ◌≤◌, Bool, true, false, if◌then◌else◌, List, [], ◌∷◌, length}
 use Rattle.std.proofs.Common.{Option, Ok, Err, ap, refl, arith}
 use Rattle.std.proofs.lemmas.List.{length-append, length-map}
-use Rattle.gimli_core.specs.Notation.{Notation}
+use Rattle.gimli_core.specs.Layout.{OrderAndLimit}
 use Rattle.gimli_core.specs.Reading.{Read}
 use Rattle.gimli_core.specs.declared.error.Error.{Error}
 use Rattle.gimli_core.specs.declared.error.Error.TheVariants.{AddressOverflow}
@@ -71,42 +71,42 @@ few_given (e ∷ events) = by (is_given e.event) (few_given events)
 
 -- ---- no more instructions than bytes; where the end is refused, a byte is left for it
 
-module _ (notation : Notation) (h : Header) where
+module _ (layout : OrderAndLimit) (h : Header) where
   upto_bounded : (more : ℕ) (bytes : List ℕ)
-      → length (decoded_upto notation h more bytes).0 + length (end_events (decoded_upto notation h more bytes).1)
+      → length (decoded_upto layout h more bytes).0 + length (end_events (decoded_upto layout h more bytes).1)
       ≤ more
   unfolding decoded_upto
   upto_bounded zero bytes = omega arith
   upto_bounded (suc more) [] = omega arith
-  upto_bounded (suc more) (b ∷ bytes) = after (λ rest. upto_bounded more rest) (ins_at notation h (b ∷ bytes))
+  upto_bounded (suc more) (b ∷ bytes) = after (λ rest. upto_bounded more rest) (ins_at layout h (b ∷ bytes))
     where
       after : ((rest : List ℕ)
-          → length (decoded_upto notation h more rest).0 + length (end_events (decoded_upto notation h more rest).1)
+          → length (decoded_upto layout h more rest).0 + length (end_events (decoded_upto layout h more rest).1)
           ≤ more)
           → (r : Read Ins)
-          → length (decoded_after notation h (decoded_upto notation h more) r).0
-          + length (end_events (decoded_after notation h (decoded_upto notation h more) r).1)
+          → length (decoded_after layout h (decoded_upto layout h more) r).0
+          + length (end_events (decoded_after layout h (decoded_upto layout h more) r).1)
           ≤ suc more
       after bound (Ok i, rest) = omega (arith, bound rest)
       after bound (Err e, rest) = omega arith
 
   taken_bounded : (bytes : List ℕ)
-      → length (decoded_at notation h bytes).0 + length (end_events (decoded_at notation h bytes).1) ≤ length bytes
+      → length (decoded_at layout h bytes).0 + length (end_events (decoded_at layout h bytes).1) ≤ length bytes
   taken_bounded bytes = upto_bounded (length bytes) bytes
 
-  decoded_bounded : (bytes : List ℕ) (list : List Ins) (end : Option Error) → Decodes notation h bytes list end
+  decoded_bounded : (bytes : List ℕ) (list : List Ins) (end : Option Error) → Decodes layout h bytes list end
       → length list + length (end_events end) ≤ length bytes
   decoded_bounded bytes list end c =
       let same : length list + length (end_events end)
-      ≡ length (decoded_at notation h bytes).0 + length (end_events (decoded_at notation h bytes).1) =
+      ≡ length (decoded_at layout h bytes).0 + length (end_events (decoded_at layout h bytes).1) =
       ap (λ (p : List Ins × Option Error). length p.0 + length (end_events p.1))
-      (one_decoding notation h bytes list end c) in
+      (one_decoding layout h bytes list end c) in
       omega (arith, taken_bounded bytes)
 
   -- ---- no more events than bytes
 
   pub made_bounded : (appends : Bool) (bytes : List ℕ) (events : List EventWithFiles)
-      → Makes notation appends h bytes events → length events ≤ length bytes
+      → Makes layout appends h bytes events → length events ≤ length bytes
   made_bounded appends bytes events m =
       omega (
         arith,
@@ -114,7 +114,7 @@ module _ (notation : Notation) (h : Header) where
         few_after h.parameters (files_at appends h.files) [] m.list m.end,
         decoded_bounded bytes m.list m.end m.decoding)
 
-  pub events_bounded : (bytes : List ℕ) (events : List Event) → Events notation h bytes events
+  pub events_bounded : (bytes : List ℕ) (events : List Event) → Events layout h bytes events
       → length events ≤ length bytes
   events_bounded bytes events given =
       let made = made_after h.parameters (λ before. []) [] given.list given.end in
@@ -127,7 +127,7 @@ module _ (notation : Notation) (h : Header) where
         decoded_bounded bytes given.list given.end given.decoding)
 
   pub with_files_bounded : (appends : Bool) (bytes : List ℕ) (events : List EventWithFiles)
-      → EventsWithFiles notation appends h bytes events
+      → EventsWithFiles layout appends h bytes events
       → length events ≤ length bytes
   with_files_bounded appends bytes events given =
       let made = program_made appends h given.list given.end in

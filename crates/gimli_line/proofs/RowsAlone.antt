@@ -6,7 +6,7 @@ use Rattle.gimli_core.specs.declared.error.Error.{Error}
 use Rattle.gimli_line.specs.declared.run.row.LineRow.{LineRow}
 use Rattle.gimli_line.specs.run.Events.{row, fault}
 use Rattle.gimli_line.specs.run.Events.{EventWithFiles}
-use Rattle.gimli_line.specs.run.Progress.{with_reset_row}
+use Rattle.gimli_line.specs.run.Passing.{with_reset_row}
 use Rattle.gimli_line.specs.run.RunState.{RunState}
 use Rattle.gimli_line.specs.run.Rows.{live_events, events_left, FaultIs, GivesRowsAlone, IsRow}
 

@@ -14,7 +14,7 @@ use Rattle.gimli_line.specs.run.Events.{given_of, events_of, events_after}
 use Rattle.gimli_line.specs.run.Events.{program_events}
 use Rattle.gimli_line.specs.run.EventsWithFiles.{program_made}
 use Rattle.gimli_line.specs.run.Machine.{initial, made_step, next_registers, made_from, run}
-use Rattle.gimli_line.specs.run.Progress.{registers_from, files_from}
+use Rattle.gimli_line.specs.run.Passing.{registers_from, files_from}
 use Rattle.gimli_line.proofs.Backwards.{made_start}
 
 -- what a point gives, and then the rest

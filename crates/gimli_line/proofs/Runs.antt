@@ -4,14 +4,14 @@ use Rattle.std.proofs.Common.{refl, sym, ap, ◌∙◌}
 use Rattle.std.proofs.Common.{append_assoc, arith, ◌⊎◌, inl, inr}
 use Rattle.std.specs.List.{filter}
 use Rattle.std.proofs.lemmas.List.{length-append, append-nil}
-use Rattle.gimli_core.specs.Notation.{Notation}
+use Rattle.gimli_core.specs.Layout.{OrderAndLimit}
 use Rattle.gimli_core.specs.Production.{Each}
 use Rattle.gimli_core.specs.declared.error.Error.{Error}
 use Rattle.gimli_core.specs.declared.error.Error.TheVariants.{AddressOverflow, OutOfMemory}
 use Rattle.gimli_line.specs.declared.run.row.LineRow.{LineRow}
 use Rattle.gimli_line.specs.declared.run.instruction.LineInstruction.TheVariants.{DefineFile}
 use Rattle.gimli_line.specs.header.Parameters.{Parameters}
-use Rattle.gimli_line.specs.header.Orders.{Source}
+use Rattle.gimli_line.specs.header.Orders.{HeaderSource}
 use Rattle.gimli_line.specs.header.Header.{Header, without_files}
 use Rattle.gimli_line.specs.run.Instruction.{files_after}
 use Rattle.gimli_line.specs.run.Instruction.{Ins, makes_row, defines_file}
@@ -22,7 +22,7 @@ use Rattle.gimli_line.specs.run.Events.{Event, row, EventWithFiles, is_given}
 use Rattle.gimli_line.specs.run.Machine.{step_of, reset_row, is_refused, made_step, next_registers}
 use Rattle.gimli_line.specs.run.Unread.{Unread}
 use Rattle.gimli_line.specs.run.RunState.{RunState}
-use Rattle.gimli_line.specs.run.Progress.{Progress, with_reset_row, registers_from, files_from}
+use Rattle.gimli_line.specs.run.Passing.{PassesOver, with_reset_row, registers_from, files_from}
 use Rattle.gimli_line.specs.run.Rows.{live_made, live_events, made_left, events_left, files_at_end, WantsMemory}
 use Rattle.gimli_line.specs.run.Rows.{FaultComes, FaultIs}
 use Rattle.gimli_line.specs.inside.run.Rows.{given_row}
@@ -31,22 +31,22 @@ use Rattle.gimli_line.proofs.InstructionLaws.{is_decoded, one_decoding, takes_by
 
 -- ---- what a program is decoded into, by its front
 
-module _ (notation : Notation) (h : Header) (bytes : List ℕ) where
-  pub decoded_none : bytes ≡ [] → decoded_at notation h bytes ≡ ([], None)
+module _ (layout : OrderAndLimit) (h : Header) (bytes : List ℕ) where
+  pub decoded_none : bytes ≡ [] → decoded_at layout h bytes ≡ ([], None)
   unfolding decoded_upto
   decoded_none e = rw e refl
 
-  pub decoded_fault : (e : Error) → bytes ≢ [] → (instruction_production notation h).Fault bytes e
-      → decoded_at notation h bytes ≡ ([], Some e)
+  pub decoded_fault : (e : Error) → bytes ≢ [] → (instruction_production layout h).Fault bytes e
+      → decoded_at layout h bytes ≡ ([], Some e)
   decoded_fault e some f =
-      sym (one_decoding notation h bytes [] _
+      sym (one_decoding layout h bytes [] _
       (record { front = []; rest = bytes; parts = refl; spelled = refl; ended = (some, f) }))
 
-  pub decoded_some : (i : Ins) (front rest : List ℕ) → bytes ≡ front ++ rest → SpellsInstruction notation h front i
-      → decoded_at notation h bytes ≡ (i ∷ (decoded_at notation h rest).0, (decoded_at notation h rest).1)
+  pub decoded_some : (i : Ins) (front rest : List ℕ) → bytes ≡ front ++ rest → SpellsInstruction layout h front i
+      → decoded_at layout h bytes ≡ (i ∷ (decoded_at layout h rest).0, (decoded_at layout h rest).1)
   decoded_some i front rest parts s =
-      let c = is_decoded notation h rest in
-      sym (one_decoding notation h bytes _ (decoded_at notation h rest).1 (record {
+      let c = is_decoded layout h rest in
+      sym (one_decoding layout h bytes _ (decoded_at layout h rest).1 (record {
         front = front ++ c.front;
         rest = c.rest;
         parts = grind (arith, append_assoc);
@@ -54,7 +54,7 @@ module _ (notation : Notation) (h : Header) (bytes : List ℕ) where
         ended = c.ended;
       }))
 
-pub decodes_on : (n : Notation) (h : Header) (bytes : List ℕ) (list : List Ins) (front rest : List ℕ)
+pub decodes_on : (n : OrderAndLimit) (h : Header) (bytes : List ℕ) (list : List Ins) (front rest : List ℕ)
     → bytes ≡ front ++ rest
     → Each (SpellsInstruction n h) front list
     → decoded_at n h bytes ≡ (list ++ (decoded_at n h rest).0, (decoded_at n h rest).1)
@@ -65,9 +65,9 @@ decodes_on n h bytes (i ∷ list) front rest parts s =
     ∙ ap (λ (c : List Ins × Option Error). (i ∷ c.0, c.1)) (decodes_on n h (s.1 ++ rest) list s.1 rest refl s.4)
 
 -- the files of a header mean nothing to its program
-pub bare_decoding : (notation : Notation) (h : Header) (bytes : List ℕ) (list : List Ins) (end : Option Error)
-    → Decodes notation (without_files h) bytes list end → Decodes notation h bytes list end
-bare_decoding notation h bytes list end c = grind arith
+pub bare_decoding : (layout : OrderAndLimit) (h : Header) (bytes : List ℕ) (list : List Ins) (end : Option Error)
+    → Decodes layout (without_files h) bytes list end → Decodes layout h bytes list end
+bare_decoding layout h bytes list end c = grind arith
 
 -- ---- instructions that make a row or are refused
 
@@ -83,19 +83,19 @@ no_file_at_refusal a h i r files large = refl
 
 -- ---- a state of an iterator, whose program has the header h
 
-abbrev pub state : Bool → Header → Source → LineRow → Unread → RunState
+abbrev pub state : Bool → Header → HeaderSource → LineRow → Unread → RunState
 state a h c r s = record { fixed = without_files h; files = h.files; appends = a; source = c; row = r; unread = s }
 
 abbrev pub events : Event → Header → EventWithFiles
 events e h = record { event = e; files = h.files }
 
-pub source_same : (s t : Unread) → s.bytes ≡ t.bytes → s.notation ≡ t.notation → s ≡ t
+pub source_same : (s t : Unread) → s.bytes ≡ t.bytes → s.layout ≡ t.layout → s ≡ t
 source_same s t b n =
     grind arith
 
 -- where no bytes are left
 pub none_made : (a : RunState) → a.unread.bytes ≡ [] → live_made a ≡ []
-none_made a e = rw (decoded_none a.unread.notation a.fixed a.unread.bytes e) refl
+none_made a e = rw (decoded_none a.unread.layout a.fixed a.unread.bytes e) refl
 
 pub none_to_make : (a : RunState) → a.unread.bytes ≡ [] → made_left a ≡ []
 none_to_make a e = simp none_made
@@ -104,43 +104,43 @@ pub none_to_come : (a : RunState) → a.unread.bytes ≡ [] → events_left a �
 none_to_come a e = simp none_to_make
 
 pub end_here : (a : RunState) → a.unread.bytes ≡ [] → files_at_end a ≡ a.files
-end_here a e = rw (decoded_none a.unread.notation a.fixed a.unread.bytes e) refl
+end_here a e = rw (decoded_none a.unread.layout a.fixed a.unread.bytes e) refl
 
 -- k is the header that was lent, s2 what was left of the instructions
-module _ (a : Bool) (h k : Header) (same : k ≡ h) (c c2 : Source) (r : LineRow) (s s2 : Unread) where
-  pub after_fault : (e : Error) → s.bytes ≢ [] → s2.bytes ≡ [] → (instruction_production s.notation k).Fault s.bytes e
+module _ (a : Bool) (h k : Header) (same : k ≡ h) (c c2 : HeaderSource) (r : LineRow) (s s2 : Unread) where
+  pub after_fault : (e : Error) → s.bytes ≢ [] → s2.bytes ≡ [] → (instruction_production s.layout k).Fault s.bytes e
       → (r2 : LineRow)
       → FaultComes live_made (state a h c r s) (state a h c2 r2 s2) e
   after_fault e some empty f r2 =
-      let last = decoded_fault s.notation (without_files h) s.bytes e some (rw same at f) in (
+      let last = decoded_fault s.layout (without_files h) s.bytes e some (rw same at f) in (
         rw (last, none_to_make (state a h c2 r2 s2) empty) refl,
         rw (last, end_here (state a h c2 r2 s2) empty) refl,
         λ _. empty,
       )
 
-  module _ (notation : s2.notation ≡ s.notation) (i : Ins) (front : List ℕ) (parts : s.bytes ≡ front ++ s2.bytes)
-      (spelled : SpellsInstruction s.notation k front i) where
-    first_decoded : decoded_at s.notation (without_files h) s.bytes
+  module _ (layout : s2.layout ≡ s.layout) (i : Ins) (front : List ℕ) (parts : s.bytes ≡ front ++ s2.bytes)
+      (spelled : SpellsInstruction s.layout k front i) where
+    first_decoded : decoded_at s.layout (without_files h) s.bytes
         ≡ (
-          i ∷ (decoded_at s.notation (without_files h) s2.bytes).0,
-          (decoded_at s.notation (without_files h) s2.bytes).1,
+          i ∷ (decoded_at s.layout (without_files h) s2.bytes).0,
+          (decoded_at s.layout (without_files h) s2.bytes).1,
         )
-    first_decoded = decoded_some s.notation (without_files h) s.bytes i front s2.bytes parts (rw same at spelled)
+    first_decoded = decoded_some s.layout (without_files h) s.bytes i front s2.bytes parts (rw same at spelled)
 
     pub is_shorter : length s2.bytes < length s.bytes
-    is_shorter = omega (arith, takes_bytes s.notation k front i spelled, length-append front s2.bytes, ap length parts)
+    is_shorter = omega (arith, takes_bytes s.layout k front i spelled, length-append front s2.bytes, ap length parts)
 
     -- one instruction is passed over
     pub passes_one : (h2 : Header) (r2 : LineRow) (events : List Event)
         → h2 ≡ record h { files = files_after a i h.files }
         → filter is_given (made_step h.parameters i r) ≡ events
-        → r2 ≡ next_registers h.parameters i r → Progress (state a h c r s) (state a h2 c2 r2 s2) events
+        → r2 ≡ next_registers h.parameters i r → PassesOver (state a h c r s) (state a h2 c2 r2 s2) events
     passes_one h2 r2 events after given next = record {
       list = i ∷ [];
       front = front;
       parts = parts;
       spelled = (front, [], sym (append-nil front), rw same at spelled, refl);
-      notation = notation;
+      layout = layout;
       fixed = ap without_files after;
       appends = refl;
       given = run_of_one h.parameters i r ∙ given;
@@ -151,11 +151,11 @@ module _ (a : Bool) (h k : Header) (same : k ≡ h) (c c2 : Source) (r : LineRow
     module _ (h2 : Header) (r2 : LineRow) (after : h2 ≡ record h { files = files_after a i h.files })
         (fits : is_refused h.parameters i r ≡ false) where
       pub passes_quiet : makes_row i ≡ false → r2 ≡ step_of h.parameters i r
-          → Progress (state a h c r s) (state a h2 c2 r2 s2) []
+          → PassesOver (state a h c r s) (state a h2 c2 r2 s2) []
       passes_quiet made row_is = passes_one h2 r2 [] after (rw (fits, made) refl) (rw (fits, made) row_is)
 
       pub passes_made : makes_row i ≡ true → r2 ≡ step_of h.parameters i r
-          → Progress (state a h c r s) (with_reset_row (state a h2 c2 r2 s2)) (given_row r2)
+          → PassesOver (state a h c r s) (with_reset_row (state a h2 c2 r2 s2)) (given_row r2)
       passes_made made row_is =
           let parameters : h2.parameters ≡ h.parameters = ap (λ (k : Header). k.parameters) after in
           let given : filter is_given (made_step h.parameters i r)
@@ -168,7 +168,7 @@ module _ (a : Bool) (h k : Header) (same : k ≡ h) (c c2 : Source) (r : LineRow
           → makes_row i ≡ false
           → r2 ≡ step_of h.parameters i r
           → live_made (state a h c r s) ≡ live_made (state a h2 c2 r2 s2)
-      after_quiet after fits made row_is = rw (first_decoded, after, row_is, notation, fits, made) refl
+      after_quiet after fits made row_is = rw (first_decoded, after, row_is, layout, fits, made) refl
 
       pub after_made : h2 ≡ record h { files = files_after a i h.files } → is_refused h.parameters i r ≡ false
           → makes_row i ≡ true
@@ -176,18 +176,18 @@ module _ (a : Bool) (h k : Header) (same : k ≡ h) (c c2 : Source) (r : LineRow
           → live_made (state a h c r s) ≡ events (row r2) h2 ∷ made_left (state a h2 c2 r2 s2)
       after_made after fits made row_is =
           let files : files_after a i h.files ≡ h.files = no_file_at_row a i h.files made in
-          rw (first_decoded, after, row_is, notation, fits, made, files) refl
+          rw (first_decoded, after, row_is, layout, fits, made, files) refl
 
       pub after_overflow : h2 ≡ h → is_refused h.parameters i r ≡ true → r2 ≡ step_of h.parameters i r
           → FaultComes live_made (state a h c r s) (state a h2 c2 r2 s2) AddressOverflow
       after_overflow kept large row_is =
           let files : files_after a i h.files ≡ h.files = no_file_at_refusal a h.parameters i r h.files large in
-          let after = (decoded_at s.notation (without_files h) s2.bytes).0 in
+          let after = (decoded_at s.layout (without_files h) s2.bytes).0 in
           let at_end : files_at_end (state a h c r s) ≡ files_from a h.files after =
           ap (λ (c : List Ins × Option Error). files_from a h.files c.0) first_decoded
           ∙ ap (λ (fs : List File). files_from a fs after) files in (
-            rw (first_decoded, kept, row_is, notation, large, files) refl,
-            rw (kept, notation) (sym at_end),
+            rw (first_decoded, kept, row_is, layout, large, files) refl,
+            rw (kept, layout) (sym at_end),
             λ other. absurd (other refl),
           )
 
@@ -199,10 +199,10 @@ only_overflow e other is = grind (arith)
 -- ---- passing over several instructions
 
 -- where nothing was taken
-pub passes_none : (a b : RunState) → b ≡ a → Progress a b []
+pub passes_none : (a b : RunState) → b ≡ a → PassesOver a b []
 passes_none a b same = grind arith
 
-each_joined : (n : Notation) (h : Header) (front after : List ℕ) (list more : List Ins)
+each_joined : (n : OrderAndLimit) (h : Header) (front after : List ℕ) (list more : List Ins)
     → Each (SpellsInstruction n h) front list
     → Each (SpellsInstruction n h) after more
     → Each (SpellsInstruction n h) (front ++ after) (list ++ more)
@@ -225,14 +225,14 @@ files_joined : (a : Bool) (files : List File) (list more : List Ins)
 files_joined a files [] more = refl
 files_joined a files (i ∷ list) more = files_joined a _ list more
 
-pub passes_both : (a b c : RunState) (es fs : List Event) → Progress a b es → Progress b c fs → Progress a c (es ++ fs)
+pub passes_both : (a b c : RunState) (es fs : List Event) → PassesOver a b es → PassesOver b c fs → PassesOver a c (es ++ fs)
 passes_both a b c es fs p q = record {
   list = p.list ++ q.list;
   front = p.front ++ q.front;
   parts = grind (arith, append_assoc);
   spelled =
       grind (arith, each_joined);
-  notation = q.notation ∙ p.notation;
+  layout = q.layout ∙ p.layout;
   fixed = q.fixed ∙ p.fixed;
   appends = q.appends ∙ p.appends;
   given =
@@ -242,22 +242,22 @@ passes_both a b c es fs p q = record {
 }
 
 -- the files at the end are the same after what was passed over
-pub same_end : (a b : RunState) (es : List Event) → Progress a b es → files_at_end b ≡ files_at_end a
+pub same_end : (a b : RunState) (es : List Event) → PassesOver a b es → files_at_end b ≡ files_at_end a
 same_end a b es p =
-    let after = (decoded_at a.unread.notation a.fixed b.unread.bytes).0 in
+    let after = (decoded_at a.unread.layout a.fixed b.unread.bytes).0 in
     let there : files_at_end b
     ≡ files_from a.appends _ after = cc in
     there ∙ sym (files_joined a.appends a.files p.list after)
     ∙ ap (λ c. files_from a.appends a.files c.0)
-    (sym (decodes_on a.unread.notation a.fixed a.unread.bytes p.list p.front b.unread.bytes p.parts p.spelled))
+    (sym (decodes_on a.unread.layout a.fixed a.unread.bytes p.list p.front b.unread.bytes p.parts p.spelled))
 
 -- ---- refusals
 
 -- memory is missing for the file that an instruction defines
 pub wants : (a : Bool) (h k : Header) → k ≡ h
-    → (c c2 : Source) (r : LineRow) (s : Unread) (i : Ins) (front rest : List ℕ)
+    → (c c2 : HeaderSource) (r : LineRow) (s : Unread) (i : Ins) (front rest : List ℕ)
     → s.bytes ≡ front ++ rest
-    → SpellsInstruction s.notation k front i → defines_file i ≡ true → (h2 : Header) (r2 : LineRow) (s2 : Unread)
+    → SpellsInstruction s.layout k front i → defines_file i ≡ true → (h2 : Header) (r2 : LineRow) (s2 : Unread)
     → s2.bytes ≡ [] → h2 ≡ h → a ≡ true
     → WantsMemory (state a h c r s) (state a h2 c2 r2 s2)
 wants a h k same c c2 r s i front rest parts spelled defines h2 r2 s2 empty kept appends = record {
@@ -276,7 +276,7 @@ wants a h k same c c2 r s i front rest parts spelled defines h2 r2 s2 empty kept
 }
 
 -- a refusal after instructions that give nothing
-pub wants_after : (a b c : RunState) → Progress a b [] → WantsMemory b c → WantsMemory a c
+pub wants_after : (a b c : RunState) → PassesOver a b [] → WantsMemory b c → WantsMemory a c
 wants_after a b c passed m = record {
   point = m.point;
   passed = passes_both a b m.point [] [] passed m.passed;
@@ -293,7 +293,7 @@ wants_after a b c passed m = record {
 }
 
 pub refused_after : (live : RunState → List EventWithFiles) (a b c : RunState) (e : Error) → live a ≡ live b
-    → Progress a b [] → FaultIs live b c e
+    → PassesOver a b [] → FaultIs live b c e
     → FaultIs live a c e
 refused_after live a b c e events passed (inl m) = inl (m.0, wants_after a b c passed m.1)
 refused_after live a b c e events passed (inr f) = inr (events ∙ f.0, f.1 ∙ same_end a b [] passed, f.2)

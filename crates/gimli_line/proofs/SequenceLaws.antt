@@ -5,13 +5,13 @@ use Rattle.std.proofs.Common.{ap, ◌∙◌, subst, append_assoc, arith, ◌≢�
 use Rattle.std.specs.List.{AllByRecursion, list_any, flat_map}
 use Rattle.std.specs.Option.{unwrap_or}
 use Rattle.std.proofs.lemmas.List.{length-append, append-nil, map-append}
-use Rattle.gimli_core.specs.Notation.{Notation}
+use Rattle.gimli_core.specs.Layout.{OrderAndLimit}
 use Rattle.gimli_core.specs.Production.{Each}
 use Rattle.gimli_core.specs.declared.error.Error.{Error}
 use Rattle.gimli_core.specs.declared.error.Error.TheVariants.{OutOfMemory}
 use Rattle.gimli_line.specs.declared.run.row.LineRow.{LineRow}
 use Rattle.gimli_line.specs.header.Parameters.{Parameters}
-use Rattle.gimli_line.specs.header.Orders.{Source, KeepsSource}
+use Rattle.gimli_line.specs.header.Orders.{HeaderSource, KeepsSource}
 use Rattle.gimli_line.specs.header.Header.{Header, without_files}
 use Rattle.gimli_line.specs.run.Instruction.{Ins}
 use Rattle.gimli_line.specs.header.File.{File}
@@ -24,9 +24,9 @@ use Rattle.gimli_line.specs.run.Machine.{initial, made_from, run}
 use Rattle.gimli_line.specs.run.Unread.{Unread}
 use Rattle.gimli_line.specs.inside.run.Unread.{front_of}
 use Rattle.gimli_line.specs.run.RunState.{RunState}
-use Rattle.gimli_line.specs.run.Progress.{Progress, with_reset_row, registers_from, files_from}
+use Rattle.gimli_line.specs.run.Passing.{PassesOver, with_reset_row, registers_from, files_from}
 use Rattle.gimli_line.specs.run.Rows.{live_events, start_of_run, whole_run, FaultComes, FaultIs, KeepsRun}
-use Rattle.gimli_line.specs.run.Sequences.{Part, IsSequence, HasRun, HaveRuns, AreSequences}
+use Rattle.gimli_line.specs.run.Sequences.{Sequence, IsSequence, HasRun, HaveRuns, AreSequences}
 use Rattle.gimli_line.specs.run.Sequences.{HasFirstFault}
 use Rattle.gimli_line.specs.inside.run.SequenceSplit.{SequenceSplit, with_row, RowSplit, with_kept_row}
 use Rattle.gimli_line.proofs.Backwards.{starts, files_from_start}
@@ -70,7 +70,7 @@ through_one (r ∷ rows) last later closed =
 abbrev joined_runs : List (List Event) → List Event
 joined_runs runs = flat_map (λ run. run) runs
 
-runs_push : (h : Header) (parts : List Part) (runs : List (List Event)) (s : Part) (run : List Event)
+runs_push : (h : Header) (parts : List Sequence) (runs : List (List Event)) (s : Sequence) (run : List Event)
     → HaveRuns h parts runs → HasRun h s run
     → HaveRuns h (parts ++ s ∷ []) (runs ++ run ∷ [])
 runs_push h [] [] s run all one = (one, tt)
@@ -87,7 +87,7 @@ through_events : (events : List Event) (start end : ℕ) → IsSequence events s
     → through_last_end (events ++ later) ≡ events ++ through_last_end later
 through_events events start end is later = grind (arith, through_one)
 
-through_runs : (h : Header) (parts : List Part) (runs : List (List Event)) → HaveRuns h parts runs
+through_runs : (h : Header) (parts : List Sequence) (runs : List (List Event)) → HaveRuns h parts runs
     → (later : List Event)
     → through_last_end (joined_runs runs ++ later) ≡ joined_runs runs ++ through_last_end later
 through_runs h [] [] all later = refl
@@ -100,24 +100,24 @@ through_runs h (s ∷ parts) (run ∷ runs) all later =
     ∙ sym (append_assoc run _ _)
 
 -- the files of a header mean nothing to the run of a sequence
-run_over : (c : Header) (s : Part) (run : List Event) → HasRun (without_files c) s run → HasRun c s run
+run_over : (c : Header) (s : Sequence) (run : List Event) → HasRun (without_files c) s run → HasRun c s run
 run_over c s run has = grind (arith)
 
-runs_over : (c : Header) (parts : List Part) (runs : List (List Event)) → HaveRuns (without_files c) parts runs
+runs_over : (c : Header) (parts : List Sequence) (runs : List (List Event)) → HaveRuns (without_files c) parts runs
     → HaveRuns c parts runs
 runs_over c [] [] all = tt
 runs_over c [] _ all = absurd all
 runs_over c _ [] all = absurd all
 runs_over c (s ∷ parts) (run ∷ runs) all = (run_over c s run all.0, runs_over c parts runs all.1)
 
-complete_runs : (h c : Header) (parts : List Part) (runs : List (List Event)) → without_files c ≡ without_files h
+complete_runs : (h c : Header) (parts : List Sequence) (runs : List (List Event)) → without_files c ≡ without_files h
     → HaveRuns (without_files h) parts runs
     → HaveRuns c parts runs
 complete_runs h c parts runs same all =
     grind (arith, runs_over)
 
 -- over the complete header too
-pub runs_are_kept : (n : Notation) (h c : Header) (parts : List Part) (runs : List (List Event))
+pub runs_are_kept : (n : OrderAndLimit) (h c : Header) (parts : List Sequence) (runs : List (List Event))
     → AreSequences n h c parts
     → HaveRuns (without_files h) parts runs
     → HaveRuns c parts runs
@@ -130,7 +130,7 @@ abbrev pub first_of : List LineRow → Option ℕ
 first_of [] = None
 first_of (r ∷ rows) = Some r.address
 
-abbrev began : Header → Source → List File → Unread → RunState
+abbrev began : Header → HeaderSource → List File → Unread → RunState
 began h source files unread = record {
   fixed = without_files h;
   files = files;
@@ -143,15 +143,15 @@ began h source files unread = record {
 pub record Splitting (h : Header) (k : SequenceSplit) (done : List LineRow) (point : RunState) : Type 0 where
   runs : List (List Event)
   rows : List LineRow
-  source : Source
+  source : HeaderSource
   files : List File
   done_is : map row done ≡ joined_runs runs ++ map row rows
   closed : HaveRuns (without_files h) k.parts runs
   unended : AreOpen rows
   start_is : k.start ≡ first_of rows
-  passes : Progress (began h source files k.unread) point (map row rows)
+  passes : PassesOver (began h source files k.unread) point (map row rows)
 
-pub starts_splitting : (h : Header) (source : Source) (unread : Unread)
+pub starts_splitting : (h : Header) (source : HeaderSource) (unread : Unread)
     → Splitting h (record { parts = []; unread = unread; start = None }) []
     (with_reset_row (start_of_run true h source unread))
 starts_splitting h source unread = record {
@@ -174,7 +174,7 @@ pub record Keeping (h : Header) (k : SequenceSplit) (kept : RowSplit) (done : Li
   pub unended : splitting.rows ≡ kept.unended
   pub closed : splitting.runs ≡ map (map row) kept.closed
 
-pub starts_keeping : (h : Header) (source : Source) (unread : Unread)
+pub starts_keeping : (h : Header) (source : HeaderSource) (unread : Unread)
     → Keeping h (record { parts = []; unread = unread; start = None }) (record { closed = []; unended = [] }) []
     (with_reset_row (start_of_run true h source unread))
 unfolding starts_splitting
@@ -192,8 +192,8 @@ open_push [] r o e = (e, tt)
 open_push (q ∷ rows) r o e = (o.0, open_push rows r o.1 e)
 
 module _ (h : Header) (k : SequenceSplit) (done : List LineRow) (point next : RunState) (c : Splitting h k done point)
-    (p : Progress point (with_reset_row next) (row next.row ∷ [])) where
-  whole : Progress (began h c.source c.files k.unread) (with_reset_row next) (map row c.rows ++ row next.row ∷ [])
+    (p : PassesOver point (with_reset_row next) (row next.row ∷ [])) where
+  whole : PassesOver (began h c.source c.files k.unread) (with_reset_row next) (map row c.rows ++ row next.row ∷ [])
   whole =
       grind (arith, passes_both)
 
@@ -221,7 +221,7 @@ module _ (h : Header) (k : SequenceSplit) (done : List LineRow) (point next : Ru
         grind (arith, map-append, whole);
   }
 
-  abbrev ended : Part
+  abbrev ended : Sequence
   ended = record { start = unwrap_or k.start 0; end = next.row.address; unread = front_of k.unread next.unread }
 
   front_is : take (length k.unread.bytes - length next.unread.bytes) k.unread.bytes ≡ whole.front
@@ -295,12 +295,12 @@ module _ (h : Header) (k : SequenceSplit) (done : List LineRow) (point next : Ru
   has_front = grind (arith, whole)
 
 -- a row takes bytes
-pub row_takes : (a b : RunState) (e : Event) (es : List Event) → Progress a b (e ∷ es)
+pub row_takes : (a b : RunState) (e : Event) (es : List Event) → PassesOver a b (e ∷ es)
     → length b.unread.bytes < length a.unread.bytes
 row_takes a b e es p = at_list p.list p.front p.parts p.spelled p.given
   where
     at_list : (list : List Ins) (front : List ℕ) → a.unread.bytes ≡ front ++ b.unread.bytes
-        → Each (SpellsInstruction a.unread.notation a.fixed) front list
+        → Each (SpellsInstruction a.unread.layout a.fixed) front list
         → run a.fixed.parameters a.row list ≡ e ∷ es → length b.unread.bytes < length a.unread.bytes
     at_list [] front parts s given = absurd cc
     at_list (i ∷ list) front parts s given =
@@ -308,11 +308,11 @@ row_takes a b e es p = at_list p.list p.front p.parts p.spelled p.given
 
 -- ---- the end of a run without a fault
 
-module _ (source : Source) (h c : Header) (k : SequenceSplit) (done : List LineRow) (point last : RunState) where
-  are_sequences : Splitting h k done point → Progress (with_reset_row (whole_run h source)) last (map row done)
+module _ (source : HeaderSource) (h c : Header) (k : SequenceSplit) (done : List LineRow) (point last : RunState) where
+  are_sequences : Splitting h k done point → PassesOver (with_reset_row (whole_run h source)) last (map row done)
       → last.unread.bytes ≡ []
       → without_files c ≡ last.fixed → c.files ≡ last.files
-      → AreSequences source.notation h c k.parts
+      → AreSequences source.layout h c k.parts
   are_sequences splitting p empty fixed files = record {
     list = p.list;
     decoding =
@@ -339,28 +339,28 @@ module _ (source : Source) (h c : Header) (k : SequenceSplit) (done : List LineR
 
 -- ---- a fault
 
-passes_left : (a b : RunState) (es : List Event) → Progress a b es
+passes_left : (a b : RunState) (es : List Event) → PassesOver a b es
     → events_of (live_events a) ≡ es ++ events_of (live_events b)
 passes_left a b es p =
-    let c = decoded_at a.unread.notation a.fixed b.unread.bytes in
+    let c = decoded_at a.unread.layout a.fixed b.unread.bytes in
     let here = registers_from a.fixed.parameters a.row p.list in
     let files = files_from a.appends a.files p.list in
     let rest : live_events b ≡ given_of (made_from a.appends a.fixed.parameters here files c.0 c.1) =
     cc in
     ap (λ d.
     events_of (given_of (made_from a.appends a.fixed.parameters a.row a.files d.0 d.1)))
-    (decodes_on a.unread.notation a.fixed a.unread.bytes p.list p.front b.unread.bytes p.parts p.spelled)
+    (decodes_on a.unread.layout a.fixed a.unread.bytes p.list p.front b.unread.bytes p.parts p.spelled)
     ∙ given_joined a.appends a.fixed.parameters a.row a.files p.list c.0 c.1
     ∙ ap (λ xs.
     xs ++ events_of (given_of (made_from a.appends a.fixed.parameters here files c.0 c.1))) p.given
     ∙ ap (λ xs. es ++ events_of xs) (sym rest)
 
-has_first_fault : (source : Source) (h : Header) (done : List LineRow) (old new : RunState) (e : Error)
-    → Progress (with_reset_row (whole_run h source)) (with_reset_row old) (map row done)
+has_first_fault : (source : HeaderSource) (h : Header) (done : List LineRow) (old new : RunState) (e : Error)
+    → PassesOver (with_reset_row (whole_run h source)) (with_reset_row old) (map row done)
     → FaultComes live_events (with_reset_row old) new e
-    → HasFirstFault source.notation h e
+    → HasFirstFault source.layout h e
 has_first_fault source h done old new e p is =
-    let c = decoded_at source.notation _ h.program in
+    let c = decoded_at source.layout _ h.program in
     record {
       list = c.0;
       end = c.1;
@@ -376,14 +376,14 @@ has_first_fault source h done old new e p is =
 
 -- ---- a run of a whole program that is split on its way
 
-pub record IsSplit (Split : List LineRow → RunState → Type 0) (h : Header) (source : Source) (rows : RunState)
+pub record IsSplit (Split : List LineRow → RunState → Type 0) (h : Header) (source : HeaderSource) (rows : RunState)
     : Type 0 where
   pub done : List LineRow
   pub split : Split done (with_reset_row rows)
-  pub passes : Progress (with_reset_row (whole_run h source)) (with_reset_row rows) (map row done)
+  pub passes : PassesOver (with_reset_row (whole_run h source)) (with_reset_row rows) (map row done)
   pub keeps : KeepsRun (whole_run h source) rows
 
-module _ (h : Header) (source : Source) (Split : List LineRow → RunState → Type 0) where
+module _ (h : Header) (source : HeaderSource) (Split : List LineRow → RunState → Type 0) where
   abbrev whole_row : RunState
   whole_row = with_reset_row (whole_run h source)
 
@@ -393,13 +393,13 @@ module _ (h : Header) (source : Source) (Split : List LineRow → RunState → T
 
   module _ (rows next : RunState) (so_far : IsSplit Split h source rows) (keeps : KeepsRun rows next) where
     pub split_goes : (Longer : List LineRow → RunState → Type 0)
-        → Progress (with_reset_row rows) (with_reset_row next) (row next.row ∷ [])
+        → PassesOver (with_reset_row rows) (with_reset_row next) (row next.row ∷ [])
         → Longer (so_far.done ++ next.row ∷ []) (with_reset_row next) → IsSplit Longer h source next
     split_goes Longer p split = record {
       done = so_far.done ++ next.row ∷ [];
       split = split;
       passes =
-          subst (λ (es : List Event). Progress whole_row (with_reset_row next) es)
+          subst (λ (es : List Event). PassesOver whole_row (with_reset_row next) es)
           (sym (map-append row so_far.done (next.row ∷ [])))
           (passes_both whole_row (with_reset_row rows) (with_reset_row next) (map row so_far.done) (row next.row ∷ [])
           so_far.passes p);
@@ -407,23 +407,23 @@ module _ (h : Header) (source : Source) (Split : List LineRow → RunState → T
     }
 
     pub split_faults : (e : Error) → e ≢ OutOfMemory → FaultIs live_events (with_reset_row rows) next e
-        → HasFirstFault source.notation h e
+        → HasFirstFault source.layout h e
     split_faults e other (inl memory) = absurd (other memory.0)
     split_faults e other (inr comes) = has_first_fault source h so_far.done rows next e so_far.passes comes
 
     -- the program that is left is that of the run
-    pub split_source : (last : Source) → last ≡ next.source
-        → KeepsSource (λ order. source.notation.big ≡ order) source last
+    pub split_source : (last : HeaderSource) → last ≡ next.source
+        → KeepsSource (λ order. source.layout.is_big ≡ order) source last
     split_source last same =
-        subst (KeepsSource (λ order. source.notation.big ≡ order) source) (sym same)
+        subst (KeepsSource (λ order. source.layout.is_big ≡ order) source) (sym same)
         (fits_less _ _ _ _ (λ order is adds. is) (keeps_both (whole_run h source) rows next so_far.keeps keeps).source)
 
     pub split_ends : (c : Header) (k : SequenceSplit) → Splitting h k so_far.done (with_reset_row rows)
         → next.unread.bytes ≡ []
-        → Progress (with_reset_row rows) next [] → without_files c ≡ next.fixed → c.files ≡ next.files
-        → AreSequences source.notation h c k.parts
+        → PassesOver (with_reset_row rows) next [] → without_files c ≡ next.fixed → c.files ≡ next.files
+        → AreSequences source.layout h c k.parts
     split_ends c k splitting empty p =
         are_sequences source h c k so_far.done (with_reset_row rows) next splitting
-        (subst (λ (es : List Event). Progress whole_row next es) (append-nil (map row so_far.done))
+        (subst (λ (es : List Event). PassesOver whole_row next es) (append-nil (map row so_far.done))
         (passes_both whole_row (with_reset_row rows) next (map row so_far.done) [] so_far.passes p))
         empty

@@ -1,28 +1,28 @@
 -- A header, and a run, that still come from the same source.
 use Rattle.std.proofs.Common.{◌≡◌, Bool, refl, sym, ap, subst, ◌∙◌}
 use Rattle.gimli_line.specs.header.Header.{SeenHeader}
-use Rattle.gimli_line.specs.header.Orders.{Source, source_of, KeepsSource}
+use Rattle.gimli_line.specs.header.Orders.{HeaderSource, source_of, KeepsSource}
 use Rattle.gimli_line.specs.run.RunState.{RunState}
 use Rattle.gimli_line.specs.run.Rows.{AddsInOrder, IsOfOneOrder, KeepsRun, SeesHeader}
 
-pub source_kept : (Fits : Bool → Type 0) (source : Source) → KeepsSource Fits source source
-source_kept Fits source = record { notation = refl; offset = refl; handed = refl; order = λ order fits are. are }
+pub source_kept : (Fits : Bool → Type 0) (source : HeaderSource) → KeepsSource Fits source source
+source_kept Fits source = record { layout = refl; offset = refl; handed = refl; order = λ order fits are. are }
 
 -- fewer orders fit
-pub fits_less : (Fits Less : Bool → Type 0) (old new : Source) → ((order : Bool) → Less order → Fits order)
+pub fits_less : (Fits Less : Bool → Type 0) (old new : HeaderSource) → ((order : Bool) → Less order → Fits order)
     → KeepsSource Fits old new
     → KeepsSource Less old new
 fits_less Fits Less old new less keeps = record {
-  notation = keeps.notation;
+  layout = keeps.layout;
   offset = keeps.offset;
   handed = keeps.handed;
   order = λ order fits. keeps.order order (less order fits);
 }
 
-pub source_both : (Fits : Bool → Type 0) (a b c : Source) → KeepsSource Fits a b → KeepsSource Fits b c
+pub source_both : (Fits : Bool → Type 0) (a b c : HeaderSource) → KeepsSource Fits a b → KeepsSource Fits b c
     → KeepsSource Fits a c
 source_both Fits a b c p q = record {
-  notation = q.notation ∙ p.notation;
+  layout = q.layout ∙ p.layout;
   offset = q.offset ∙ p.offset;
   handed = q.handed ∙ p.handed;
   order = λ order fits are. q.order order fits (p.order order fits are);
@@ -32,7 +32,7 @@ source_both Fits a b c p q = record {
 
 -- the instructions to come have the order that they had
 still_adds : (a b : RunState) → KeepsRun a b → (order : Bool) → AddsInOrder a order → AddsInOrder b order
-still_adds a b keeps order adds = λ appends. ap (λ n. n.big) keeps.unread ∙ adds (sym keeps.appends ∙ appends)
+still_adds a b keeps order adds = λ appends. ap (λ n. n.is_big) keeps.unread ∙ adds (sym keeps.appends ∙ appends)
 
 pub keeps_same : (x y : RunState) → x ≡ y → KeepsRun x y
 keeps_same x y same =
@@ -49,14 +49,14 @@ keeps_both x y z p q = record {
 }
 
 -- a run goes on, and the header is seen then
-pub sees_after : {R Offset Endian : Type 0} (big : R → Bool) (number : Offset → _) (x y : RunState)
+pub sees_after : {R Offset Endian : Type 0} (is_big : R → Bool) (number : Offset → _) (x y : RunState)
     (h : SeenHeader R Offset Endian)
     → KeepsRun x y
-    → SeesHeader big number y h → SeesHeader big number x h
-sees_after big number x y h p q = record {
+    → SeesHeader is_big number y h → SeesHeader is_big number x h
+sees_after is_big number x y h p q = record {
   fixed = q.fixed ∙ p.fixed;
   source =
-      source_both (AddsInOrder x) x.source y.source (source_of big number h) p.source
+      source_both (AddsInOrder x) x.source y.source (source_of is_big number h) p.source
       (fits_less _ _ _ _ (still_adds x y p) q.source);
 }
 
@@ -64,6 +64,6 @@ sees_after big number x y h p q = record {
 
 pub still_one : (x y : RunState) → KeepsRun x y → IsOfOneOrder x → IsOfOneOrder y
 still_one x y keeps one = record {
-  readers = rw keeps.source.notation (keeps.source.order x.source.notation.big one.unread one.readers);
-  unread = rw keeps.source.notation (still_adds x y keeps x.source.notation.big one.unread);
+  readers = rw keeps.source.layout (keeps.source.order x.source.layout.is_big one.unread one.readers);
+  unread = rw keeps.source.layout (still_adds x y keeps x.source.layout.is_big one.unread);
 }

@@ -8,8 +8,8 @@ use Rattle.gimli_line.specs.declared.run.from_bytes.Executed.{Executed}
 use Rattle.gimli_line.specs.declared.run.from_bytes.Executed.TheVariants.{No, Quiet, Address, Row}
 use Rattle.gimli_line.specs.declared.run.instruction.LineInstruction.TheVariants.{DefineFile}
 use Rattle.gimli_line.specs.declared.run.row.LineRow.{LineRow}
-use Rattle.gimli_line.specs.declared.run.rows.Step.{Step}
-use Rattle.gimli_line.specs.declared.run.rows.Step.TheVariants.{Done, Made, More}
+use Rattle.gimli_line.specs.declared.run.rows.RowStep.{RowStep}
+use Rattle.gimli_line.specs.declared.run.rows.RowStep.TheVariants.{Done, Made, More}
 use Rattle.gimli_line.specs.header.Header.{Header, without_files}
 use Rattle.gimli_line.specs.header.Orders.{KeepsSource}
 use Rattle.gimli_line.specs.inside.run.Rows.{given_row, ReadsOn, StepIs, StepsTo}
@@ -18,7 +18,7 @@ use Rattle.gimli_line.specs.run.Instruction.{Ins, makes_row, defines_file, heade
 use Rattle.gimli_line.specs.run.InstructionReading.{ins_at}
 use Rattle.gimli_line.specs.run.Machine.{step_of, is_refused}
 use Rattle.gimli_line.specs.run.NextInstruction.{TakesNext, EndsByFault}
-use Rattle.gimli_line.specs.run.Progress.{with_reset_row}
+use Rattle.gimli_line.specs.run.Passing.{with_reset_row}
 use Rattle.gimli_line.specs.run.RunState.{RunState}
 use Rattle.gimli_line.specs.run.Rows.{live_made, FaultComes, AddsInOrder, KeepsRun, WantsMemory}
 use Rattle.gimli_line.specs.run.Unread.{Unread}
@@ -46,9 +46,9 @@ by_headers a h h2 old new from to P p =
 -- the header is still that of the run, but for its files; what is added fits the order of the instructions to come
 pub keeps_run : (a : Bool) (h h2 : Header) (old new : RunState) → Has a h old → Has a h2 new
     → without_files h2 ≡ without_files h
-    → new.unread.notation ≡ old.unread.notation → (Fits : Bool → Type 0)
+    → new.unread.layout ≡ old.unread.layout → (Fits : Bool → Type 0)
     → KeepsSource (λ order. a ≡ true → Fits order) old.source new.source
-    → Fits old.unread.notation.big → KeepsRun old new
+    → Fits old.unread.layout.is_big → KeepsRun old new
 keeps_run a h h2 old new from to fixed unread Fits source fits = record {
   fixed = grind arith;
   appends = to.0 ∙ sym from.0;
@@ -73,7 +73,7 @@ module _ (x y : RunState) where
       keeps = keeps_both x y z r.keeps q.keeps;
     }
 
-    pub step_after : (s : Step) → StepIs y z s → StepIs x z s
+    pub step_after : (s : RowStep) → StepIs y z s → StepIs x z s
     step_after Done d = (r.made ∙ d.0, d.1, passes_both x y z [] [] r.passed d.2)
     step_after Made m = (r.made ∙ m.0, passes_both x y (with_reset_row z) [] (given_row z.row) r.passed m.1)
     step_after More m = (
@@ -82,7 +82,7 @@ module _ (x y : RunState) where
       passes_both x y z [] [] r.passed m.2,
     )
 
-    pub steps_after : (answer : Result Step Error) → StepsTo y z answer → StepsTo x z answer
+    pub steps_after : (answer : Result RowStep Error) → StepsTo y z answer → StepsTo x z answer
     steps_after (Ok s) q = record { ok = step_after s q.ok; err = tt; keeps = keeps_both x y z r.keeps q.keeps }
     steps_after (Err e) q = record {
       ok = tt;
@@ -134,17 +134,17 @@ module _ (a : Bool) (h k : Header) (same : k ≡ h) (old new : RunState) (from :
 
   -- h2 is the header after it
   module _ (i : Ins) (taken : TakesNext k old.unread new.unread (Some i))
-      (notation : new.unread.notation ≡ old.unread.notation) (h2 : Header) where
+      (layout : new.unread.layout ≡ old.unread.layout) (h2 : Header) where
     pub step_goes : h2 ≡ header_after a i h → is_refused h.parameters i old.row ≡ false
         → (made : Bool) → makes_row i ≡ made → new.row ≡ step_of h.parameters i old.row
         → Has a h2 new → KeepsRun old new → StepsTo old new (Ok (if made then Made else More))
     step_goes after fits false made row to keeps = record {
       ok = by_headers a h h2 old new from to (λ x y. StepIs x y More) (
-        after_quiet a h k same old.source new.source old.row old.unread new.unread notation i taken.0 taken.1
+        after_quiet a h k same old.source new.source old.row old.unread new.unread layout i taken.0 taken.1
             taken.2 h2 new.row after fits made row,
-        is_shorter a h k same old.source new.source old.row old.unread new.unread notation i taken.0 taken.1
+        is_shorter a h k same old.source new.source old.row old.unread new.unread layout i taken.0 taken.1
             taken.2,
-        passes_quiet a h k same old.source new.source old.row old.unread new.unread notation i taken.0 taken.1
+        passes_quiet a h k same old.source new.source old.row old.unread new.unread layout i taken.0 taken.1
             taken.2 h2 new.row after fits made row,
       );
       err = tt;
@@ -152,9 +152,9 @@ module _ (a : Bool) (h k : Header) (same : k ≡ h) (old new : RunState) (from :
     }
     step_goes after fits true made row to keeps = record {
       ok = by_headers a h h2 old new from to (λ x y. StepIs x y Made) (
-        after_made a h k same old.source new.source old.row old.unread new.unread notation i taken.0 taken.1
+        after_made a h k same old.source new.source old.row old.unread new.unread layout i taken.0 taken.1
             taken.2 h2 new.row after fits made row,
-        passes_made a h k same old.source new.source old.row old.unread new.unread notation i taken.0 taken.1
+        passes_made a h k same old.source new.source old.row old.unread new.unread layout i taken.0 taken.1
             taken.2 h2 new.row after fits made row,
       );
       err = tt;
@@ -168,7 +168,7 @@ module _ (a : Bool) (h k : Header) (same : k ≡ h) (old new : RunState) (from :
       ok = tt;
       err =
           inr (by_headers a h h2 old new from to (λ x y. FaultComes live_made x y AddressOverflow)
-          (after_overflow a h k same old.source new.source old.row old.unread new.unread notation i taken.0
+          (after_overflow a h k same old.source new.source old.row old.unread new.unread layout i taken.0
           taken.1 taken.2 h2 new.row kept over row));
       keeps = keeps;
     }
@@ -178,9 +178,9 @@ module _ (a : Bool) (h k : Header) (same : k ≡ h) (old new : RunState) (from :
 abbrev pub with_rest : RunState → LineRow → Unread → RunState
 with_rest old row unread = record old { row = row; unread = unread }
 
-pub keeps_rest : (old : RunState) (row : LineRow) (unread : Unread) → unread.notation ≡ old.unread.notation
+pub keeps_rest : (old : RunState) (row : LineRow) (unread : Unread) → unread.layout ≡ old.unread.layout
     → KeepsRun old (with_rest old row unread)
-keeps_rest old row unread notation = grind (arith)
+keeps_rest old row unread layout = grind (arith)
 
 -- none was
 pub none_executed : (k : Header) (old : RunState) (row : LineRow) (unread : Unread)
@@ -190,18 +190,18 @@ none_executed k old row unread same = grind (arith)
 
 module _ (a : Bool) (h k : Header) (same : k ≡ h) (old : RunState) (row : LineRow) (unread : Unread)
     (from : Has a h old)
-    (notation : unread.notation ≡ old.unread.notation) where
-  executed_step : (x : IsExecuted k.parameters (ins_at old.unread.notation k old.unread.bytes) unread.bytes old.row row
+    (layout : unread.layout ≡ old.unread.layout) where
+  executed_step : (x : IsExecuted k.parameters (ins_at old.unread.layout k old.unread.bytes) unread.bytes old.row row
       false)
       → (made : Bool) → makes_row x.instruction ≡ made
       → StepsTo old (with_rest old row unread) (Ok (if made then Made else More))
   executed_step x made makes =
       step_goes a h k same old (with_rest old row unread) from x.instruction
-      ((reads_instruction old.unread.notation k).found old.unread.bytes x.instruction unread.bytes x.reading) notation h
+      ((reads_instruction old.unread.layout k).found old.unread.bytes x.instruction unread.bytes x.reading) layout h
       (files_kept a h x.instruction x.defines)
       (subst (λ (j : Header). is_refused j.parameters x.instruction old.row ≡ false) same x.refusal) made makes
       (subst (λ (j : Header). row ≡ step_of j.parameters x.instruction old.row) same x.registers) from
-      (keeps_rest old row unread notation)
+      (keeps_rest old row unread layout)
 
   pub executed_more : (told : Executed) → ExecutesNext k old.unread unread old.row row told → told ≢ No → told ≢ Row
       → StepsTo old (with_rest old row unread) (Ok More)
@@ -219,7 +219,7 @@ module _ (a : Bool) (h k : Header) (same : k ≡ h) (old : RunState) (row : Line
   executed_refused e refused =
       let x = refused.1 in
       rw refused.0 (step_overflows a h k same old (with_rest old row unread) from x.instruction
-      ((reads_instruction old.unread.notation k).found old.unread.bytes x.instruction unread.bytes x.reading) notation h
+      ((reads_instruction old.unread.layout k).found old.unread.bytes x.instruction unread.bytes x.reading) layout h
       refl (subst (λ (j : Header). is_refused j.parameters x.instruction old.row ≡ true) same x.refusal)
       (subst (λ (j : Header). row ≡ step_of j.parameters x.instruction old.row) same x.registers) from
-      (keeps_rest old row unread notation))
+      (keeps_rest old row unread layout))

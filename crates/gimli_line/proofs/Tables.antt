@@ -4,13 +4,13 @@ use Rattle.std.proofs.Common.{Ok, Err, refl}
 use Rattle.std.proofs.Common.{arith}
 use Rattle.std.specs.List.{All}
 use Rattle.std.proofs.lemmas.Bool.{le-leb, lt-leb}
-use Rattle.gimli_core.specs.Notation.{Notation}
+use Rattle.gimli_core.specs.Layout.{OrderAndLimit, layout_of}
 use Rattle.gimli_core.specs.Reading.{Read}
 use Rattle.gimli_core.specs.declared.common.Encoding.{Encoding}
 use Rattle.gimli_core.specs.declared.error.Error.{Error}
 use Rattle.gimli_core.proofs.Productions.{bind_refused}
 use Rattle.gimli_line.specs.inside.header.Outcome.{read_map}
-use Rattle.gimli_line.specs.header.HeaderGrammar.{Entry}
+use Rattle.gimli_line.specs.header.HeaderGrammar.{TableEntry}
 use Rattle.gimli_line.specs.inside.header.HeaderReading.{formats_at, entries_at, table_of}
 use Rattle.gimli_line.specs.declared.header.file_entry.FileEntryFormat.{FileEntryFormat}
 
@@ -20,13 +20,13 @@ none_yet P xs is = grind arith
 
 -- ---- the tables of a version
 
-module _ {B : Type 0} (plain : List ℕ → Read (List B)) (view : Entry → B) where
+module _ {B : Type 0} (plain : List ℕ → Read (List B)) (view : TableEntry → B) where
   abbrev Table : Type 0
   Table = List FileEntryFormat × List B
 
-  module _ (notation : Notation) (encoding : Encoding) (bytes : List ℕ) where
+  module _ (layout : OrderAndLimit) (encoding : Encoding) (bytes : List ℕ) where
     abbrev here : Read Table
-    here = table_of plain view notation encoding bytes
+    here = table_of plain view layout encoding bytes
 
     pub table_up_to_4 : (none : List FileEntryFormat) (items : List B) (left : List ℕ) → encoding.version ≤ 4
         → none ≡ [] → plain bytes ≡ (Ok items, left)
@@ -48,11 +48,11 @@ module _ {B : Type 0} (plain : List ℕ → Read (List B)) (view : Entry → B) 
       (formats lent : List FileEntryFormat) (new : 4 < encoding.version)
       (head : formats_at bytes ≡ (Ok formats, mid)) (kept : now ≡ first) (same : lent ≡ formats) where
     abbrev items_at : Bool → List FileEntryFormat → Read (List B)
-    items_at big formats =
-        read_map (map view) (entries_at (record { big = big; limit = limit }) encoding.format formats mid)
+    items_at is_big formats =
+        read_map (map view) (entries_at (layout_of is_big limit) encoding.format formats mid)
 
     abbrev before : Read Table
-    before = table_of plain view (record { big = first; limit = limit }) encoding bytes
+    before = table_of plain view (layout_of first limit) encoding bytes
 
     pub table_from_5 : (items : List B) (left : List ℕ) → items_at now lent ≡ (Ok items, left)
         → before ≡ (Ok (formats, items), left)

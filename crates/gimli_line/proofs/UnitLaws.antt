@@ -4,7 +4,7 @@ use Rattle.std.proofs.Common.{Ok, Err, refl, sym, ap, subst, ◌∙◌}
 use Rattle.std.proofs.Common.{arith, append_assoc, inl, inr, ◌⊎◌}
 use Rattle.std.proofs.lemmas.Bool.{cases_lt}
 use Rattle.std.proofs.lemmas.List.{append-nil, drop_all, drop_at, take-append-drop, length-append, length-drop}
-use Rattle.gimli_core.specs.Notation.{Notation}
+use Rattle.gimli_core.specs.Layout.{OrderAndLimit}
 use Rattle.gimli_core.specs.Numbers.{SpellsInitialLength, initial_length_size}
 use Rattle.gimli_core.specs.Production.{unit_length, Reads}
 use Rattle.gimli_core.specs.Reading.{Read}
@@ -14,29 +14,29 @@ use Rattle.gimli_core.specs.declared.error.Error.{Error}
 use Rattle.gimli_core.proofs.Productions.{reads_both}
 use Rattle.gimli_core.proofs.ProductionLaws.{reads_some_bytes, reads_unit_length}
 use Rattle.gimli_line.specs.header.Header.{Header, UnitEntry}
-use Rattle.gimli_line.specs.header.HeaderGrammar.{Opening, header_production}
+use Rattle.gimli_line.specs.header.HeaderGrammar.{HeaderOpening, header_production}
 use Rattle.gimli_line.specs.header.HeaderGrammar.{SpellsUnit}
-use Rattle.gimli_line.specs.Units.{offset_after, any_unit, BeginsWithUnit, IsRest, AreUnits}
+use Rattle.gimli_line.specs.Units.{offset_after, any_unit, BeginsWithUnit, BeginsWithNoUnit, AreUnits}
 use Rattle.gimli_line.specs.UnitReading.{any_unit_at, after_unit, offsets_upto, offsets_at}
 
-module _ (notation : Notation) where
-  pub reads_any_unit : Reads (any_unit notation) (any_unit_at notation)
+module _ (layout : OrderAndLimit) where
+  pub reads_any_unit : Reads (any_unit layout) (any_unit_at layout)
   unfolding any_unit_at
   reads_any_unit =
-      reads_both (unit_length notation) _ _ _ (reads_unit_length notation) (λ unit. reads_some_bytes unit.0)
+      reads_both (unit_length layout) _ _ _ (reads_unit_length layout) (λ unit. reads_some_bytes unit.0)
 
   -- a unit has bytes
-  unit_some : (unit content : List ℕ) → (any_unit notation).Spells unit content → 0 < length unit
+  unit_some : (unit content : List ℕ) → (any_unit layout).Spells unit content → 0 < length unit
   unit_some unit content s =
       grind (arith, length-append)
 
   -- what comes after the bytes that were read is an end of them, and is shorter
-  after_end : (bytes : List ℕ) (r : Read (List ℕ)) → any_unit_at notation bytes ≡ r
+  after_end : (bytes : List ℕ) (r : Read (List ℕ)) → any_unit_at layout bytes ≡ r
       → (front : List ℕ) × (bytes ≡ front ++ after_unit r)
   after_end bytes (Ok content, rest) is = let f = reads_any_unit.found bytes content rest is in (f.0, f.1)
   after_end bytes (Err e, rest) is = (bytes, sym (append-nil bytes))
 
-  after_less : (bytes : List ℕ) (r : Read (List ℕ)) → bytes ≢ [] → any_unit_at notation bytes ≡ r
+  after_less : (bytes : List ℕ) (r : Read (List ℕ)) → bytes ≢ [] → any_unit_at layout bytes ≡ r
       → length (after_unit r) < length bytes
   after_less [] r some is = absurd (some refl)
   after_less (b ∷ bytes) (Ok content, rest) some is =
@@ -49,64 +49,64 @@ module _ (notation : Notation) where
   after_fault e _ is = refl
 
   module _ (end : ℕ) where
-    upto_none : (more : ℕ) → offsets_upto notation end more [] ≡ []
+    upto_none : (more : ℕ) → offsets_upto layout end more [] ≡ []
     unfolding offsets_upto
     upto_none zero = refl
     upto_none (suc more) = refl
 
     upto_some : (more : ℕ) (bytes : List ℕ) → bytes ≢ []
-        → offsets_upto notation end (suc more) bytes
-        ≡ (end - length bytes) ∷ offsets_upto notation end more (after_unit (any_unit_at notation bytes))
+        → offsets_upto layout end (suc more) bytes
+        ≡ (end - length bytes) ∷ offsets_upto layout end more (after_unit (any_unit_at layout bytes))
     unfolding offsets_upto
     upto_some more [] some = absurd (some refl)
     upto_some more (b ∷ bytes) some = refl
 
     -- a greater bound changes nothing
     enough : (more less : ℕ) (bytes : List ℕ) → length bytes ≤ more → length bytes ≤ less
-        → offsets_upto notation end more bytes ≡ offsets_upto notation end less bytes
+        → offsets_upto layout end more bytes ≡ offsets_upto layout end less bytes
     enough more less [] le lower = upto_none more ∙ sym (upto_none less)
     enough zero less (b ∷ bytes) le lower = absurd (omega arith)
     enough (suc more) zero (b ∷ bytes) le lower = absurd (omega arith)
     enough (suc more) (suc less) (b ∷ bytes) le lower =
         let some : b ∷ bytes ≢ [] = λ none. absurd cc in
-        let fewer = after_less (b ∷ bytes) (any_unit_at notation (b ∷ bytes)) some refl in
+        let fewer = after_less (b ∷ bytes) (any_unit_at layout (b ∷ bytes)) some refl in
         upto_some more (b ∷ bytes) some
         ∙ ap (λ (os : List ℕ). (end - length (b ∷ bytes)) ∷ os)
-        (enough more less (after_unit (any_unit_at notation (b ∷ bytes))) (omega arith) (omega arith))
+        (enough more less (after_unit (any_unit_at layout (b ∷ bytes))) (omega arith) (omega arith))
         ∙ sym (upto_some less (b ∷ bytes) some)
 
-    pub offsets_none : (bytes : List ℕ) → bytes ≡ [] → offsets_at notation end bytes ≡ []
+    pub offsets_none : (bytes : List ℕ) → bytes ≡ [] → offsets_at layout end bytes ≡ []
     offsets_none bytes none = rw none (upto_none 0)
 
     offsets_some : (bytes : List ℕ) → bytes ≢ []
-        → offsets_at notation end bytes
-        ≡ (end - length bytes) ∷ offsets_at notation end (after_unit (any_unit_at notation bytes))
+        → offsets_at layout end bytes
+        ≡ (end - length bytes) ∷ offsets_at layout end (after_unit (any_unit_at layout bytes))
     offsets_some [] some = absurd (some refl)
     offsets_some (b ∷ bytes) some =
-        let after = after_unit (any_unit_at notation (b ∷ bytes)) in
-        let fewer = after_less (b ∷ bytes) (any_unit_at notation (b ∷ bytes)) some refl in
+        let after = after_unit (any_unit_at layout (b ∷ bytes)) in
+        let fewer = after_less (b ∷ bytes) (any_unit_at layout (b ∷ bytes)) some refl in
         upto_some (length bytes) (b ∷ bytes) some
         ∙ ap (λ (os : List ℕ). (end - length (b ∷ bytes)) ∷ os)
         (enough (length bytes) (length after) after (omega arith) (omega arith))
 
   -- the offsets that are found are those of the units
   upto_units : (end more offset : ℕ) (bytes : List ℕ) → length bytes ≤ more → offset + length bytes ≡ end
-      → AreUnits notation offset bytes (offsets_upto notation end more bytes)
+      → AreUnits layout offset bytes (offsets_upto layout end more bytes)
   upto_units end more offset [] le ends =
-      subst (λ (os : List ℕ). AreUnits notation offset [] os) (sym (upto_none end more)) refl
+      subst (λ (os : List ℕ). AreUnits layout offset [] os) (sym (upto_none end more)) refl
   upto_units end zero offset (b ∷ bytes) le ends = absurd (omega arith)
   upto_units end (suc more) offset (b ∷ bytes) le ends =
       let some : b ∷ bytes ≢ [] = λ none. absurd cc in
-      subst (λ (os : List ℕ). AreUnits notation offset (b ∷ bytes) os) (sym (upto_some end more (b ∷ bytes) some))
-      (omega arith, at_answer some (λ next rest. upto_units end more next rest) (any_unit_at notation (b ∷ bytes)) refl)
+      subst (λ (os : List ℕ). AreUnits layout offset (b ∷ bytes) os) (sym (upto_some end more (b ∷ bytes) some))
+      (omega arith, at_answer some (λ next rest. upto_units end more next rest) (any_unit_at layout (b ∷ bytes)) refl)
     where
       at_answer : b ∷ bytes ≢ []
           → ((next : ℕ) (rest : List ℕ) → length rest ≤ more → next + length rest ≡ end
-          → AreUnits notation next rest (offsets_upto notation end more rest))
-          → (r : Read (List ℕ)) → any_unit_at notation (b ∷ bytes) ≡ r
-          → BeginsWithUnit notation (b ∷ bytes) (λ size rest.
-          AreUnits notation (offset + size) rest (offsets_upto notation end more (after_unit r)))
-          ⊎ (IsRest notation (b ∷ bytes) × (offsets_upto notation end more (after_unit r) ≡ []))
+          → AreUnits layout next rest (offsets_upto layout end more rest))
+          → (r : Read (List ℕ)) → any_unit_at layout (b ∷ bytes) ≡ r
+          → BeginsWithUnit layout (b ∷ bytes) (λ size rest.
+          AreUnits layout (offset + size) rest (offsets_upto layout end more (after_unit r)))
+          ⊎ (BeginsWithNoUnit layout (b ∷ bytes) × (offsets_upto layout end more (after_unit r) ≡ []))
       at_answer some others (Ok content, rest) is =
           let f = reads_any_unit.found (b ∷ bytes) content rest is in
           let long = unit_some f.0 content f.2 in
@@ -129,7 +129,7 @@ module _ (notation : Notation) where
   -- and there are no others
   only_units : (offsets : List ℕ) (end more offset : ℕ) (bytes : List ℕ) → length bytes ≤ more
       → offset + length bytes ≡ end
-      → AreUnits notation offset bytes offsets → offsets ≡ offsets_upto notation end more bytes
+      → AreUnits layout offset bytes offsets → offsets ≡ offsets_upto layout end more bytes
   only_units [] end more offset bytes le ends s = sym (rw s (upto_none end more))
   only_units (o ∷ offsets) end more offset [] le ends s = elim s.1 [
     | inl u ↦
@@ -140,17 +140,17 @@ module _ (notation : Notation) where
   only_units (o ∷ offsets) end (suc more) offset (b ∷ bytes) le ends s =
       let some : b ∷ bytes ≢ [] = λ none. absurd cc in
       let first : o ≡ end - length (b ∷ bytes) = omega (arith) in
-      let others : offsets ≡ offsets_upto notation end more (after_unit (any_unit_at notation (b ∷ bytes))) = elim s.1 [
+      let others : offsets ≡ offsets_upto layout end more (after_unit (any_unit_at layout (b ∷ bytes))) = elim s.1 [
         | inl u ↦
             let long = unit_some u.unit u.content u.spelled in
-            let read : any_unit_at notation (b ∷ bytes) ≡ (Ok u.content, u.rest) = ap (any_unit_at notation) u.parts
+            let read : any_unit_at layout (b ∷ bytes) ≡ (Ok u.content, u.rest) = ap (any_unit_at layout) u.parts
             ∙ reads_any_unit.only u.unit u.content u.rest u.spelled in
             rw read (only_units offsets end more (offset + length u.unit) u.rest
             (omega (arith, length-append u.unit u.rest, ap length u.parts))
             (omega (arith, length-append u.unit u.rest, ap length u.parts)) u.follow)
         | inr r ↦
             rw (
-              after_fault r.0.error (any_unit_at notation (b ∷ bytes))
+              after_fault r.0.error (any_unit_at layout (b ∷ bytes))
                   (reads_any_unit.refused (b ∷ bytes) r.0.error r.0.fault),
               upto_none end more,
             )
@@ -159,21 +159,21 @@ module _ (notation : Notation) where
       ap (λ (n : ℕ). n ∷ offsets) first ∙ ap (λ (os : List ℕ). (end - length (b ∷ bytes)) ∷ os) others
       ∙ sym (upto_some end more (b ∷ bytes) some)
 
-  pub are_units : (section : List ℕ) → AreUnits notation 0 section (offsets_at notation (length section) section)
+  pub are_units : (section : List ℕ) → AreUnits layout 0 section (offsets_at layout (length section) section)
   are_units section = grind (arith, upto_units)
 
   -- bytes have one list of offsets of units
-  pub one_list : (offset : ℕ) (bytes offsets others : List ℕ) → AreUnits notation offset bytes offsets
-      → AreUnits notation offset bytes others
+  pub one_list : (offset : ℕ) (bytes offsets others : List ℕ) → AreUnits layout offset bytes offsets
+      → AreUnits layout offset bytes others
       → offsets ≡ others
   one_list offset bytes offsets others s t =
       let end = offset + length bytes in
       only_units offsets end (length bytes) offset bytes (omega arith) refl s
       ∙ sym (only_units others end (length bytes) offset bytes (omega arith) refl t)
 
-  pub some_list : (offset : ℕ) (bytes : List ℕ) → (offsets : List ℕ) × AreUnits notation offset bytes offsets
+  pub some_list : (offset : ℕ) (bytes : List ℕ) → (offsets : List ℕ) × AreUnits layout offset bytes offsets
   some_list offset bytes = (
-    offsets_upto notation (offset + length bytes) (length bytes) bytes,
+    offsets_upto layout (offset + length bytes) (length bytes) bytes,
     upto_units (offset + length bytes) (length bytes) offset bytes (omega arith) refl,
   )
 
@@ -181,27 +181,27 @@ module _ (notation : Notation) where
 
   -- a unit has the bytes of its length, and as many as that says
   unit_size : (unit_entry : UnitEntry) (unit : List ℕ) (h : Header)
-      → (header_production notation unit_entry).Spells unit h
-      → (content : List ℕ) × (any_unit notation).Spells unit content
+      → (header_production layout unit_entry).Spells unit h
+      → (content : List ℕ) × (any_unit layout).Spells unit content
       × (length unit ≡ initial_length_size h.parameters.encoding.format + h.unit_length)
   unit_size unit_entry unit h s =
       grind (arith, append-nil, length-append)
 
   pub unit_ends : (unit_entry : UnitEntry) (offset : ℕ) (bytes : List ℕ) (h : Header)
-      → SpellsUnit notation unit_entry bytes h
+      → SpellsUnit layout unit_entry bytes h
       → offset_after offset h ≤ offset + length bytes
   unit_ends unit_entry offset bytes h u =
       grind (arith, length-append)
 
   pub unit_follows : (unit_entry : UnitEntry) (offset next : ℕ) (bytes offsets : List ℕ) (h : Header)
-      → SpellsUnit notation unit_entry bytes h
-      → AreUnits notation offset bytes (offset ∷ next ∷ offsets) → next ≡ offset_after offset h
+      → SpellsUnit layout unit_entry bytes h
+      → AreUnits layout offset bytes (offset ∷ next ∷ offsets) → next ≡ offset_after offset h
   unit_follows unit_entry offset next bytes offsets h u s = elim s.1 [
     | inl b ↦
         let p = unit_size unit_entry u.0 h u.3 in
-        let read : any_unit_at notation bytes ≡ (Ok p.0, u.1) = ap (any_unit_at notation) u.2
+        let read : any_unit_at layout bytes ≡ (Ok p.0, u.1) = ap (any_unit_at layout) u.2
         ∙ reads_any_unit.only u.0 p.0 u.1 p.1 in
-        let again : any_unit_at notation bytes ≡ (Ok b.content, b.rest) = ap (any_unit_at notation) b.parts
+        let again : any_unit_at layout bytes ≡ (Ok b.content, b.rest) = ap (any_unit_at layout) b.parts
         ∙ reads_any_unit.only b.unit b.content b.rest b.spelled in
         let same : u.1 ≡ b.rest = ap (λ (r : Read (List ℕ)). r.1) (sym read ∙ again) in
         omega (
@@ -218,10 +218,10 @@ module _ (notation : Notation) where
 
   -- what is left after a unit is an end of the section
   pub rest_is_end : (section : List ℕ) (offset : ℕ) (after : List ℕ)
-      → after ≡ after_unit (any_unit_at notation (drop offset section))
+      → after ≡ after_unit (any_unit_at layout (drop offset section))
       → (front : List ℕ) × (section ≡ front ++ after)
   rest_is_end section offset after is =
-      let a = after_end (drop offset section) (any_unit_at notation (drop offset section)) refl in (
+      let a = after_end (drop offset section) (any_unit_at layout (drop offset section)) refl in (
         take offset section ++ a.0,
         sym (take-append-drop offset section) ∙ ap (λ (xs : List ℕ). take offset section ++ xs) (rw is a.1)
             ∙ sym (append_assoc (take offset section) a.0 after),
@@ -229,9 +229,9 @@ module _ (notation : Notation) where
 
   -- the first offset is that of the unit in front; the others are those from the offset after it on
   pub offsets_step : (section : List ℕ) (offset next : ℕ) (after : List ℕ) → drop offset section ≢ []
-      → after ≡ after_unit (any_unit_at notation (drop offset section)) → next + length after ≡ length section
-      → offsets_at notation (length section) (drop offset section)
-      ≡ offset ∷ offsets_at notation (length section) (drop next section)
+      → after ≡ after_unit (any_unit_at layout (drop offset section)) → next + length after ≡ length section
+      → offsets_at layout (length section) (drop offset section)
+      ≡ offset ∷ offsets_at layout (length section) (drop next section)
   offsets_step section offset next after some is ends =
       let e = rest_is_end section offset after is in
       let rest : drop next section ≡ after = ap (drop next) e.1
@@ -242,6 +242,6 @@ module _ (notation : Notation) where
       let first : length section - length (drop offset section) ≡ offset = omega (arith, length-drop offset section) in
       offsets_some (length section) (drop offset section) some
       ∙ ap
-      (λ (n : ℕ). n ∷ offsets_at notation (length section) (after_unit (any_unit_at notation (drop offset section))))
+      (λ (n : ℕ). n ∷ offsets_at layout (length section) (after_unit (any_unit_at layout (drop offset section))))
       first
-      ∙ ap (λ (xs : List ℕ). offset ∷ offsets_at notation (length section) xs) (sym is ∙ sym rest)
+      ∙ ap (λ (xs : List ℕ). offset ∷ offsets_at layout (length section) xs) (sym is ∙ sym rest)

@@ -1,24 +1,18 @@
 -- Which unit a section has at an offset, and why it has none (DWARF 5, section 6.2.4).
-use Rattle.std.specs.Prelude.{◌≢◌, ℕ, drop}
+use Rattle.std.specs.Prelude.{ℕ, drop}
 use Rattle.gimli_core.specs.declared.error.Error.{Error}
-use Rattle.gimli_core.specs.declared.error.Error.TheVariants.{OutOfMemory}
 use Rattle.gimli_line.specs.header.Header.{UnitEntry, SeenHeader}
-use Rattle.gimli_line.specs.header.HeaderGrammar.{SpellsUnit, HasHeaderFault}
+use Rattle.gimli_line.specs.header.HeaderGrammar.{SpellsUnit, HasUnitFault}
 use Rattle.gimli_line.specs.run.Unread.{Unread}
 
 -- from the offset on the section begins with a unit, and this is its header
-abbrev pub HasUnitAt : {R Offset Endian : Type 0} → Unread → ℕ → UnitEntry
+abbrev pub SpellsUnitAt : {R Offset Endian : Type 0} → Unread → ℕ → UnitEntry
     → SeenHeader R Offset Endian → Type 0
-HasUnitAt section offset unit_entry header =
-    SpellsUnit section.notation unit_entry (drop offset section.bytes) header.meaning
+SpellsUnitAt section offset unit_entry header =
+    SpellsUnit section.layout unit_entry (drop offset section.bytes) header.meaning
 
 -- from the offset on the section begins with no unit, and this is the refusal of the first part of
 -- the header that isn't met
 abbrev pub HasUnitFaultAt : Unread → ℕ → UnitEntry → Error → Type 0
 HasUnitFaultAt section offset unit_entry e =
-    HasHeaderFault section.notation unit_entry (drop offset section.bytes) e
-
--- the same, unless memory was missing
-abbrev pub IsUnitRefusal : Unread → ℕ → UnitEntry → Error → Type 0
-IsUnitRefusal section offset unit_entry e =
-    e ≢ OutOfMemory → HasUnitFaultAt section offset unit_entry e
+    HasUnitFault section.layout unit_entry (drop offset section.bytes) e

@@ -1,12 +1,12 @@
 -- What is taken of a section, unit by unit.
 use Rattle.std.specs.Prelude.{ℕ, zero, suc, ◌-◌, List, [], ◌∷◌, length, Ok, Err}
-use Rattle.gimli_core.specs.Notation.{Notation}
+use Rattle.gimli_core.specs.Layout.{OrderAndLimit}
 use Rattle.gimli_core.specs.Reading.{Read, ◌>>=◌, split_at, initial_length_at}
 
 -- a length, and as many bytes as it says
-unfoldable pub any_unit_at : Notation → List ℕ → Read (List ℕ)
-any_unit_at notation bytes =
-    initial_length_at notation.big notation.limit bytes >>= λ unit rest. split_at unit.0 rest
+unfoldable pub any_unit_at : OrderAndLimit → List ℕ → Read (List ℕ)
+any_unit_at layout bytes =
+    initial_length_at layout.is_big layout.limit bytes >>= λ unit rest. split_at unit.0 rest
 
 -- the bytes after a unit; none where there is no unit
 abbrev pub after_unit : Read (List ℕ) → List ℕ
@@ -14,13 +14,13 @@ after_unit (Ok content, rest) = rest
 after_unit (Err e, rest) = []
 
 -- the offsets of at most so many units, in bytes that have this end
-unfoldable pub offsets_upto : Notation → ℕ → ℕ → List ℕ → List ℕ
-offsets_upto notation end zero bytes = []
-offsets_upto notation end (suc more) [] = []
-offsets_upto notation end (suc more) (b ∷ bytes) =
+unfoldable pub offsets_upto : OrderAndLimit → ℕ → ℕ → List ℕ → List ℕ
+offsets_upto layout end zero bytes = []
+offsets_upto layout end (suc more) [] = []
+offsets_upto layout end (suc more) (b ∷ bytes) =
     (end - length (b ∷ bytes))
-    ∷ offsets_upto notation end more (after_unit (any_unit_at notation (b ∷ bytes)))
+    ∷ offsets_upto layout end more (after_unit (any_unit_at layout (b ∷ bytes)))
 
 -- the offsets of all units; they aren't more than the bytes
-abbrev pub offsets_at : Notation → ℕ → List ℕ → List ℕ
-offsets_at notation end bytes = offsets_upto notation end (length bytes) bytes
+abbrev pub offsets_at : OrderAndLimit → ℕ → List ℕ → List ℕ
+offsets_at layout end bytes = offsets_upto layout end (length bytes) bytes

@@ -1,6 +1,6 @@
 -- The units of a section, one after the other (DWARF 5, sections 6.2.4 and 7.4).
 use Rattle.std.specs.Prelude.{◌≡◌, ◌≢◌, ◌⊎◌, ℕ, ◌+◌, List, [], ◌∷◌, ◌++◌, length}
-use Rattle.gimli_core.specs.Notation.{Notation}
+use Rattle.gimli_core.specs.Layout.{OrderAndLimit}
 use Rattle.gimli_core.specs.Numbers.{initial_length_size}
 use Rattle.gimli_core.specs.Production.{Production, ◌>>=◌, some_bytes, unit_length}
 use Rattle.gimli_core.specs.declared.error.Error.{Error}
@@ -9,41 +9,41 @@ use Rattle.gimli_line.specs.run.Unread.{Unread}
 
 -- a unit, whatever its content is: a length that an offset of the reader holds, and as many bytes
 -- as it says
-abbrev pub any_unit : Notation → Production (List ℕ)
-any_unit notation = do
-  unit ← unit_length notation
+abbrev pub any_unit : OrderAndLimit → Production (List ℕ)
+any_unit layout = do
+  unit ← unit_length layout
   some_bytes unit.0
 
 -- the bytes begin with a unit, and units at these offsets follow it
-pub record BeginsWithUnit (notation : Notation) (bytes : List ℕ) (Follow : ℕ → List ℕ → Type 0)
+pub record BeginsWithUnit (layout : OrderAndLimit) (bytes : List ℕ) (Follow : ℕ → List ℕ → Type 0)
     : Type 0 where
   pub unit : List ℕ
   pub content : List ℕ
   pub rest : List ℕ
   pub parts : bytes ≡ unit ++ rest
-  pub spelled : (any_unit notation).Spells unit content
+  pub spelled : (any_unit layout).Spells unit content
   pub follow : Follow (length unit) rest
 
 -- bytes that begin with no unit: their length can't be read, or it says more bytes than there are
-pub record IsRest (notation : Notation) (bytes : List ℕ) : Type 0 where
+pub record BeginsWithNoUnit (layout : OrderAndLimit) (bytes : List ℕ) : Type 0 where
   pub some : bytes ≢ []
   pub error : Error
-  pub fault : (any_unit notation).Fault bytes error
+  pub fault : (any_unit layout).Fault bytes error
 
 -- the bytes from an offset on are units, one after the other, and these are their offsets. Where a
 -- rest is left at the end that begins with no unit, the last offset is that of the rest
-abbrev pub AreUnits : Notation → ℕ → List ℕ → List ℕ → Type 0
-AreUnits notation offset bytes [] = bytes ≡ []
-AreUnits notation offset bytes (o ∷ offsets) =
+abbrev pub AreUnits : OrderAndLimit → ℕ → List ℕ → List ℕ → Type 0
+AreUnits layout offset bytes [] = bytes ≡ []
+AreUnits layout offset bytes (o ∷ offsets) =
     (o ≡ offset)
-    × (BeginsWithUnit notation bytes (λ size rest. AreUnits notation (offset + size) rest offsets)
-    ⊎ (IsRest notation bytes × (offsets ≡ [])))
+    × (BeginsWithUnit layout bytes (λ size rest. AreUnits layout (offset + size) rest offsets)
+    ⊎ (BeginsWithNoUnit layout bytes × (offsets ≡ [])))
 
 -- the bytes have one such list of offsets at most
-abbrev pub AreUnitsOnce : Notation → ℕ → List ℕ → Type 0
-AreUnitsOnce notation offset bytes =
-    (offsets others : List ℕ) → AreUnits notation offset bytes offsets
-    → AreUnits notation offset bytes others → offsets ≡ others
+abbrev pub AreUnitsOnce : OrderAndLimit → ℕ → List ℕ → Type 0
+AreUnitsOnce layout offset bytes =
+    (offsets others : List ℕ) → AreUnits layout offset bytes offsets
+    → AreUnits layout offset bytes others → offsets ≡ others
 
 -- the offset after a unit: its own, the size of its length, and as many bytes as that says
 abbrev pub offset_after : ℕ → Header → ℕ

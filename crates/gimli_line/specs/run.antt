@@ -13,7 +13,7 @@ pub mod Row
 pub mod StoredRow
 pub mod EventsWithFiles
 pub mod RunState
-pub mod Progress
+pub mod Passing
 pub mod Rows
 pub mod Started
 pub mod Sequences

@@ -1,13 +1,14 @@
 //! The section `.debug_line`, from which line programs are read.
 
-ghost use Rattle.std.specs.Prelude.{◌≡◌, IfErr, IfOk, IsTrue, drop, option_map};
-ghost use Rattle.gimli_core.specs.Notation.{notation_of};
+ghost use Rattle.std.specs.Prelude.{◌≡◌, ◌≢◌, IfErr, IfOk, IsTrue, drop, option_map};
+ghost use Rattle.gimli_core.specs.Layout.{layout_of};
 ghost use Rattle.gimli_core.specs.Numbers.{is_address_size};
 ghost use Rattle.gimli_core.specs.declared.attribute_value.AttributeValue.TheVariants.{String};
+ghost use Rattle.gimli_core.specs.declared.error.Error.TheVariants.{OutOfMemory};
 ghost use Rattle.gimli_line.specs.header.Header.{unit_entry};
 ghost use Rattle.gimli_line.specs.header.Orders.{HasOneOrder};
 ghost use Rattle.gimli_line.specs.header.HeaderGrammar.{handed_value};
-ghost use Rattle.gimli_line.specs.UnitAt.{HasUnitAt, IsUnitRefusal};
+ghost use Rattle.gimli_line.specs.UnitAt.{SpellsUnitAt, HasUnitFaultAt};
 ghost use Rattle.gimli_line.specs.run.Unread.{unread_of};
 
 use crate::header::program_header::LineProgramHeader;
@@ -36,7 +37,7 @@ impl<'i, E: Endianity> DebugLine<EndianSlice<'i, E>> {
     /// The section of these bytes, in this order.
     pub fn new(debug_line_section: &'i [u8], endian: E) -> Self
         ensures bytes { ⟦<EndianSlice<'i, E> as Reader>⟧.bytes result ≡ debug_line_section.now }
-        ensures order { ⟦<EndianSlice<'i, E> as Reader>⟧.big result ≡ E.big endian }
+        ensures order { ⟦<EndianSlice<'i, E> as Reader>⟧.is_big result ≡ E.is_big endian }
     {
         Self::from(EndianSlice::new(debug_line_section, endian))
     }
@@ -56,15 +57,15 @@ impl<R: Reader> DebugLine<R> {
         comp_name: Option<R>,
     ) -> Result<IncompleteLineProgram<R>>
         requires { IsTrue (is_address_size address_size) }
-        ensures unit { IfOk result (HasUnitAt (unread_of R.bytes R.big R.Offset.limit self.now)
+        ensures unit { IfOk result (SpellsUnitAt (unread_of R.bytes R.is_big R.Offset.limit self.now)
             (R.Offset.number offset.0) (unit_entry R.bytes address_size comp_dir comp_name)) }
-        ensures refusal { IfErr result
-            (IsUnitRefusal (unread_of R.bytes R.big R.Offset.limit self.now)
-            (R.Offset.number offset.0) (unit_entry R.bytes address_size comp_dir comp_name)) }
-        ensures notation { IfOk result
-            (λ program. program.notation ≡ notation_of (R.big self.now) R.Offset.limit) }
+        ensures refusal { IfErr result (λ e. e ≢ OutOfMemory
+            → HasUnitFaultAt (unread_of R.bytes R.is_big R.Offset.limit self.now)
+            (R.Offset.number offset.0) (unit_entry R.bytes address_size comp_dir comp_name) e) }
+        ensures layout { IfOk result
+            (λ program. program.layout ≡ layout_of (R.is_big self.now) R.Offset.limit) }
         ensures offset { IfOk result (λ program. program.offset ≡ offset) }
-        ensures order { IfOk result (HasOneOrder R.big) }
+        ensures order { IfOk result (HasOneOrder R.is_big) }
         ensures directory { IfOk result (λ program. program.comp_dir
             ≡ handed_value program.meaning.parameters.encoding comp_dir) }
         ensures name { IfOk result (λ program. option_map (λ file. file.path_name) program.comp_file
@@ -85,7 +86,7 @@ impl<R: Reader> DebugLine<R> {
     /// The bytes from an offset on; none where it is past the end.
     pub(crate) fn input_at(&self, offset: R::Offset) -> R
         ensures bytes { R.bytes result ≡ drop (R.Offset.number offset) (R.bytes self.now) }
-        ensures order { R.big result ≡ R.big self.now }
+        ensures order { R.is_big result ≡ R.is_big self.now }
     {
         let mut input = self.debug_line_section;
         if input.skip(offset).is_err() {

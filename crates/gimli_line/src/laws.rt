@@ -6,17 +6,17 @@ ghost use Rattle.std.specs.Prelude.{◌∷◌, Option, Some, None, length, nat_e
 ghost use Rattle.std.specs.Ordering.{nat_cmp};
 ghost use Rattle.gimli_core.specs.Equality.{AreAlwaysCloned, ClonesGiveSame, ComparesBy, IsExact};
 ghost use Rattle.gimli_core.specs.Equality.{IsSameClone, both};
-ghost use Rattle.gimli_core.specs.Notation.{Notation};
+ghost use Rattle.gimli_core.specs.Layout.{OrderAndLimit};
 ghost use Rattle.gimli_core.specs.Values.{value_by};
 ghost use Rattle.gimli_core.specs.declared.common.Format.{Format};
 ghost use Rattle.gimli_core.specs.declared.error.Error.{Error};
 ghost use Rattle.gimli_line.specs.header.File.{File, file_by};
 ghost use Rattle.gimli_line.specs.header.Header.{Header, UnitEntry};
-ghost use Rattle.gimli_line.specs.header.Orders.{Source};
+ghost use Rattle.gimli_line.specs.header.Orders.{HeaderSource};
 ghost use Rattle.gimli_line.specs.header.HeaderParts.{ComparesParts, ComparesSeen, entry_count};
 ghost use Rattle.gimli_line.specs.header.HeaderParts.{parts_of};
-ghost use Rattle.gimli_line.specs.header.HeaderGrammar.{SpellsUnit, HasHeaderFault, HasUnit};
-ghost use Rattle.gimli_line.specs.header.HeaderGrammar.{HasNoUnit, HaveCountedEntries};
+ghost use Rattle.gimli_line.specs.header.HeaderGrammar.{SpellsUnit, HasUnitFault};
+ghost use Rattle.gimli_line.specs.header.HeaderGrammar.{HaveCountedEntries};
 ghost use Rattle.gimli_line.specs.run.Events.{Event, Events, made_after, events_after, row_at};
 ghost use Rattle.gimli_line.specs.run.Events.{files_at};
 ghost use Rattle.gimli_line.specs.run.Instruction.{Ins, ins_by, makes_row};
@@ -56,71 +56,73 @@ use gimli_core::{AttributeValue, Reader};
 
 /// Bytes begin with a unit, or they have a refusal.
 pub fn unit_or_refusal()
-    ensures { (notation : Notation) (entry : UnitEntry) (bytes : List ℕ) →
-        HasUnit notation entry bytes ⊎ HasNoUnit notation entry bytes }
+    ensures { (layout : OrderAndLimit) (entry : UnitEntry) (bytes : List ℕ) →
+        ((h : Header) × SpellsUnit layout entry bytes h)
+        ⊎ ((e : Error) × HasUnitFault layout entry bytes e) }
 {}
 
 /// They don't have both, the header is one, and so is the refusal.
 pub fn one_unit_or_refusal()
-    ensures both { (notation : Notation) (entry : UnitEntry) (bytes : List ℕ) →
-        HasUnit notation entry bytes → HasNoUnit notation entry bytes → ⊥ }
-    ensures header { (notation : Notation) (entry : UnitEntry) (bytes : List ℕ) (h k : Header)
-        → SpellsUnit notation entry bytes h → SpellsUnit notation entry bytes k → h ≡ k }
-    ensures refusal { (notation : Notation) (entry : UnitEntry) (bytes : List ℕ) (e d : Error) →
-        HasHeaderFault notation entry bytes e → HasHeaderFault notation entry bytes d → e ≡ d }
+    ensures both { (layout : OrderAndLimit) (entry : UnitEntry) (bytes : List ℕ) →
+        (h : Header) (e : Error)
+        → SpellsUnit layout entry bytes h → HasUnitFault layout entry bytes e → ⊥ }
+    ensures header { (layout : OrderAndLimit) (entry : UnitEntry) (bytes : List ℕ) (h k : Header)
+        → SpellsUnit layout entry bytes h → SpellsUnit layout entry bytes k → h ≡ k }
+    ensures refusal { (layout : OrderAndLimit) (entry : UnitEntry) (bytes : List ℕ) (e d : Error) →
+        HasUnitFault layout entry bytes e → HasUnitFault layout entry bytes d → e ≡ d }
 {}
 
 /// The bytes of a section have one list of offsets of units.
 pub fn one_list_of_units()
-    ensures some { (notation : Notation) (offset : ℕ) (bytes : List ℕ) →
-        (offsets : List ℕ) × AreUnits notation offset bytes offsets }
-    ensures one { (notation : Notation) (offset : ℕ) (bytes : List ℕ) →
-        AreUnitsOnce notation offset bytes }
+    ensures some { (layout : OrderAndLimit) (offset : ℕ) (bytes : List ℕ) →
+        (offsets : List ℕ) × AreUnits layout offset bytes offsets }
+    ensures one { (layout : OrderAndLimit) (offset : ℕ) (bytes : List ℕ) →
+        AreUnitsOnce layout offset bytes }
 {}
 
 /// A unit with a header ends within its section, at the offset of the unit that follows it.
 pub fn units_follow_headers()
-    ensures end { (notation : Notation) (entry : UnitEntry) (offset : ℕ) (bytes : List ℕ)
+    ensures end { (layout : OrderAndLimit) (entry : UnitEntry) (offset : ℕ) (bytes : List ℕ)
         (h : Header)
-        → SpellsUnit notation entry bytes h → offset_after offset h ≤ offset + length bytes }
-    ensures next { (notation : Notation) (entry : UnitEntry) (offset next : ℕ)
+        → SpellsUnit layout entry bytes h → offset_after offset h ≤ offset + length bytes }
+    ensures next { (layout : OrderAndLimit) (entry : UnitEntry) (offset next : ℕ)
         (bytes offsets : List ℕ)
-        (h : Header) → SpellsUnit notation entry bytes h
-        → AreUnits notation offset bytes (offset ∷ next ∷ offsets) → next ≡ offset_after offset h }
+        (h : Header) → SpellsUnit layout entry bytes h
+        → AreUnits layout offset bytes (offset ∷ next ∷ offsets) → next ≡ offset_after offset h }
 {}
 
 /// A program is decoded into instructions, and in one way.
 pub fn one_decoding()
-    ensures some { (notation : Notation) (h : Header) (bytes : List ℕ) →
-        (list : List Ins) × (end : Option Error) × Decodes notation h bytes list end }
-    ensures one { (notation : Notation) (h : Header) (bytes : List ℕ) →
-        AreDecodedOnce notation h bytes }
+    ensures some { (layout : OrderAndLimit) (h : Header) (bytes : List ℕ) →
+        (list : List Ins) × (end : Option Error) × Decodes layout h bytes list end }
+    ensures one { (layout : OrderAndLimit) (h : Header) (bytes : List ℕ) →
+        AreDecodedOnce layout h bytes }
 {}
 
 /// A program has no more instructions than bytes.
 pub fn instructions_are_bounded()
-    ensures { (notation : Notation) (h : Header) (bytes : List ℕ) (list : List Ins)
-        (end : Option Error) → Decodes notation h bytes list end → length list ≤ length bytes }
+    ensures { (layout : OrderAndLimit) (h : Header) (bytes : List ℕ) (list : List Ins)
+        (end : Option Error) → Decodes layout h bytes list end → length list ≤ length bytes }
 {}
 
 /// The entries of a table of version 5 begin with their count, which says how many they are, and no
 /// fewer bytes than that stand after it: each entry has a byte at least, since some format is
 /// there.
 pub fn entries_are_bounded()
-    ensures { (notation : Notation) (format : Format) (formats : List FileEntryFormat) →
-        formats ≢ [] → HaveCountedEntries notation format formats }
+    ensures { (layout : OrderAndLimit) (format : Format) (formats : List FileEntryFormat) →
+        formats ≢ [] → HaveCountedEntries layout format formats }
 {}
 
 /// Both tables of a header together have no more entries than its length counts bytes, whatever
 /// they give as their counts. What that length counts and the program stand within the unit, and
 /// the unit within the input.
 pub fn tables_are_bounded()
-    ensures entries { (notation : Notation) (entry : UnitEntry) (bytes : List ℕ) (h : Header) →
-        SpellsUnit notation entry bytes h → entry_count h ≤ h.header_length }
-    ensures header { (notation : Notation) (entry : UnitEntry) (bytes : List ℕ) (h : Header) →
-        SpellsUnit notation entry bytes h → h.header_length + length h.program ≤ h.unit_length }
-    ensures unit { (notation : Notation) (entry : UnitEntry) (bytes : List ℕ) (h : Header) →
-        SpellsUnit notation entry bytes h → h.unit_length ≤ length bytes }
+    ensures entries { (layout : OrderAndLimit) (entry : UnitEntry) (bytes : List ℕ) (h : Header) →
+        SpellsUnit layout entry bytes h → entry_count h ≤ h.header_length }
+    ensures header { (layout : OrderAndLimit) (entry : UnitEntry) (bytes : List ℕ) (h : Header) →
+        SpellsUnit layout entry bytes h → h.header_length + length h.program ≤ h.unit_length }
+    ensures unit { (layout : OrderAndLimit) (entry : UnitEntry) (bytes : List ℕ) (h : Header) →
+        SpellsUnit layout entry bytes h → h.unit_length ≤ length bytes }
 {}
 
 /// The machine, run from the registers at the start of a sequence, makes the rows and faults that
@@ -131,9 +133,9 @@ pub fn machine_gives_events()
         (list : List Ins) (end : Option Error)
         → made_from appends parameters (initial parameters) files list end
         ≡ made_after parameters (files_at appends files) [] list end }
-    ensures started { (appends : Bool) (h : Header) (source : Source) (unread : Unread)
+    ensures started { (appends : Bool) (h : Header) (source : HeaderSource) (unread : Unread)
         → GivesEvents appends h unread (start_of_run appends h source unread) }
-    ensures files { (appends : Bool) (h : Header) (source : Source) (unread : Unread)
+    ensures files { (appends : Bool) (h : Header) (source : HeaderSource) (unread : Unread)
         → GivesFiles appends h unread (start_of_run appends h source unread) }
 {}
 
@@ -157,8 +159,8 @@ pub fn columns_are_ordered()
 /// A refused instruction is `UnexpectedEof`, `BadUnsignedLeb128` or `BadSignedLeb128`, or it is
 /// `UnsupportedOffset`, for offsets of less than 64 bits.
 pub fn instruction_refusals()
-    ensures { (notation : Notation) (h : Header) (bytes : List ℕ) (e : Error) →
-        (instruction_production notation h).Fault bytes e → IsInstructionRefusal notation e }
+    ensures { (layout : OrderAndLimit) (h : Header) (bytes : List ℕ) (e : Error) →
+        (instruction_production layout h).Fault bytes e → IsInstructionRefusal layout e }
 {}
 
 /// Each operation advance is the formula of DWARF 5, 6.2.5.1, also where an instruction has one
@@ -203,8 +205,8 @@ fn equal_digests_are_same()
 /// offsets in their numbers, if this is so of readers and of offsets. It is so of readers over
 /// slices (gimli_core's `equal_slices_are_same`).
 pub fn equal_files_look_same<R: Reader + PartialEq>()
-    ensures { ComparesBy (both R.bytes R.big) R.eq → ComparesBy R.Offset.number R.Offset.eq →
-        ComparesBy (file_by R.bytes R.big R.Offset.number) ⟦<FileEntry<R> as PartialEq>⟧.eq }
+    ensures { ComparesBy (both R.bytes R.is_big) R.eq → ComparesBy R.Offset.number R.Offset.eq →
+        ComparesBy (file_by R.bytes R.is_big R.Offset.number) ⟦<FileEntry<R> as PartialEq>⟧.eq }
 {
     equal_values_look_same::<R>();
     equal_sources_look_same::<R>();
@@ -213,8 +215,8 @@ pub fn equal_files_look_same<R: Reader + PartialEq>()
 
 /// The same of the source texts of files.
 fn equal_sources_look_same<R: Reader + PartialEq>()
-    ensures { ComparesBy (both R.bytes R.big) R.eq → ComparesBy R.Offset.number R.Offset.eq →
-        ComparesBy (option_map (value_by R.bytes R.big R.Offset.number))
+    ensures { ComparesBy (both R.bytes R.is_big) R.eq → ComparesBy R.Offset.number R.Offset.eq →
+        ComparesBy (option_map (value_by R.bytes R.is_big R.Offset.number))
         ⟦<Option<AttributeValue<R>> as PartialEq>⟧.eq }
 {
     equal_values_look_same::<R>();
@@ -233,8 +235,8 @@ pub fn equal_instructions_are_same<R: Reader + PartialEq>()
 /// readers in their bytes and order and offsets in their numbers, if this is so of readers and of
 /// offsets, as it is of readers over slices.
 pub fn equal_instructions_look_same<R: Reader + PartialEq>()
-    ensures { ComparesBy (both R.bytes R.big) R.eq → ComparesBy R.Offset.number R.Offset.eq →
-        ComparesBy (ins_by R.bytes R.big R.Offset.number) ⟦<LineInstruction<R> as PartialEq>⟧.eq }
+    ensures { ComparesBy (both R.bytes R.is_big) R.eq → ComparesBy R.Offset.number R.Offset.eq →
+        ComparesBy (ins_by R.bytes R.is_big R.Offset.number) ⟦<LineInstruction<R> as PartialEq>⟧.eq }
 {
     equal_files_look_same::<R>();
 }
@@ -255,8 +257,8 @@ pub fn equal_headers_are_same<R: Reader + PartialEq>()
 /// offsets in their numbers, if this is so of readers and of offsets, as it is of readers over
 /// slices.
 pub fn equal_headers_look_same<R: Reader + PartialEq>()
-    ensures { ComparesBy (both R.bytes R.big) R.eq → ComparesBy R.Offset.number R.Offset.eq →
-        ComparesSeen R.bytes R.big R.Offset.number ⟦<LineProgramHeader<R> as PartialEq>⟧.eq }
+    ensures { ComparesBy (both R.bytes R.is_big) R.eq → ComparesBy R.Offset.number R.Offset.eq →
+        ComparesSeen R.bytes R.is_big R.Offset.number ⟦<LineProgramHeader<R> as PartialEq>⟧.eq }
 {
     equal_values_look_same::<R>();
     equal_files_look_same::<R>();
@@ -264,10 +266,10 @@ pub fn equal_headers_look_same<R: Reader + PartialEq>()
     equal_parts_are_same();
 }
 
-/// Headers that agree in all their parts say the same, in the same notation.
+/// Headers that agree in all their parts say the same, in the same layout.
 pub fn same_parts_say_same<R: Reader>(x: &LineProgramHeader<R>, y: &LineProgramHeader<R>)
     ensures meaning { parts_of x.now ≡ parts_of y.now → x.now.meaning ≡ y.now.meaning }
-    ensures notation { parts_of x.now ≡ parts_of y.now → x.now.notation ≡ y.now.notation }
+    ensures layout { parts_of x.now ≡ parts_of y.now → x.now.layout ≡ y.now.layout }
 {
     // For the prover alone: what is true of a header is known once a field is read.
     let _first = x.parameters;
@@ -289,10 +291,10 @@ pub fn equal_programs_are_same<R: Reader + PartialEq>()
 /// and order and offsets in their numbers, if this is so of readers and of offsets, as it is of
 /// readers over slices.
 pub fn equal_programs_look_same<R: Reader + PartialEq>()
-    ensures parsed { ComparesBy (both R.bytes R.big) R.eq → ComparesBy R.Offset.number R.Offset.eq →
-        ComparesSeen R.bytes R.big R.Offset.number ⟦<IncompleteLineProgram<R> as PartialEq>⟧.eq }
-    ensures whole { ComparesBy (both R.bytes R.big) R.eq → ComparesBy R.Offset.number R.Offset.eq →
-        ComparesSeen R.bytes R.big R.Offset.number ⟦<CompleteLineProgram<R> as PartialEq>⟧.eq }
+    ensures parsed { ComparesBy (both R.bytes R.is_big) R.eq → ComparesBy R.Offset.number R.Offset.eq →
+        ComparesSeen R.bytes R.is_big R.Offset.number ⟦<IncompleteLineProgram<R> as PartialEq>⟧.eq }
+    ensures whole { ComparesBy (both R.bytes R.is_big) R.eq → ComparesBy R.Offset.number R.Offset.eq →
+        ComparesSeen R.bytes R.is_big R.Offset.number ⟦<CompleteLineProgram<R> as PartialEq>⟧.eq }
 {
     equal_headers_look_same::<R>();
 }
@@ -332,9 +334,9 @@ pub fn clones_of_rows_are_same()
 /// A run gives no more rows and refusals together than its program has bytes. Rows on their way
 /// give no more than there are bytes left.
 pub fn rows_are_bounded()
-    ensures events { (notation : Notation) (h : Header) (bytes : List ℕ) (events : List Event)
-        → Events notation h bytes events → length events ≤ length bytes }
-    ensures files { (n : Notation) (appends : Bool) (h : Header) (bytes : List ℕ) (events : _)
+    ensures events { (layout : OrderAndLimit) (h : Header) (bytes : List ℕ) (events : List Event)
+        → Events layout h bytes events → length events ≤ length bytes }
+    ensures files { (n : OrderAndLimit) (appends : Bool) (h : Header) (bytes : List ℕ) (events : _)
         → EventsWithFiles n appends h bytes events → length events ≤ length bytes }
     ensures left { (rows : RunState) → length (events_left rows) ≤ length rows.unread.bytes }
 {}
@@ -348,8 +350,8 @@ pub fn default_sections_are_default<R: Default>()
 /// The instructions and the end that are taken of a program one by one are those that it is decoded
 /// into.
 pub fn instructions_are_taken()
-    ensures { (notation : Notation) (h : Header) (bytes : List ℕ) →
-        Decodes notation h bytes (decoded_at notation h bytes).0 (decoded_at notation h bytes).1 }
+    ensures { (layout : OrderAndLimit) (h : Header) (bytes : List ℕ) →
+        Decodes layout h bytes (decoded_at layout h bytes).0 (decoded_at layout h bytes).1 }
 {}
 
 /// The registers that the machine has after a past are what looking back says: which instruction is

@@ -1,7 +1,7 @@
 //! The units of a section, one after the other.
 
 ghost use Rattle.std.specs.Prelude.{◌≡◌, ◌↔◌, Err, IsTrue};
-ghost use Rattle.gimli_core.specs.Notation.{notation_of};
+ghost use Rattle.gimli_core.specs.Layout.{layout_of};
 ghost use Rattle.gimli_core.specs.Reading.{result_map};
 ghost use Rattle.gimli_line.specs.UnitReading.{after_unit, any_unit_at};
 
@@ -15,7 +15,7 @@ use std::marker::Model;
 #[tactic(auto, unfolding(crate::specs::UnitReading::any_unit_at))]
 fn split_unit<R: Reader>(input: &mut R) -> Result<R>
     ensures { (result_map R.bytes result, R.bytes input.new)
-        ≡ any_unit_at (notation_of (R.big input.old) R.Offset.limit) (R.bytes input.old) }
+        ≡ any_unit_at (layout_of (R.is_big input.old) R.Offset.limit) (R.bytes input.old) }
 {
     let (length, _format) = input.read_initial_length()?;
     input.split(length)
@@ -25,7 +25,7 @@ fn split_unit<R: Reader>(input: &mut R) -> Result<R>
 fn skip_unit<R: Reader>(input: &mut R)
     ensures { R.bytes input.new
         ≡ after_unit
-        (any_unit_at (notation_of (R.big input.old) R.Offset.limit) (R.bytes input.old)) }
+        (any_unit_at (layout_of (R.is_big input.old) R.Offset.limit) (R.bytes input.old)) }
 {
     if split_unit(input).is_err() {
         input.empty();
@@ -68,7 +68,7 @@ pub struct LineUnits<R: Reader> {
 
 impl<R: Reader> Model for LineUnits<R> {
     ghost use Rattle.std.specs.Prelude.{IsTrue, None, drop, length};
-    ghost use Rattle.gimli_core.specs.Notation.{notation_of};
+    ghost use Rattle.gimli_core.specs.Layout.{layout_of};
     ghost use Rattle.gimli_core.specs.Numbers.{is_address_size};
     ghost use Rattle.gimli_line.specs.header.Header.{unit_entry};
     ghost use Rattle.gimli_line.specs.run.Unread.{unread_of};
@@ -78,10 +78,10 @@ impl<R: Reader> Model for LineUnits<R> {
     ghost Value = { UnitWalk };
 
     ghost view = { λ a. record {
-      section = unread_of R.bytes R.big R.Offset.limit a.section;
+      section = unread_of R.bytes R.is_big R.Offset.limit a.section;
       entry = unit_entry R.bytes a.address_size None None;
       offsets =
-          offsets_at (notation_of (R.big a.section) R.Offset.limit) (length (R.bytes a.section))
+          offsets_at (layout_of (R.is_big a.section) R.Offset.limit) (length (R.bytes a.section))
           (drop (R.Offset.number a.offset.0) (R.bytes a.section));
     } };
 
@@ -90,7 +90,7 @@ impl<R: Reader> Model for LineUnits<R> {
 
 impl<R: Reader> DebugLine<R> {
     ghost use Rattle.std.specs.Prelude.{◌≡◌, IsTrue, None};
-    ghost use Rattle.gimli_core.specs.Notation.{notation_of};
+    ghost use Rattle.gimli_core.specs.Layout.{layout_of};
     ghost use Rattle.gimli_core.specs.Numbers.{is_address_size};
     ghost use Rattle.gimli_line.specs.header.Header.{unit_entry};
     ghost use Rattle.gimli_line.specs.run.Unread.{unread_of};
@@ -101,9 +101,9 @@ impl<R: Reader> DebugLine<R> {
     /// 1, 2, 4 or 8.
     pub fn units(&self, alloc: Global, address_size: u8) -> LineUnits<R>
         requires { IsTrue (is_address_size address_size) }
-        ensures section { result.section ≡ unread_of R.bytes R.big R.Offset.limit self.now }
+        ensures section { result.section ≡ unread_of R.bytes R.is_big R.Offset.limit self.now }
         ensures entry { result.entry ≡ unit_entry R.bytes address_size None None }
-        ensures offsets { AreUnits (notation_of (R.big self.now) R.Offset.limit) 0
+        ensures offsets { AreUnits (layout_of (R.is_big self.now) R.Offset.limit) 0
             (R.bytes self.now) result.offsets }
     {
         LineUnits {
@@ -117,7 +117,7 @@ impl<R: Reader> DebugLine<R> {
 
 impl<R: Reader> LineUnits<R> {
     ghost use Rattle.std.specs.Prelude.{◌≡◌, ◌∷◌, [], IfErr, IfOk, IfSome, MatchOption};
-    ghost use Rattle.gimli_line.specs.UnitAt.{HasUnitAt, HasUnitFaultAt};
+    ghost use Rattle.gimli_line.specs.UnitAt.{SpellsUnitAt, HasUnitFaultAt};
     ghost use Rattle.gimli_line.specs.header.Orders.{HasOneOrder};
 
     /// The next unit of the section; None where no bytes are left. A unit that `program` refuses is
@@ -131,15 +131,15 @@ impl<R: Reader> LineUnits<R> {
         ensures section { self.new.section ≡ self.old.section }
         ensures entry { self.new.entry ≡ self.old.entry }
         ensures unit { IfOk result (λ next. IfSome next (λ unit. IfOk unit.program
-            (HasUnitAt self.old.section (R.Offset.number unit.offset.0) self.old.entry))) }
+            (SpellsUnitAt self.old.section (R.Offset.number unit.offset.0) self.old.entry))) }
         ensures refusal { IfOk result (λ next. IfSome next (λ unit. IfErr unit.program
             (HasUnitFaultAt self.old.section (R.Offset.number unit.offset.0) self.old.entry))) }
-        ensures notation { IfOk result (λ next. IfSome next (λ unit. IfOk unit.program
-            (λ program. program.notation ≡ self.old.section.notation))) }
+        ensures layout { IfOk result (λ next. IfSome next (λ unit. IfOk unit.program
+            (λ program. program.layout ≡ self.old.section.layout))) }
         ensures offset { IfOk result (λ next. IfSome next (λ unit. IfOk unit.program
             (λ program. program.offset ≡ unit.offset))) }
         ensures order { IfOk result (λ next. IfSome next (λ unit. IfOk unit.program
-            (HasOneOrder R.big))) }
+            (HasOneOrder R.is_big))) }
         ensures err { IfErr result (λ e. (e ≡ Error.OutOfMemory) × (self.new ≡ self.old)) }
     {
         let offset = self.offset;

@@ -8,13 +8,13 @@ use Rattle.gimli_line.specs.declared.run.instruction.LineInstruction.TheVariants
 use Rattle.gimli_line.specs.declared.run.row.LineRow.{LineRow}
 use Rattle.gimli_line.specs.header.File.{File}
 use Rattle.gimli_line.specs.header.Header.{Header, without_files}
-use Rattle.gimli_line.specs.header.Orders.{Source}
+use Rattle.gimli_line.specs.header.Orders.{HeaderSource}
 use Rattle.gimli_line.specs.header.Parameters.{Parameters}
 use Rattle.gimli_line.specs.run.Events.{Event, fault, EventWithFiles, with_files, is_given, given_of}
 use Rattle.gimli_line.specs.run.Machine.{made_step, next_registers, made_from}
 use Rattle.gimli_line.specs.run.Instruction.{Ins, defines_file, files_after}
 use Rattle.gimli_line.specs.run.InstructionReading.{decoded_at}
-use Rattle.gimli_line.specs.run.Progress.{with_reset_row, files_from}
+use Rattle.gimli_line.specs.run.Passing.{with_reset_row, files_from}
 use Rattle.gimli_line.specs.run.Rows.{WantsMemory, events_left, files_at_end, whole_run}
 use Rattle.gimli_line.specs.run.RunState.{RunState}
 use Rattle.gimli_line.proofs.InstructionLaws.{is_decoded}
@@ -81,16 +81,16 @@ at_first a h r files (i ∷ list) end e rest is =
 pub row_keeps : (old : RunState) (e : EventWithFiles) (rest : List EventWithFiles) → events_left old ≡ e ∷ rest
     → length old.files ≤ length e.files
 row_keeps old e rest is =
-    let c = decoded_at old.unread.notation old.fixed old.unread.bytes in
+    let c = decoded_at old.unread.layout old.fixed old.unread.bytes in
     at_first old.appends old.fixed.parameters (with_reset_row old).row old.files c.0 c.1 e rest is
 
 -- ---- a file for which memory was missing is in the list at the end
 
 wanted : (old new : RunState) → old.appends ≡ true → WantsMemory old new → length old.files < length (files_at_end old)
 wanted old new appends w =
-    let n = old.unread.notation in
+    let n = old.unread.layout in
     let h = old.fixed in
-    let spelled = rw (w.passed.notation, w.passed.fixed) at w.spelled in
+    let spelled = rw (w.passed.layout, w.passed.fixed) at w.spelled in
     let after = (decoded_at n h w.rest).0 in
     let here = decoded_some n h w.point.unread.bytes w.definition w.front w.rest w.parts spelled in
     let whole =
@@ -117,26 +117,26 @@ no_files a files (i ∷ list) none =
     let both = neither (defines_file i) (list_any defines_file list) none in
     ap (λ (fs : List File). files_from a fs list) (no_file a files i both.0) ∙ no_files a files list both.1
 
-pub defines : (h : Header) (source : Source) (first old new : RunState) → first ≡ whole_run h source
+pub defines : (h : Header) (source : HeaderSource) (first old new : RunState) → first ≡ whole_run h source
     → files_at_end old ≡ files_at_end first → length first.files ≤ length old.files → new.appends ≡ old.appends
     → WantsMemory (with_reset_row old) new
-    → DefinesFile source.notation h
+    → DefinesFile source.layout h
 defines h source first old new start same few appends w =
-    at_test (list_any defines_file (decoded_at source.notation (without_files h) h.program).0) refl
+    at_test (list_any defines_file (decoded_at source.layout (without_files h) h.program).0) refl
   where
-    at_test : (b : Bool) → list_any defines_file (decoded_at source.notation (without_files h) h.program).0 ≡ b
-        → DefinesFile source.notation h
+    at_test : (b : Bool) → list_any defines_file (decoded_at source.layout (without_files h) h.program).0 ≡ b
+        → DefinesFile source.layout h
     at_test true some = record {
-      list = (decoded_at source.notation (without_files h) h.program).0;
-      end = (decoded_at source.notation (without_files h) h.program).1;
+      list = (decoded_at source.layout (without_files h) h.program).0;
+      end = (decoded_at source.layout (without_files h) h.program).1;
       decoding =
-          bare_decoding source.notation h h.program (decoded_at source.notation (without_files h) h.program).0
-          (decoded_at source.notation (without_files h) h.program).1
-          (is_decoded source.notation (without_files h) h.program);
+          bare_decoding source.layout h h.program (decoded_at source.layout (without_files h) h.program).0
+          (decoded_at source.layout (without_files h) h.program).1
+          (is_decoded source.layout (without_files h) h.program);
       defines = some;
     }
     at_test false none =
-        let all = no_files true h.files (decoded_at source.notation (without_files h) h.program).0 none in
+        let all = no_files true h.files (decoded_at source.layout (without_files h) h.program).0 none in
         absurd (omega (
           arith,
           few,

@@ -3,11 +3,11 @@ use Rattle.std.proofs.Common.{◌≡◌, Bool, true, false, ◌||◌, List, [], 
 use Rattle.std.specs.Prelude.{None}
 use Rattle.std.specs.List.{AllByRecursion, list_any, flat_map}
 use Rattle.std.proofs.lemmas.List.{map-append}
-use Rattle.gimli_core.specs.Notation.{Notation}
+use Rattle.gimli_core.specs.Layout.{OrderAndLimit}
 use Rattle.gimli_line.specs.declared.run.row.LineRow.{LineRow}
 use Rattle.gimli_line.specs.header.Header.{Header}
 use Rattle.gimli_line.specs.run.Events.{Event, row, ends_sequence, through_last_end}
-use Rattle.gimli_line.specs.run.Sequences.{Part, HaveRuns, AreSequences}
+use Rattle.gimli_line.specs.run.Sequences.{Sequence, HaveRuns, AreSequences}
 use Rattle.gimli_lookup.specs.Cut.{HaveNoEnd, EndOnce}
 use Rattle.gimli_lookup.specs.Run.{AreRowsOfSequences}
 use Rattle.gimli_lookup.proofs.KeptRows.{joined_same}
@@ -56,7 +56,7 @@ through (r ∷ rows) = at_test (list_any ends_sequence (map row (r ∷ rows))) r
 -- ---- the rows of sequences
 
 -- each has one end row, the last
-each_once : (c : Header) (rows : List (List LineRow)) (parts : List Part) → HaveRuns c parts (map (map row) rows)
+each_once : (c : Header) (rows : List (List LineRow)) (parts : List Sequence) → HaveRuns c parts (map (map row) rows)
     → AllByRecursion EndOnce rows
 each_once c [] parts kept = tt
 each_once c (x ∷ rows) [] kept = absurd kept
@@ -78,10 +78,10 @@ map_joined (x ∷ rows) =
     map-append row x (flat_map (λ sequence. sequence) rows)
     ∙ ap (λ (es : List Event). map row x ++ es) (map_joined rows)
 
-pub are_cut : (notation : Notation) (h c : Header) (parts : List Part) (rows : List (List LineRow))
-    → AreSequences notation h c parts
-    → HaveRuns c parts (map (map row) rows) → AreRowsOfSequences notation h rows
-are_cut notation h c parts rows are kept =
+pub are_cut : (layout : OrderAndLimit) (h c : Header) (parts : List Sequence) (rows : List (List LineRow))
+    → AreSequences layout h c parts
+    → HaveRuns c parts (map (map row) rows) → AreRowsOfSequences layout h rows
+are_cut layout h c parts rows are kept =
     let t = through are.rows in
     let joined : flat_map (λ sequence. sequence) rows
     ≡ t.front = same_rows (flat_map (λ sequence. sequence) rows) t.front

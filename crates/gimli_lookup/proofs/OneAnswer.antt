@@ -5,7 +5,7 @@ use Rattle.std.specs.Prelude.{Option, Some, None, All}
 use Rattle.std.proofs.lemmas.Bool.{false≢true}
 use Rattle.std.specs.List.{AllByRecursion, flat_map}
 use Rattle.gimli_core.specs.declared.error.Error.{Error}
-use Rattle.gimli_core.specs.Notation.{Notation}
+use Rattle.gimli_core.specs.Layout.{OrderAndLimit}
 use Rattle.gimli_line.specs.declared.run.row.LineRow.{LineRow}
 use Rattle.gimli_line.specs.header.Header.{Header}
 use Rattle.gimli_line.specs.run.Events.{Event, row, Events, program_events}
@@ -19,7 +19,7 @@ use Rattle.gimli_lookup.proofs.OnePair.{stands_there, one_pair}
 -- ---- one list of rows
 
 abbrev pub AreAlwaysDecodedOnce : Type 0
-AreAlwaysDecodedOnce = (notation : Notation) (h : Header) (bytes : List ℕ) → AreDecodedOnce notation h bytes
+AreAlwaysDecodedOnce = (layout : OrderAndLimit) (h : Header) (bytes : List ℕ) → AreDecodedOnce layout h bytes
 
 pub same_rows : (a b : List LineRow) → map row a ≡ map row b → a ≡ b
 same_rows [] [] is = refl
@@ -30,11 +30,11 @@ same_rows (x ∷ a) (y ∷ b) is =
     let both : a ≡ b = same_rows a b rest in
     cc
 
-same_events : AreAlwaysDecodedOnce → (notation : Notation) (h : Header) (a b : List Event)
-    → Events notation h h.program a → Events notation h h.program b
+same_events : AreAlwaysDecodedOnce → (layout : OrderAndLimit) (h : Header) (a b : List Event)
+    → Events layout h h.program a → Events layout h h.program b
     → a ≡ b
-same_events once notation h a b x y =
-    let same = once notation h h.program x.list y.list x.end y.end x.decoding y.decoding in
+same_events once layout h a b x y =
+    let same = once layout h h.program x.list y.list x.end y.end x.decoding y.decoding in
     x.given
     ∙ ap (λ (list : List Ins). program_events h.parameters list x.end) same.0
     ∙ ap (λ (end : Option Error). program_events h.parameters y.list end) same.1
@@ -101,13 +101,13 @@ same_cut (x ∷ s) (y ∷ t) u v each other none no_other is =
     let later : s ≡ t = same_cut s t u v each.1 other.1 none no_other p.1 in
     cc
 
-pub same_sequences : AreAlwaysDecodedOnce → (notation : Notation) (h : Header) (s t : List (List LineRow))
-    → AreRowsOfSequences notation h s
-    → AreRowsOfSequences notation h t → s ≡ t
-same_sequences once notation h s t x y =
+pub same_sequences : AreAlwaysDecodedOnce → (layout : OrderAndLimit) (h : Header) (s t : List (List LineRow))
+    → AreRowsOfSequences layout h s
+    → AreRowsOfSequences layout h t → s ≡ t
+same_sequences once layout h s t x y =
     let rows : x.rows
     ≡ y.rows = same_rows x.rows y.rows
-    (same_events once notation h (map row x.rows) (map row y.rows) x.given y.given) in
+    (same_events once layout h (map row x.rows) (map row y.rows) x.given y.given) in
     same_cut s t x.cut.unended y.cut.unended x.cut.each y.cut.each x.cut.no_end y.cut.no_end
     (sym x.cut.joined ∙ rows ∙ y.cut.joined)
 
@@ -132,9 +132,9 @@ same_found a s (Some p) (Some q) f g =
     ap Some (λ i. (both.0 i, both.1 i))
 
 pub same_answer : AreAlwaysDecodedOnce
-    → (notation : Notation) (h : Header) (a : ℕ) (rows : List (List LineRow)) (x y : Option (LineRow × LineRow))
-    → AreRowsOfSequences notation h rows → IsFirstFound a rows x → IsFoundInRun notation h a y → x ≡ y
-same_answer once notation h a rows x y are first found =
+    → (layout : OrderAndLimit) (h : Header) (a : ℕ) (rows : List (List LineRow)) (x y : Option (LineRow × LineRow))
+    → AreRowsOfSequences layout h rows → IsFirstFound a rows x → IsFoundInRun layout h a y → x ≡ y
+same_answer once layout h a rows x y are first found =
     same_found a rows x y first
     (subst (λ (s : List (List LineRow)). IsFirstFound a s y)
-    (same_sequences once notation h found.sequences rows found.are are) found.first)
+    (same_sequences once layout h found.sequences rows found.are are) found.first)

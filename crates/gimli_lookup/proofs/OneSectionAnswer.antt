@@ -6,12 +6,12 @@ use Rattle.std.specs.List.{flat_map}
 use Rattle.std.proofs.lemmas.List.{map-append, append-nil}
 use Rattle.std.proofs.lemmas.List.Elements.{All-head, All-tail}
 use Rattle.std.proofs.lemmas.Option.{slice_get_within, same_Some}
-use Rattle.gimli_core.specs.Notation.{Notation}
+use Rattle.gimli_core.specs.Layout.{OrderAndLimit}
 use Rattle.gimli_core.specs.declared.error.Error.{Error}
 use Rattle.gimli_line.specs.declared.run.row.LineRow.{LineRow}
 use Rattle.gimli_line.specs.header.File.{File}
 use Rattle.gimli_line.specs.header.Header.{Header, UnitEntry}
-use Rattle.gimli_line.specs.header.HeaderGrammar.{SpellsUnit, HasHeaderFault, HasUnit, HasNoUnit}
+use Rattle.gimli_line.specs.header.HeaderGrammar.{SpellsUnit, HasUnitFault}
 use Rattle.gimli_line.specs.run.Events.{Event, row, fault}
 use Rattle.gimli_line.specs.run.EventsWithFiles.{EventWithFiles}
 use Rattle.gimli_line.specs.run.Instruction.{Ins}
@@ -48,24 +48,24 @@ same_front (x ∷ a) (y ∷ b) s t left right is =
     cc
 
 -- the events of what a program makes are rows and then none
-record AreRowsThen (notation : Notation) (h : Header) (rows : List LineRow) : Type 0 where
+record AreRowsThen (layout : OrderAndLimit) (h : Header) (rows : List LineRow) : Type 0 where
   events : List EventWithFiles
-  made : Makes notation true h h.program events
+  made : Makes layout true h h.program events
   rest : List Event
   no_row : StartsWithNoRow rest
   parts : events_of events ≡ map row rows ++ rest
 
-are_then : (notation : Notation) (h : Header) (rows : List LineRow) (e : Option Error) (files : List File)
-    → AreBeforeFault notation h rows e files
-    → AreRowsThen notation h rows
-are_then notation h rows None files before = record {
+are_then : (layout : OrderAndLimit) (h : Header) (rows : List LineRow) (e : Option Error) (files : List File)
+    → AreBeforeFault layout h rows e files
+    → AreRowsThen layout h rows
+are_then layout h rows None files before = record {
   events = before.events;
   made = before.made;
   rest = [];
   no_row = tt;
   parts = before.rows_are ∙ sym (append-nil (map row rows));
 }
-are_then notation h rows (Some e) files before =
+are_then layout h rows (Some e) files before =
     let last : EventWithFiles = record { event = fault e; files = files } in
     record {
       events = before.front ++ last ∷ before.rest;
@@ -77,23 +77,23 @@ are_then notation h rows (Some e) files before =
           ∙ ap (λ (es : List Event). es ++ fault e ∷ events_of before.rest) before.rows_are;
     }
 
-same_made : AreAlwaysDecodedOnce → (notation : Notation) (h : Header) (a b : List EventWithFiles)
-    → Makes notation true h h.program a
-    → Makes notation true h h.program b → a ≡ b
-same_made once notation h a b x y =
-    let same = once notation h h.program x.list y.list x.end y.end x.decoding y.decoding in
+same_made : AreAlwaysDecodedOnce → (layout : OrderAndLimit) (h : Header) (a b : List EventWithFiles)
+    → Makes layout true h h.program a
+    → Makes layout true h h.program b → a ≡ b
+same_made once layout h a b x y =
+    let same = once layout h h.program x.list y.list x.end y.end x.decoding y.decoding in
     x.made
     ∙ ap (λ (list : List Ins). program_made true h list x.end) same.0
     ∙ ap (λ (end : Option Error). program_made true h y.list end) same.1
     ∙ sym y.made
 
 same_parts : AreAlwaysDecodedOnce
-    → (notation : Notation) (lowest : ℕ) (h k c : Header) (e d : Option Error) (s t : List (List LineRow))
-    → IsKept notation lowest h k e s → IsKept notation lowest h c d t → s ≡ t
-same_parts once notation lowest h k c e d s t x y =
-    let a = are_then notation h x.rows e k.files x.before in
-    let b = are_then notation h y.rows d c.files y.before in
-    let events = same_made once notation h a.events b.events a.made b.made in
+    → (layout : OrderAndLimit) (lowest : ℕ) (h k c : Header) (e d : Option Error) (s t : List (List LineRow))
+    → IsKept layout lowest h k e s → IsKept layout lowest h c d t → s ≡ t
+same_parts once layout lowest h k c e d s t x y =
+    let a = are_then layout h x.rows e k.files x.before in
+    let b = are_then layout h y.rows d c.files y.before in
+    let events = same_made once layout h a.events b.events a.made b.made in
     let rows : x.rows
     ≡ y.rows = same_front x.rows y.rows a.rest b.rest a.no_row b.no_row
     (sym a.parts ∙ ap events_of events ∙ b.parts) in
@@ -107,24 +107,21 @@ same_parts once notation lowest h k c e d s t x y =
 
 abbrev pub AreNeverBoth : Type 0
 AreNeverBoth =
-    (notation : Notation) (entry : UnitEntry) (bytes : List ℕ) → HasUnit notation entry bytes
-    → HasNoUnit notation entry bytes → ⊥
+    (layout : OrderAndLimit) (entry : UnitEntry) (bytes : List ℕ) (h : Header) (e : Error) → SpellsUnit layout entry bytes h
+    → HasUnitFault layout entry bytes e → ⊥
 
 abbrev pub IsOneHeader : Type 0
 IsOneHeader =
-    (notation : Notation) (entry : UnitEntry) (bytes : List ℕ) (h k : Header) → SpellsUnit notation entry bytes h
-    → SpellsUnit notation entry bytes k → h ≡ k
+    (layout : OrderAndLimit) (entry : UnitEntry) (bytes : List ℕ) (h k : Header) → SpellsUnit layout entry bytes h
+    → SpellsUnit layout entry bytes k → h ≡ k
 
 module _ (once : AreAlwaysDecodedOnce) (never : AreNeverBoth) (one : IsOneHeader) (section : Unread) (entry : UnitEntry)
     (lowest : ℕ) where
   not_both : (u w : KeptUnit) → u.unit.offset ≡ w.unit.offset → IsRefused section entry u → IsRun section entry lowest w
       → ⊥
   not_both u w same refused run =
-      never section.notation entry (drop w.unit.offset section.bytes) (run.read, run.unit) (
-        refused.error,
-        subst (λ (o : ℕ). HasHeaderFault section.notation entry (drop o section.bytes) refused.error) same
-            refused.refusal,
-      )
+      never section.layout entry (drop w.unit.offset section.bytes) run.read refused.error run.unit
+      (subst (λ (o : ℕ). HasUnitFault section.layout entry (drop o section.bytes) refused.error) same refused.refusal)
 
   same_unit : (u w : KeptUnit) → u.unit.offset ≡ w.unit.offset → IsUnitOf section entry lowest u
       → IsUnitOf section entry lowest w → u.sequences ≡ w.sequences
@@ -132,13 +129,13 @@ module _ (once : AreAlwaysDecodedOnce) (never : AreNeverBoth) (one : IsOneHeader
   same_unit u w same (inl x) (inr y) = absurd (not_both u w same x y)
   same_unit u w same (inr x) (inl y) = absurd (not_both w u (sym same) y x)
   same_unit u w same (inr x) (inr y) =
-      let here : SpellsUnit section.notation entry (drop w.unit.offset section.bytes) x.read =
-      subst (λ (o : ℕ). SpellsUnit section.notation entry (drop o section.bytes) x.read) same x.unit in
+      let here : SpellsUnit section.layout entry (drop w.unit.offset section.bytes) x.read =
+      subst (λ (o : ℕ). SpellsUnit section.layout entry (drop o section.bytes) x.read) same x.unit in
       let header : x.read
-      ≡ y.read = one section.notation entry (drop w.unit.offset section.bytes) x.read y.read here y.unit in
-      same_parts once section.notation lowest y.read x.header.meaning y.header.meaning u.unit.fault w.unit.fault
+      ≡ y.read = one section.layout entry (drop w.unit.offset section.bytes) x.read y.read here y.unit in
+      same_parts once section.layout lowest y.read x.header.meaning y.header.meaning u.unit.fault w.unit.fault
       u.sequences w.sequences
-      (subst (λ (h : Header). IsKept section.notation lowest h x.header.meaning u.unit.fault u.sequences) header x.kept)
+      (subst (λ (h : Header). IsKept section.layout lowest h x.header.meaning u.unit.fault u.sequences) header x.kept)
       y.kept
 
   same_units : (units others : List KeptUnit)
@@ -231,13 +228,13 @@ same_found a units others (Some p) (Some q) same f g =
     ap Some is
 
 pub one_answer : AreAlwaysDecodedOnce → AreNeverBoth → IsOneHeader
-    → ((notation : Notation) (offset : ℕ) (bytes : List ℕ) → AreUnitsOnce notation offset bytes)
+    → ((layout : OrderAndLimit) (offset : ℕ) (bytes : List ℕ) → AreUnitsOnce layout offset bytes)
     → (section : Unread) (entry : UnitEntry) (lowest a : ℕ) (units others : List KeptUnit) (x y : Option CoveringRows)
     → AreUnitsOf section entry lowest units
     → AreUnitsOf section entry lowest others → IsFoundAt units a x → IsFoundAt others a y → x ≡ y
 one_answer once never one list section entry lowest a units others x y are too f g =
     same_found a units others x y
     (same_units once never one section entry lowest units others
-    (list section.notation 0 section.bytes (map (λ (u : KeptUnit). u.unit.offset) units)
+    (list section.layout 0 section.bytes (map (λ (u : KeptUnit). u.unit.offset) units)
     (map (λ (u : KeptUnit). u.unit.offset) others) are.offsets too.offsets)
     are.each too.each) f g

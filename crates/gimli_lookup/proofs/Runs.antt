@@ -1,7 +1,7 @@
 -- The rows of a run: they are what its program gives, or a fault comes after them.
 use Rattle.std.proofs.Common.{◌≡◌, true, List, [], ◌∷◌, ◌++◌, map, sym, ap, ◌∙◌, append_assoc}
 use Rattle.std.proofs.lemmas.List.{map-append, append-nil}
-use Rattle.gimli_core.specs.Notation.{Notation}
+use Rattle.gimli_core.specs.Layout.{OrderAndLimit}
 use Rattle.gimli_core.specs.declared.error.Error.{Error}
 use Rattle.gimli_line.specs.declared.run.row.LineRow.{LineRow}
 use Rattle.gimli_line.specs.header.File.{File}
@@ -13,14 +13,14 @@ use Rattle.gimli_line.proofs.RunLists.{given_without_files}
 
 -- ---- after some rows
 
-module _ (notation : Notation) (h : Header) (events left : List EventWithFiles) (rows : List LineRow)
-    (given : EventsWithFiles notation true h h.program events)
+module _ (layout : OrderAndLimit) (h : Header) (events left : List EventWithFiles) (rows : List LineRow)
+    (given : EventsWithFiles layout true h h.program events)
     (so_far : events_of events ≡ map row rows ++ events_of left) where
   whole : events_of events ≡ program_events h.parameters given.list given.end
   whole = ap events_of given.given ∙ given_without_files true h given.list given.end
 
   -- nothing comes: these are all rows
-  pub run_ended : left ≡ [] → Events notation h h.program (map row rows)
+  pub run_ended : left ≡ [] → Events layout h h.program (map row rows)
   run_ended none = record {
     list = given.list;
     end = given.end;
@@ -43,7 +43,7 @@ module _ (notation : Notation) (h : Header) (events left : List EventWithFiles) 
   -- a fault comes: it is the first one
   pub first_fault : (files : List File) (rest : List EventWithFiles) (e : Error)
       → left ≡ record { event = fault e; files = files } ∷ rest
-      → HasFirstFault notation h e
+      → HasFirstFault layout h e
   first_fault files rest e next = record {
     list = given.list;
     end = given.end;

@@ -85,17 +85,17 @@ pub searched : {R Offset Endian : Type 0} (lowest index : ℕ) (addresses : List
     (run : RunState)
     (offset : ℕ) (fault : Option Error) (listed : ListedUnit) (old found new : List CoveringRows)
     (parts : List (List LineRow))
-    → IsKept program.notation lowest program.meaning (header_of run) fault parts
-    → run.source.notation ≡ program.notation
+    → IsKept program.layout lowest program.meaning (header_of run) fault parts
+    → run.source.layout ≡ program.layout
     → All (λ a. IsFoundOf index parts a (first_covering a found)) addresses → AreKeptBehind addresses old found new
     → (listed ≡ whole_unit offset run fault)
     ⊎ ((length new ≡ length old) × (fault ≡ None) × (listed ≡ bare_unit offset fault))
     → IsSearched lowest index addresses (Ok program) listed old new
-searched lowest index addresses program run offset fault listed old found new parts is_kept notation here kept is =
+searched lowest index addresses program run offset fault listed old found new parts is_kept layout here kept is =
     record {
       unit = whole_unit offset run fault;
       parts = parts;
-      outcome = (header_at run, refl, notation, is_kept);
+      outcome = (header_at run, refl, layout, is_kept);
       more = kept.more;
       added = kept.parts;
       found = λ k d lt. (first_covering (slice_index_or addresses k d) found, here k d lt, kept.first k d lt);
@@ -260,7 +260,7 @@ one_searched section entry lowest addresses offsets listed pairs new walk after 
     let at : one.unit.offset ≡ o = sym (same_offset one.unit l one.more one.is_listed) ∙ offset in
     let same : length listed ≡ length units = as_many units listed are.listed_are in
     let here : IsUnitOf walk.section walk.entry lowest u =
-    is_unit_of walk.section walk.entry lowest program one.unit o one.parts at given.unit given.refusal given.notation
+    is_unit_of walk.section walk.entry lowest program one.unit o one.parts at given.unit given.refusal given.layout
     one.outcome in
     let there : IsUnitOf section entry lowest u =
     subst (λ (s : Unread). IsUnitOf s entry lowest u) are.same_section
@@ -308,13 +308,13 @@ pub all_searched : (section : Unread) (entry : UnitEntry) (lowest : ℕ) (addres
     (listed : List ListedUnit) (pairs : List CoveringRows)
     (walk : UnitWalk) (rows : List (Option CoveringRows))
     → AreSearched section entry lowest addresses offsets listed pairs walk → walk.offsets ≡ []
-    → AreUnits section.notation 0 section.bytes offsets
+    → AreUnits section.layout 0 section.bytes offsets
     → rows ≡ map (λ a. first_covering a pairs) addresses → AreFoundInSection section entry lowest addresses listed rows
 all_searched section entry lowest addresses offsets listed pairs walk rows are none offsets_are is = record {
   units = are.units;
   are = record {
     offsets =
-        subst (AreUnits section.notation 0 section.bytes)
+        subst (AreUnits section.layout 0 section.bytes)
         (are.to_come ∙ ap (λ (os : List ℕ). map (λ (u : KeptUnit). u.unit.offset) are.units ++ os) none
         ∙ append-nil (map (λ (u : KeptUnit). u.unit.offset) are.units)) offsets_are;
     each = are.each;

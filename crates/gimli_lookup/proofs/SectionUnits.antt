@@ -6,12 +6,12 @@ use Rattle.std.proofs.lemmas.List.{append-nil, map-append, take-append-le, drop-
 use Rattle.std.proofs.lemmas.List.{length-drop}
 use Rattle.std.proofs.lemmas.List.Elements.{All-push, All-nil}
 use Rattle.std.proofs.Math.Seq.{drop-append_seam}
-use Rattle.gimli_core.specs.Notation.{Notation}
+use Rattle.gimli_core.specs.Layout.{OrderAndLimit}
 use Rattle.gimli_core.specs.declared.error.Error.{Error}
 use Rattle.gimli_line.specs.declared.run.row.LineRow.{LineRow}
 use Rattle.gimli_line.specs.header.Header.{SeenHeader, UnitEntry}
 use Rattle.gimli_line.specs.run.Unread.{Unread}
-use Rattle.gimli_line.specs.UnitAt.{HasUnitAt, HasUnitFaultAt}
+use Rattle.gimli_line.specs.UnitAt.{SpellsUnitAt, HasUnitFaultAt}
 use Rattle.gimli_line.specs.Units.{UnitWalk}
 use Rattle.gimli_lookup.specs.Section.{ListedUnit, KeptUnit, with_sequences, AreAdjacent}
 use Rattle.gimli_lookup.specs.inside.Section.{IsOutcome, IsAdded}
@@ -72,25 +72,25 @@ added_unit sequences more new units u are is first end =
 pub is_unit_of : {R Offset Endian : Type 0} (section : Unread) (entry : UnitEntry) (lowest : ℕ)
     (program : Result (SeenHeader R Offset Endian) Error)
     (u : ListedUnit) (o : ℕ)
-    (sequences : List (List LineRow)) → u.offset ≡ o → IfOk program (HasUnitAt section o entry)
+    (sequences : List (List LineRow)) → u.offset ≡ o → IfOk program (SpellsUnitAt section o entry)
     → IfErr program (HasUnitFaultAt section o entry)
-    → IfOk program (λ p. p.notation ≡ section.notation) → IsOutcome lowest program u sequences
+    → IfOk program (λ p. p.layout ≡ section.layout) → IsOutcome lowest program u sequences
     → IsUnitOf section entry lowest (record { unit = u; sequences = sequences })
-is_unit_of section entry lowest (Err e) u o sequences offset unit fault notation outcome = inl (record {
+is_unit_of section entry lowest (Err e) u o sequences offset unit fault layout outcome = inl (record {
   error = e;
   no_header = outcome.0;
   is_fault = outcome.1;
   refusal = subst (λ (n : ℕ). HasUnitFaultAt section n entry e) (sym offset) fault;
   no_sequences = outcome.2;
 })
-is_unit_of section entry lowest (Ok program) u o sequences offset unit fault notation outcome = inr (record {
+is_unit_of section entry lowest (Ok program) u o sequences offset unit fault layout outcome = inr (record {
   read = program.meaning;
-  unit = subst (λ (n : ℕ). HasUnitAt section n entry program) (sym offset) unit;
+  unit = subst (λ (n : ℕ). SpellsUnitAt section n entry program) (sym offset) unit;
   header = outcome.0;
   is_header = outcome.1;
-  notation = outcome.2 ∙ notation;
+  layout = outcome.2 ∙ layout;
   kept =
-      subst (λ (n : Notation). IsKept n lowest program.meaning outcome.0.meaning u.fault sequences) notation outcome.3;
+      subst (λ (n : OrderAndLimit). IsKept n lowest program.meaning outcome.0.meaning u.fault sequences) layout outcome.3;
 })
 
 -- ---- the walk
@@ -120,9 +120,9 @@ pub record IsGiven {R Offset Endian : Type 0} (old new : UnitWalk) (o : ℕ)
   pub next : old.offsets ≡ o ∷ new.offsets
   pub same_section : new.section ≡ old.section
   pub same_entry : new.entry ≡ old.entry
-  pub unit : IfOk program (HasUnitAt old.section o old.entry)
+  pub unit : IfOk program (SpellsUnitAt old.section o old.entry)
   pub refusal : IfErr program (HasUnitFaultAt old.section o old.entry)
-  pub notation : IfOk program (λ p. p.notation ≡ old.section.notation)
+  pub layout : IfOk program (λ p. p.layout ≡ old.section.layout)
 
 pub one_kept : {R Offset Endian : Type 0} (section : Unread) (entry : UnitEntry) (lowest : ℕ) (offsets : List ℕ)
     (units : List ListedUnit)
@@ -141,7 +141,7 @@ one_kept section entry lowest offsets units sequences new walk after o program u
       length-append sequences added.sequences,
     ) in
     let here : IsUnitOf walk.section walk.entry lowest (record { unit = u; sequences = added.sequences }) =
-    is_unit_of walk.section walk.entry lowest program u o added.sequences offset given.unit given.refusal given.notation
+    is_unit_of walk.section walk.entry lowest program u o added.sequences offset given.unit given.refusal given.layout
     added.outcome in
     let there : IsUnitOf section entry lowest (record { unit = u; sequences = added.sequences }) =
     subst (λ (s : Unread). IsUnitOf s entry lowest (record { unit = u; sequences = added.sequences })) kept.same_section

@@ -3,7 +3,7 @@ use Rattle.std.specs.Prelude.{◌≡◌, ◌⊎◌, ℕ, true, List, map, Option
 use Rattle.std.specs.List.{list_any}
 use Rattle.gimli_core.specs.declared.error.Error.{Error}
 use Rattle.gimli_core.specs.declared.error.Error.TheVariants.{OutOfMemory}
-use Rattle.gimli_core.specs.Notation.{Notation}
+use Rattle.gimli_core.specs.Layout.{OrderAndLimit}
 use Rattle.gimli_line.specs.declared.run.row.LineRow.{LineRow}
 use Rattle.gimli_line.specs.header.Header.{Header}
 use Rattle.gimli_line.specs.run.Events.{row, Events}
@@ -19,27 +19,27 @@ IsFirstFound a sequences found =
     MatchOption found (All (HasNoPair a) sequences) (λ pair. IsFirstPair a sequences pair.0 pair.1)
 
 -- a program gives rows and no fault, and these are the rows of each of its sequences
-pub record AreRowsOfSequences (notation : Notation) (h : Header) (sequences : List (List LineRow))
+pub record AreRowsOfSequences (layout : OrderAndLimit) (h : Header) (sequences : List (List LineRow))
     : Type 0 where
   pub rows : List LineRow
-  pub given : Events notation h h.program (map row rows)
+  pub given : Events layout h h.program (map row rows)
   pub cut : AreCutAtEnds rows sequences
 
 -- what is found is the first pair of the sequences of such a program, or None where they have none
-pub record IsFoundInRun (notation : Notation) (h : Header) (a : ℕ)
+pub record IsFoundInRun (layout : OrderAndLimit) (h : Header) (a : ℕ)
     (found : Option (LineRow × LineRow)) : Type 0 where
   pub sequences : List (List LineRow)
-  pub are : AreRowsOfSequences notation h sequences
+  pub are : AreRowsOfSequences layout h sequences
   pub first : IsFirstFound a sequences found
 
 -- an instruction of the program defines a file
-pub record DefinesFile (notation : Notation) (h : Header) : Type 0 where
+pub record DefinesFile (layout : OrderAndLimit) (h : Header) : Type 0 where
   pub list : List Ins
   pub end : Option Error
-  pub decoding : Decodes notation h h.program list end
+  pub decoding : Decodes layout h h.program list end
   pub defines : list_any defines_file list ≡ true
 
 -- the program is refused by its first fault, or there was no memory for a file that it defines
-abbrev pub IsRefusedInRun : Notation → Header → Error → Type 0
-IsRefusedInRun notation h e =
-    HasFirstFault notation h e ⊎ ((e ≡ OutOfMemory) × DefinesFile notation h)
+abbrev pub IsRefusedInRun : OrderAndLimit → Header → Error → Type 0
+IsRefusedInRun layout h e =
+    HasFirstFault layout h e ⊎ ((e ≡ OutOfMemory) × DefinesFile layout h)

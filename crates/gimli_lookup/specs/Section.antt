@@ -3,7 +3,7 @@
 use Rattle.std.specs.Prelude.{◌≡◌, ◌≤◌, ◌-◌, ℕ, List, [], ◌∷◌, take, drop, Option, Some, None, All}
 use Rattle.std.specs.Prelude.{slice_get}
 use Rattle.std.specs.List.{flat_map}
-use Rattle.gimli_core.specs.Notation.{Notation}
+use Rattle.gimli_core.specs.Layout.{OrderAndLimit}
 use Rattle.gimli_core.specs.declared.error.Error.{Error}
 use Rattle.gimli_line.specs.declared.run.row.LineRow.{LineRow}
 use Rattle.gimli_line.specs.header.Header.{Header}
@@ -11,14 +11,14 @@ use Rattle.gimli_line.specs.run.RunState.{RunState}
 use Rattle.gimli_lookup.specs.FirstPair.{HasNoPair, IsFirstPair}
 use Rattle.gimli_lookup.specs.RowsTaken.{header_of}
 
--- a header, with the files that are defined before the first fault, and the notation of its program
+-- a header, with the files that are defined before the first fault, and the layout of its program
 pub record KeptHeader : Type 0 where
   pub meaning : Header
-  pub notation : Notation
+  pub layout : OrderAndLimit
 
 -- that of a run, as it stands
 abbrev pub header_at : RunState → KeptHeader
-header_at a = record { meaning = header_of a; notation = a.source.notation }
+header_at a = record { meaning = header_of a; layout = a.source.layout }
 
 -- a unit as it is listed
 pub record ListedUnit : Type 0 where

@@ -20,11 +20,11 @@ pub record IsRefused (section : Unread) (entry : UnitEntry) (u : KeptUnit) : Typ
 -- the section has a unit there, and this is kept of its run
 pub record IsRun (section : Unread) (entry : UnitEntry) (lowest : ℕ) (u : KeptUnit) : Type 0 where
   pub read : Header
-  pub unit : SpellsUnit section.notation entry (drop u.unit.offset section.bytes) read
+  pub unit : SpellsUnit section.layout entry (drop u.unit.offset section.bytes) read
   pub header : KeptHeader
   pub is_header : u.unit.header ≡ Some header
-  pub notation : header.notation ≡ section.notation
-  pub kept : IsKept section.notation lowest read header.meaning u.unit.fault u.sequences
+  pub layout : header.layout ≡ section.layout
+  pub kept : IsKept section.layout lowest read header.meaning u.unit.fault u.sequences
 
 -- the unit is what the section has at its offset
 abbrev pub IsUnitOf : Unread → UnitEntry → ℕ → KeptUnit → Type 0
@@ -33,5 +33,5 @@ IsUnitOf section entry lowest u = IsRefused section entry u ⊎ IsRun section en
 -- these are the units that a section has, in order, and what is kept of each
 pub record AreUnitsOf (section : Unread) (entry : UnitEntry) (lowest : ℕ) (units : List KeptUnit)
     : Type 0 where
-  pub offsets : AreUnits section.notation 0 section.bytes (map (λ u. u.unit.offset) units)
+  pub offsets : AreUnits section.layout 0 section.bytes (map (λ u. u.unit.offset) units)
   pub each : All (IsUnitOf section entry lowest) units

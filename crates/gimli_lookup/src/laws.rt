@@ -2,7 +2,7 @@
 
 ghost use Rattle.std.specs.Prelude.{◌≡◌, ◌≤◌, ◌↔◌, ℕ, List, length, Ok, Err, Option, IsTrue};
 ghost use Rattle.gimli_core.specs.Equality.{ClonesGiveSame, GivesSame, IsExact};
-ghost use Rattle.gimli_core.specs.Notation.{Notation};
+ghost use Rattle.gimli_core.specs.Layout.{OrderAndLimit};
 ghost use Rattle.gimli_line.specs.declared.run.row.LineRow.{LineRow};
 ghost use Rattle.gimli_line.specs.header.File.{File};
 ghost use Rattle.gimli_line.specs.header.Header.{Header, UnitEntry};
@@ -79,9 +79,9 @@ pub fn clones_of_sections_are_same<R: Clone>()
 /// A program has one list of the rows of its sequences. So `find_in_run` returns what
 /// `Lookup::find` does, over a lookup of the same program.
 pub fn one_answer()
-    ensures sequences { (notation : Notation) (h : Header) (rows other : List (List LineRow)) →
-        AreRowsOfSequences notation h rows → AreRowsOfSequences notation h other → rows ≡ other }
-    ensures find { (n : Notation) (h : Header) (a : ℕ) (rows : List (List LineRow)) (x y : _) →
+    ensures sequences { (layout : OrderAndLimit) (h : Header) (rows other : List (List LineRow)) →
+        AreRowsOfSequences layout h rows → AreRowsOfSequences layout h other → rows ≡ other }
+    ensures find { (n : OrderAndLimit) (h : Header) (a : ℕ) (rows : List (List LineRow)) (x y : _) →
         AreRowsOfSequences n h rows → IsFirstFound a rows x → IsFoundInRun n h a y → x ≡ y }
 {
     one_decoding();

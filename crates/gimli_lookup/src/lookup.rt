@@ -4,7 +4,7 @@ ghost use Rattle.std.specs.Prelude.{◌≡◌, ◌≢◌, ◌≤◌, ◌+◌, �
 ghost use Rattle.std.specs.Prelude.{IfErr, IfOk, MatchOption};
 ghost use Rattle.gimli_line.specs.header.Orders.{source_of, KeepsSource};
 ghost use Rattle.gimli_line.specs.run.Events.{row};
-ghost use Rattle.gimli_line.specs.run.Sequences.{part_of, AreSequences, HasFirstFault, HaveRuns};
+ghost use Rattle.gimli_line.specs.run.Sequences.{sequence_of, AreSequences, HasFirstFault, HaveRuns};
 ghost use Rattle.gimli_lookup.specs.FirstPair.{HasNoPair, IsFirstPair};
 ghost use Rattle.gimli_lookup.specs.Kept.{AreRowsThroughLastEnd};
 ghost use Rattle.gimli_lookup.specs.Run.{AreRowsOfSequences};
@@ -53,7 +53,7 @@ pub struct Lookup<R: Reader> {
 impl<R: Reader> Model for Lookup<R> {
     ghost use Rattle.std.specs.Prelude.{map};
     ghost use Rattle.gimli_line.specs.header.Orders.{source_of};
-    ghost use Rattle.gimli_line.specs.run.Sequences.{part_of};
+    ghost use Rattle.gimli_line.specs.run.Sequences.{sequence_of};
     ghost use Rattle.gimli_lookup.specs.Kept.{Kept};
     ghost use Rattle.gimli_lookup.specs.Steps.{IsStepTableOf};
 
@@ -61,8 +61,8 @@ impl<R: Reader> Model for Lookup<R> {
 
     ghost view = { λ a. record {
       header = a.program.meaning;
-      source = source_of R.big R.Offset.number a.program;
-      parts = map part_of a.sequences.items;
+      source = source_of R.is_big R.Offset.number a.program;
+      parts = map sequence_of a.sequences.items;
       rows = a.rows.items;
     } };
 
@@ -75,17 +75,17 @@ impl<R: Reader> Lookup<R> {
     /// it stands; or by `OutOfMemory`.
     pub fn new(program: IncompleteLineProgram<R>) -> Result<Lookup<R>>
         ensures sequences { IfOk result (λ lookup.
-            AreSequences program.notation program.meaning lookup.header lookup.parts) }
+            AreSequences program.layout program.meaning lookup.header lookup.parts) }
         ensures each { IfOk result (λ lookup.
             HaveRuns lookup.header lookup.parts (map (map row) lookup.rows)) }
         ensures joined { IfOk result (λ lookup.
-            AreRowsThroughLastEnd program.notation program.meaning lookup.rows) }
+            AreRowsThroughLastEnd program.layout program.meaning lookup.rows) }
         ensures cut { IfOk result (λ lookup.
-            AreRowsOfSequences program.notation program.meaning lookup.rows) }
-        ensures source { IfOk result (λ lookup. KeepsSource (λ order. program.notation.big ≡ order)
-            (source_of R.big R.Offset.number program) lookup.source) }
+            AreRowsOfSequences program.layout program.meaning lookup.rows) }
+        ensures source { IfOk result (λ lookup. KeepsSource (λ order. program.layout.is_big ≡ order)
+            (source_of R.is_big R.Offset.number program) lookup.source) }
         ensures err { IfErr result (λ e. e ≢ Error.OutOfMemory
-            → HasFirstFault program.notation program.meaning e) }
+            → HasFirstFault program.layout program.meaning e) }
     {
         let (program, sequences, rows) = program.sequences_with_rows()?;
         let rows = keep_each(*sequences.allocator(), rows)?;
@@ -101,14 +101,14 @@ impl<R: Reader> Lookup<R> {
     /// The header of the program, with all files.
     pub fn header(&self) -> &LineProgramHeader<R>
         ensures header { result.now.meaning ≡ self.now.header }
-        ensures source { source_of R.big R.Offset.number result.now ≡ self.now.source }
+        ensures source { source_of R.is_big R.Offset.number result.now ≡ self.now.source }
     {
         self.program.header()
     }
 
     /// The sequences of the program, in its order.
     pub fn sequences(&self) -> &[LineSequence<R>]
-        ensures { map part_of result.now ≡ self.now.parts }
+        ensures { map sequence_of result.now ≡ self.now.parts }
     {
         self.sequences.as_slice()
     }

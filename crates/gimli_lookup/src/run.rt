@@ -93,8 +93,8 @@ pub fn find_in_run<R: Reader>(
     program: IncompleteLineProgram<R>,
     a: u64,
 ) -> Result<Option<(LineRow, LineRow)>>
-    ensures ok { IfOk result (IsFoundInRun program.notation program.meaning a) }
-    ensures err { IfErr result (IsRefusedInRun program.notation program.meaning) }
+    ensures ok { IfOk result (IsFoundInRun program.layout program.meaning a) }
+    ensures err { IfErr result (IsRefusedInRun program.layout program.meaning) }
 {
     let mut rows = program.rows();
     let mut search = PairSearch::Start;

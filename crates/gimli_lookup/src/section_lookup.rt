@@ -3,7 +3,7 @@
 ghost use Rattle.std.specs.Prelude.{◌≡◌, ◌<◌, ◌≤◌, ◌+◌, ◌-◌, ◌*◌, ◌++◌, ◌∷◌, [], ℕ, length, map};
 ghost use Rattle.std.specs.Prelude.{drop, sum_by, take, slice_index_or, All, Any, IfErr, IfOk};
 ghost use Rattle.std.specs.Prelude.{IfSome, IsTrue, MatchOption, None, true};
-ghost use Rattle.gimli_core.specs.Notation.{notation_of};
+ghost use Rattle.gimli_core.specs.Layout.{layout_of};
 ghost use Rattle.gimli_core.specs.Numbers.{is_address_size};
 ghost use Rattle.gimli_line.specs.Units.{AreUnits};
 ghost use Rattle.gimli_line.specs.header.Header.{unit_entry};
@@ -172,10 +172,10 @@ impl<R: Reader> SectionLookup<R> {
     ) -> Result<SectionLookup<R>>
         requires { IsTrue (is_address_size address_size) }
         ensures offsets { IfOk result (λ units.
-            AreUnits (notation_of (R.big section.now) R.Offset.limit) 0
+            AreUnits (layout_of (R.is_big section.now) R.Offset.limit) 0
             (R.bytes section.now) (map (λ u. u.unit.offset) units)) }
         ensures units { IfOk result
-            (All (IsUnitOf (unread_of R.bytes R.big R.Offset.limit section.now)
+            (All (IsUnitOf (unread_of R.bytes R.is_big R.Offset.limit section.now)
             (unit_entry R.bytes address_size None None) lowest)) }
         ensures err { IfErr result (λ e. e ≡ Error.OutOfMemory) }
     {

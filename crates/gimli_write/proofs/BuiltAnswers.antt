@@ -1,11 +1,11 @@
 -- What is answered of a unit is what was built.
 use Rattle.gimli_write.proofs.Common
 use Common.{◌≡◌, ℕ, ◌<◌, ◌^◌, Bool, List, [], ◌∷◌, ◌++◌, length, drop, map, refl, sym, ap, ◌∙◌, subst, Result, Option}
-use Common.{Some, None, IfOk, IfErr, append-nil, IfOk-weaker, MatchResult-weaker, Notation, Value, Error, StringTables}
+use Common.{Some, None, IfOk, IfErr, append-nil, IfOk-weaker, MatchResult-weaker, OrderAndLimit, Value, Error, StringTables}
 use Common.{Header, UnitEntry, SpellsUnit, ReadFile, Event, row, fault, Events, program_events, ReadRow, one_header}
 use Common.{one_decoding, bytes_in, Built, AddressesFit, RowsMatch, Sections, IsText, IsOptionalText, OneByOne}
 use Common.{ConvertError, Read, NoMemory, RoundTrip, FileAnswer, file_answer, built_file, Answers, IsFileAnswer}
-use Common.{AreAnswers, AnswersUnit, AnswersProgram, IsRunRefusal, RefusesUnit, slice_notation, unit_entry_of}
+use Common.{AreAnswers, AnswersUnit, AnswersProgram, IsRunRefusal, RefusesUnit, slice_layout, unit_entry_of}
 use Common.{sections_of}
 use Rattle.gimli_build.specs.Tables.{File}
 use Rattle.gimli_build.specs.ReadsBack.{IsUnit, IsFile, ReadsBack, ReadsBackAs}
@@ -68,12 +68,12 @@ file_same s p texts read built answer is also =
 -- ---- one run
 
 -- a program gives one list of events
-pub events_same : (notation : Notation) (h : Header) (bytes : List ℕ) (es fs : List Event) → Events notation h bytes es
-    → Events notation h bytes fs → es ≡ fs
-events_same notation h bytes es fs a b =
+pub events_same : (layout : OrderAndLimit) (h : Header) (bytes : List ℕ) (es fs : List Event) → Events layout h bytes es
+    → Events layout h bytes fs → es ≡ fs
+events_same layout h bytes es fs a b =
     a.given
     ∙ ap (λ c. program_events h.parameters c.0 c.1)
-    (one_decoding notation h _ _ _ a.decoding ∙ sym (one_decoding notation h _ _ _ b.decoding))
+    (one_decoding layout h _ _ _ a.decoding ∙ sym (one_decoding layout h _ _ _ b.decoding))
     ∙ sym b.given
 
 pub rows_same : (rows others : List ReadRow) → map row rows ≡ map row others → rows ≡ others
@@ -96,12 +96,12 @@ no_fault_among (r ∷ rows) (s ∷ others) e rest is =
     no_fault_among rows others e rest later
 
 -- a program that gives rows has no first fault, and its rows are answered unless memory is missing
-rows_refused : (notation : Notation) (h : Header) (rows : List ReadRow) (e : ConvertError)
-    → Events notation h h.program (map row rows)
-    → IsRunRefusal notation h e → e ≡ NoMemory
-rows_refused notation h rows NoMemory given refused = refl
-rows_refused notation h rows (Read e) given refused =
-    let whole : Events notation h h.program (program_events h.parameters refused.list refused.end) = record {
+rows_refused : (layout : OrderAndLimit) (h : Header) (rows : List ReadRow) (e : ConvertError)
+    → Events layout h h.program (map row rows)
+    → IsRunRefusal layout h e → e ≡ NoMemory
+rows_refused layout h rows NoMemory given refused = refl
+rows_refused layout h rows (Read e) given refused =
+    let whole : Events layout h h.program (program_events h.parameters refused.list refused.end) = record {
       list = refused.list;
       end = refused.end;
       decoding = refused.decoding;
@@ -109,38 +109,38 @@ rows_refused notation h rows (Read e) given refused =
     } in
     absurd (no_fault_among _ _ e _
     (events_same _ h _ _ _ given whole ∙ refused.given))
-rows_refused notation h rows e given refused = absurd refused
+rows_refused layout h rows e given refused = absurd refused
 
 -- ---- a unit
 
-module _ (notation : Notation) (unit_entry : UnitEntry) (sections : Sections) (p : Built) (texts : StringTables)
+module _ (layout : OrderAndLimit) (unit_entry : UnitEntry) (sections : Sections) (p : Built) (texts : StringTables)
     (unit : List ℕ)
-    (back : ReadsBack notation unit_entry sections p texts unit) where
-  begins : (h : Header) → IsUnit notation unit_entry unit h → SpellsUnit notation unit_entry unit h
+    (back : ReadsBack layout unit_entry sections p texts unit) where
+  begins : (h : Header) → IsUnit layout unit_entry unit h → SpellsUnit layout unit_entry unit h
   begins h is = (unit, [], sym (append-nil unit), is.spelled)
 
-  header_same : (h : Header) → IsUnit notation unit_entry unit h → h ≡ back.header
-  header_same h is = one_header notation unit_entry _ h _ (begins h is) (begins _ back.is_unit)
+  header_same : (h : Header) → IsUnit layout unit_entry unit h → h ≡ back.header
+  header_same h is = one_header layout unit_entry _ h _ (begins h is) (begins _ back.is_unit)
 
-  answered : (a : Answers) → AnswersUnit notation unit_entry sections unit a
-      → AreAnswers notation sections back.header a
-  answered a is = subst (λ h. AreAnswers notation sections h a) (header_same _ is.is_unit) is.answered
+  answered : (a : Answers) → AnswersUnit layout unit_entry sections unit a
+      → AreAnswers layout sections back.header a
+  answered a is = subst (λ h. AreAnswers layout sections h a) (header_same _ is.is_unit) is.answered
 
-  directories_built : (a : Answers) → AnswersUnit notation unit_entry sections unit a
+  directories_built : (a : Answers) → AnswersUnit layout unit_entry sections unit a
       → a.directories ≡ map (bytes_in texts) p.directories
   directories_built a is =
       one_by_one_same _ _ _
       (λ v built text is also. text_same _ v _ _ is also)
       _ _ _ back.directories (answered a is).directories
 
-  files_built : (a : Answers) → AnswersUnit notation unit_entry sections unit a
+  files_built : (a : Answers) → AnswersUnit layout unit_entry sections unit a
       → a.files ≡ map (built_file p texts) p.files
   files_built a is =
       one_by_one_same _ _ _
       (λ read built answer is also. file_same _ p _ _ _ _ is also)
       _ _ _ back.files (answered a is).files
 
-  rows_built : (a : Answers) → AnswersUnit notation unit_entry sections unit a
+  rows_built : (a : Answers) → AnswersUnit layout unit_entry sections unit a
       → AddressesFit p.encoding.address_size 0 (0, 0) p.items
       → RowsMatch p.encoding.version [] p.items a.rows
   rows_built a is held =
@@ -149,35 +149,35 @@ module _ (notation : Notation) (unit_entry : UnitEntry) (sections : Sections) (p
       subst (λ xs. RowsMatch p.encoding.version [] p.items xs) same rows.2
 
   refused_for_memory : (e : ConvertError) → AddressesFit p.encoding.address_size 0 (0, 0) p.items
-      → RefusesUnit notation unit_entry unit e → e ≡ NoMemory
+      → RefusesUnit layout unit_entry unit e → e ≡ NoMemory
   refused_for_memory e held refused =
       let rows = back.rows held in
       rows_refused _ _ _ e rows.1
-      (subst (λ h. IsRunRefusal notation h e) (header_same _ refused.1) refused.2)
+      (subst (λ h. IsRunRefusal layout h e) (header_same _ refused.1) refused.2)
 
 -- ---- the unit of a program
 
-module _ (big : Bool) (p : Built) (texts : StringTables) (section : List ℕ) (n : ℕ)
-    (whole : ReadsBackAs big p texts (drop n section))
+module _ (is_big : Bool) (p : Built) (texts : StringTables) (section : List ℕ) (n : ℕ)
+    (whole : ReadsBackAs is_big p texts (drop n section))
     (fits : length section < 2 ^ 64) (held : AreShort texts) where
-  read_again : ReadsBack (slice_notation big) (unit_entry_of p texts) (sections_of texts) p texts (drop n section)
-  read_again = read_back big p texts section n whole fits held
+  read_again : ReadsBack (slice_layout is_big) (unit_entry_of p texts) (sections_of texts) p texts (drop n section)
+  read_again = read_back is_big p texts section n whole fits held
 
-  pub built_directories : (r : Result RoundTrip ConvertError) → IfOk r (AnswersProgram big p texts (drop n section))
+  pub built_directories : (r : Result RoundTrip ConvertError) → IfOk r (AnswersProgram is_big p texts (drop n section))
       → IfOk r (λ answer. map (λ text. text.items) answer.directories.items ≡ map (bytes_in texts) p.directories)
   built_directories r is = IfOk-weaker r _ _ (λ answer a. directories_built _ _ _ p texts _ read_again _ a) is
 
-  pub built_files : (r : Result RoundTrip ConvertError) → IfOk r (AnswersProgram big p texts (drop n section))
+  pub built_files : (r : Result RoundTrip ConvertError) → IfOk r (AnswersProgram is_big p texts (drop n section))
       → IfOk r (λ answer. map file_answer answer.files.items ≡ map (built_file p texts) p.files)
   built_files r is = IfOk-weaker r _ _ (λ answer a. files_built _ _ _ p texts _ read_again _ a) is
 
-  pub built_rows : (r : Result RoundTrip ConvertError) → IfOk r (AnswersProgram big p texts (drop n section))
+  pub built_rows : (r : Result RoundTrip ConvertError) → IfOk r (AnswersProgram is_big p texts (drop n section))
       → IfOk r (λ answer.
       AddressesFit p.encoding.address_size 0 (0, 0) p.items → RowsMatch p.encoding.version [] p.items answer.rows.items)
   built_rows r is = IfOk-weaker r _ _ (λ answer a. rows_built _ _ _ p texts _ read_again _ a) is
 
   pub never_read : (r : Result RoundTrip ConvertError)
-      → IfErr r (RefusesUnit (slice_notation big) (unit_entry_of p texts) (drop n section))
+      → IfErr r (RefusesUnit (slice_layout is_big) (unit_entry_of p texts) (drop n section))
       → AddressesFit p.encoding.address_size 0 (0, 0) p.items → IfErr r (λ e. e ≡ NoMemory)
   never_read r is held =
       MatchResult-weaker r is (λ _ u. u) (λ e f. refused_for_memory _ _ _ p texts _ read_again e held f)

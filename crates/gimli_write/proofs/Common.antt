@@ -28,7 +28,7 @@ pub use Rattle.gimli_line.specs.declared.run.instruction.LineInstruction.TheVari
 pub use Rattle.gimli_line.specs.declared.run.instruction.LineInstruction.TheVariants.{EndSequence, FixedAddPc}
 pub use Rattle.gimli_line.specs.declared.run.instruction.LineInstruction.TheVariants.{SetAddress, SetFile, Special}
 pub use Rattle.gimli_line.specs.header.Header.{from_one}
-pub use Rattle.gimli_line.specs.header.HeaderGrammar.{HasHeaderFault, SpellsUnit}
+pub use Rattle.gimli_line.specs.header.HeaderGrammar.{HasUnitFault, SpellsUnit}
 pub use Rattle.gimli_line.specs.run.Events.{Event, defined_files, events_after, fault, past_at_end, program_events}
 pub use Rattle.gimli_line.specs.run.Instruction.{defines_file, files_after, ins_seen}
 pub use Rattle.gimli_line.specs.run.InstructionGrammar.{SpellsInstruction, instruction_production}
@@ -50,7 +50,7 @@ pub use Rattle.gimli_build.specs.Tables.{with_file}
 pub use Rattle.gimli_build.specs.Texts.{IsTextAt}
 pub use Rattle.gimli_write.specs.RoundTrip.{Answers, AnswersProgram, AnswersUnit, AreAnswers, FileAnswer, IsFileAnswer}
 pub use Rattle.gimli_write.specs.RoundTrip.{IsRefusal, IsRunRefusal, RefusesUnit, ToWrite, WasWritten, answers}
-pub use Rattle.gimli_write.specs.RoundTrip.{built_file, file_answer, sections_of, slice_notation, unit_entry_of}
+pub use Rattle.gimli_write.specs.RoundTrip.{built_file, file_answer, sections_of, slice_layout, unit_entry_of}
 pub use Rattle.gimli_write.specs.TextReading.{text_from, text_of}
 pub use Rattle.gimli_write.specs.convert.Conversion.{AddsFiles, AnswersAs, Conversion, IsConvertRefusal, IsConverted}
 pub use Rattle.gimli_write.specs.convert.Conversion.{IsReadRefusal, IsRestRefusal, Progress, RestComesTo}
@@ -79,7 +79,7 @@ pub use Rattle.gimli_write.specs.convert.SourceRun.{state_after}
 pub use Rattle.gimli_write.specs.convert.SourceTables.{FileParts, SourceTables, TablesAndTexts, all_added}
 pub use Rattle.gimli_write.specs.convert.SourceTables.{directory_added, file_added, file_parts, tables_with, version_of}
 pub use Rattle.gimli_write.specs.convert.SourceTables.{with_parts, with_path}
-pub use Rattle.gimli_write.specs.convert.Sources.{Source, source_of}
+pub use Rattle.gimli_write.specs.convert.Sources.{ToConvert, to_convert}
 pub use Rattle.gimli_write.specs.convert.Texts.{IsRefusedBy, if_there, source_path, source_text, without_zero, ◌>>=◌}
 pub use Rattle.gimli_write.specs.declared.convert.rows.ConvertLineRow.TheVariants.{Row}
 pub use Rattle.gimli_write.specs.declared.convert_error.ConvertError.TheVariants.{OutOfMemory as NoMemory}
@@ -90,7 +90,7 @@ pub use Prelude.{Address, All, Bool, Built, BuiltItem, CanWrite, ConvertError, C
 pub use Prelude.{Error, Events, File, Header, IfErr, IfOk, IfSome, Ins, InvalidAddress, InvalidAttributeValue}
 pub use Prelude.{InvalidDirectoryIndex, InvalidFileIndex, IsOptionalText, IsText, KeepsTexts, LineEncoding, LineRow}
 pub use Prelude.{LineText, List, Made, MatchResult, MissingCompilationDirectory, MissingLineEndSequence, More, None}
-pub use Prelude.{Notation, Ok, OnErr, OnOk, OneByOne, Option, Parameters, Read, ReadFile, ReadRow, Result, RowsMatch}
+pub use Prelude.{OrderAndLimit, Ok, OnErr, OnOk, OneByOne, Option, Parameters, Read, ReadFile, ReadRow, Result, RowsMatch}
 pub use Prelude.{Sections, Some, SourceRow, SourceStep, StringTables, UnitEntry, UnsupportedLineInstruction, Value}
 pub use Prelude.{Write, [], bytes_in, decoded_at, directory_of, empty_built, false, file_seen, if◌then◌else◌, is_end}
 pub use Prelude.{is_err, is_some, is_under_tombstone, length, made_table, made_text, makes_row, map, nat_eq, nat_le}

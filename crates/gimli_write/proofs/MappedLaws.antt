@@ -8,7 +8,7 @@ use Common.{MissingLineEndSequence, UnsupportedLineInstruction, SourceRow, Conve
 use Common.{TablesAndTexts, version_of, with_path, directory_added, file_added, encoding_of, first_ids}
 use Common.{tables_of_header, Reading, stops, offers, source_row, built_row, address_offered, row_offered}
 use Common.{row_or_end_offered, source_row_offered, reading_at, end_reading, reading_with, tables_at, with_definition}
-use Common.{reading_after, ReadsItems, Outcome, outcome_of, with_tables, can_build, Source, IsConverted, MatchResult}
+use Common.{reading_after, ReadsItems, Outcome, outcome_of, with_tables, can_build, ToConvert, IsConverted, MatchResult}
 use Common.{◌++◌, arith, AllByRecursion, All-from_recursion, true≢false, Encoding, ReadRow, Decodes, one_decoding}
 use Common.{base_of, AddressesFit, RowsMatch, read_row, OneByOne, BuiltItem, map, nat_eq, slice_get, unwrap_or}
 use Common.{option_map, All, slice_get-map, slice_get_within, get_or_from_slice_get, KeepsTexts, with_text}
@@ -196,29 +196,29 @@ no_file sections tables next v is =
 -- ---- a conversion that was done
 
 -- its parts
-pub record WasConverted (convert_address : ℕ → Option Address) (s : Source) (line_strings : List (List ℕ)) (c : Outcome)
+pub record WasConverted (convert_address : ℕ → Option Address) (s : ToConvert) (line_strings : List (List ℕ)) (c : Outcome)
     : Type 0 where
   pub reading : Reading
   pub first : TablesAndTexts
   pub ready : tables_of_header s.sections s.header s.given line_strings ≡ Ok first
-  pub reads : ReadsItems s.notation s.sections s.header first s.header.program reading
+  pub reads : ReadsItems s.layout s.sections s.header first s.header.program reading
   pub is : outcome_of convert_address reading first.program ≡ Ok c
 
-pub was_converted : (convert_address : ℕ → Option Address) (s : Source) (line_strings : List (List ℕ)) (c : Outcome)
+pub was_converted : (convert_address : ℕ → Option Address) (s : ToConvert) (line_strings : List (List ℕ)) (c : Outcome)
     → IsConverted convert_address s line_strings (Ok c) → WasConverted convert_address s line_strings c
 was_converted convert_address s line_strings c so =
     by (tables_of_header s.sections s.header s.given line_strings) refl so.1
   where
     by : (r : Result TablesAndTexts ConvertError) → tables_of_header s.sections s.header s.given line_strings ≡ r
         → MatchResult r
-        (λ first. ReadsItems s.notation s.sections s.header first s.header.program so.0
+        (λ first. ReadsItems s.layout s.sections s.header first s.header.program so.0
         × (outcome_of convert_address so.0 first.program ≡ Ok c))
         (λ e. (let o : Result Outcome ConvertError = Ok c in o) ≡ Err e)
         → WasConverted convert_address s line_strings c
     by (Ok first) ready m = record { reading = so.0; first = first; ready = ready; reads = m.0; is = m.1 }
     by (Err e) ready m = absurd cc
 
-module _ {convert_address : ℕ → Option Address} {s : Source} {line_strings : List (List ℕ)} {c : Outcome}
+module _ {convert_address : ℕ → Option Address} {s : ToConvert} {line_strings : List (List ℕ)} {c : Outcome}
     (w : WasConverted convert_address s line_strings c) where
   abbrev pub whole_past : List Ins
   whole_past = past_at_end [] w.reads.list
@@ -292,13 +292,13 @@ same_others source_version version base built source back mapped matches =
 
 -- ---- the whole
 
-module _ {convert_address : ℕ → Option Address} {s : Source} {line_strings : List (List ℕ)} {c : Outcome}
+module _ {convert_address : ℕ → Option Address} {s : ToConvert} {line_strings : List (List ℕ)} {c : Outcome}
     (w : WasConverted convert_address s line_strings c) (can : CanBeFaithful convert_address s) where
-  decodes_once : (list : List Ins) (end : Option Error) → Decodes s.notation s.header s.header.program list end
+  decodes_once : (list : List Ins) (end : Option Error) → Decodes s.layout s.header s.header.program list end
       → list ≡ w.reads.list
   decodes_once list end decoding =
       ap (λ p. p.0)
-      (one_decoding s.notation s.header _ _ _ decoding ∙ sym (one_decoding s.notation s.header _ _ _ w.reads.decoding))
+      (one_decoding s.layout s.header _ _ _ decoding ∙ sym (one_decoding s.layout s.header _ _ _ w.reads.decoding))
 
   whole : Rest s.sections s.header.parameters w.first (encoding_of s.header s.given).address_size c [] w.reads.list
       w.reads.end 0 (0, 0) w.first.program
@@ -313,7 +313,7 @@ module _ {convert_address : ℕ → Option Address} {s : Source} {line_strings :
   all_items : whole.items ≡ c.program.items
   all_items = sym (whole.built ∙ ap (λ (l : List BuiltItem). l ++ whole.items) (first_ready w []).items)
 
-  pub rows_mapped : AreRowsMapped s.notation s.header s.header.program c
+  pub rows_mapped : AreRowsMapped s.layout s.header s.header.program c
   rows_mapped = grind (arith, whole, all_items)
 
   pub addresses_fit : AddressesFit c.program.encoding.address_size 0 (0, 0) c.program.items
@@ -379,7 +379,7 @@ element P xs i x all is = subst P (get_or_from_slice_get _ i x x is) (all i x (s
 
 -- ---- the laws
 
-module _ (convert_address : ℕ → Option Address) (s : Source) (line_strings : List (List ℕ)) (c : Outcome)
+module _ (convert_address : ℕ → Option Address) (s : ToConvert) (line_strings : List (List ℕ)) (c : Outcome)
     (so : IsConverted convert_address s line_strings (Ok c)) where
   done : WasConverted convert_address s line_strings c
   done = was_converted convert_address s line_strings c so
@@ -395,7 +395,7 @@ module _ (convert_address : ℕ → Option Address) (s : Source) (line_strings :
   IsRow = IsReadAs s.header.parameters.encoding.version c.program.encoding.version c.file_ids
 
   module _ (can : CanBeFaithful convert_address s) where
-    pub conversion_back : (rows back : List ReadRow) → Events s.notation s.header s.header.program (map row rows)
+    pub conversion_back : (rows back : List ReadRow) → Events s.layout s.header s.header.program (map row rows)
         → (AddressesFit c.program.encoding.address_size 0 (0, 0) c.program.items
         → RowsMatch c.program.encoding.version [] c.program.items back)
         → OneByOne IsRow rows back
@@ -403,7 +403,7 @@ module _ (convert_address : ℕ → Option Address) (s : Source) (line_strings :
         let mapped = rows_mapped done can in
         let same : mapped.rows
         ≡ rows = rows_same mapped.rows rows
-        (events_same s.notation s.header s.header.program (map row mapped.rows) (map row rows) mapped.events events) in
+        (events_same s.layout s.header s.header.program (map row mapped.rows) (map row rows) mapped.events events) in
         subst (λ (source : List ReadRow). OneByOne IsRow source back) same
         (rows_again s.header.parameters.encoding.version c.program.encoding.version c.file_ids [] c.program.items
         mapped.rows back mapped.mapped
@@ -424,7 +424,7 @@ module _ (convert_address : ℕ → Option Address) (s : Source) (line_strings :
         }
 
     -- the same of a unit that is read back
-    pub unit_back : (rows : List ReadRow) → Events s.notation s.header s.header.program (map row rows)
+    pub unit_back : (rows : List ReadRow) → Events s.layout s.header s.header.program (map row rows)
         → (u : UnitReadBack c.program) → (found : List ReadRow) × UnitGives u found
         × OneByOne IsRow rows found
     unit_back rows events u =
@@ -432,15 +432,15 @@ module _ (convert_address : ℕ → Option Address) (s : Source) (line_strings :
         (found.0, found.1, conversion_back rows found.0 events (λ fit. found.2))
 
   pub files_back : (strings : List (List ℕ)) (files : List File)
-      → FilesAtEnd s.notation true s.header s.header.program files
+      → FilesAtEnd s.layout true s.header s.header.program files
       → (let texts = texts_in strings (texts_after c.program (texts_in strings c.line_strings)).line_strings in
       AreFilesReadAs s.sections s.header files c.file_ids (map (bytes_in texts) c.program.directories)
       (map (built_file c.program texts) c.program.files))
   files_back strings files at_end =
       let reads = done.reads in
       let once =
-      one_decoding s.notation s.header s.header.program reads.list reads.end reads.decoding
-      ∙ sym (one_decoding s.notation s.header s.header.program at_end.list at_end.end at_end.decoding) in
+      one_decoding s.layout s.header s.header.program reads.list reads.end reads.decoding
+      ∙ sym (one_decoding s.layout s.header s.header.program at_end.list at_end.end at_end.decoding) in
       let same : defined_files s.header.files (past_at_end [] reads.list)
       ≡ files = ap (λ (p : List Ins × Option Error). defined_files s.header.files (past_at_end [] p.0)) once
       ∙ sym at_end.given in

@@ -4,7 +4,7 @@ use Common.{◌≡◌, ◌⊎◌, ℕ, suc, ◌<◌, arith, false, true, Bool, i
 use Common.{Option, Result, Ok, Err, MatchResult, AddressOverflow, Address, Parameters, DefineFile, Ins, overflows}
 use Common.{Built, ConvertError, MissingLineEndSequence, Read, ConvertLineRow, Row, ◌>>=◌, IsRefusedBy, TablesAndTexts}
 use Common.{Reading, ends, stops, defines, offers, address_offered, reading_at, with_definition, after_definitions}
-use Common.{ReadsItems, tables_of_header, Source, reading_left, Outcome, after_item, with_tables, outcome_at_end}
+use Common.{ReadsItems, tables_of_header, ToConvert, reading_left, Outcome, after_item, with_tables, outcome_at_end}
 use Common.{outcome_of, ItemComesTo, ComesTo, without_items, Conversion, tables_of, version_of_source, after_held}
 use Common.{unless_failed, still_to_read, AddsFiles, IsReadRefusal, Progress, reading_of, built_so_far, IsConverted}
 use Common.{with_program, AnswersAs, outcome_with, RestComesTo, SourceComesTo, IsConvertRefusal, RestConvertsTo}
@@ -205,7 +205,7 @@ module _ (map : ℕ → Option Address → Type 0) where
 
   -- ---- a whole conversion
 
-  module _ (s : Source) (line_strings : List (List ℕ)) where
+  module _ (s : ToConvert) (line_strings : List (List ℕ)) where
     pub header_refused : (e : ConvertError) → IsRefusedBy (tables_of_header s.sections s.header s.given line_strings) e
         → IsConvertRefusal map s line_strings e
     header_refused e (inl memory) = record { answers = inl memory; as_function = λ g says. inl memory }
@@ -216,7 +216,7 @@ module _ (map : ℕ → Option Address → Type 0) where
 
     module _ (first : TablesAndTexts) (reading : Reading)
         (is : tables_of_header s.sections s.header s.given line_strings ≡ Ok first)
-        (reads : ReadsItems s.notation s.sections s.header first s.header.program reading) where
+        (reads : ReadsItems s.layout s.sections s.header first s.header.program reading) where
       pub all_converted : (g : ℕ → Option Address) (outcome : Result Outcome ConvertError)
           → outcome_of g reading first.program ≡ outcome
           → IsConverted g s line_strings outcome

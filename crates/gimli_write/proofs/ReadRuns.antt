@@ -1,21 +1,21 @@
 -- Rows that are read: they are what the program gives, or a fault comes after them.
 use Rattle.gimli_write.proofs.Common
-use Common.{◌≡◌, ◌≢◌, ◌⊎◌, true, List, [], ◌∷◌, ◌++◌, map, refl, sym, ap, ◌∙◌, inl, inr, append-nil, Notation, Error}
+use Common.{◌≡◌, ◌≢◌, ◌⊎◌, true, List, [], ◌∷◌, ◌++◌, map, refl, sym, ap, ◌∙◌, inl, inr, append-nil, OrderAndLimit, Error}
 use Common.{OutOfMemory, Header, File, row, fault, Events, live_events, FaultIs, events_left, events_of, HasFirstFault}
 use Common.{ConvertError, Read, NoMemory, IsRunRefusal}
 use Rattle.gimli_line.specs.declared.run.row.LineRow.{LineRow}
 use Rattle.gimli_line.specs.run.RunState.{RunState}
-use Rattle.gimli_line.specs.run.Progress.{with_reset_row}
+use Rattle.gimli_line.specs.run.Passing.{with_reset_row}
 use Rattle.gimli_line.specs.run.EventsWithFiles.{EventWithFiles, EventsWithFiles}
 use Rattle.gimli_line.proofs.RunLists.{given_without_files}
 
 -- ---- a run to its end
 
 -- rows after which nothing comes are all that the program gives
-pub run_ended : (notation : Notation) (h : Header) (events left : List EventWithFiles) (rows : List LineRow)
-    → EventsWithFiles notation true h h.program events
-    → events_of events ≡ map row rows ++ events_of left → left ≡ [] → Events notation h h.program (map row rows)
-run_ended notation h events left rows tells so_far none = record {
+pub run_ended : (layout : OrderAndLimit) (h : Header) (events left : List EventWithFiles) (rows : List LineRow)
+    → EventsWithFiles layout true h h.program events
+    → events_of events ≡ map row rows ++ events_of left → left ≡ [] → Events layout h h.program (map row rows)
+run_ended layout h events left rows tells so_far none = record {
   list = tells.list;
   end = tells.end;
   decoding = tells.decoding;
@@ -32,12 +32,12 @@ pub is_memory : (e : Error) → (e ≡ OutOfMemory) ⊎ (e ≢ OutOfMemory)
 is_memory OutOfMemory = inl refl
 is_memory e = inr (λ is. absurd cc)
 
-first_fault : (notation : Notation) (h : Header) (events left rest : List EventWithFiles) (rows : List LineRow)
+first_fault : (layout : OrderAndLimit) (h : Header) (events left rest : List EventWithFiles) (rows : List LineRow)
     (files : List File) (e : Error)
-    → EventsWithFiles notation true h h.program events
+    → EventsWithFiles layout true h h.program events
     → events_of events ≡ map row rows ++ events_of left → left ≡ record { event = fault e; files = files } ∷ rest
-    → HasFirstFault notation h e
-first_fault notation h events left rest rows files e tells so_far next = record {
+    → HasFirstFault layout h e
+first_fault layout h events left rest rows files e tells so_far next = record {
   list = tells.list;
   end = tells.end;
   decoding = tells.decoding;
@@ -48,13 +48,13 @@ first_fault notation h events left rest rows files e tells so_far next = record 
 }
 
 -- a refusal after rows is the first fault, or `OutOfMemory`, and has the name that conversions give it
-pub run_refused : (notation : Notation) (h : Header) (events : List EventWithFiles) (old new : RunState)
+pub run_refused : (layout : OrderAndLimit) (h : Header) (events : List EventWithFiles) (old new : RunState)
     (rows : List LineRow) (e : Error) (r : ConvertError)
-    → EventsWithFiles notation true h h.program events → events_of events ≡ map row rows ++ events_of (events_left old)
+    → EventsWithFiles layout true h h.program events → events_of events ≡ map row rows ++ events_of (events_left old)
     → FaultIs live_events (with_reset_row old) new e
-    → (e ≡ OutOfMemory → r ≡ NoMemory) → (e ≢ OutOfMemory → r ≡ Read e) → IsRunRefusal notation h r
-run_refused notation h events old new rows e r tells so_far (inl memory) named other = rw (named memory.0) tt
-run_refused notation h events old new rows e r tells so_far (inr next) named other = elim (is_memory e) [
+    → (e ≡ OutOfMemory → r ≡ NoMemory) → (e ≢ OutOfMemory → r ≡ Read e) → IsRunRefusal layout h r
+run_refused layout h events old new rows e r tells so_far (inl memory) named other = rw (named memory.0) tt
+run_refused layout h events old new rows e r tells so_far (inr next) named other = elim (is_memory e) [
   | inl memory ↦ rw (named memory) tt
   | inr not_memory ↦ rw (other not_memory) (first_fault _ h _ _ _ _ _ e tells so_far next.0)
 ]

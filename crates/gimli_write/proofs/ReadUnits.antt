@@ -2,10 +2,10 @@
 use Rattle.gimli_write.proofs.Common
 use Common.{◌≡◌, ◌≢◌, ℕ, ◌<◌, ◌^◌, Bool, List, [], ◌∷◌, length, drop, refl, sym, ap, ◌∙◌, subst, inl, inr, arith}
 use Common.{All, Result, Option, Some, None, IfOk, IfErr, length-drop, append-nil, All-nil, All-cons, IfOk-weaker}
-use Common.{MatchResult-weaker, Notation, Value, Error, OutOfMemory, Header, UnitEntry, SpellsUnit, HasHeaderFault}
+use Common.{MatchResult-weaker, OrderAndLimit, Value, Error, OutOfMemory, Header, UnitEntry, SpellsUnit, HasUnitFault}
 use Common.{ReadFile, one_header, no_fault, byte_count, StringTables, Sections, IsOptionalText, OneByOne}
 use Common.{HasText, HasOptionalText, HasFileTexts, Built, ConvertError}
-use Common.{NoMemory, RoundTrip, answers, AreAnswers, AnswersProgram, IsRunRefusal, RefusesUnit, slice_notation}
+use Common.{NoMemory, RoundTrip, answers, AreAnswers, AnswersProgram, IsRunRefusal, RefusesUnit, slice_layout}
 use Common.{unit_entry_of, sections_of}
 use Rattle.gimli_build.specs.Tables.{File}
 use Rattle.gimli_build.specs.ReadsBack.{IsDirectory, IsFile, ReadsBack, IsReadWell, ReadsBackAs}
@@ -17,34 +17,34 @@ use Rattle.gimli_write.proofs.ReadRuns.{is_memory}
 
 -- ---- what a slice is read as
 
--- the same notation, directory and bytes by another name
-pub same_unit : (limit size n : ℕ) (big other : Bool) (directory other_directory section other_section : List ℕ)
+-- the same layout, directory and bytes by another name
+pub same_unit : (limit size n : ℕ) (is_big other : Bool) (directory other_directory section other_section : List ℕ)
     (h : Header)
-    → other ≡ big → other_directory ≡ directory → other_section ≡ section
-    → SpellsUnit (record { big = other; limit = limit }) (unit_entry_with size other_directory) (drop n other_section) h
-    → BeginsUnit (record { big = big; limit = limit }) (unit_entry_with size directory) (drop n section) h
-same_unit limit size n big other directory other_directory section other_section h b d s spelled =
-    subst (λ x. BeginsUnit (record { big = x; limit = limit }) (unit_entry_with size directory) (drop n section) h) b
-    (subst (λ x. BeginsUnit (record { big = other; limit = limit }) (unit_entry_with size x) (drop n section) h) d
-    (subst (λ x. BeginsUnit (record { big = other; limit = limit }) (unit_entry_with size other_directory) (drop n x) h)
+    → other ≡ is_big → other_directory ≡ directory → other_section ≡ section
+    → SpellsUnit (record { is_big = other; limit = limit }) (unit_entry_with size other_directory) (drop n other_section) h
+    → BeginsUnit (record { is_big = is_big; limit = limit }) (unit_entry_with size directory) (drop n section) h
+same_unit limit size n is_big other directory other_directory section other_section h b d s spelled =
+    subst (λ x. BeginsUnit (record { is_big = x; limit = limit }) (unit_entry_with size directory) (drop n section) h) b
+    (subst (λ x. BeginsUnit (record { is_big = other; limit = limit }) (unit_entry_with size x) (drop n section) h) d
+    (subst (λ x. BeginsUnit (record { is_big = other; limit = limit }) (unit_entry_with size other_directory) (drop n x) h)
     s
     (record { spelled = spelled })))
 
 -- a fault where a unit begins
-pub record BeginsFault (notation : Notation) (unit_entry : UnitEntry) (bytes : List ℕ) (e : Error) : Type 0 where
-  pub fault : HasHeaderFault notation unit_entry bytes e
+pub record BeginsFault (layout : OrderAndLimit) (unit_entry : UnitEntry) (bytes : List ℕ) (e : Error) : Type 0 where
+  pub fault : HasUnitFault layout unit_entry bytes e
 
-pub same_fault : (limit size n : ℕ) (big other : Bool) (directory other_directory section other_section : List ℕ)
+pub same_fault : (limit size n : ℕ) (is_big other : Bool) (directory other_directory section other_section : List ℕ)
     (e : Error)
-    → other ≡ big → other_directory ≡ directory → other_section ≡ section
-    → HasHeaderFault (record { big = other; limit = limit }) (unit_entry_with size other_directory)
+    → other ≡ is_big → other_directory ≡ directory → other_section ≡ section
+    → HasUnitFault (record { is_big = other; limit = limit }) (unit_entry_with size other_directory)
     (drop n other_section) e
-    → BeginsFault (record { big = big; limit = limit }) (unit_entry_with size directory) (drop n section) e
-same_fault limit size n big other directory other_directory section other_section e b d s fault =
-    subst (λ x. BeginsFault (record { big = x; limit = limit }) (unit_entry_with size directory) (drop n section) e) b
-    (subst (λ x. BeginsFault (record { big = other; limit = limit }) (unit_entry_with size x) (drop n section) e) d
+    → BeginsFault (record { is_big = is_big; limit = limit }) (unit_entry_with size directory) (drop n section) e
+same_fault limit size n is_big other directory other_directory section other_section e b d s fault =
+    subst (λ x. BeginsFault (record { is_big = x; limit = limit }) (unit_entry_with size directory) (drop n section) e) b
+    (subst (λ x. BeginsFault (record { is_big = other; limit = limit }) (unit_entry_with size x) (drop n section) e) d
     (subst
-    (λ x. BeginsFault (record { big = other; limit = limit }) (unit_entry_with size other_directory) (drop n x) e) s
+    (λ x. BeginsFault (record { is_big = other; limit = limit }) (unit_entry_with size other_directory) (drop n x) e) s
     (record { fault = fault })))
 
 pub same_sections : (strings other_strings line_strings other_line_strings : List ℕ) (s : Sections)
@@ -55,42 +55,42 @@ pub same_sections : (strings other_strings line_strings other_line_strings : Lis
 same_sections strings other_strings line_strings other_line_strings s a b is =
     grind arith
 
-pub same_notation : (limit : ℕ) (big other : Bool) (n : Notation) → n ≡ record { big = other; limit = limit }
-    → other ≡ big
-    → n ≡ record { big = big; limit = limit }
-same_notation limit big other n is b = grind arith
+pub same_layout : (limit : ℕ) (is_big other : Bool) (n : OrderAndLimit) → n ≡ record { is_big = other; limit = limit }
+    → other ≡ is_big
+    → n ≡ record { is_big = is_big; limit = limit }
+same_layout limit is_big other n is b = grind arith
 
 -- ---- one header
 
-module _ (notation : Notation) (unit_entry : UnitEntry) (bytes : List ℕ) where
-  pub same_header : (h k : Header) → BeginsUnit notation unit_entry bytes h → BeginsUnit notation unit_entry bytes k
+module _ (layout : OrderAndLimit) (unit_entry : UnitEntry) (bytes : List ℕ) where
+  pub same_header : (h k : Header) → BeginsUnit layout unit_entry bytes h → BeginsUnit layout unit_entry bytes k
       → h ≡ k
-  same_header h k s t = one_header notation unit_entry _ h k s.spelled t.spelled
+  same_header h k s t = one_header layout unit_entry _ h k s.spelled t.spelled
 
   -- the texts of the header that is read are there
-  pub texts_there : (sections : Sections) (k : Header) → CanRead notation unit_entry sections bytes
-      → BeginsUnit notation unit_entry bytes k
+  pub texts_there : (sections : Sections) (k : Header) → CanRead layout unit_entry sections bytes
+      → BeginsUnit layout unit_entry bytes k
       → HasTexts sections k
   texts_there sections k can unit = subst (λ h. HasTexts sections h) (same_header _ k can.unit unit) can.texts
 
   -- a header that is there isn't refused
-  pub header_refused : (h : Header) (e : Error) (r : ConvertError) → BeginsUnit notation unit_entry bytes h
-      → (e ≢ OutOfMemory → BeginsFault notation unit_entry bytes e)
-      → (e ≡ OutOfMemory → r ≡ NoMemory) → IsRunRefusal notation h r
+  pub header_refused : (h : Header) (e : Error) (r : ConvertError) → BeginsUnit layout unit_entry bytes h
+      → (e ≢ OutOfMemory → BeginsFault layout unit_entry bytes e)
+      → (e ≡ OutOfMemory → r ≡ NoMemory) → IsRunRefusal layout h r
   header_refused h e r unit fault named = elim (is_memory e) [
     | inl memory ↦ rw (named memory) tt
-    | inr other ↦ absurd (no_fault notation unit_entry _ h e unit.spelled (fault other).fault)
+    | inr other ↦ absurd (no_fault layout unit_entry _ h e unit.spelled (fault other).fault)
   ]
 
 -- ---- answers of the same by another name
 
-pub same_answers : (r : Result RoundTrip ConvertError) (n m : Notation) (s t : Sections) (h k : Header) → n ≡ m → s ≡ t
+pub same_answers : (r : Result RoundTrip ConvertError) (n m : OrderAndLimit) (s t : Sections) (h k : Header) → n ≡ m → s ≡ t
     → h ≡ k
     → IfOk r (λ answer. AreAnswers n s h (answers answer)) → IfOk r (λ answer. AreAnswers m t k (answers answer))
 same_answers r n m s t h k a b d is =
     grind arith
 
-pub same_refusal : (r : Result RoundTrip ConvertError) (n m : Notation) (h k : Header) → n ≡ m → h ≡ k
+pub same_refusal : (r : Result RoundTrip ConvertError) (n m : OrderAndLimit) (h k : Header) → n ≡ m → h ≡ k
     → IfErr r (IsRunRefusal n h) → IfErr r (IsRunRefusal m k)
 same_refusal r n m h k a d is =
     grind arith
@@ -121,10 +121,10 @@ file_texts_there s p texts read built is = grind (arith, optional_there)
 abbrev pub AreShort : StringTables → Type 0
 AreShort texts = (byte_count texts.strings < 2 ^ 64) × (byte_count texts.line_strings < 2 ^ 64)
 
-module _ (big : Bool) (p : Built) (texts : StringTables) (section : List ℕ) (n : ℕ)
-    (whole : ReadsBackAs big p texts (drop n section))
+module _ (is_big : Bool) (p : Built) (texts : StringTables) (section : List ℕ) (n : ℕ)
+    (whole : ReadsBackAs is_big p texts (drop n section))
     (fits : length section < 2 ^ 64) (held : AreShort texts) where
-  read_well : IsReadWell unplaced (slice_notation big) (unit_entry_of p texts) (sections_of texts) big p texts
+  read_well : IsReadWell unplaced (slice_layout is_big) (unit_entry_of p texts) (sections_of texts) is_big p texts
       (drop n section)
   read_well = record {
     order = refl;
@@ -136,22 +136,22 @@ module _ (big : Bool) (p : Built) (texts : StringTables) (section : List ℕ) (n
     texts_held = λ new wide i d lt. written-held texts held.0 held.1 _;
   }
 
-  pub read_back : ReadsBack (slice_notation big) (unit_entry_of p texts) (sections_of texts) p texts (drop n section)
+  pub read_back : ReadsBack (slice_layout is_big) (unit_entry_of p texts) (sections_of texts) p texts (drop n section)
   read_back = whole _ _ _ read_well
 
   -- `OutOfMemory` before the unit is read
   pub unread_refused : (e : ConvertError) → e ≡ NoMemory
-      → RefusesUnit (slice_notation big) (unit_entry_of p texts) (drop n section) e
+      → RefusesUnit (slice_layout is_big) (unit_entry_of p texts) (drop n section) e
   unread_refused e is = grind (arith, read_back)
 
 -- what is handed to the reading of a program's unit, by the names of the program
-module _ (big other : Bool) (p : Built) (texts : StringTables) (section other_section : List ℕ) (n size : ℕ)
+module _ (is_big other : Bool) (p : Built) (texts : StringTables) (section other_section : List ℕ) (n size : ℕ)
     (directory : List ℕ) (s : Sections)
-    (order : other ≡ big) (there : other_section ≡ section) (sized : size ≡ p.encoding.address_size)
+    (order : other ≡ is_big) (there : other_section ≡ section) (sized : size ≡ p.encoding.address_size)
     (directed : Some directory ≡ (unit_entry_of p texts).directory) (written : s ≡ sections_of texts)
-    (whole : ReadsBackAs big p texts (drop n section)) (fits : length section < 2 ^ 64) (held : AreShort texts) where
-  back : ReadsBack (slice_notation big) (unit_entry_of p texts) (sections_of texts) p texts (drop n section)
-  back = read_back big p texts section n whole fits held
+    (whole : ReadsBackAs is_big p texts (drop n section)) (fits : length section < 2 ^ 64) (held : AreShort texts) where
+  back : ReadsBack (slice_layout is_big) (unit_entry_of p texts) (sections_of texts) p texts (drop n section)
+  back = read_back is_big p texts section n whole fits held
 
   is_unit_entry : unit_entry_with size directory ≡ unit_entry_of p texts
   is_unit_entry =
@@ -159,19 +159,19 @@ module _ (big other : Bool) (p : Built) (texts : StringTables) (section other_se
 
   -- the unit by other names
   moved : (P : Bool → UnitEntry → List ℕ → Sections → Type 0)
-      → P big (unit_entry_of p texts) section (sections_of texts)
+      → P is_big (unit_entry_of p texts) section (sections_of texts)
       → P other (unit_entry_with size directory) other_section s
   moved P is =
       grind (arith, is_unit_entry)
 
-  moved_back : (P : Bool → Sections → Type 0) → P other s → P big (sections_of texts)
+  moved_back : (P : Bool → Sections → Type 0) → P other s → P is_big (sections_of texts)
   moved_back P is = grind arith
 
-  begins : BeginsUnit (slice_notation big) (unit_entry_of p texts) (drop n section) back.header
+  begins : BeginsUnit (slice_layout is_big) (unit_entry_of p texts) (drop n section) back.header
   begins = record { spelled = (drop n section, [], sym (append-nil (drop n section)), back.is_unit.spelled) }
 
-  pub can_read : CanRead (slice_notation other) (unit_entry_with size directory) s (drop n other_section)
-  can_read = moved (λ b g xs t. CanRead (slice_notation b) g t (drop n xs)) (record {
+  pub can_read : CanRead (slice_layout other) (unit_entry_with size directory) s (drop n other_section)
+  can_read = moved (λ b g xs t. CanRead (slice_layout b) g t (drop n xs)) (record {
     header = back.header;
     unit = begins;
     texts = record {
@@ -185,24 +185,24 @@ module _ (big other : Bool) (p : Built) (texts : StringTables) (section other_se
     };
   })
 
-  begins_there : BeginsUnit (slice_notation other) (unit_entry_with size directory) (drop n other_section) back.header
+  begins_there : BeginsUnit (slice_layout other) (unit_entry_with size directory) (drop n other_section) back.header
   begins_there = grind (arith, moved, back, begins)
 
   pub program_answered : (r : Result RoundTrip ConvertError)
-      → ((h : Header) → BeginsUnit (slice_notation other) (unit_entry_with size directory) (drop n other_section) h
-      → IfOk r (λ answer. AreAnswers (slice_notation other) s h (answers answer)))
-      → IfOk r (AnswersProgram big p texts (drop n section))
+      → ((h : Header) → BeginsUnit (slice_layout other) (unit_entry_with size directory) (drop n other_section) h
+      → IfOk r (λ answer. AreAnswers (slice_layout other) s h (answers answer)))
+      → IfOk r (AnswersProgram is_big p texts (drop n section))
   program_answered r is =
       let answered =
-      moved_back (λ b t. IfOk r (λ answer. AreAnswers (slice_notation b) t back.header (answers answer)))
+      moved_back (λ b t. IfOk r (λ answer. AreAnswers (slice_layout b) t back.header (answers answer)))
       (is back.header begins_there) in
       IfOk-weaker r _ _ (λ answer a. record { header = back.header; is_unit = back.is_unit; answered = a }) answered
 
   pub program_refused : (r : Result RoundTrip ConvertError)
-      → ((h : Header) → BeginsUnit (slice_notation other) (unit_entry_with size directory) (drop n other_section) h
-      → IfErr r (IsRunRefusal (slice_notation other) h))
-      → IfErr r (RefusesUnit (slice_notation big) (unit_entry_of p texts) (drop n section))
+      → ((h : Header) → BeginsUnit (slice_layout other) (unit_entry_with size directory) (drop n other_section) h
+      → IfErr r (IsRunRefusal (slice_layout other) h))
+      → IfErr r (RefusesUnit (slice_layout is_big) (unit_entry_of p texts) (drop n section))
   program_refused r is =
       let refused =
-      moved_back (λ b t. IfErr r (IsRunRefusal (slice_notation b) back.header)) (is back.header begins_there) in
+      moved_back (λ b t. IfErr r (IsRunRefusal (slice_layout b) back.header)) (is back.header begins_there) in
       MatchResult-weaker r refused (λ _ u. u) (λ e f. (back.header, back.is_unit, f))

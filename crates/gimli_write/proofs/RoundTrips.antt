@@ -2,7 +2,7 @@
 use Rattle.gimli_write.proofs.Common
 use Common.{◌≡◌, ◌≢◌, ◌⊎◌, ℕ, Bool, List, ◌++◌, length, drop, refl, ap, ◌∙◌, subst, inl, inr, Some, None, Result, Ok}
 use Common.{Err, IfErr, MatchResult-weaker, UnitEntry, ConvertError, Read, Write, NoMemory, RoundTrip, RefusesUnit}
-use Common.{ToWrite, WasWritten, IsRefusal, slice_notation}
+use Common.{ToWrite, WasWritten, IsRefusal, slice_layout}
 use Rattle.std.proofs.Math.Seq.{drop-append_seam}
 use Rattle.gimli_bytes.specs.Written.{Appends}
 use Rattle.gimli_bytes.specs.declared.error.Error.{Error}
@@ -15,11 +15,11 @@ is_memory OutOfMemory = inl refl
 is_memory e = inr (λ is. absurd cc)
 
 -- a refusal of writing
-pub write_refused : (big : Bool) (wanted : ToWrite) (unit_entry : UnitEntry) (old new : List ℕ) (e : Error)
+pub write_refused : (is_big : Bool) (wanted : ToWrite) (unit_entry : UnitEntry) (old new : List ℕ) (e : Error)
     (r : ConvertError)
     → (e ≡ OutOfMemory) ⊎ (wanted.cause ≡ Some e) → (e ≡ OutOfMemory → r ≡ NoMemory) → (e ≢ OutOfMemory → r ≡ Write e)
-    → IsRefusal big wanted unit_entry old new r
-write_refused big wanted unit_entry old new e r why named other = elim (is_memory e) [
+    → IsRefusal is_big wanted unit_entry old new r
+write_refused is_big wanted unit_entry old new e r why named other = elim (is_memory e) [
   | inl memory ↦ rw (named memory) tt
   | inr not_memory ↦ rw (other not_memory) (elim why [ inl memory ↦ absurd (not_memory memory) | inr is ↦ is ])
 ]
@@ -35,25 +35,25 @@ unit_written wanted old new none there = by _ refl there
     by (Err e) is appended = absurd appended
 
 -- a refusal of reading the unit that was appended
-unit_refused : (big : Bool) (wanted : ToWrite) (unit_entry : UnitEntry) (old new unit : List ℕ) (e : ConvertError)
+unit_refused : (is_big : Bool) (wanted : ToWrite) (unit_entry : UnitEntry) (old new unit : List ℕ) (e : ConvertError)
     → WasWritten wanted old new unit
-    → RefusesUnit (slice_notation big) unit_entry unit e → IsRefusal big wanted unit_entry old new e
-unit_refused big wanted unit_entry old new unit NoMemory written r = tt
-unit_refused big wanted unit_entry old new unit (Read fault) written r = (unit, written, r)
-unit_refused big wanted unit_entry old new unit e written r = absurd r.2
+    → RefusesUnit (slice_layout is_big) unit_entry unit e → IsRefusal is_big wanted unit_entry old new e
+unit_refused is_big wanted unit_entry old new unit NoMemory written r = tt
+unit_refused is_big wanted unit_entry old new unit (Read fault) written r = (unit, written, r)
+unit_refused is_big wanted unit_entry old new unit e written r = absurd r.2
 
 -- the same by the bytes after the offset
-pub unit_not_answered : (big other : Bool) (wanted : ToWrite) (unit_entry : UnitEntry) (old new : List ℕ) (n : ℕ)
+pub unit_not_answered : (is_big other : Bool) (wanted : ToWrite) (unit_entry : UnitEntry) (old new : List ℕ) (n : ℕ)
     (r : Result RoundTrip ConvertError)
-    → other ≡ big → wanted.cause ≡ None → Appends wanted.bytes old new → n ≡ length old
-    → IfErr r (RefusesUnit (slice_notation other) unit_entry (drop n new))
-    → IfErr r (IsRefusal big wanted unit_entry old new)
-unit_not_answered big other wanted unit_entry old new n r order none there offset is =
+    → other ≡ is_big → wanted.cause ≡ None → Appends wanted.bytes old new → n ≡ length old
+    → IfErr r (RefusesUnit (slice_layout other) unit_entry (drop n new))
+    → IfErr r (IsRefusal is_big wanted unit_entry old new)
+unit_not_answered is_big other wanted unit_entry old new n r order none there offset is =
     let written = unit_written _ _ _ none there in
     let later =
     ap (λ xs. drop n xs) written.1.appended ∙ ap (λ i. drop i (old ++ written.0)) offset
     ∙ drop-append_seam old written.0 in
     let refused =
-    subst (λ x. IfErr r (RefusesUnit (slice_notation x) unit_entry written.0)) order
-    (subst (λ xs. IfErr r (RefusesUnit (slice_notation other) unit_entry xs)) later is) in
+    subst (λ x. IfErr r (RefusesUnit (slice_layout x) unit_entry written.0)) order
+    (subst (λ xs. IfErr r (RefusesUnit (slice_layout other) unit_entry xs)) later is) in
     MatchResult-weaker r refused (λ _ u. u) (λ e f. unit_refused _ _ _ _ _ _ e written.1 f)

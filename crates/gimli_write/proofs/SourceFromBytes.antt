@@ -27,7 +27,7 @@ no_address i told is other = refl
 
 -- an instruction that was taken and executed, or refused
 module _ {R Offset Endian : Type 0} (bytes : R → List ℕ) (number : Offset → ℕ) (s new : SourceRun) (u : Unread)
-    (notation : u.notation ≡ s.unread.notation)
+    (layout : u.layout ≡ s.unread.layout)
     (i : Ins) (taken : TakesNext s.header s.unread u (Some i))
     (answer : Result (SourceStep R Endian Offset) ConvertError) (header : new.header ≡ s.header)
     (unread : new.unread ≡ u) where
@@ -39,24 +39,24 @@ module _ {R Offset Endian : Type 0} (bytes : R → List ℕ) (number : Offset �
   steps_source file fits step made over =
       let shorter : length new.unread.bytes < length s.unread.bytes =
       subst (λ v. length v.bytes < length s.unread.bytes) (sym unread)
-      (is_shorter s.unread.notation s.header s.unread.bytes i _ _ taken.1 taken.2) in
+      (is_shorter s.unread.layout s.header s.unread.bytes i _ _ taken.1 taken.2) in
       record {
-        reading = executed_reading Endian bytes number s u notation i taken.0 taken.1 taken.2 _ _ file fits step made;
-        refusal = executed_refusal Endian bytes number s u notation i taken.0 taken.1 taken.2 _ over;
-        tables = executed_last Endian bytes number s u notation i taken.0 taken.1 taken.2 _ _ file fits step made;
-        stopped = executed_stop Endian bytes number s u notation i taken.0 taken.1 taken.2 _ over;
+        reading = executed_reading Endian bytes number s u layout i taken.0 taken.1 taken.2 _ _ file fits step made;
+        refusal = executed_refusal Endian bytes number s u layout i taken.0 taken.1 taken.2 _ over;
+        tables = executed_last Endian bytes number s u layout i taken.0 taken.1 taken.2 _ _ file fits step made;
+        stopped = executed_stop Endian bytes number s u layout i taken.0 taken.1 taken.2 _ over;
         shorter = executed_shortens (with_unread s u) s new i _ made shorter;
         header = header;
-        notation = ap (λ v. v.notation) unread ∙ notation;
+        layout = ap (λ v. v.layout) unread ∙ layout;
       }
 
 -- k is the header that was lent, r2 the registers after the instruction
 module _ (s : SourceRun) (k : Header) (lent : k ≡ s.header) (r2 : LineRow) (u : Unread) where
   module _ (refused : Bool)
-      (x : IsExecuted k.parameters (ins_at s.unread.notation k s.unread.bytes) u.bytes s.row r2 refused) where
+      (x : IsExecuted k.parameters (ins_at s.unread.layout k s.unread.bytes) u.bytes s.row r2 refused) where
     taken : TakesNext s.header s.unread u (Some x.instruction)
     taken =
-        let f = (reads_instruction s.unread.notation k).found s.unread.bytes x.instruction u.bytes x.reading in
+        let f = (reads_instruction s.unread.layout k).found s.unread.bytes x.instruction u.bytes x.reading in
         (f.0, f.1, spelled_as _ _ k _ _ _ lent refl f.2)
 
     fits : is_refused s.header.parameters x.instruction s.row ≡ refused
@@ -65,7 +65,7 @@ module _ (s : SourceRun) (k : Header) (lent : k ≡ s.header) (r2 : LineRow) (u 
     steps : r2 ≡ step_of s.header.parameters x.instruction s.row
     steps = subst (λ j. r2 ≡ step_of j.parameters x.instruction s.row) lent x.registers
 
-  module _ (x : IsExecuted k.parameters (ins_at s.unread.notation k s.unread.bytes) u.bytes s.row r2 false) where
+  module _ (x : IsExecuted k.parameters (ins_at s.unread.layout k s.unread.bytes) u.bytes s.row r2 false) where
     address_step : (a : ℕ) → Address a ≡ told_of x.instruction → r2 ≡ step_of s.header.parameters (SetAddress a) s.row
     address_step a told =
         subst (λ i. r2 ≡ step_of s.header.parameters i s.row) (told_address x.instruction a told) (steps false x)
@@ -78,14 +78,14 @@ module _ (s : SourceRun) (k : Header) (lent : k ≡ s.header) (r2 : LineRow) (u 
 
 module _ {R Offset Endian : Type 0} (bytes : R → List ℕ) (number : Offset → ℕ) (s : SourceRun) (k : Header)
     (lent : k ≡ s.header) (r2 : LineRow) (u : Unread)
-    (notation : u.notation ≡ s.unread.notation) where
-  module _ (x : IsExecuted k.parameters (ins_at s.unread.notation k s.unread.bytes) u.bytes s.row r2 false) where
+    (layout : u.layout ≡ s.unread.layout) where
+  module _ (x : IsExecuted k.parameters (ins_at s.unread.layout k s.unread.bytes) u.bytes s.row r2 false) where
     pub quiet_steps : Quiet ≡ told_of x.instruction
         → StepsSource {Endian = Endian} bytes number s (state s.header r2 s.base s.pending u) (Ok More)
     quiet_steps told =
         let i = x.instruction in
         let address = no_address i _ told (λ a is. absurd cc) in
-        steps_source bytes number s (state s.header r2 s.base s.pending u) u notation i (taken s k lent r2 u false x)
+        steps_source bytes number s (state s.header r2 s.base s.pending u) u layout i (taken s k lent r2 u false x)
         (Ok More) refl refl x.defines
         (fits s k lent r2 u false x)
         (quiet_state i s.header s.header s.row r2 s.base s.pending u address x.defines (fits s k lent r2 u false x)
@@ -99,7 +99,7 @@ module _ {R Offset Endian : Type 0} (bytes : R → List ℕ) (number : Offset �
         let taken_is =
         subst (λ (i : Ins). TakesNext s.header s.unread u (Some i)) (told_address x.instruction a told)
         (taken s k lent r2 u false x) in
-        steps_source bytes number s (state s.header r2 a (Some a) u) u notation (SetAddress a) taken_is (Ok More) refl
+        steps_source bytes number s (state s.header r2 a (Some a) u) u layout (SetAddress a) taken_is (Ok More) refl
         refl refl refl
         (address_state a s.header s.header s.row r2 s.base s.pending u refl (address_step s k lent r2 u x a told)) refl
         tt
@@ -115,7 +115,7 @@ module _ {R Offset Endian : Type 0} (bytes : R → List ℕ) (number : Offset �
         let loud = told_row i told in
         let address = no_address i _ told (λ a is. absurd cc) in
         let kept = files_kept _ i x.defines in
-        steps_source bytes number s t u notation i (taken s k lent r2 u false x) (Ok given) (ap (λ q. q.header) t_is)
+        steps_source bytes number s t u layout i (taken s k lent r2 u false x) (Ok given) (ap (λ q. q.header) t_is)
         (ap (λ q. q.unread) t_is)
         x.defines (fits s k lent r2 u false x)
         (t_is
@@ -133,7 +133,7 @@ module _ {R Offset Endian : Type 0} (bytes : R → List ℕ) (number : Offset �
       (Err (Read e))
   refused_steps e refused =
       let x = refused.1 in
-      steps_source bytes number s (state s.header r2 s.base s.pending u) u notation x.instruction
+      steps_source bytes number s (state s.header r2 s.base s.pending u) u layout x.instruction
       (taken s k lent r2 u true x) (Err (Read e)) refl refl
       x.defines tt tt tt
       (ap Read refused.0, fits s k lent r2 u true x)

@@ -1,7 +1,7 @@
 -- What the machine reads of a source is what looking back says.
 use Rattle.gimli_write.proofs.Common
 use Common.{◌≡◌, ℕ, ◌-◌, Bool, true, false, not, ◌&&◌, if◌then◌else◌, List, [], ◌∷◌, refl, sym, ap, ◌∙◌, Option, Result}
-use Common.{Ok, Err, Notation, Error, AddressOverflow, Header, EndSequence, SetAddress, Ins, makes_row, decoded_at}
+use Common.{Ok, Err, OrderAndLimit, Error, AddressOverflow, Header, EndSequence, SetAddress, Ins, makes_row, decoded_at}
 use Common.{is_refused, is_under_tombstone, overflows, registers_after, Unread, is_decoded, Sections, ConvertError}
 use Common.{Read, SourceRow, ◌>>=◌, TablesAndTexts, Reading, stops, reading_with, base_at, pending_address, source_row}
 use Common.{source_row_offered, reading_at, tables_after_definition, tables_at, reading_after, ReadsItems}
@@ -122,14 +122,14 @@ module _ (sections : Sections) (h : Header) (first : TablesAndTexts) (u : Unread
           (sym is)
 
 -- what is left at the start of a program is what is read of it
-pub start_reads : (notation : Notation) (sections : Sections) (h : Header) (first : TablesAndTexts) (bytes : List ℕ)
-    → ReadsItems notation sections h first bytes
-    (reading_left sections (start_of_source h (record { bytes = bytes; notation = notation })) first)
-start_reads notation sections h first bytes = record {
-  list = (decoded_at notation h bytes).0;
-  end = (decoded_at notation h bytes).1;
-  decoding = is_decoded notation h bytes;
+pub start_reads : (layout : OrderAndLimit) (sections : Sections) (h : Header) (first : TablesAndTexts) (bytes : List ℕ)
+    → ReadsItems layout sections h first bytes
+    (reading_left sections (start_of_source h (record { bytes = bytes; layout = layout })) first)
+start_reads layout sections h first bytes = record {
+  list = (decoded_at layout h bytes).0;
+  end = (decoded_at layout h bytes).1;
+  decoding = is_decoded layout h bytes;
   given =
-      readings_are sections h first (record { bytes = bytes; notation = notation }) [] (decoded_at notation h bytes).0
-      (decoded_at notation h bytes).1;
+      readings_are sections h first (record { bytes = bytes; layout = layout }) [] (decoded_at layout h bytes).0
+      (decoded_at layout h bytes).1;
 }

@@ -2,7 +2,7 @@
 use Rattle.gimli_write.proofs.Common
 use Common.{◌≡◌, ◌≢◌, ℕ, ◌<◌, ◌≤◌, ◌-◌, Bool, true, false, not, ◌&&◌, ◌||◌, if◌then◌else◌, List, [], ◌∷◌, ◌++◌, length}
 use Common.{refl, sym, ap, ◌∙◌, subst, append_assoc, arith, Option, Some, None, unwrap_or, Result, Ok, Err, OnOk, OnErr}
-use Common.{IfOk, IfErr, length-append, append-nil, false≢true, Notation, Error, AddressOverflow, OutOfMemory, Header}
+use Common.{IfOk, IfErr, length-append, append-nil, false≢true, OrderAndLimit, Error, AddressOverflow, OutOfMemory, Header}
 use Common.{File, Parameters, Special, Copy, EndSequence, DefineFile, SetAddress, Ins, ins_seen, is_end, makes_row}
 use Common.{defines_file, files_after, SpellsInstruction, instruction_production, decoded_at, step_of, reset_row}
 use Common.{is_refused, next_registers, Unread, is_decoded, one_decoding, instructions_bounded, Sections, ConvertError}
@@ -16,22 +16,22 @@ use Rattle.gimli_line.specs.declared.header.file_entry.FileEntry.{FileEntry}
 
 -- ---- what a program is decoded into, by its front
 
-module _ (notation : Notation) (h : Header) (bytes : List ℕ) where
-  pub decoded_none : bytes ≡ [] → decoded_at notation h bytes ≡ ([], None)
+module _ (layout : OrderAndLimit) (h : Header) (bytes : List ℕ) where
+  pub decoded_none : bytes ≡ [] → decoded_at layout h bytes ≡ ([], None)
   decoded_none e =
-      sym (one_decoding notation h _ _ _ (record { front = []; rest = bytes; parts = refl; spelled = refl; ended = e }))
+      sym (one_decoding layout h _ _ _ (record { front = []; rest = bytes; parts = refl; spelled = refl; ended = e }))
 
-  pub decoded_fault : (e : Error) → bytes ≢ [] → (instruction_production notation h).Fault bytes e
-      → decoded_at notation h bytes ≡ ([], Some e)
+  pub decoded_fault : (e : Error) → bytes ≢ [] → (instruction_production layout h).Fault bytes e
+      → decoded_at layout h bytes ≡ ([], Some e)
   decoded_fault e some f =
-      sym (one_decoding notation h _ _ _
+      sym (one_decoding layout h _ _ _
       (record { front = []; rest = bytes; parts = refl; spelled = refl; ended = (some, f) }))
 
-  pub decoded_some : (i : Ins) (front rest : List ℕ) → bytes ≡ front ++ rest → SpellsInstruction notation h front i
-      → decoded_at notation h bytes ≡ (i ∷ (decoded_at notation h rest).0, (decoded_at notation h rest).1)
+  pub decoded_some : (i : Ins) (front rest : List ℕ) → bytes ≡ front ++ rest → SpellsInstruction layout h front i
+      → decoded_at layout h bytes ≡ (i ∷ (decoded_at layout h rest).0, (decoded_at layout h rest).1)
   decoded_some i front rest parts s =
-      let c = is_decoded notation h _ in
-      sym (one_decoding notation h _ _ _ (record {
+      let c = is_decoded layout h _ in
+      sym (one_decoding layout h _ _ _ (record {
         front = front ++ c.front;
         rest = c.rest;
         parts = parts ∙ ap (λ xs. front ++ xs) c.parts ∙ sym (append_assoc front c.front c.rest);
@@ -40,11 +40,11 @@ module _ (notation : Notation) (h : Header) (bytes : List ℕ) where
       }))
 
   -- an instruction has a byte
-  pub is_shorter : (i : Ins) (front rest : List ℕ) → bytes ≡ front ++ rest → SpellsInstruction notation h front i
+  pub is_shorter : (i : Ins) (front rest : List ℕ) → bytes ≡ front ++ rest → SpellsInstruction layout h front i
       → length rest < length bytes
   is_shorter i front rest parts s =
       let some : length (i ∷ []) ≤ length front =
-      instructions_bounded notation h front (i ∷ []) None
+      instructions_bounded layout h front (i ∷ []) None
       (record {
         front = front;
         rest = [];
@@ -88,15 +88,15 @@ module _ (sections : Sections) (tables : TablesAndTexts) (s : SourceRun) where
       grind (arith, decoded_none)
 
   pub at_fault : (e : Error) → s.unread.bytes ≢ []
-      → (instruction_production s.unread.notation s.header).Fault s.unread.bytes e
+      → (instruction_production s.unread.layout s.header).Fault s.unread.bytes e
       → reading_left sections s tables ≡ stops (Read e)
   at_fault e some f =
       ap (λ c. reading_from sections s (Ok tables) c.0 c.1)
-      (decoded_fault s.unread.notation s.header s.unread.bytes e some f)
+      (decoded_fault s.unread.layout s.header s.unread.bytes e some f)
 
-  module _ (u : Unread) (notation : u.notation ≡ s.unread.notation) (i : Ins) (front : List ℕ)
+  module _ (u : Unread) (layout : u.layout ≡ s.unread.layout) (i : Ins) (front : List ℕ)
       (parts : s.unread.bytes ≡ front ++ u.bytes)
-      (spelled : SpellsInstruction s.unread.notation s.header front i) where
+      (spelled : SpellsInstruction s.unread.layout s.header front i) where
     -- an instruction stands first
     pub first_is : reading_left sections s tables
         ≡ instruction_reading s tables i
@@ -104,16 +104,16 @@ module _ (sections : Sections) (tables : TablesAndTexts) (s : SourceRun) where
         (tables_after_definition sections tables i)))
     first_is =
         let there = tables_after_definition sections tables i in
-        let c = decoded_at s.unread.notation s.header u.bytes in
+        let c = decoded_at s.unread.layout s.header u.bytes in
         let rest : reading_from sections (state_after i s) there c.0 c.1
         ≡ reading_upon sections (record (state_after i s) { unread = u }) there =
         same_reading sections s.unread u (state_after i s) there c.0 c.1
         ∙ ap
         (λ n. reading_from sections (record (state_after i s) { unread = u }) there (decoded_at n s.header u.bytes).0
         (decoded_at n s.header u.bytes).1)
-        (sym notation) in
+        (sym layout) in
         ap (λ d. reading_from sections s (Ok tables) d.0 d.1)
-        (decoded_some s.unread.notation s.header s.unread.bytes i _ _ parts spelled)
+        (decoded_some s.unread.layout s.header s.unread.bytes i _ _ parts spelled)
         ∙ ap (λ r. instruction_reading s tables i (with_definition i r)) rest
 
     abbrev next : SourceRun
@@ -155,12 +155,12 @@ module _ (sections : Sections) (tables : TablesAndTexts) (s : SourceRun) where
           ∙ ap (source_row_offered s.header.parameters.encoding.version tables (row_made s i)) later
 
   -- a file is defined
-  pub after_file : (u : Unread) → u.notation ≡ s.unread.notation → (f : File) (front : List ℕ)
+  pub after_file : (u : Unread) → u.layout ≡ s.unread.layout → (f : File) (front : List ℕ)
       → s.unread.bytes ≡ front ++ u.bytes
-      → SpellsInstruction s.unread.notation s.header front (DefineFile f)
+      → SpellsInstruction s.unread.layout s.header front (DefineFile f)
       → reading_left sections s tables
       ≡ defines (reading_upon sections (record s { unread = u }) (file_added sections tables f))
-  after_file u notation f front parts spelled = first_is u notation (DefineFile f) front parts spelled
+  after_file u layout f front parts spelled = first_is u layout (DefineFile f) front parts spelled
 
 -- ---- the state of a run, by its parts
 
@@ -308,10 +308,10 @@ abbrev pub with_unread : SourceRun → Unread → SourceRun
 with_unread s u = record s { unread = u }
 
 -- a spelling by the header that was lent
-pub spelled_as : (notation : Notation) (h k : Header) (front : List ℕ) (i j : Ins) → k ≡ h → i ≡ j
-    → SpellsInstruction notation k front i
-    → SpellsInstruction notation h front j
-spelled_as notation h k front i j same is s =
+pub spelled_as : (layout : OrderAndLimit) (h k : Header) (front : List ℕ) (i j : Ins) → k ≡ h → i ≡ j
+    → SpellsInstruction layout k front i
+    → SpellsInstruction layout h front j
+spelled_as layout h k front i j same is s =
     grind arith
 
 module _ (R Endian Offset : Type 0) (s old new : SourceRun) (i : Ins) where
@@ -327,9 +327,9 @@ module _ {R Endian Offset : Type 0} (s old new : SourceRun) (i : Ins) where
   executed_shortens (Err e) made lt = tt
 
 module _ {R Offset : Type 0} (Endian : Type 0) (bytes : R → List ℕ) (number : Offset → ℕ) (s : SourceRun) (u : Unread)
-    (notation : u.notation ≡ s.unread.notation)
+    (layout : u.layout ≡ s.unread.layout)
     (i : Ins) (front : List ℕ) (parts : s.unread.bytes ≡ front ++ u.bytes)
-    (spelled : SpellsInstruction s.unread.notation s.header front i) where
+    (spelled : SpellsInstruction s.unread.layout s.header front i) where
   made_reading : is_refused s.header.parameters i s.row ≡ false → defines_file i ≡ false
       → (sections : Sections) (tables : TablesAndTexts)
       → reading_left sections s tables
@@ -342,14 +342,14 @@ module _ {R Offset : Type 0} (Endian : Type 0) (bytes : R → List ℕ) (number 
           ≡ step_reading {Endian = Endian} bytes number sections tables (step_made (with_unread s u) i)
           (state_after i (with_unread s u))
       by true e =
-          after_row sections tables s u notation i front parts spelled fits file e
+          after_row sections tables s u layout i front parts spelled fits file e
           ∙ ap
           (λ c. step_reading {Endian = Endian} bytes number sections tables
           (if c then Made (row_made (with_unread s u) i) else More)
           (state_after i (with_unread s u)))
           (sym e)
       by false e =
-          after_quiet sections tables s u notation i front parts spelled fits file e
+          after_quiet sections tables s u layout i front parts spelled fits file e
           ∙ ap
           (λ c. step_reading {Endian = Endian} bytes number sections tables
           (if c then Made (row_made (with_unread s u) i) else More)
@@ -370,7 +370,7 @@ module _ {R Offset : Type 0} (Endian : Type 0) (bytes : R → List ℕ) (number 
       → IfErr r (λ e. (sections : Sections) (tables : TablesAndTexts) → reading_left sections s tables ≡ stops e)
   executed_refusal (Ok step) over = tt
   executed_refusal (Err e) over =
-      λ sections tables. after_refusal sections tables s u notation i front parts spelled over.1 ∙ ap stops (sym over.0)
+      λ sections tables. after_refusal sections tables s u layout i front parts spelled over.1 ∙ ap stops (sym over.0)
 
 -- an instruction that isn't a definition defines no file
 pub other_kind : {R Offset Endian : Type 0} (bytes : R → List ℕ) (number : Offset → ℕ)

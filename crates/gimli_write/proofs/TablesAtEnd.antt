@@ -1,7 +1,7 @@
 -- What one instruction of a source does to the tables that the source leaves.
 use Rattle.gimli_write.proofs.Common
 use Common.{◌≡◌, ◌≢◌, ℕ, Bool, true, false, not, ◌&&◌, ◌||◌, if◌then◌else◌, List, [], ◌∷◌, ◌++◌, refl, sym, ap, ◌∙◌}
-use Common.{Option, Some, Result, Ok, Err, OnOk, IfOk, IfErr, Notation, Error, AddressOverflow, File, DefineFile, Ins}
+use Common.{Option, Some, Result, Ok, Err, OnOk, IfOk, IfErr, OrderAndLimit, Error, AddressOverflow, File, DefineFile, Ins}
 use Common.{makes_row, defines_file, SpellsInstruction, instruction_production, decoded_at, is_refused, Unread}
 use Common.{Sections, ConvertError, Read, SourceStep, More, Made, TablesAndTexts, file_added, tables_after_definition}
 use Common.{SourceRun, row_made, state_after, step_made}
@@ -32,17 +32,17 @@ same_lists sections u v s tables (i ∷ list) =
 
 module _ (sections : Sections) (tables : TablesAndTexts) (s : SourceRun) where
   pub none_last : s.unread.bytes ≡ [] → tables_at_end sections s tables ≡ tables
-  none_last e = ap (λ c. tables_after sections s tables c.0) (decoded_none s.unread.notation s.header s.unread.bytes e)
+  none_last e = ap (λ c. tables_after sections s tables c.0) (decoded_none s.unread.layout s.header s.unread.bytes e)
 
   pub fault_last : (e : Error) → s.unread.bytes ≢ []
-      → (instruction_production s.unread.notation s.header).Fault s.unread.bytes e
+      → (instruction_production s.unread.layout s.header).Fault s.unread.bytes e
       → tables_at_end sections s tables ≡ tables
   fault_last e some f =
-      ap (λ c. tables_after sections s tables c.0) (decoded_fault s.unread.notation s.header s.unread.bytes e some f)
+      ap (λ c. tables_after sections s tables c.0) (decoded_fault s.unread.layout s.header s.unread.bytes e some f)
 
-  module _ (u : Unread) (notation : u.notation ≡ s.unread.notation) (i : Ins) (front : List ℕ)
+  module _ (u : Unread) (layout : u.layout ≡ s.unread.layout) (i : Ins) (front : List ℕ)
       (parts : s.unread.bytes ≡ front ++ u.bytes)
-      (spelled : SpellsInstruction s.unread.notation s.header front i) where
+      (spelled : SpellsInstruction s.unread.layout s.header front i) where
     abbrev next : SourceRun
     next = record (state_after i s) { unread = u }
 
@@ -53,17 +53,17 @@ module _ (sections : Sections) (tables : TablesAndTexts) (s : SourceRun) where
         tables_at_end sections next more))
     first_last =
         ap (λ (d : List Ins × Option Error). tables_after sections s tables d.0)
-        (decoded_some s.unread.notation s.header s.unread.bytes i front u.bytes parts spelled)
+        (decoded_some s.unread.layout s.header s.unread.bytes i front u.bytes parts spelled)
         ∙ ap (λ (rest : TablesAndTexts). if refuses s tables i then tables else rest)
         (by (tables_after_definition sections tables i))
       where
         by : (there : Result TablesAndTexts ConvertError)
             → unless_refused tables there (λ more.
-            tables_after sections (state_after i s) more (decoded_at s.unread.notation s.header u.bytes).0)
+            tables_after sections (state_after i s) more (decoded_at s.unread.layout s.header u.bytes).0)
             ≡ unless_refused tables there (λ more. tables_at_end sections next more)
         by (Ok more) =
-            same_lists sections s.unread u (state_after i s) more (decoded_at s.unread.notation s.header u.bytes).0
-            ∙ ap (λ (n : Notation). tables_after sections next more (decoded_at n s.header u.bytes).0) (sym notation)
+            same_lists sections s.unread u (state_after i s) more (decoded_at s.unread.layout s.header u.bytes).0
+            ∙ ap (λ (n : OrderAndLimit). tables_after sections next more (decoded_at n s.header u.bytes).0) (sym layout)
         by (Err e) = refl
 
     pub refusal_last : is_refused s.header.parameters i s.row ≡ true → tables_at_end sections s tables ≡ tables
@@ -124,20 +124,20 @@ module _ (sections : Sections) (tables : TablesAndTexts) (s : SourceRun) where
       row_last loud = done_last _ loud
 
   -- a file is defined
-  pub file_last : (u : Unread) → u.notation ≡ s.unread.notation → (f : File) (front : List ℕ)
+  pub file_last : (u : Unread) → u.layout ≡ s.unread.layout → (f : File) (front : List ℕ)
       → s.unread.bytes ≡ front ++ u.bytes
-      → SpellsInstruction s.unread.notation s.header front (DefineFile f)
+      → SpellsInstruction s.unread.layout s.header front (DefineFile f)
       → tables_at_end sections s tables
       ≡ unless_refused tables (file_added sections tables f) (λ more.
       tables_at_end sections (record s { unread = u }) more)
-  file_last u notation f front parts spelled = first_last u notation (DefineFile f) front parts spelled
+  file_last u layout f front parts spelled = first_last u layout (DefineFile f) front parts spelled
 
 -- ---- what is done of an instruction that sets no address and defines no file
 
 module _ {R Offset : Type 0} (Endian : Type 0) (bytes : R → List ℕ) (number : Offset → ℕ) (s : SourceRun) (u : Unread)
-    (notation : u.notation ≡ s.unread.notation)
+    (layout : u.layout ≡ s.unread.layout)
     (i : Ins) (front : List ℕ) (parts : s.unread.bytes ≡ front ++ u.bytes)
-    (spelled : SpellsInstruction s.unread.notation s.header front i) where
+    (spelled : SpellsInstruction s.unread.layout s.header front i) where
   made_last : is_refused s.header.parameters i s.row ≡ false → defines_file i ≡ false
       → (sections : Sections) (tables : TablesAndTexts)
       → tables_at_end sections s tables
@@ -150,14 +150,14 @@ module _ {R Offset : Type 0} (Endian : Type 0) (bytes : R → List ℕ) (number 
           ≡ step_tables {Endian = Endian} bytes number sections tables (step_made (with_unread s u) i)
           (state_after i (with_unread s u))
       by true e =
-          row_last sections tables s u notation i front parts spelled fits file e
+          row_last sections tables s u layout i front parts spelled fits file e
           ∙ ap
           (λ c. step_tables {Endian = Endian} bytes number sections tables
           (if c then Made (row_made (with_unread s u) i) else More)
           (state_after i (with_unread s u)))
           (sym e)
       by false e =
-          quiet_last sections tables s u notation i front parts spelled fits file e
+          quiet_last sections tables s u layout i front parts spelled fits file e
           ∙ ap
           (λ c. step_tables {Endian = Endian} bytes number sections tables
           (if c then Made (row_made (with_unread s u) i) else More)
@@ -177,6 +177,6 @@ module _ {R Offset : Type 0} (Endian : Type 0) (bytes : R → List ℕ) (number 
       → IfErr r (λ e. (e ≡ Read AddressOverflow) × (is_refused s.header.parameters i s.row ≡ true))
       → IfErr r (λ e. (sections : Sections) (tables : TablesAndTexts) → tables_at_end sections s tables ≡ tables)
   executed_stop (Ok step) over = tt
-  executed_stop (Err e) over = λ sections tables. refusal_last sections tables s u notation i front parts spelled over.1
+  executed_stop (Err e) over = λ sections tables. refusal_last sections tables s u layout i front parts spelled over.1
 
 -- ---- a file that is refused

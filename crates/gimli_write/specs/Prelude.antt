@@ -8,7 +8,7 @@ pub use Rattle.std.specs.Prelude.{ℕ, ◌%◌, ◌&&◌, ◌*◌, ◌++◌, ◌
 pub use Rattle.std.specs.Prelude.{◌≡◌, ◌≢◌, ◌≤◌, ◌⊎◌}
 pub use Rattle.std.specs.declared.alloc.Global.{Global}
 pub use Rattle.std.specs.declared.vec.Vec.{Vec}
-pub use Rattle.gimli_core.specs.Notation.{Notation}
+pub use Rattle.gimli_core.specs.Layout.{OrderAndLimit}
 pub use Rattle.gimli_core.specs.Values.{Value}
 pub use Rattle.gimli_core.specs.declared.common.Encoding.{Encoding}
 pub use Rattle.gimli_core.specs.declared.common.LineEncoding.{LineEncoding}

@@ -1,7 +1,7 @@
 -- What is answered of a unit that was written and read again.
 use Rattle.gimli_write.specs.Prelude
 use Prelude.{◌≡◌, ℕ, ◌^◌, List, [], ◌++◌, map, slice_get, Option, Some, None, option_map, Result}
-use Prelude.{Ok, Bool, Notation, Encoding, Header, UnitEntry, ReadFile, Events, row, ReadRow}
+use Prelude.{Ok, Bool, OrderAndLimit, Encoding, Header, UnitEntry, ReadFile, Events, row, ReadRow}
 use Prelude.{table_bytes, StringTables, bytes_in, Sections, IsText, IsOptionalText, OneByOne}
 use Prelude.{IsUnit, directories_from_zero, Built, texts_after, RowsMatch, ConvertError, Read}
 use Prelude.{Write, OutOfMemory}
@@ -61,24 +61,24 @@ pub record IsFileAnswer (sections : Sections) (read : ReadFile) (answer : FileAn
 
 -- a header and its program are answered: the directories from index 0 on, the files, and the rows,
 -- which are all that the program gives
-pub record AreAnswers (notation : Notation) (sections : Sections) (h : Header) (a : Answers)
+pub record AreAnswers (layout : OrderAndLimit) (sections : Sections) (h : Header) (a : Answers)
     : Type 0 where
   pub directories : OneByOne (IsText sections) (directories_from_zero h) a.directories
   pub files : OneByOne (IsFileAnswer sections) h.files a.files
-  pub rows : Events notation h h.program (map row a.rows)
+  pub rows : Events layout h h.program (map row a.rows)
 
 -- the bytes are a unit and nothing else, and what is read of it is answered
-pub record AnswersUnit (notation : Notation) (unit_entry : UnitEntry) (sections : Sections)
+pub record AnswersUnit (layout : OrderAndLimit) (unit_entry : UnitEntry) (sections : Sections)
     (unit : List ℕ) (a : Answers) : Type 0 where
   pub header : Header
-  pub is_unit : IsUnit notation unit_entry unit header
-  pub answered : AreAnswers notation sections header a
+  pub is_unit : IsUnit layout unit_entry unit header
+  pub answered : AreAnswers layout sections header a
 
 -- ---- how a program is read again
 
 -- by a slice in the order of the section
-abbrev pub slice_notation : Bool → Notation
-slice_notation big = record { big = big; limit = 2 ^ 64 }
+abbrev pub slice_layout : Bool → OrderAndLimit
+slice_layout is_big = record { is_big = is_big; limit = 2 ^ 64 }
 
 -- with those of the program
 abbrev pub unit_entry_of : Built → StringTables → UnitEntry
@@ -98,15 +98,15 @@ sections_of texts = record {
 -- the bytes are a unit and nothing else, and what is read of it is answered, where it is read as a
 -- program's unit is
 abbrev pub AnswersProgram : Bool → Built → StringTables → List ℕ → RoundTrip → Type 0
-AnswersProgram big p texts unit answer =
-    AnswersUnit (slice_notation big) (unit_entry_of p texts) (sections_of texts) unit
+AnswersProgram is_big p texts unit answer =
+    AnswersUnit (slice_layout is_big) (unit_entry_of p texts) (sections_of texts) unit
     (answers answer)
 
 -- what was appended is a unit and nothing else, and what is read of it is answered, where it is
 -- read as a program's unit is
 abbrev pub AnswersAppended : Bool → Built → StringTables → List ℕ → List ℕ → RoundTrip → Type 0
-AnswersAppended big p texts old new answer =
-    (unit : List ℕ) × (new ≡ old ++ unit) × AnswersProgram big p texts unit answer
+AnswersAppended is_big p texts old new answer =
+    (unit : List ℕ) × (new ≡ old ++ unit) × AnswersProgram is_big p texts unit answer
 
 -- ---- what was built
 
@@ -132,15 +132,15 @@ AreBuiltRows p rows = HasFittingAddresses p → RowsMatch p.encoding.version [] 
 -- ---- refusals
 
 -- why the rows of a program aren't answered: its first fault, or `OutOfMemory`
-abbrev pub IsRunRefusal : Notation → Header → ConvertError → Type 0
-IsRunRefusal notation h OutOfMemory = Unit {0}
-IsRunRefusal notation h (Read fault) = HasFirstFault notation h fault
-IsRunRefusal notation h e = ⊥
+abbrev pub IsRunRefusal : OrderAndLimit → Header → ConvertError → Type 0
+IsRunRefusal layout h OutOfMemory = Unit {0}
+IsRunRefusal layout h (Read fault) = HasFirstFault layout h fault
+IsRunRefusal layout h e = ⊥
 
 -- the bytes are a unit and nothing else, and why its rows aren't answered
-abbrev pub RefusesUnit : Notation → UnitEntry → List ℕ → ConvertError → Type 0
-RefusesUnit notation unit_entry unit e =
-    (h : Header) × IsUnit notation unit_entry unit h × IsRunRefusal notation h e
+abbrev pub RefusesUnit : OrderAndLimit → UnitEntry → List ℕ → ConvertError → Type 0
+RefusesUnit layout unit_entry unit e =
+    (h : Header) × IsUnit layout unit_entry unit h × IsRunRefusal layout h e
 
 -- what is to be written of a program, and the cause why it can't be, if there is one
 pub record ToWrite : Type 0 where
@@ -156,27 +156,27 @@ pub record WasWritten (wanted : ToWrite) (old new unit : List ℕ) : Type 0 wher
 -- why a program isn't written or not read again: the cause why it can't be written, if there is
 -- one; where there is none, the first fault of its unit, which was appended; or `OutOfMemory`
 abbrev pub IsRefusal : Bool → ToWrite → UnitEntry → List ℕ → List ℕ → ConvertError → Type 0
-IsRefusal big wanted unit_entry old new OutOfMemory = Unit {0}
-IsRefusal big wanted unit_entry old new (Write e) = wanted.cause ≡ Some e
-IsRefusal big wanted unit_entry old new (Read fault) =
+IsRefusal is_big wanted unit_entry old new OutOfMemory = Unit {0}
+IsRefusal is_big wanted unit_entry old new (Write e) = wanted.cause ≡ Some e
+IsRefusal is_big wanted unit_entry old new (Read fault) =
     (unit : List ℕ) × WasWritten wanted old new unit
-    × RefusesUnit (slice_notation big) unit_entry unit (Read fault)
-IsRefusal big wanted unit_entry old new e = ⊥
+    × RefusesUnit (slice_layout is_big) unit_entry unit (Read fault)
+IsRefusal is_big wanted unit_entry old new e = ⊥
 
 -- what is to be written of a program in this order and for a unit of this encoding, with these
 -- tables
 abbrev pub to_write : Bool → Encoding → Built → StringTables → ToWrite
-to_write big encoding p texts = record {
-  cause = first_cause big encoding p texts;
-  bytes = unit_bytes plain big encoding p texts;
+to_write is_big encoding p texts = record {
+  cause = first_cause is_big encoding p texts;
+  bytes = unit_bytes plain is_big encoding p texts;
 }
 
 -- why a program isn't written in this order and for a unit of this encoding, with these tables, or
 -- not read again beside what is then in them
 abbrev pub IsRoundTripRefusal : Bool → Encoding → Built → StringTables → List ℕ → List ℕ
     → ConvertError → Type 0
-IsRoundTripRefusal big encoding p texts old new =
-    IsRefusal big (to_write big encoding p texts)
+IsRoundTripRefusal is_big encoding p texts old new =
+    IsRefusal is_big (to_write is_big encoding p texts)
     (unit_entry_of p (texts_after p texts)) old new
 
 -- why a program isn't written: the cause why it can't be, if there is one, or `OutOfMemory`

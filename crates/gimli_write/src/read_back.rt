@@ -63,7 +63,7 @@ pub struct RoundTripFile {
 }
 
 ghost use Rattle.gimli_write.specs.RoundTrip.{answers, file_answer, IsFileAnswer, AreAnswers};
-ghost use Rattle.gimli_write.specs.RoundTrip.{slice_notation, unit_entry_of, sections_of};
+ghost use Rattle.gimli_write.specs.RoundTrip.{slice_layout, unit_entry_of, sections_of};
 ghost use Rattle.gimli_write.specs.RoundTrip.{IsRunRefusal, RefusesUnit, IsRoundTripRefusal};
 ghost use Rattle.gimli_write.specs.RoundTrip.{IsCausedRefusal, built_file, HasFittingAddresses};
 ghost use Rattle.gimli_write.specs.RoundTrip.{AreBuiltRows, AnswersProgram, AnswersAppended};
@@ -207,8 +207,8 @@ fn read_rows<R: Reader>(
     program: IncompleteLineProgram<R>,
 ) -> ConvertResult<Vec<LineRow>>
     ensures ok { IfOk result (λ rows.
-        Events program.notation program.meaning program.meaning.program (map row rows.items)) }
-    ensures err { IfErr result (IsRunRefusal program.notation program.meaning) }
+        Events program.layout program.meaning program.meaning.program (map row rows.items)) }
+    ensures err { IfErr result (IsRunRefusal program.layout program.meaning) }
 {
     let mut rows = program.rows();
     let mut answers = Vec::new(alloc);
@@ -233,8 +233,8 @@ fn read_program<R: Reader>(
     requires { HasTexts sections.now program.meaning }
     ensures offset { IfOk result (λ answer. answer.offset ≡ offset) }
     ensures ok { IfOk result (λ answer.
-        AreAnswers program.notation sections.now program.meaning (answers answer)) }
-    ensures err { IfErr result (IsRunRefusal program.notation program.meaning) }
+        AreAnswers program.layout sections.now program.meaning (answers answer)) }
+    ensures err { IfErr result (IsRunRefusal program.layout program.meaning) }
 {
     let directories = texts(
         alloc,
@@ -308,19 +308,19 @@ fn read_section<'x, E: Endianity>(
     sections: &'x StringSections,
 ) -> ConvertResult<RoundTrip>
     requires size { IsTrue (is_address_size address_size) }
-    requires unit { CanRead (slice_notation (E.big endian))
+    requires unit { CanRead (slice_layout (E.is_big endian))
         (unit_entry_with address_size directory.now) sections.now
         (drop offset.0 section.now) }
     ensures offset { IfOk result (λ answer. answer.offset ≡ offset) }
     ensures ok { (h : Header)
-        → BeginsUnit (slice_notation (E.big endian)) (unit_entry_with address_size directory.now)
+        → BeginsUnit (slice_layout (E.is_big endian)) (unit_entry_with address_size directory.now)
         (drop offset.0 section.now) h
         → IfOk result (λ answer.
-        AreAnswers (slice_notation (E.big endian)) sections.now h (answers answer)) }
+        AreAnswers (slice_layout (E.is_big endian)) sections.now h (answers answer)) }
     ensures err { (h : Header)
-        → BeginsUnit (slice_notation (E.big endian)) (unit_entry_with address_size directory.now)
+        → BeginsUnit (slice_layout (E.is_big endian)) (unit_entry_with address_size directory.now)
         (drop offset.0 section.now) h
-        → IfErr result (IsRunRefusal (slice_notation (E.big endian)) h) }
+        → IfErr result (IsRunRefusal (slice_layout (E.is_big endian)) h) }
 {
     let texts = TextSections {
         strings: EndianSlice::new(sections.strings.as_slice(), endian),
@@ -346,13 +346,13 @@ fn read_unit<E: Endianity>(
     requires program { program.now.is_none ≡ false }
     requires within { All (IsWithin (texts_in strings.now line_strings.now))
         program.now.directories }
-    requires unit { ReadsBackAs (E.big section.now.endian) program.now
+    requires unit { ReadsBackAs (E.is_big section.now.endian) program.now
         (texts_in strings.now line_strings.now)
         (drop offset.0 section.now.bytes) }
     ensures offset { IfOk result (λ answer. answer.offset ≡ offset) }
-    ensures ok { IfOk result (AnswersProgram (E.big section.now.endian) program.now
+    ensures ok { IfOk result (AnswersProgram (E.is_big section.now.endian) program.now
         (texts_in strings.now line_strings.now) (drop offset.0 section.now.bytes)) }
-    ensures err { IfErr result (RefusesUnit (slice_notation (E.big section.now.endian))
+    ensures err { IfErr result (RefusesUnit (slice_layout (E.is_big section.now.endian))
         (unit_entry_of program.now (texts_in strings.now line_strings.now))
         (drop offset.0 section.now.bytes)) }
     ensures directories { IfOk result (λ answer. map (λ text. text.items) answer.directories.items
@@ -400,28 +400,28 @@ pub fn round_trip<E: Endianity>(
 ) -> ConvertResult<RoundTrip>
     requires { CanWrite program.now (texts_in strings.old line_strings.old) }
     ensures keeps { Begins w.old.0.bytes w.new.0.bytes }
-    ensures ordered { E.big w.new.0.endian ≡ E.big w.old.0.endian }
+    ensures ordered { E.is_big w.new.0.endian ≡ E.is_big w.old.0.endian }
     ensures offset { IfOk result (λ answer. answer.offset.0 ≡ length w.old.0.bytes) }
     ensures unit { OnOk result
-        (Appends (unit_bytes plain (E.big w.old.0.endian) encoding program.now
+        (Appends (unit_bytes plain (E.is_big w.old.0.endian) encoding program.now
         (texts_in strings.old line_strings.old)) w.old.0.bytes w.new.0.bytes) }
-    ensures answers { IfOk result (AnswersAppended (E.big w.old.0.endian) program.now
+    ensures answers { IfOk result (AnswersAppended (E.is_big w.old.0.endian) program.now
         (texts_in strings.new line_strings.new) w.old.0.bytes w.new.0.bytes) }
     ensures directories { IfOk result (λ answer. map (λ text. text.items) answer.directories.items
         ≡ map (bytes_in (texts_in strings.new line_strings.new)) program.now.directories) }
     ensures files { IfOk result (λ answer. map file_answer answer.files.items
         ≡ map (built_file program.now (texts_in strings.new line_strings.new)) program.now.files) }
     ensures built { IfOk result (λ answer. AreBuiltRows program.now answer.rows.items) }
-    ensures no_cause { OnOk result (first_cause (E.big w.old.0.endian) encoding program.now
+    ensures no_cause { OnOk result (first_cause (E.is_big w.old.0.endian) encoding program.now
         (texts_in strings.old line_strings.old) ≡ None) }
     ensures incompatible { IsTrue (is_incompatible encoding program.now.encoding)
         → result ≡ Err (ConvertError.Write Error.IncompatibleLineProgramEncoding) }
     ensures nothing_appended { IsTrue (is_incompatible encoding program.now.encoding)
         → w.new ≡ w.old }
     ensures never_read { HasFittingAddresses program.now → IfErr result (IsCausedRefusal
-        (first_cause (E.big w.old.0.endian) encoding program.now
+        (first_cause (E.is_big w.old.0.endian) encoding program.now
         (texts_in strings.old line_strings.old))) }
-    ensures refusal { IfErr result (IsRoundTripRefusal (E.big w.old.0.endian) encoding program.now
+    ensures refusal { IfErr result (IsRoundTripRefusal (E.is_big w.old.0.endian) encoding program.now
         (texts_in strings.old line_strings.old) w.old.0.bytes w.new.0.bytes) }
     ensures tables { OnOk result (HaveEmptySource program.now
         (texts_in strings.old line_strings.old) (texts_in strings.new line_strings.new)) }

@@ -11,9 +11,9 @@ use lines_answers::{
     IndexPlaces, LineAnswers, MadeIndex, index_of_program, open_index, program_identity,
 };
 use lines_commands::{Questions, REFUSED, Run, Session};
-use lines_inputs::{Program, build_id_in, write_file};
+use lines_inputs::{InputSections, build_id_in, write_file};
 use lines_places::PlacePrinter;
-use lines_words::{Command, Kind, LineNames};
+use lines_words::{Command, InputKind, LineNames};
 use std::io::{self, Write};
 
 /// The index of a program by its name. It is named by the build id where there is one, or else by
@@ -34,7 +34,7 @@ fn index_of(run: Run<'_>, name: &str) -> io::Result<MadeIndex>
 /// The build id of a program by its name, where it is a file, as `build_id_in` has it.
 fn build_id_of(run: Run<'_>, name: &str) -> io::Result<Option<Vec<u8>>> {
     match run.request.kind {
-        Kind::Elf if name != STANDARD_INPUT => {
+        InputKind::Elf if name != STANDARD_INPUT => {
             build_id_in(run.rt, name, run.request.memory_limit)
         }
         _ => Ok(None),
@@ -171,7 +171,7 @@ fn make_index(mut session: Session<'_>, inputs: &Inputs, id: Option<&[u8]>) -> i
 /// fault of a unit is reported; what stands before it is in the index all the same.
 fn index_program(
     session: &mut Session<'_>,
-    program: &Program<'_>,
+    program: &InputSections<'_>,
     inputs: &Inputs,
     id: Option<&[u8]>,
 ) -> io::Result<Option<Vec<u8>>> {

@@ -5,8 +5,8 @@ ghost use Rattle.std.specs.Prelude.{◌≤◌, IfOk};
 use debug_files::{Found, Missing, Wanted};
 use elf_sections::usual_limit;
 use lines_commands::{REFUSED, Run, Session};
-use lines_inputs::{InputError, Program, tell_refusal};
-use lines_words::{Files, Kind, NameText, Notation, UnitFiles};
+use lines_inputs::{InputError, InputSections, tell_refusal};
+use lines_words::{Files, InputKind, NameText, Notation, UnitFiles};
 use std::io::{Read, Write};
 use std::{fmt, fs, io};
 
@@ -19,7 +19,7 @@ const ELF: &[u8] = b"\x7fELF";
 /// The bytes of the files that a request names, and how they are read.
 #[derive(Drop)]
 pub(crate) struct Inputs {
-    pub(crate) kind: Kind,
+    pub(crate) kind: InputKind,
     limit: Option<u64>,
     found: Found,
     line_str: Vec<u8>,
@@ -31,9 +31,9 @@ pub(crate) struct Inputs {
 pub(crate) fn inputs_of(run: Run<'_>, name: &str) -> io::Result<Option<Inputs>> {
     let Run { rt, request } = run;
     let found = match request.kind {
-        Kind::Elf if name == STANDARD_INPUT => Some(Found::Whole(read_elf(rt)?)),
-        Kind::Elf => sections_of(run, name)?,
-        Kind::Raw(_) => read(rt, name)?.map(Found::Whole),
+        InputKind::Elf if name == STANDARD_INPUT => Some(Found::Whole(read_elf(rt)?)),
+        InputKind::Elf => sections_of(run, name)?,
+        InputKind::Raw(_) => read(rt, name)?.map(Found::Whole),
     };
     let line_str = read_named(rt, request.line_str)?;
     let strings = read_named(rt, request.strings)?;
@@ -44,7 +44,7 @@ pub(crate) fn inputs_of(run: Run<'_>, name: &str) -> io::Result<Option<Inputs>> 
         Found::Whole(_) => request.kind,
         Found::Sections(of) => {
             let notation = Notation::new(of.is_big_endian, of.address_size, of.lowest, of.code_end);
-            Kind::Raw(notation)
+            InputKind::Raw(notation)
         }
     };
     Ok(Some(Inputs {
@@ -111,8 +111,8 @@ impl Inputs {
     }
 
     /// The sections of the program. None where they can't be read, which is reported.
-    pub(crate) fn program(&self, session: &mut Session<'_>) -> io::Result<Option<Program<'_>>> {
-        match Program::new(session.run.rt.alloc(), self.kind, self.files()) {
+    pub(crate) fn program(&self, session: &mut Session<'_>) -> io::Result<Option<InputSections<'_>>> {
+        match InputSections::new(session.run.rt.alloc(), self.kind, self.files()) {
             Ok(program) => Ok(Some(program)),
             Err(refusal) => {
                 tell_refusal(refusal, &mut session.output)?;

@@ -11,12 +11,12 @@ use Rattle.line_text.specs.OrderAndSize.{size_number}
 
 -- bytes are an index with this name, which says of each address what is found there: by the rows of
 -- the units, and by whole paths, of the texts and the directories of compilations that are read
-pub record IsMade {R : Type 0} (bytes : R → List ℕ) (big : R → Bool) (limit : ℕ)
+pub record IsMade {R : Type 0} (bytes : R → List ℕ) (is_big : R → Bool) (limit : ℕ)
     (input : Input R) (name made : List ℕ) : Type 0 where
   pub kept : List KeptUnit
-  pub are : AreUnitsIn bytes big limit input kept
+  pub are : AreUnitsIn bytes is_big limit input kept
   pub directories : List (ℕ × R)
-  pub tell : TellsDirectories (sections_of bytes big limit input.compilations)
+  pub tell : TellsDirectories (sections_of bytes is_big limit input.compilations)
       (λ line. option_map bytes (directory_for directories line))
   pub is_index : IsIndexAppended (record {
     texts = texts_of bytes input.strings directories;

@@ -7,9 +7,9 @@ use crate::opened_index::identity_of;
 use elf_sections::{Elf, ElfError, usual_limit};
 use gimli_core::Reader;
 use gimli_index::{MakeError, write_index};
-use lines_inputs::{Input, InputError, PathSources, Program, look_up};
+use lines_inputs::{Input, InputError, PathSources, InputSections, look_up};
 use lines_pieces::Result;
-use lines_words::{Files, Kind, Output};
+use lines_words::{Files, InputKind, Output};
 use std::alloc::{AllocError, Global};
 
 /// An index, and what came of making it.
@@ -25,20 +25,20 @@ pub struct MadeIndex {
 /// programs. Refused as `InputError` says.
 pub fn program_identity(
     alloc: Global,
-    kind: Kind,
+    kind: InputKind,
     files: Files<'_>,
 ) -> Result<Vec<u8>, InputError> {
     if let Some(id) = own_build_id(kind, files, None) {
         return Ok(Vec::from_slice(alloc, id).map_err(ElfError::from)?);
     }
-    let program = Program::new(alloc, kind, files)?;
+    let program = InputSections::new(alloc, kind, files)?;
     Ok(identity_of(alloc, None, program.lines()).map_err(ElfError::from)?)
 }
 
 /// The build id that is told, or else that of an ELF file.
-fn own_build_id<'i>(kind: Kind, files: Files<'i>, build_id: Option<&'i [u8]>) -> Option<&'i [u8]> {
+fn own_build_id<'i>(kind: InputKind, files: Files<'i>, build_id: Option<&'i [u8]>) -> Option<&'i [u8]> {
     match (build_id, kind) {
-        (None, Kind::Elf) => Elf::parse(files.file).ok()?.build_id().ok()?,
+        (None, InputKind::Elf) => Elf::parse(files.file).ok()?.build_id().ok()?,
         _ => build_id,
     }
 }
@@ -49,8 +49,8 @@ fn own_build_id<'i>(kind: Kind, files: Files<'i>, build_id: Option<&'i [u8]>) ->
 /// reported; what stands before it is in the index all the same.
 pub fn index_of_program(
     alloc: Global,
-    program: &Program<'_>,
-    kind: Kind,
+    program: &InputSections<'_>,
+    kind: InputKind,
     files: Files<'_>,
     build_id: Option<&[u8]>,
     output: &mut Output<'_>,
@@ -76,7 +76,7 @@ fn index_of_input<R: Reader>(
     output: &mut Output<'_>,
 ) -> Result<Option<Vec<u8>>>
     ensures { IfOk result (λ made. IfSome made (λ made.
-        IsMade R.bytes R.big R.Offset.limit input.now identity.now made.items)) }
+        IsMade R.bytes R.is_big R.Offset.limit input.now identity.now made.items)) }
 {
     let sources = PathSources::new(alloc, input)?;
     let lookup = look_up(alloc, input, output)?;

@@ -8,10 +8,10 @@ use crate::session::{Questions, REFUSED, Run, Session};
 use elf_sections::ElfError;
 use gimli_core::Reader;
 use lines_answers::{SourceRows, print_addresses};
-use lines_inputs::{Input, InputError, Program, tell_refusal};
+use lines_inputs::{Input, InputError, InputSections, tell_refusal};
 use lines_places::{Answered, Asked, PlacePrinter, Places, print_below, print_lines};
 use lines_reports::{Diff, Report};
-use lines_words::{CodeAddress, Command, Files, Kind, PathText, SourcePlace};
+use lines_words::{CodeAddress, Command, Files, InputKind, PathText, SourcePlace};
 use std::io::ErrorKind;
 use std::{fs, io, str};
 
@@ -21,16 +21,16 @@ impl Run<'_> {
     /// check. On a terminal headings and faults are set off, and a long command prints how far it
     /// is. Fails where memory is missing, where standard input can't be read, and where standard
     /// output takes no more; what was printed before stands.
-    pub fn perform(self, kind: Kind, files: Files<'_>) -> io::Result<u8>
+    pub fn perform(self, kind: InputKind, files: Files<'_>) -> io::Result<u8>
         ensures status { IfOk result (λ status. status ≤ 1) }
-        ensures no_lines { kind ≡ Kind.Elf → (HasLines files.entry.limit files.entry.file.now → ⊥)
+        ensures no_lines { kind ≡ InputKind.Elf → (HasLines files.entry.limit files.entry.file.now → ⊥)
             → IfOk result (λ status. status ≡ 1) }
-        ensures no_lines_fails { kind ≡ Kind.Elf
+        ensures no_lines_fails { kind ≡ InputKind.Elf
             → (HasLines files.entry.limit files.entry.file.now → ⊥)
             → IfErr result (λ e. error_kind e ≡ ErrorKind.OutOfMemory) }
     {
         let mut session = self.over(self.request.file);
-        match Program::new(self.rt.alloc(), kind, files) {
+        match InputSections::new(self.rt.alloc(), kind, files) {
             Ok(program) => {
                 let printed = session.print(&program, &program.input(), files);
                 session.finish(printed)
@@ -52,7 +52,7 @@ impl<'r> Session<'r> {
     /// Prints what the request asks for over a program.
     fn print<R: Reader>(
         &mut self,
-        program: &Program<'_>,
+        program: &InputSections<'_>,
         input: &Input<R>,
         files: Files<'_>,
     ) -> io::Result<()> {
@@ -146,7 +146,7 @@ impl<'r> Session<'r> {
         name: &[u8],
         questions: &mut Questions<'_>,
     ) -> io::Result<bool> {
-        match Program::of_section(self.run.rt.alloc(), files, name) {
+        match InputSections::of_section(self.run.rt.alloc(), files, name) {
             Ok(Some(program)) => {
                 if self.begin_lookup(program.lines().len() as u64, files.limit)? {
                     self.locate(&program, &program.input(), Some(name), questions)?;
@@ -165,7 +165,7 @@ impl<'r> Session<'r> {
     /// Prints the places of addresses by the rows of a program, or of the section of a name.
     fn locate<R: Reader>(
         &mut self,
-        program: &Program<'_>,
+        program: &InputSections<'_>,
         input: &Input<R>,
         section: Option<&[u8]>,
         questions: &mut Questions<'_>,

@@ -11,7 +11,7 @@ use Rattle.std.specs.declared.cmp.Ordering.TheVariants.{Less, Equal, Greater}
 use Rattle.std.proofs.lemmas.Bool.{eqb-true, eq-eqb}
 use Rattle.lines_counts.specs.Coverage.{bytes_at, change_at, place_order}
 use Rattle.lines_counts.specs.declared.coverage.Change.{Change}
-use Rattle.lines_counts.specs.declared.coverage.Place.{Place}
+use Rattle.lines_counts.specs.declared.coverage.LinePlace.{LinePlace}
 use Rattle.lines_counts.specs.inside.Changes.{IsPart, Keeps, with_change}
 
 -- ---- one place
@@ -22,39 +22,39 @@ then_equal Equal b is = (refl, is)
 then_equal Greater b is = absurd cc
 
 -- places that compare as equal are one
-pub one_place : (p q : Place) → is_at (place_order p) q ≡ true → p ≡ q
+pub one_place : (p q : LinePlace) → is_at (place_order p) q ≡ true → p ≡ q
 one_place p q is =
     let parts = then_equal (nat_cmp p.path q.path) (nat_cmp p.line q.line) is in
     let path : p.path ≡ q.path = eqb-true p.path q.path (sym (unsigned_tied p.path q.path) ∙ parts.0) in
     let line : p.line ≡ q.line = eqb-true p.line q.line (sym (unsigned_tied p.line q.line) ∙ parts.1) in
-    ap (λ (n : ℕ). let r : Place = record { path = n; line = p.line } in r) path
-    ∙ ap (λ (n : ℕ). let r : Place = record { path = q.path; line = n } in r) line
+    ap (λ (n : ℕ). let r : LinePlace = record { path = n; line = p.line } in r) path
+    ∙ ap (λ (n : ℕ). let r : LinePlace = record { path = q.path; line = n } in r) line
 
 then_same : (a b : Ordering) → is_eq a ≡ true → is_eq b ≡ true → is_eq (ordering_then a b) ≡ true
 then_same Less b is same = absurd cc
 then_same Equal b is same = same
 then_same Greater b is same = absurd cc
 
-place_self : (p : Place) → is_at (place_order p) p ≡ true
+place_self : (p : LinePlace) → is_at (place_order p) p ≡ true
 place_self p =
     then_same (nat_cmp p.path p.path) (nat_cmp p.line p.line) (unsigned_tied p.path p.path ∙ eq-eqb p.path p.path refl)
     (unsigned_tied p.line p.line ∙ eq-eqb p.line p.line refl)
 
 -- ---- what was collected
 
-module _ (old new : List (Place × ℕ)) where
-  abbrev change : Place → Option Change
+module _ (old new : List (LinePlace × ℕ)) where
+  abbrev change : LinePlace → Option Change
   change = change_at old new
 
   -- the change of a place was kept, where it has one
-  abbrev pub Kept : Place → BTreeMap Place Change → BTreeMap Place Change → Type 0
+  abbrev pub Kept : LinePlace → BTreeMap LinePlace Change → BTreeMap LinePlace Change → Type 0
   Kept place before after =
-      (other : Place)
+      (other : LinePlace)
       → get place_order after other
       ≡ with_change (change place) (is_at (place_order place) other) (get place_order before other)
 
   -- what stands for another place after that
-  stands : (place other : Place) (test : Bool) (before after : Option Change) → is_at (place_order place) other ≡ test
+  stands : (place other : LinePlace) (test : Bool) (before after : Option Change) → is_at (place_order place) other ≡ test
       → after ≡ with_change (change place) test before
       → (after ≡ before) ⊎ ((place ≡ other) × (after ≡ change other))
   stands place other false before after is same = at_change (change place) same
@@ -72,7 +72,7 @@ module _ (old new : List (Place × ℕ)) where
           let one = one_place place other is in
           inr (one, same ∙ sym own ∙ ap change one)
 
-  pub part_on : (place : Place) (before after : BTreeMap Place Change) → Kept place before after → IsPart old new before
+  pub part_on : (place : LinePlace) (before after : BTreeMap LinePlace Change) → Kept place before after → IsPart old new before
       → IsPart old new after
   part_on place before after kept part other =
       elim (stands place other (is_at (place_order place) other) (get place_order before other)
@@ -81,7 +81,7 @@ module _ (old new : List (Place × ℕ)) where
         | inr one ↦ inr one.1
       ]
 
-  pub keeps_on : (place : Place) (before after : BTreeMap Place Change) → Kept place before after
+  pub keeps_on : (place : LinePlace) (before after : BTreeMap LinePlace Change) → Kept place before after
       → Keeps old new before after
   keeps_on place before after kept other whole =
       elim (stands place other (is_at (place_order place) other) (get place_order before other)
@@ -91,7 +91,7 @@ module _ (old new : List (Place × ℕ)) where
       ]
 
   -- a place whose change was kept has it
-  pub has_own : (place other : Place) (before after : BTreeMap Place Change) → Kept place before after
+  pub has_own : (place other : LinePlace) (before after : BTreeMap LinePlace Change) → Kept place before after
       → IsPart old new before
       → is_at (place_order place) other ≡ true → get place_order after other ≡ change other
   has_own place other before after kept part is =
@@ -109,11 +109,11 @@ module _ (old new : List (Place × ℕ)) where
       ]
 
   -- each place of a program has its change but for those that are left
-  abbrev pub IsDone : List (Place × ℕ) → List Place → BTreeMap Place Change → Type 0
-  IsDone source left changes = (other : Place) → is_some (bytes_at source other) ≡ true
+  abbrev pub IsDone : List (LinePlace × ℕ) → List LinePlace → BTreeMap LinePlace Change → Type 0
+  IsDone source left changes = (other : LinePlace) → is_some (bytes_at source other) ≡ true
       → list_any (eq_by_cmp place_order other) left ≡ false → get place_order changes other ≡ change other
 
-  pub done_on : (source : List (Place × ℕ)) (place : Place) (left : List Place) (before after : BTreeMap Place Change)
+  pub done_on : (source : List (LinePlace × ℕ)) (place : LinePlace) (left : List LinePlace) (before after : BTreeMap LinePlace Change)
       → Kept place before after
       → IsPart old new before → IsDone source (place ∷ left) before → IsDone source left after
   done_on source place left before after kept part done other there gone =
@@ -122,5 +122,5 @@ module _ (old new : List (Place × ℕ)) where
       at_test : (test : Bool) → is_at (place_order other) place ≡ test → get place_order after other ≡ change other
       at_test true is =
           has_own place other before after kept part
-          (ap (λ (p : Place). is_at (place_order p) other) (sym (one_place other place is)) ∙ place_self other)
+          (ap (λ (p : LinePlace). is_at (place_order p) other) (sym (one_place other place is)) ∙ place_self other)
       at_test false is = keeps_on place before after kept other (done other there (rw is gone))

@@ -8,7 +8,7 @@ use Rattle.std.specs.Prelude.{IfErr}
 use Rattle.std.proofs.lemmas.Bool.{eqb-true, eqb-false}
 use Rattle.std.proofs.lemmas.List.{get_or-set_same, get_or-set_other, length-append, append-nil}
 use Rattle.std.proofs.lemmas.List.Sums.{sum-map, sum_by-cons}
-use Rattle.gimli_core.specs.Notation.{Notation}
+use Rattle.gimli_core.specs.Layout.{OrderAndLimit}
 use Rattle.gimli_core.specs.declared.error.Error.{Error}
 use Rattle.gimli_line.specs.header.Header.{Header}
 use Rattle.gimli_line.specs.run.Instruction.{Ins}
@@ -88,15 +88,15 @@ counts_both old middle new pieces others a b kind =
     b kind ∙ ap (λ (share : Share). counted kind share others) (a kind)
     ∙ sym (counted_both kind (share_of old kind) pieces others)
 
-module _ (notation : Notation) (h : Header) where
+module _ (layout : OrderAndLimit) (h : Header) where
   -- nothing is counted yet
-  pub counted_none : (program : List ℕ) (tally : Tally) → AreCounted notation h program tally program tally
+  pub counted_none : (program : List ℕ) (tally : Tally) → AreCounted layout h program tally program tally
   counted_none program tally = record { pieces = []; counts = λ kind. refl; before = λ others are. are }
 
   -- one instruction more
   pub counted_more : (program rest left front : List ℕ) (i : Ins) (old middle new : Tally) → rest ≡ front ++ left
-      → SpellsInstruction notation h front i → AreCounted notation h program old rest middle
-      → Counts middle (instruction_piece i front ∷ []) new → AreCounted notation h program old left new
+      → SpellsInstruction layout h front i → AreCounted layout h program old rest middle
+      → Counts middle (instruction_piece i front ∷ []) new → AreCounted layout h program old left new
   counted_more program rest left front i old middle new is spells so_far counts = record {
     pieces = so_far.pieces ++ instruction_piece i front ∷ [];
     counts = counts_both old middle new so_far.pieces (instruction_piece i front ∷ []) so_far.counts counts;
@@ -109,16 +109,16 @@ module _ (notation : Notation) (h : Header) where
   pub next_counted : (program rest left : List ℕ) (old middle new : Tally) (before after : Instructions)
       (next : Option Ins) (i : Ins) (kind : Spent)
       (sizes : InstructionBytes) → next ≡ Some i → TakesNext h before after next → rest ≡ before.bytes
-      → before.notation ≡ notation
-      → AreCounted notation h program old rest middle
-      → ((n : Notation) (k : Header) (front behind : List ℕ) → rest ≡ front ++ behind → SpellsInstruction n k front i
+      → before.layout ≡ layout
+      → AreCounted layout h program old rest middle
+      → ((n : OrderAndLimit) (k : Header) (front behind : List ℕ) → rest ≡ front ++ behind → SpellsInstruction n k front i
       → ◌≡◌ {A = Result InstructionBytes Error} (Ok sizes)
       (Ok (record { opcode = opcode_size front; operands = length front - opcode_size front })))
-      → ((n : Notation) (k : Header) (front behind : List ℕ) → rest ≡ front ++ behind → SpellsInstruction n k front i
+      → ((n : OrderAndLimit) (k : Header) (front behind : List ℕ) → rest ≡ front ++ behind → SpellsInstruction n k front i
       → left ≡ behind)
       → kind ≡ spent_on i
       → Counts middle (record { kind = kind; bytes = sizes.opcode; operands = sizes.operands } ∷ []) new
-      → AreCounted notation h program old left new × (left ≡ after.bytes)
+      → AreCounted layout h program old left new × (left ≡ after.bytes)
   next_counted program rest left old middle new before after None i kind sizes is takes same notes so_far counted leaves
       on counts =
       absurd cc
@@ -127,12 +127,12 @@ module _ (notation : Notation) (h : Header) where
       let one : j ≡ i = cc in
       let front = takes.0 in
       let whole : rest ≡ front ++ after.bytes = same ∙ takes.1 in
-      let spells : SpellsInstruction notation h front i =
-      subst (λ (n : Notation). SpellsInstruction n h front i) notes
-      (subst (λ (k : Ins). SpellsInstruction before.notation h front k) one takes.2) in
+      let spells : SpellsInstruction layout h front i =
+      subst (λ (n : OrderAndLimit). SpellsInstruction n h front i) notes
+      (subst (λ (k : Ins). SpellsInstruction before.layout h front k) one takes.2) in
       let own : sizes ≡ record { opcode = opcode_size front; operands = length front - opcode_size front } =
-      ok_same (counted notation h front after.bytes whole spells) in
-      let behind : left ≡ after.bytes = leaves notation h front after.bytes whole spells in
+      ok_same (counted layout h front after.bytes whole spells) in
+      let behind : left ≡ after.bytes = leaves layout h front after.bytes whole spells in
       let piece : ◌≡◌ {A = Piece} (record { kind = kind; bytes = sizes.opcode; operands = sizes.operands })
       (instruction_piece i front) =
       ap (λ (k : Spent). let p : Piece = record { kind = k; bytes = sizes.opcode; operands = sizes.operands } in p) on
@@ -141,22 +141,22 @@ module _ (notation : Notation) (h : Header) where
       record { kind = spent_on i; bytes = s.opcode; operands = s.operands } in
       p)
       own in
-      let more : AreCounted notation h program old after.bytes new =
+      let more : AreCounted layout h program old after.bytes new =
       counted_more program rest after.bytes front i old middle new whole spells so_far
       (subst (λ (p : Piece). Counts middle (p ∷ []) new) piece counts) in
-      (subst (λ (xs : List ℕ). AreCounted notation h program old xs new) (sym behind) more, behind)
+      (subst (λ (xs : List ℕ). AreCounted layout h program old xs new) (sym behind) more, behind)
 
   -- all is counted
-  pub counted_end : (program : List ℕ) (old new : Tally) → AreCounted notation h program old [] new
-      → (pieces : List Piece) × ArePieces notation h program pieces × Counts old pieces new
+  pub counted_end : (program : List ℕ) (old new : Tally) → AreCounted layout h program old [] new
+      → (pieces : List Piece) × ArePieces layout h program pieces × Counts old pieces new
   counted_end program old new so_far =
       (so_far.pieces, rw (append-nil so_far.pieces) at (so_far.before [] refl), so_far.counts)
 
   -- all but what can't be read, and that is counted too
   pub counted_fault : (program rest : List ℕ) (e : Error) (old middle new : Tally)
-      → AreCounted notation h program old rest middle
-      → (instruction_production notation h).Fault rest e → Counts middle (plain_piece Unread (length rest) ∷ []) new
-      → (pieces : List Piece) × ArePieces notation h program pieces × Counts old pieces new
+      → AreCounted layout h program old rest middle
+      → (instruction_production layout h).Fault rest e → Counts middle (plain_piece Unread (length rest) ∷ []) new
+      → (pieces : List Piece) × ArePieces layout h program pieces × Counts old pieces new
   counted_fault program rest e old middle new so_far fault counts = (
     so_far.pieces ++ plain_piece Unread (length rest) ∷ [],
     so_far.before (plain_piece Unread (length rest) ∷ []) (inr (e, fault, refl, refl)),
@@ -165,17 +165,17 @@ module _ (notation : Notation) (h : Header) where
 
   -- a program up to its end or its fault, and then the bytes that are left
   pub program_counted : (program rest : List ℕ) (old middle new : Tally) (size : ℕ) (result : Result (Unit {0}) Error)
-      → AreCounted notation h program old rest middle → OnOk result (rest ≡ [])
-      → IfErr result ((instruction_production notation h).Fault rest)
+      → AreCounted layout h program old rest middle → OnOk result (rest ≡ [])
+      → IfErr result ((instruction_production layout h).Fault rest)
       → OnErr result (rest ≢ []) → size ≡ length rest → (size ≡ 0 → new ≡ middle)
       → (size ≢ 0 → Counts middle (plain_piece Unread size ∷ []) new)
-      → (pieces : List Piece) × ArePieces notation h program pieces × Counts old pieces new
+      → (pieces : List Piece) × ArePieces layout h program pieces × Counts old pieces new
   program_counted program rest old middle new size (Ok u) so_far end fault some is none more =
       let nothing : size ≡ 0 = is ∙ ap length end in
-      let whole : AreCounted notation h program old [] middle =
-      subst (λ (xs : List ℕ). AreCounted notation h program old xs middle) end so_far in
+      let whole : AreCounted layout h program old [] middle =
+      subst (λ (xs : List ℕ). AreCounted layout h program old xs middle) end so_far in
       counted_end program old new
-      (subst (λ (t : Tally). AreCounted notation h program old [] t) (sym (none nothing)) whole)
+      (subst (λ (t : Tally). AreCounted layout h program old [] t) (sym (none nothing)) whole)
   program_counted program rest old middle new size (Err e) so_far end fault some is none more =
       let left : size ≢ 0 = λ zero. some (no_bytes rest (sym is ∙ zero)) in
       let counts : Counts middle (plain_piece Unread (length rest) ∷ []) new =
@@ -190,14 +190,14 @@ module _ (notation : Notation) (h : Header) where
       sum-map all_bytes (piece ∷ pieces) ∙ sum_by-cons all_bytes piece pieces
       ∙ ap (λ (n : ℕ). all_bytes piece + n) (sym (sum-map all_bytes pieces))
 
-  pub all_are_counted : (bytes : List ℕ) (pieces : List Piece) → ArePieces notation h bytes pieces
+  pub all_are_counted : (bytes : List ℕ) (pieces : List Piece) → ArePieces layout h bytes pieces
       → sum (map all_bytes pieces) ≡ length bytes
   all_are_counted bytes [] are = sym (ap length are)
   all_are_counted bytes (piece ∷ pieces) (inl one) =
       let i = one.0 in
       let front = one.1 in
       let rest = one.2 in
-      let within = opcode_within notation h front i one.4 in
+      let within = opcode_within layout h front i one.4 in
       let tail = all_are_counted rest pieces one.6 in
       let first : all_bytes piece ≡ length front = ap all_bytes one.5 ∙ omega (arith, within) in
       one_more piece pieces ∙ omega (arith, first, tail, length-append front rest, ap length one.3)

@@ -8,7 +8,7 @@ use Rattle.std.specs.List.{AllByRecursion}
 use Rattle.std.proofs.lemmas.Bool.{cases_lt, le-ltb, lt-ltb}
 use Rattle.std.proofs.lemmas.List.{length-append, drop_at, append_cancel_right, length-drop, length-take-le}
 use Rattle.std.proofs.lemmas.List.{take-append-drop}
-use Rattle.gimli_core.specs.Notation.{Notation}
+use Rattle.gimli_core.specs.Layout.{OrderAndLimit}
 use Rattle.gimli_core.specs.Production.{times, unsigned}
 use Rattle.gimli_core.specs.Reading.{Read, ◌>>=◌, byte_at, number_at, offset_of, signed_at, skip_at, split_at, times_at}
 use Rattle.gimli_core.specs.Reading.{unsigned_at, with_rest, within_at}
@@ -37,9 +37,9 @@ use Rattle.gimli_line.specs.declared.run.instruction.LineInstruction.TheVariants
   UnknownStandardN,
 }
 use Rattle.gimli_line.specs.header.Header.{Header}
-use Rattle.gimli_line.specs.header.Productions.{among}
+use Rattle.gimli_line.specs.header.Productions.{operand_of}
 use Rattle.gimli_line.specs.run.Instruction.{Ins}
-use Rattle.gimli_line.specs.run.InstructionGrammar.{Operand, none, uleb, sleb, half, address, file, standard_opcodes}
+use Rattle.gimli_line.specs.run.InstructionGrammar.{Operand, none, uleb, sleb, uhalf, address, file, standard_opcodes}
 use Rattle.gimli_line.specs.header.FormReading.{offset_at}
 use Rattle.gimli_line.specs.run.InstructionGrammar.{SpellsInstruction, extended_opcodes}
 use Rattle.gimli_line.specs.run.InstructionReading.{bytes_at, operand_at, unknown_at, standard_at, extended_at}
@@ -69,11 +69,11 @@ record Extended (bytes after : List ℕ) : Type 0 where
   enough : size ≤ length left
   rest : after ≡ drop size left
 
-module _ (notation : Notation) (h : Header) where
+module _ (layout : OrderAndLimit) (h : Header) where
   -- what an operand reads is passed over by its instruction
   abbrev Passes : Operand → Type 0
   Passes operand =
-      (bytes : List ℕ) (i : Ins) (after : List ℕ) → operand_at notation h operand bytes ≡ (Ok i, after)
+      (bytes : List ℕ) (i : Ins) (after : List ℕ) → operand_at layout h operand bytes ≡ (Ok i, after)
       → operands_at i bytes ≡ (Ok tt, after)
 
   passes_none : (i : Ins) → ((bytes : List ℕ) → operands_at i bytes ≡ (Ok tt, bytes)) → Passes (none i)
@@ -95,10 +95,10 @@ module _ (notation : Notation) (h : Header) where
       let p = ok_parts (make a.0) j a.1 after a.3 in
       rw (← p.0, is a.0 bytes, a.2, p.1) refl
 
-  number_passed : (big : Bool) (size : ℕ) (bytes : List ℕ) (n : ℕ) (rest : List ℕ)
-      → number_at big size bytes ≡ (Ok n, rest)
+  number_passed : (is_big : Bool) (size : ℕ) (bytes : List ℕ) (n : ℕ) (rest : List ℕ)
+      → number_at is_big size bytes ≡ (Ok n, rest)
       → skip_at size bytes ≡ (Ok tt, rest)
-  number_passed big size bytes n rest e = elim (cases_lt (length bytes) size) [
+  number_passed is_big size bytes n rest e = elim (cases_lt (length bytes) size) [
     | inl lt ↦ let p = ap (λ (r : Read ℕ). r.0) (rw (lt-ltb (length bytes) size lt) at e) in absurd cc
     | inr le ↦
         let p = ap (λ (r : Read ℕ). r.1) (rw (le-ltb (length bytes) size le) at e) in
@@ -106,13 +106,13 @@ module _ (notation : Notation) (h : Header) where
   ]
 
   passes_half : (make : ℕ → Ins) → ((n : ℕ) (bytes : List ℕ) → operands_at (make n) bytes ≡ skip_at 2 bytes)
-      → Passes (half make)
+      → Passes (uhalf make)
   passes_half make is bytes j after e =
       let a =
-      bind_ok (number_at notation.big 2 bytes) (λ n rest. (let r : Read Ins = (Ok (make n), rest) in r)) j after
+      bind_ok (number_at layout.is_big 2 bytes) (λ n rest. (let r : Read Ins = (Ok (make n), rest) in r)) j after
       e in
       let p = ok_parts (make a.0) j a.1 after a.3 in
-      rw (← p.0, is a.0 bytes, number_passed notation.big 2 bytes a.0 a.1 a.2, p.1) refl
+      rw (← p.0, is a.0 bytes, number_passed layout.is_big 2 bytes a.0 a.1 a.2, p.1) refl
 
   standard_passes : AllByRecursion (λ (row : ℕ × Operand). Passes row.1) standard_opcodes
   standard_passes =
@@ -131,17 +131,17 @@ module _ (notation : Notation) (h : Header) where
 
   among_passes : (n : ℕ) (rows : List (ℕ × Operand)) → AllByRecursion (λ (row : ℕ × Operand). Passes row.1) rows
       → (operand : Operand)
-      → among n rows ≡ Some operand → Passes operand
+      → operand_of n rows ≡ Some operand → Passes operand
   among_passes n [] all operand is = absurd cc
   among_passes n (row ∷ rows) all operand is = at_test (nat_eq n row.0) (among_passes n rows all.1 operand) is
     where
-      at_test : (test : Bool) → (among n rows ≡ Some operand → Passes operand)
-          → (if test then Some row.1 else among n rows) ≡ Some operand → Passes operand
+      at_test : (test : Bool) → (operand_of n rows ≡ Some operand → Passes operand)
+          → (if test then Some row.1 else operand_of n rows) ≡ Some operand → Passes operand
       at_test true later is = let same : row.1 ≡ operand = cc in subst Passes same all.0
       at_test false later is = later is
 
   unknown_passes : (opcode count : ℕ) (bytes : List ℕ) (i : Ins) (after : List ℕ)
-      → unknown_at notation h opcode count bytes ≡ (Ok i, after)
+      → unknown_at layout h opcode count bytes ≡ (Ok i, after)
       → operands_at i bytes ≡ (Ok tt, after)
   unfolding unknown_at
   unknown_passes opcode zero bytes i after e =
@@ -173,17 +173,17 @@ module _ (notation : Notation) (h : Header) where
 
   -- the operands of a standard opcode
   pub standard_passed : (opcode : ℕ) (bytes : List ℕ) (i : Ins) (after : List ℕ)
-      → standard_at notation h opcode bytes ≡ (Ok i, after)
+      → standard_at layout h opcode bytes ≡ (Ok i, after)
       → operands_at i bytes ≡ (Ok tt, after)
   unfolding standard_at
-  standard_passed opcode bytes i after e = at_operand (among opcode standard_opcodes) refl e
+  standard_passed opcode bytes i after e = at_operand (operand_of opcode standard_opcodes) refl e
     where
-      at_operand : (found : Option Operand) → among opcode standard_opcodes ≡ found
+      at_operand : (found : Option Operand) → operand_of opcode standard_opcodes ≡ found
           → ◌≡◌ {A = Read Ins}
           (elim found [
             | Some operand ↦
-                operand_at notation h operand bytes
-            | None ↦ unknown_at notation h opcode (slice_index h.operand_counts (opcode - 1)) bytes
+                operand_at layout h operand bytes
+            | None ↦ unknown_at layout h opcode (slice_index h.operand_counts (opcode - 1)) bytes
           ])
           (Ok i, after)
           → operands_at i bytes ≡ (Ok tt, after)
@@ -212,30 +212,30 @@ module _ (notation : Notation) (h : Header) where
   byte_within (b ∷ inside) bytes x rest e = (b, inside, refl)
 
   operands_same : (opcode : ℕ) (operands bytes : List ℕ) (i : Ins) (after : List ℕ)
-      → extended_operands_at notation h opcode operands bytes ≡ (Ok i, after)
+      → extended_operands_at layout h opcode operands bytes ≡ (Ok i, after)
       → bytes ≡ after
   unfolding extended_operands_at
   operands_same opcode operands bytes i after e =
-      at_operand (among opcode (extended_opcodes h.parameters.encoding.version)) e
+      at_operand (operand_of opcode (extended_opcodes h.parameters.encoding.version)) e
     where
       at_operand : (found : Option Operand)
           → ◌≡◌ {A = Read Ins} (elim found [
             | Some operand ↦
-                within_at operands (operand_at notation h operand) bytes
+                within_at operands (operand_at layout h operand) bytes
                 >>= (λ read rest. (let r : Read Ins = (Ok read.0, rest) in r))
             | None ↦ (Ok (UnknownExtended (record { 0 = opcode }) operands), bytes)
           ]) (Ok i, after)
           → bytes ≡ after
       at_operand (Some operand) e =
           let a =
-          bind_ok (within_at operands (operand_at notation h operand) bytes)
+          bind_ok (within_at operands (operand_at layout h operand) bytes)
           (λ read rest. (let r : Read Ins = (Ok read.0, rest) in r)) i after e in
           let p = ok_parts a.0.0 i a.1 after a.3 in
-          within_same operands (operand_at notation h operand) bytes a.0 a.1 a.2 ∙ p.1
+          within_same operands (operand_at layout h operand) bytes a.0 a.1 a.2 ∙ p.1
       at_operand None e = (ok_parts (UnknownExtended (record { 0 = opcode }) operands) i bytes after e).1
 
   abbrev after_opened : ℕ × List ℕ → List ℕ → Read Ins
-  after_opened opened rest = extended_operands_at notation h opened.0 opened.1 rest
+  after_opened opened rest = extended_operands_at layout h opened.0 opened.1 rest
 
   abbrev after_inside : List ℕ → List ℕ → Read Ins
   after_inside inside rest = within_at inside byte_at rest >>= after_opened
@@ -243,15 +243,15 @@ module _ (notation : Notation) (h : Header) where
   abbrev after_size : ℕ → List ℕ → Read Ins
   after_size size rest = split_at size rest >>= after_inside
 
-  extended_parts : (bytes : List ℕ) (i : Ins) (after : List ℕ) → extended_at notation h bytes ≡ (Ok i, after)
+  extended_parts : (bytes : List ℕ) (i : Ins) (after : List ℕ) → extended_at layout h bytes ≡ (Ok i, after)
       → Extended bytes after
   unfolding extended_at
   extended_parts bytes i after e =
-      let a = bind_ok (offset_at notation.limit unsigned_at bytes) after_size i after e in
+      let a = bind_ok (offset_at layout.limit unsigned_at bytes) after_size i after e in
       let b =
-      bind_ok (unsigned_at bytes) (λ n rest. (let r : Read ℕ = (offset_of notation.limit n, rest) in r)) a.0 a.1
+      bind_ok (unsigned_at bytes) (λ n rest. (let r : Read ℕ = (offset_of layout.limit n, rest) in r)) a.0 a.1
       a.2 in
-      let p = offset_same notation.limit b.0 a.0 b.1 a.1 b.3 in
+      let p = offset_same layout.limit b.0 a.0 b.1 a.1 b.3 in
       let c = bind_ok (split_at a.0 a.1) after_inside i after a.3 in
       let q = split_ok a.0 a.1 c.0 c.1 (sym c.2) in
       let d = bind_ok (within_at c.0 byte_at c.1) after_opened i after c.3 in
@@ -336,7 +336,7 @@ module _ (notation : Notation) (h : Header) where
       (omega (arith, length-append tail after, own.1, own.2, after_size, ap length (sym parts.rest), parts.enough))
       (sym parts.rest)
 
-  opened : (x : ℕ) (tail after : List ℕ) (i : Ins) → ins_at notation h (x ∷ (tail ++ after)) ≡ (Ok i, after)
+  opened : (x : ℕ) (tail after : List ℕ) (i : Ins) → ins_at layout h (x ∷ (tail ++ after)) ≡ (Ok i, after)
       → size_at i (x ∷ (tail ++ after))
       ≡ sizes (opcode_size (x ∷ tail)) (length (x ∷ tail) - opcode_size (x ∷ tail)) after
   unfolding ins_at
@@ -344,7 +344,7 @@ module _ (notation : Notation) (h : Header) where
     where
       at_base : (test : Bool)
           → (if test then (let r : Read Ins = (Ok (Special x), tail ++ after) in r)
-          else standard_at notation h x (tail ++ after))
+          else standard_at layout h x (tail ++ after))
           ≡ (Ok i, after)
           → operands_at i (tail ++ after) ≡ (Ok tt, after)
       at_base true e =
@@ -354,9 +354,9 @@ module _ (notation : Notation) (h : Header) where
       at_base false e = standard_passed x (tail ++ after) i after e
 
       at_zero : (test : Bool)
-          → (if test then extended_at notation h (tail ++ after)
+          → (if test then extended_at layout h (tail ++ after)
           else (if nat_le h.parameters.opcode_base x then (let r : Read Ins = (Ok (Special x), tail ++ after) in r)
-          else standard_at notation h x (tail ++ after)))
+          else standard_at layout h x (tail ++ after)))
           ≡ (Ok i, after)
           → sized i (x ∷ (tail ++ after)) (opened_at test (tail ++ after))
           ≡ sizes (opened_size test tail) (suc (length tail) - opened_size test tail) after
@@ -364,33 +364,33 @@ module _ (notation : Notation) (h : Header) where
       at_zero false e = sized_plain x tail after i (at_base (nat_le h.parameters.opcode_base x) e)
 
   -- an instruction's bytes are passed over, and counted
-  pub size_is : (front after : List ℕ) (i : Ins) → SpellsInstruction notation h front i
+  pub size_is : (front after : List ℕ) (i : Ins) → SpellsInstruction layout h front i
       → size_at i (front ++ after) ≡ sizes (opcode_size front) (length front - opcode_size front) after
   size_is front after i s =
-      let e = (reads_instruction notation h).only front i after s in
+      let e = (reads_instruction layout h).only front i after s in
       let whole : front ≡ s.0 ∷ s.2 = s.3 ∙ ap (λ (xs : List ℕ). xs ++ s.2) s.4 in
       subst (λ (xs : List ℕ). size_at i (xs ++ after) ≡ sizes (opcode_size xs) (length xs - opcode_size xs) after)
       (sym whole)
-      (opened s.0 s.2 after i (subst (λ (xs : List ℕ). ins_at notation h (xs ++ after) ≡ (Ok i, after)) whole e))
+      (opened s.0 s.2 after i (subst (λ (xs : List ℕ). ins_at layout h (xs ++ after) ≡ (Ok i, after)) whole e))
 
   -- an instruction has no fewer bytes than those that say which it is
-  pub opcode_within : (front : List ℕ) (i : Ins) → SpellsInstruction notation h front i
+  pub opcode_within : (front : List ℕ) (i : Ins) → SpellsInstruction layout h front i
       → opcode_size front ≤ length front
   unfolding ins_at
   opcode_within front i s =
-      let e = (reads_instruction notation h).only front i [] s in
+      let e = (reads_instruction layout h).only front i [] s in
       let whole : front ≡ s.0 ∷ s.2 = s.3 ∙ ap (λ (xs : List ℕ). xs ++ s.2) s.4 in
       subst (λ (xs : List ℕ). opcode_size xs ≤ length xs) (sym whole)
-      (within s.0 s.2 i (subst (λ (xs : List ℕ). ins_at notation h (xs ++ []) ≡ (Ok i, [])) whole e))
+      (within s.0 s.2 i (subst (λ (xs : List ℕ). ins_at layout h (xs ++ []) ≡ (Ok i, [])) whole e))
     where
-      within : (x : ℕ) (tail : List ℕ) (i : Ins) → ins_at notation h (x ∷ (tail ++ [])) ≡ (Ok i, [])
+      within : (x : ℕ) (tail : List ℕ) (i : Ins) → ins_at layout h (x ∷ (tail ++ [])) ≡ (Ok i, [])
           → opened_size (nat_eq x 0) tail ≤ suc (length tail)
       within x tail i e = at_zero (nat_eq x 0) e
         where
           at_zero : (test : Bool)
-              → (if test then extended_at notation h (tail ++ [])
+              → (if test then extended_at layout h (tail ++ [])
               else (if nat_le h.parameters.opcode_base x then (let r : Read Ins = (Ok (Special x), tail ++ []) in r)
-              else standard_at notation h x (tail ++ [])))
+              else standard_at layout h x (tail ++ [])))
               ≡ (Ok i, [])
               → opened_size test tail ≤ suc (length tail)
           at_zero true e =

@@ -2,7 +2,7 @@
 -- read.
 use Rattle.std.specs.Prelude.{◌≡◌, ◌⊎◌, ◌+◌, ◌-◌, ℕ, Bool, List, [], ◌∷◌, ◌++◌, length, nat_eq}
 use Rattle.std.specs.Prelude.{nat_le, if◌then◌else◌, sum, map}
-use Rattle.gimli_core.specs.Notation.{Notation}
+use Rattle.gimli_core.specs.Layout.{OrderAndLimit}
 use Rattle.gimli_core.specs.Numbers.{word_size}
 use Rattle.gimli_core.specs.Reading.{unsigned_at}
 use Rattle.gimli_core.specs.declared.common.Format.{Format}
@@ -49,15 +49,15 @@ instruction_piece i bytes = record {
 abbrev pub plain_piece : Spent → ℕ → Piece
 plain_piece kind size = record { kind = kind; bytes = size; operands = 0 }
 
-module _ (notation : Notation) (h : Header) where
+module _ (layout : OrderAndLimit) (h : Header) where
   -- the pieces of the bytes of a program: each instruction in turn, and what is left at a fault
   abbrev pub ArePieces : List ℕ → List Piece → Type 0
   ArePieces bytes [] = bytes ≡ []
   ArePieces bytes (piece ∷ pieces) =
       ((i : Ins) × (front : List ℕ) × (rest : List ℕ) × (bytes ≡ front ++ rest)
-      × SpellsInstruction notation h front i × (piece ≡ instruction_piece i front)
+      × SpellsInstruction layout h front i × (piece ≡ instruction_piece i front)
       × ArePieces rest pieces)
-      ⊎ ((e : Error) × (instruction_production notation h).Fault bytes e
+      ⊎ ((e : Error) × (instruction_production layout h).Fault bytes e
       × (piece ≡ plain_piece Unread (length bytes)) × (pieces ≡ []))
 
 -- ---- units

@@ -11,7 +11,7 @@ use std::marker::Model;
 
 /// A line of a file, by the number of its path.
 #[derive(Clone, Copy, PartialEq, Eq, PartialOrd, Ord)]
-pub struct Place {
+pub struct LinePlace {
     /// The number of the path.
     pub path: usize,
     /// The line.
@@ -21,14 +21,14 @@ pub struct Place {
 /// How many bytes of code each place has.
 #[derive(Drop)]
 pub struct Coverage {
-    bytes: BTreeMap<Place, u64>,
+    bytes: BTreeMap<LinePlace, u64>,
 }
 
 impl Model for Coverage {
     ghost use Rattle.std.specs.Prelude.{List, ℕ};
-    ghost use Rattle.lines_counts.specs.declared.coverage.Place.{Place};
+    ghost use Rattle.lines_counts.specs.declared.coverage.LinePlace.{LinePlace};
 
-    ghost Value = { List (Place × ℕ) };
+    ghost Value = { List (LinePlace × ℕ) };
 
     ghost view = { λ a. a.bytes.entries };
 }
@@ -60,7 +60,7 @@ impl Coverage {
     }
 
     /// Adds so many bytes to those of a place.
-    pub fn add(&mut self, place: Place, bytes: u64) -> Result<(), AllocError>
+    pub fn add(&mut self, place: LinePlace, bytes: u64) -> Result<(), AllocError>
         ensures ok { OnOk result (AddsBytes self.old self.new place bytes) }
         ensures err { OnErr result (self.new ≡ self.old) }
     {
@@ -75,8 +75,8 @@ impl Coverage {
         &self,
         alloc: Global,
         new: &Coverage,
-    ) -> Result<BTreeMap<Place, Change>, AllocError>
-        ensures { IfOk result (λ changes. (place : Place) → get place_order changes place
+    ) -> Result<BTreeMap<LinePlace, Change>, AllocError>
+        ensures { IfOk result (λ changes. (place : LinePlace) → get place_order changes place
             ≡ change_at self.now new.now place) }
     {
         let mut changes = BTreeMap::new(alloc);
@@ -90,12 +90,12 @@ impl Coverage {
         &self,
         old: &Coverage,
         new: &Coverage,
-        changes: &mut BTreeMap<Place, Change>,
+        changes: &mut BTreeMap<LinePlace, Change>,
     ) -> Result<(), AllocError>
         requires { IsPart old.now new.now changes.old }
         ensures part { OnOk result (IsPart old.now new.now changes.new) }
         ensures kept { OnOk result (Keeps old.now new.now changes.old changes.new) }
-        ensures added { OnOk result ((place : Place) → bytes_at self.now place ≢ None
+        ensures added { OnOk result ((place : LinePlace) → bytes_at self.now place ≢ None
             → get place_order changes.new place ≡ change_at old.now new.now place) }
     {
         for place in self.bytes.keys() {
@@ -108,10 +108,10 @@ impl Coverage {
     fn keep_change(
         &self,
         new: &Coverage,
-        place: Place,
-        changes: &mut BTreeMap<Place, Change>,
+        place: LinePlace,
+        changes: &mut BTreeMap<LinePlace, Change>,
     ) -> Result<(), AllocError>
-        ensures { OnOk result ((other : Place) → get place_order changes.new other
+        ensures { OnOk result ((other : LinePlace) → get place_order changes.new other
             ≡ with_change (change_at self.now new.now place) (is_at (place_order place) other)
             (get place_order changes.old other)) }
     {
@@ -122,7 +122,7 @@ impl Coverage {
     }
 
     /// How a place differs in a new program, where it does.
-    fn change_of(&self, new: &Coverage, place: Place) -> Option<Change>
+    fn change_of(&self, new: &Coverage, place: LinePlace) -> Option<Change>
         ensures { result ≡ change_at self.now new.now place }
     {
         let old = self.bytes.get(&place).copied();

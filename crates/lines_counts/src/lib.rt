@@ -10,7 +10,7 @@ mod sizes;
 mod spent;
 mod tally;
 
-pub use coverage::{Change, Coverage, Place};
+pub use coverage::{Change, Coverage, LinePlace};
 pub use sizes::{InstructionBytes, instruction_bytes};
 pub use spent::Spent;
 pub use tally::{Share, Tally};

@@ -1,7 +1,7 @@
 //! How many bytes an instruction has.
 
 ghost use Rattle.std.specs.Prelude.{◌≡◌, ◌-◌, ◌++◌, ℕ, List, Ok, length};
-ghost use Rattle.gimli_core.specs.Notation.{Notation};
+ghost use Rattle.gimli_core.specs.Layout.{OrderAndLimit};
 ghost use Rattle.gimli_core.specs.Reading.{unsigned_at};
 ghost use Rattle.gimli_line.specs.header.Header.{Header};
 ghost use Rattle.gimli_line.specs.run.Instruction.{ins_seen};
@@ -35,17 +35,17 @@ pub fn instruction_bytes<R: Reader>(
     instruction: &LineInstruction<R>,
     rest: &mut R,
 ) -> Result<InstructionBytes>
-    ensures sizes { (notation : Notation) (h : Header) (front after : List ℕ)
-        → R.bytes rest.old ≡ front ++ after → SpellsInstruction notation h front
+    ensures sizes { (layout : OrderAndLimit) (h : Header) (front after : List ℕ)
+        → R.bytes rest.old ≡ front ++ after → SpellsInstruction layout h front
         (ins_seen R.bytes R.Offset.number instruction.now)
         → result ≡ Ok (record {
           opcode = opcode_size front;
           operands = length front - opcode_size front;
         }) }
-    ensures left { (notation : Notation) (h : Header) (front after : List ℕ)
-        → R.bytes rest.old ≡ front ++ after → SpellsInstruction notation h front
+    ensures left { (layout : OrderAndLimit) (h : Header) (front after : List ℕ)
+        → R.bytes rest.old ≡ front ++ after → SpellsInstruction layout h front
         (ins_seen R.bytes R.Offset.number instruction.now) → R.bytes rest.new ≡ after }
-    ensures order { R.big rest.new ≡ R.big rest.old }
+    ensures order { R.is_big rest.new ≡ R.is_big rest.old }
 {
     count_bytes(instruction, rest)
 }
@@ -57,7 +57,7 @@ fn count_bytes<R: Reader>(
 ) -> Result<InstructionBytes>
     ensures read { (result, R.bytes rest.new) ≡ size_at
         (ins_seen R.bytes R.Offset.number instruction.now) (R.bytes rest.old) }
-    ensures order { R.big rest.new ≡ R.big rest.old }
+    ensures order { R.is_big rest.new ≡ R.is_big rest.old }
 {
     let whole = rest.len().into_u64();
     let size = skip_opcode(rest)?;
@@ -73,7 +73,7 @@ fn count_bytes<R: Reader>(
 /// its opcode and its operands have.
 fn skip_opcode<R: Reader>(rest: &mut R) -> Result<Option<u64>>
     ensures read { (result, R.bytes rest.new) ≡ opcode_at (R.bytes rest.old) }
-    ensures order { R.big rest.new ≡ R.big rest.old }
+    ensures order { R.is_big rest.new ≡ R.is_big rest.old }
 {
     if rest.read_u8()? != 0 {
         return Ok(None);
@@ -91,7 +91,7 @@ fn skip_rest<R: Reader>(
 ) -> Result<()>
     ensures read { (result, R.bytes rest.new) ≡ rest_at
         (ins_seen R.bytes R.Offset.number instruction.now) size (R.bytes rest.old) }
-    ensures order { R.big rest.new ≡ R.big rest.old }
+    ensures order { R.is_big rest.new ≡ R.is_big rest.old }
 {
     match size {
         Some(size) => skip_bytes(size.saturating_sub(1), rest),
@@ -102,7 +102,7 @@ fn skip_rest<R: Reader>(
 /// Takes so many bytes away.
 fn skip_bytes<R: Reader>(count: u64, rest: &mut R) -> Result<()>
     ensures read { (result, R.bytes rest.new) ≡ bytes_after count (R.bytes rest.old) }
-    ensures order { R.big rest.new ≡ R.big rest.old }
+    ensures order { R.is_big rest.new ≡ R.is_big rest.old }
 {
     for _ in 0..count {
         rest.read_u8()?;
@@ -114,7 +114,7 @@ fn skip_bytes<R: Reader>(count: u64, rest: &mut R) -> Result<()>
 fn skip_operands<R: Reader>(instruction: &LineInstruction<R>, rest: &mut R) -> Result<()>
     ensures read { (result, R.bytes rest.new)
         ≡ operands_at (ins_seen R.bytes R.Offset.number instruction.now) (R.bytes rest.old) }
-    ensures order { R.big rest.new ≡ R.big rest.old }
+    ensures order { R.is_big rest.new ≡ R.is_big rest.old }
 {
     match instruction {
         LineInstruction::AdvancePc(_) => skip_unsigned(rest),
@@ -135,7 +135,7 @@ fn skip_operands<R: Reader>(instruction: &LineInstruction<R>, rest: &mut R) -> R
 /// Takes an unsigned LEB128 number away.
 fn skip_unsigned<R: Reader>(rest: &mut R) -> Result<()>
     ensures read { (result, R.bytes rest.new) ≡ passed (unsigned_at (R.bytes rest.old)) }
-    ensures order { R.big rest.new ≡ R.big rest.old }
+    ensures order { R.is_big rest.new ≡ R.is_big rest.old }
 {
     rest.read_uleb128()?;
     Ok(())

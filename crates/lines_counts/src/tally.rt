@@ -83,7 +83,7 @@ impl Tally {
         bytes: u64,
     ) -> Option<Error>
         ensures { (pieces : List Piece)
-            × ArePieces header.now.notation header.now.meaning header.now.meaning.program pieces
+            × ArePieces header.now.layout header.now.meaning header.now.meaning.program pieces
             × Counts self.old (header_pieces header.now.meaning bytes ++ pieces) self.new }
     {
         let fields = header_bytes(header);
@@ -111,7 +111,7 @@ impl Tally {
     fn add_program<R: Reader>(&mut self, header: &LineProgramHeader<R>, program: R) -> Option<Error>
         requires { R.bytes program ≡ header.now.meaning.program }
         ensures { (pieces : List Piece)
-            × ArePieces header.now.notation header.now.meaning header.now.meaning.program pieces
+            × ArePieces header.now.layout header.now.meaning header.now.meaning.program pieces
             × Counts self.old pieces self.new }
     {
         let mut rest = program;
@@ -128,10 +128,10 @@ impl Tally {
         rest: &mut R,
     ) -> Result<()>
         requires bytes { R.bytes rest.old ≡ header.now.meaning.program }
-        ensures counted { AreCounted header.now.notation header.now.meaning
+        ensures counted { AreCounted header.now.layout header.now.meaning
             header.now.meaning.program self.old (R.bytes rest.new) self.new }
         ensures end { OnOk result (R.bytes rest.new ≡ []) }
-        ensures fault { IfErr result ((instruction_production header.now.notation
+        ensures fault { IfErr result ((instruction_production header.now.layout
             header.now.meaning).Fault (R.bytes rest.new)) }
         ensures some { OnErr result (R.bytes rest.new ≢ []) }
     {

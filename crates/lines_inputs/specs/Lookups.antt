@@ -13,17 +13,17 @@ use Rattle.line_text.specs.OrderAndSize.{size_number}
 -- these are the units of the line programs that are read, and what is kept of each
 abbrev pub AreUnitsIn : {R : Type 0} → (R → List ℕ) → (R → Bool) → ℕ → Input R → List KeptUnit
     → Type 0
-AreUnitsIn bytes big limit input units =
-    AreUnitsOf (unread_of bytes big limit input.lines)
+AreUnitsIn bytes is_big limit input units =
+    AreUnitsOf (unread_of bytes is_big limit input.lines)
     (unit_entry bytes (size_number input.notation.address_size) None None)
     input.notation.lowest units
 
 -- what was read for a command: all units, or what is found in them at some addresses
 abbrev pub IsReadFrom : {R E O : Type 0} → (R → List ℕ) → (R → Bool) → ℕ → Input R
     → Covering R E O → Type 0
-IsReadFrom bytes big limit input (Kept units) = AreUnitsIn bytes big limit input units
-IsReadFrom bytes big limit input (Found addresses found) =
-    AreFoundInSection (unread_of bytes big limit input.lines)
+IsReadFrom bytes is_big limit input (Kept units) = AreUnitsIn bytes is_big limit input units
+IsReadFrom bytes is_big limit input (Found addresses found) =
+    AreFoundInSection (unread_of bytes is_big limit input.lines)
     (unit_entry bytes (size_number input.notation.address_size) None None)
     input.notation.lowest addresses.items found.units.items found.rows.items
 

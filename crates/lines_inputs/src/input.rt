@@ -16,7 +16,7 @@ use gimli_core::{EndianSlice, Endianity, Reader, ReaderOffset, Section};
 use gimli_line::DebugLine;
 use gimli_lookup::StringSections;
 use line_text::Slice;
-use lines_words::{Files, Kind, Notation, Output};
+use lines_words::{Files, InputKind, Notation, Output};
 use std::alloc::{AllocError, Global};
 use std::fmt;
 
@@ -60,7 +60,7 @@ impl<R: Reader> Input<R> {
 /// The sections of a program that commands read, and how they are read. An [`Input`] borrows from
 /// it.
 #[derive(Drop)]
-pub struct Program<'i> {
+pub struct InputSections<'i> {
     notation: Notation,
     /// The line programs.
     lines: SectionBytes<'i>,
@@ -125,20 +125,20 @@ impl<'i> OtherSections<'i> {
     }
 }
 
-impl<'i> Program<'i> {
+impl<'i> InputSections<'i> {
     /// The sections of files; in an object file each section stands at 0. Refused as `InputError`
     /// says.
-    pub fn new(alloc: Global, kind: Kind, files: Files<'i>) -> Result<Program<'i>, InputError>
-        ensures elf { kind ≡ Kind.Elf → OnOk result
+    pub fn new(alloc: Global, kind: InputKind, files: Files<'i>) -> Result<InputSections<'i>, InputError>
+        ensures elf { kind ≡ InputKind.Elf → OnOk result
             (HasLines files.entry.limit files.entry.file.now) }
     {
         match kind {
-            Kind::Elf => {
+            InputKind::Elf => {
                 let elf = Elf::parse(files.file)?;
-                let program = Program::of_elf(alloc, files, elf, SectionPlace::AllAtZero)?;
+                let program = InputSections::of_elf(alloc, files, elf, SectionPlace::AllAtZero)?;
                 Ok(program)
             }
-            Kind::Raw(notation) => Ok(Program {
+            InputKind::Raw(notation) => Ok(InputSections {
                 notation,
                 lines: SectionBytes::Lent(files.file),
                 others: OtherSections::lent(alloc, files)?,
@@ -155,12 +155,12 @@ impl<'i> Program<'i> {
         alloc: Global,
         files: Files<'i>,
         name: &[u8],
-    ) -> Result<Option<Program<'i>>, InputError> {
+    ) -> Result<Option<InputSections<'i>>, InputError> {
         let elf = Elf::parse(files.file)?;
         let Some(index) = elf.section_index(name) else {
             return Ok(None);
         };
-        let program = Program::of_elf(alloc, files, elf, SectionPlace::Only(index))?;
+        let program = InputSections::of_elf(alloc, files, elf, SectionPlace::Only(index))?;
         Ok(Some(program))
     }
 
@@ -170,7 +170,7 @@ impl<'i> Program<'i> {
         files: Files<'i>,
         elf: Elf<'i>,
         place: SectionPlace,
-    ) -> Result<Program<'i>, InputError>
+    ) -> Result<InputSections<'i>, InputError>
         ensures { OnOk result ((is_split : Bool) × (section : List ℕ)
             × (relocated_at (file_of elf.entry) place files.entry.limit (lines_name is_split)
             ≡ Ok (Some section))) }
@@ -187,7 +187,7 @@ impl<'i> Program<'i> {
         let lowest = lowest.unwrap_or(0);
         let code_end = elf.code_end().filter(|_| is_linked);
         let code_end = code_end.unwrap_or(u64::MAX);
-        Ok(Program {
+        Ok(InputSections {
             notation: Notation::new(elf.is_big_endian(), elf.address_size(), lowest, code_end),
             lines,
             others: OtherSections::of_elf(source)?,

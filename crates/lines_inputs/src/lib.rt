@@ -11,7 +11,7 @@ mod units;
 
 pub use files::{build_id_in, write_file};
 pub use functions::Functions;
-pub use input::{Input, InputError, Program, tell_refusal};
+pub use input::{Input, InputError, InputSections, tell_refusal};
 pub use lookup::{Covering, look_up, look_up_any, look_up_each};
 pub use path_sources::{PathFault, PathSources};
 pub use units::{

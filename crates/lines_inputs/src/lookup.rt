@@ -54,7 +54,7 @@ pub fn look_up_any<R: Reader>(
     input: &Input<R>,
     output: &mut Output<'_>,
 ) -> Result<Covering<R>, AllocError>
-    ensures read { IfOk result (IsReadFrom R.bytes R.big R.Offset.limit input.now) }
+    ensures read { IfOk result (IsReadFrom R.bytes R.is_big R.Offset.limit input.now) }
     ensures any { IfOk result (λ covering. (a : ℕ) → Knows covering a) }
 {
     let lookup = look_up(alloc, input, output)?;
@@ -69,7 +69,7 @@ pub fn look_up_each<R: Reader>(
     addresses: Vec<u64>,
     output: &mut Output<'_>,
 ) -> Result<Covering<R>, AllocError>
-    ensures read { IfOk result (IsReadFrom R.bytes R.big R.Offset.limit input.now) }
+    ensures read { IfOk result (IsReadFrom R.bytes R.is_big R.Offset.limit input.now) }
     ensures each { IfOk result (λ covering. All (Knows covering) addresses.items) }
 {
     if addresses.len() > FEW {
@@ -92,7 +92,7 @@ pub fn look_up<R: Reader>(
     input: &Input<R>,
     output: &mut Output<'_>,
 ) -> Result<SectionLookup<R>, AllocError>
-    ensures { IfOk result (AreUnitsIn R.bytes R.big R.Offset.limit input.now) }
+    ensures { IfOk result (AreUnitsIn R.bytes R.is_big R.Offset.limit input.now) }
 {
     let (size, lowest) = (input.notation.address_size.bytes(), input.notation.lowest);
     match SectionLookup::new(&input.lines, alloc, size, lowest) {

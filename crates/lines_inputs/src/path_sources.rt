@@ -34,7 +34,7 @@ impl<R: Reader> PathSources<R> {
     /// Reads the first entry of each unit of `.debug_info` once.
     pub fn new(alloc: Global, input: &Input<R>) -> Result<PathSources<R>, AllocError>
         ensures directories { IfOk result (λ sources.
-            TellsDirectories (sections_of R.bytes R.big R.Offset.limit input.now.compilations)
+            TellsDirectories (sections_of R.bytes R.is_big R.Offset.limit input.now.compilations)
             (λ line. option_map R.bytes (directory_for sources.compilations line))) }
         ensures strings { IfOk result (λ sources. sources.strings ≡ input.now.strings) }
     {

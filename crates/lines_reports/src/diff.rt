@@ -4,7 +4,7 @@ use crate::path_numbers::PathNumbers;
 use crate::report::Reading;
 use gimli_core::Reader;
 use gimli_line::{LineProgramHeader, LineRow};
-use lines_counts::{Change, Coverage, Place};
+use lines_counts::{Change, Coverage, LinePlace};
 use lines_inputs::{Input, Printing, UnitRows, line_of};
 use lines_pieces::{Piece, Result, add, print, print_fields};
 use lines_words::{Json, Output, UnitChoice};
@@ -65,7 +65,7 @@ impl<R: Reader> Diff<R> {
     }
 
     /// Prints a line that differs.
-    fn print_change(&self, place: Place, change: Change, output: &mut Output<'_>) {
+    fn print_change(&self, place: LinePlace, change: Change, output: &mut Output<'_>) {
         let path = self.paths.path(place.path);
         if output.is_json() {
             let fields = [
@@ -159,7 +159,7 @@ impl<R: Reader> Side<R> {
         if row.address() < self.reading.input.notation.lowest || end <= row.address() {
             return Ok(());
         }
-        let place = Place {
+        let place = LinePlace {
             path: paths.number_of(header, row.file_index(), &self.reading)?,
             line: line_of(row),
         };

@@ -15,7 +15,7 @@ pub struct Request<'w> {
     /// The file, as it was named; empty where none is.
     pub file: &'w str,
     /// How the file is read.
-    pub kind: Kind,
+    pub kind: InputKind,
     /// The file with the section `.debug_line_str`, for a raw section.
     pub line_str: Option<&'w str>,
     /// The file with the section `.debug_str`, for a raw section.
@@ -175,7 +175,7 @@ impl UnitChoice {
 
 /// How the bytes of a file are read.
 #[derive(Clone, Copy)]
-pub enum Kind {
+pub enum InputKind {
     /// An ELF file, which says its order of bytes and its address size.
     Elf,
     /// Sections by themselves: `.debug_line`, and those that it goes with.

@@ -8,7 +8,7 @@ use crate::kinds::{CheckChoice, add_kinds};
 use crate::numbers::{parse_address, parse_code_address, parse_offset, parse_target};
 use crate::path_text::{MessageText, NameText};
 use crate::request::{
-    CodeAddress, Command, Form, Kind, LineNames, Notation, PathForm, Request, SourcePlace,
+    CodeAddress, Command, Form, InputKind, LineNames, Notation, PathForm, Request, SourcePlace,
     UnitChoice,
 };
 use clap::error::ErrorKind;
@@ -137,17 +137,17 @@ fn request_of<'w>(alloc: Global, matches: &ArgMatches<'w>) -> Result<Request<'w>
 }
 
 /// How the file is read: an address of a raw section is so wide where its unit doesn't say.
-fn kind_of<'w>(matches: &ArgMatches<'w>) -> Result<Kind, Mistake<'w>> {
+fn kind_of<'w>(matches: &ArgMatches<'w>) -> Result<InputKind, Mistake<'w>> {
     let order = said!(matches, "raw", parse_order);
     let size = said!(matches, "address-size", parse_size);
     Ok(match order {
-        Some(order) => Kind::Raw(Notation {
+        Some(order) => InputKind::Raw(Notation {
             order,
             address_size: size.unwrap_or(AddressSize::Eight),
             lowest: 0,
             code_end: u64::MAX,
         }),
-        None => Kind::Elf,
+        None => InputKind::Elf,
     })
 }
 

@@ -60,18 +60,18 @@ fn perform<F: Read + Drop, O: Write>(
     match command {
         Command::Demo => print_demo(alloc, out),
         Command::DemoPieces => print_demo_pieces(alloc, out),
-        Command::Rows(location) => print_unit(alloc, file, location, Part::Rows, out),
-        Command::Sequences(location) => print_unit(alloc, file, location, Part::Sequences, out),
+        Command::Rows(location) => print_unit(alloc, file, location, Printed::Rows, out),
+        Command::Sequences(location) => print_unit(alloc, file, location, Printed::Sequences, out),
         Command::Units(numbers) => print_units(alloc, file, numbers, out),
         Command::Find(query) => {
-            print_unit(alloc, file, query.location, Part::Pair(query.address), out)
+            print_unit(alloc, file, query.location, Printed::Pair(query.address), out)
         }
     }
 }
 
 /// What is printed of a unit.
 #[derive(Clone, Copy)]
-enum Part {
+enum Printed {
     /// Its rows.
     Rows,
     /// Its sequences, each with its rows.
@@ -85,7 +85,7 @@ fn print_unit<F: Read + Drop, O: Write>(
     alloc: Global,
     file: Option<F>,
     location: UnitLocation,
-    part: Part,
+    part: Printed,
     out: &mut O,
 ) -> Result<(), Refusal>
     ensures no_file { IsNone file → result ≡ Err Refusal.File }
@@ -99,7 +99,7 @@ fn print_unit_of<O: Write>(
     alloc: Global,
     section: &[u8],
     location: UnitLocation,
-    part: Part,
+    part: Printed,
     out: &mut O,
 ) -> Result<(), Refusal> {
     print_part(program_at(alloc, section, location)?, part, out)
@@ -108,13 +108,13 @@ fn print_unit_of<O: Write>(
 /// Prints a part of a program, and flushes what was printed.
 fn print_part<R: Reader, O: Write>(
     program: IncompleteLineProgram<R>,
-    part: Part,
+    part: Printed,
     out: &mut O,
 ) -> Result<(), Refusal> {
     let outcome = match part {
-        Part::Rows => print_program(program, out),
-        Part::Sequences => print_sequences(program, out),
-        Part::Pair(address) => print_pair(program, address, out),
+        Printed::Rows => print_program(program, out),
+        Printed::Sequences => print_sequences(program, out),
+        Printed::Pair(address) => print_pair(program, address, out),
     };
     finish(outcome, out)
 }

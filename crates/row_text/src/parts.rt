@@ -9,7 +9,7 @@ use std::mem;
 
 /// A part with a name, and its bytes in either order of its unit lengths.
 #[derive(Drop)]
-struct Part<'t> {
+struct NamedPart<'t> {
     name: &'t str,
     little: Expansion,
     big: Expansion,
@@ -19,7 +19,7 @@ struct Part<'t> {
 #[derive(Drop)]
 pub struct Parts<'t> {
     alloc: Global,
-    parts: Vec<Part<'t>>,
+    parts: Vec<NamedPart<'t>>,
 }
 
 impl<'t> Parts<'t> {
@@ -37,7 +37,7 @@ impl<'t> Parts<'t> {
         let (name, text) = line.split_once(char::is_whitespace).unwrap_or((line, ""));
         let little = Expansion::new(self.alloc, RunTimeEndian::Little);
         let big = Expansion::new(self.alloc, RunTimeEndian::Big);
-        self.put_part(Part { name, little, big }, text)
+        self.put_part(NamedPart { name, little, big }, text)
     }
 
     /// Adds bytes to the last part.
@@ -49,7 +49,7 @@ impl<'t> Parts<'t> {
     }
 
     /// Appends bytes to a part, and makes it the last one. The bytes may name the parts before it.
-    fn put_part(&mut self, mut part: Part<'t>, text: &str) -> Result<(), Stop> {
+    fn put_part(&mut self, mut part: NamedPart<'t>, text: &str) -> Result<(), Stop> {
         part.little.put_text(self, text)?;
         part.big.put_text(self, text)?;
         self.parts.push(part)?;

@@ -47,7 +47,7 @@ pub fn parse_rows<'t>(alloc: Global, text: &'t str) -> Result<Vec<TestRow<'t>>, 
         rows: Vec::new(alloc),
         parts: Parts::new(alloc),
         text: String::new(alloc),
-        place: Place::Head,
+        place: RowPlace::Head,
     };
     let mut count = 0usize;
     for line in text.lines() {
@@ -60,7 +60,7 @@ pub fn parse_rows<'t>(alloc: Global, text: &'t str) -> Result<Vec<TestRow<'t>>, 
 
 /// What stands at the next line.
 #[derive(Clone, Copy)]
-enum Place {
+enum RowPlace {
     /// A command, or what comes before it.
     Head,
     /// The input of a row, or a further command as long as there is none.
@@ -77,7 +77,7 @@ struct RowsReader<'t> {
     parts: Parts<'t>,
     /// The lines of the last row's input.
     text: String,
-    place: Place,
+    place: RowPlace,
 }
 
 impl<'t> RowsReader<'t> {
@@ -89,11 +89,11 @@ impl<'t> RowsReader<'t> {
             return self.begin_row(name.trim());
         }
         match (self.place, line.strip_prefix(":= ")) {
-            (Place::Output, Some(_)) => Err(Stop::Bad),
-            (Place::Output, None) => self.take_output(line),
+            (RowPlace::Output, Some(_)) => Err(Stop::Bad),
+            (RowPlace::Output, None) => self.take_output(line),
             (_, Some(part)) => self.parts.define(part.trim()),
-            (Place::Input, None) => self.take_input(line.trim_end()),
-            (Place::Head, None) => self.take_head(line.trim()),
+            (RowPlace::Input, None) => self.take_input(line.trim_end()),
+            (RowPlace::Head, None) => self.take_head(line.trim()),
         }
     }
 
@@ -103,7 +103,7 @@ impl<'t> RowsReader<'t> {
             return Err(Stop::Bad);
         }
         self.text.clear();
-        self.place = Place::Head;
+        self.place = RowPlace::Head;
         self.rows.push(TestRow {
             name,
             commands: Vec::new(self.alloc),
@@ -128,7 +128,7 @@ impl<'t> RowsReader<'t> {
 
     /// Adds a command to the last row. Refused where there is none.
     fn push_command(&mut self, words: &'t str) -> Result<(), Stop> {
-        self.place = Place::Input;
+        self.place = RowPlace::Input;
         let row = self.rows.last_mut().ok_or(Stop::Bad)?;
         row.commands.push(RowCommand {
             words: words.trim(),
@@ -153,7 +153,7 @@ impl<'t> RowsReader<'t> {
 
     /// Ends the input, and makes of it what each command is given.
     fn end_input(&mut self, must_differ: bool) -> Result<(), Stop> {
-        self.place = Place::Output;
+        self.place = RowPlace::Output;
         let row = self.rows.last_mut().ok_or(Stop::Bad)?;
         row.must_differ = must_differ;
         for command in &mut row.commands {
@@ -183,7 +183,7 @@ impl<'t> RowsReader<'t> {
     /// Ends the row, if there is one. Refused where it has no output, and where a part isn't ended.
     fn end_row(&mut self) -> Result<(), Stop> {
         match self.place {
-            Place::Output => self.parts.finish(),
+            RowPlace::Output => self.parts.finish(),
             _ if self.rows.is_empty() => self.parts.finish(),
             _ => Err(Stop::Bad),
         }

@@ -1,7 +1,7 @@
 //! Sections whose bytes can be had, and a section in an array.
 
 ghost use Rattle.std.specs.Prelude.{◌≤◌, length, take, false};
-ghost use Rattle.gimli_core.specs.Order.{is_big};
+ghost use Rattle.gimli_core.specs.Order.{is_big_endian};
 
 use gimli_core::{RunTimeEndian, SectionId};
 use gimli_write::{Address, EndianVec, Error, PieceVec, Result, Sink, Writer};
@@ -60,7 +60,7 @@ impl Sink for ArraySection {
 
     ghost contents = { λ w. take w.len w.bytes.items };
 
-    ghost big = { λ w. is_big w.endian };
+    ghost is_big = { λ w. is_big_endian w.endian };
 
     ghost keeps_bytes = { false };
 

@@ -41,7 +41,7 @@ impl<'i> Reader for OwnReader<'i> {
 
     ghost bytes = { λ r. r.slice.now };
 
-    ghost big = { λ r. false };
+    ghost is_big = { λ r. false };
 
     fn endian(&self) -> LittleEndian {
         LittleEndian

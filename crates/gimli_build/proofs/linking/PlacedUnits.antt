@@ -41,19 +41,19 @@ use Rattle.gimli_build.proofs.linking.SameBytes.{IsAlike, whole-alike, items-pla
 
 -- ---- items
 
-module _ (at : Placement) (big : Bool) (encoding : Encoding) (e : LineEncoding) where
+module _ (at : Placement) (is_big : Bool) (encoding : Encoding) (e : LineEncoding) where
   items_placed : (previous : LineRow) (items : List BuiltItem) → All (AddressFits at encoding.address_size) items
-      → items_bytes (placed at) big encoding e previous items
-      ≡ items_bytes plain big encoding e previous (map (placed_item at) items)
+      → items_bytes (placed at) is_big encoding e previous items
+      ≡ items_bytes plain is_big encoding e previous (map (placed_item at) items)
   items_placed previous [] fit = refl
   items_placed previous (SetAddress a ∷ items) fit =
       let size = encoding.address_size in
       let next = next_previous encoding.version e.default_is_stmt previous (SetAddress a) in
-      let first : set_address_bytes (placed at) big a size ≡ set_address_bytes plain big (address_placed at a) size =
+      let first : set_address_bytes (placed at) is_big a size ≡ set_address_bytes plain is_big (address_placed at a) size =
       ap (result_map (λ operand. 0 ∷ uleb (size + 1) ++ DW_LNE_set_address ∷ operand))
       (placed-address at _ a _ (All-head (AddressFits at size) _ _ fit)) in
-      ap (λ r. result_append r (items_bytes (placed at) big encoding e next items)) first
-      ∙ ap (λ r. result_append (set_address_bytes plain big (address_placed at a) size) r)
+      ap (λ r. result_append r (items_bytes (placed at) is_big encoding e next items)) first
+      ∙ ap (λ r. result_append (set_address_bytes plain is_big (address_placed at a) size) r)
       (items_placed next items (All-tail (AddressFits at size) _ _ fit))
   items_placed previous (Row r ∷ items) fit =
       ap (λ s. result_append (Ok (instructions_bytes (row_instructions encoding.version e previous r))) s)
@@ -65,62 +65,62 @@ module _ (at : Placement) (big : Bool) (encoding : Encoding) (e : LineEncoding) 
 
 -- ---- texts
 
-module _ (at : Placement) (big : Bool) (p : Built) (texts : StringTables) where
+module _ (at : Placement) (is_big : Bool) (p : Built) (texts : StringTables) where
   -- an offset that fits, as does what it becomes
   offset_counted : (section : SectionId) (n size : ℕ) → n < 256 ^ size → at.section section n < 256 ^ size
-      → placed_offset at big section n size ≡ section_word big (at.section section n) size
+      → placed_offset at is_big section n size ≡ section_word is_big (at.section section n) size
   offset_counted section n size fits placed_fits =
-      ap (λ k. lowest_bytes big (at.section section k) size) (mod-eq_of_lt fits) ∙ placed-word _ _ _ placed_fits
+      ap (λ k. lowest_bytes is_big (at.section section k) size) (mod-eq_of_lt fits) ∙ placed-word _ _ _ placed_fits
 
   text_counted : (t : LineText) → OffsetFits at p.encoding.format texts t
-      → IsAlike (placed at) (counted at) big p texts t
+      → IsAlike (placed at) (counted at) is_big p texts t
   text_counted (Inline text) fits = refl
   text_counted (InStrings i) fits = offset_counted _ _ _ fits.0 fits.1
   text_counted (InLineStrings i) fits = offset_counted _ _ _ fits.0 fits.1
 
   text_plain : TextsBeginAtZero at → (t : LineText) → OffsetFits at p.encoding.format texts t
-      → IsAlike (placed at) plain big p texts t
+      → IsAlike (placed at) plain is_big p texts t
   text_plain zero (Inline text) fits = refl
   text_plain zero (InStrings i) fits =
       text_counted (InStrings i) fits
-      ∙ ap (λ m. section_word big m (word_size p.encoding.format)) (zero.strings _)
+      ∙ ap (λ m. section_word is_big m (word_size p.encoding.format)) (zero.strings _)
   text_plain zero (InLineStrings i) fits =
       text_counted (InLineStrings i) fits
-      ∙ ap (λ m. section_word big m (word_size p.encoding.format)) (zero.line_strings _)
+      ∙ ap (λ m. section_word is_big m (word_size p.encoding.format)) (zero.line_strings _)
 
 -- ---- units
 
-unit_alike : (h k : Hand) (big : Bool) (unit : Encoding) (p q : Built) (texts : StringTables) → q.encoding ≡ p.encoding
-    → whole_bytes h big p (texts_after p texts) ≡ whole_bytes k big q (texts_after q texts)
-    → unit_bytes h big unit p texts ≡ unit_bytes k big unit q texts
-unit_alike h k big unit p q texts encoding same =
+unit_alike : (h k : Hand) (is_big : Bool) (unit : Encoding) (p q : Built) (texts : StringTables) → q.encoding ≡ p.encoding
+    → whole_bytes h is_big p (texts_after p texts) ≡ whole_bytes k is_big q (texts_after q texts)
+    → unit_bytes h is_big unit p texts ≡ unit_bytes k is_big unit q texts
+unit_alike h k is_big unit p q texts encoding same =
     grind arith
 
-module _ (at : Placement) (big : Bool) (unit : Encoding) (p : Built) (texts : StringTables)
+module _ (at : Placement) (is_big : Bool) (unit : Encoding) (p : Built) (texts : StringTables)
     (fit : SumsFit at p (texts_after p texts)) where
-  program_placed : program_bytes (placed at) big p ≡ program_bytes plain big (placed_program at p)
-  program_placed = items_placed at big p.encoding p.line_encoding _ _ fit.addresses
+  program_placed : program_bytes (placed at) is_big p ≡ program_bytes plain is_big (placed_program at p)
+  program_placed = items_placed at is_big p.encoding p.line_encoding _ _ fit.addresses
 
   placed_by : (hand : Hand)
-      → program_bytes plain big (placed_program at p) ≡ program_bytes hand big (placed_program at p)
+      → program_bytes plain is_big (placed_program at p) ≡ program_bytes hand is_big (placed_program at p)
       → ((t : LineText) → OffsetFits at p.encoding.format (texts_after p texts) t
-      → IsAlike (placed at) hand big p (texts_after p texts) t)
-      → unit_bytes (placed at) big unit p texts ≡ unit_bytes hand big unit (placed_program at p) texts
+      → IsAlike (placed at) hand is_big p (texts_after p texts) t)
+      → unit_bytes (placed at) is_big unit p texts ≡ unit_bytes hand is_big unit (placed_program at p) texts
   placed_by hand numbers alike =
       unit_alike (placed at) hand _ unit p (placed_program at p) texts refl
-      (whole-alike (placed at) hand big p (texts_after p texts) (map (placed_item at) p.items)
+      (whole-alike (placed at) hand is_big p (texts_after p texts) (map (placed_item at) p.items)
       (λ new. All-weaker _ _ (λ t fits. alike t.1 fits) _ (fit.offsets new))
       (program_placed ∙ numbers))
 
-  pub placed-counted : unit_bytes (placed at) big unit p texts
-      ≡ unit_bytes (counted at) big unit (placed_program at p) texts
+  pub placed-counted : unit_bytes (placed at) is_big unit p texts
+      ≡ unit_bytes (counted at) is_big unit (placed_program at p) texts
   placed-counted =
-      placed_by (counted at) (sym (items-plain at big p.encoding p.line_encoding _ (map (placed_item at) p.items)))
-      (text_counted at big p (texts_after p texts))
+      placed_by (counted at) (sym (items-plain at is_big p.encoding p.line_encoding _ (map (placed_item at) p.items)))
+      (text_counted at is_big p (texts_after p texts))
 
   pub placed-plain : TextsBeginAtZero at
-      → unit_bytes (placed at) big unit p texts ≡ unit_bytes plain big unit (placed_program at p) texts
-  placed-plain zero = placed_by plain refl (text_plain at big p (texts_after p texts) zero)
+      → unit_bytes (placed at) is_big unit p texts ≡ unit_bytes plain is_big unit (placed_program at p) texts
+  placed-plain zero = placed_by plain refl (text_plain at is_big p (texts_after p texts) zero)
 
   -- 64 bits hold what the offsets of texts become
   pub placed-short : 5 ≤ p.encoding.version

@@ -2,7 +2,7 @@
 use Rattle.std.proofs.Common.{◌≡◌, ℕ, ◌<◌, ◌≤◌, List, [], ◌∷◌, Ok, refl, sym, ap, ◌∙◌, subst, lit<, map}
 use Rattle.std.specs.Prelude.{None, IsTrue}
 use Rattle.std.proofs.lemmas.List.{append-nil}
-use Rattle.gimli_core.specs.Notation.{Notation}
+use Rattle.gimli_core.specs.Layout.{OrderAndLimit}
 use Rattle.gimli_core.specs.Numbers.{is_address_size}
 use Rattle.gimli_core.specs.Production.{Each}
 use Rattle.gimli_core.specs.declared.common.Encoding.{Encoding}
@@ -34,10 +34,10 @@ use Rattle.gimli_build.proofs.spellings.ItemSpellings.{items-spelled}
 -- ---- the decoding
 
 -- bytes that are spellings and nothing else are decoded into these
-cut_whole : (notation : Notation) (h : Header) (bytes : List ℕ) (list : List Ins)
-    → Each (SpellsInstruction notation h) bytes list
-    → Decodes notation h bytes list None
-cut_whole notation h bytes list spelled = record {
+cut_whole : (layout : OrderAndLimit) (h : Header) (bytes : List ℕ) (list : List Ins)
+    → Each (SpellsInstruction layout h) bytes list
+    → Decodes layout h bytes list None
+cut_whole layout h bytes list spelled = record {
   front = bytes;
   rest = [];
   parts = sym (append-nil bytes);
@@ -46,32 +46,32 @@ cut_whole notation h bytes list spelled = record {
 }
 
 -- the items of a unit whose header has this encoding
-spelled_under : (notation : Notation) (h : Header) (encoding : Encoding) (e : LineEncoding) (items : List BuiltItem)
+spelled_under : (layout : OrderAndLimit) (h : Header) (encoding : Encoding) (e : LineEncoding) (items : List BuiltItem)
     (bytes : List ℕ)
-    → h.parameters.encoding ≡ encoding → h.parameters.opcode_base ≡ 13 → 11 < notation.limit → CanEncode e
+    → h.parameters.encoding ≡ encoding → h.parameters.opcode_base ≡ 13 → 11 < layout.limit → CanEncode e
     → AreBuilt e (0, 0) items
     → AreFit encoding.version items
-    → items_bytes plain notation.big encoding e (initial_row encoding.version e.default_is_stmt) items ≡ Ok bytes
-    → Each (SpellsInstruction notation h) bytes
+    → items_bytes plain layout.is_big encoding e (initial_row encoding.version e.default_is_stmt) items ≡ Ok bytes
+    → Each (SpellsInstruction layout h) bytes
     (items_instructions encoding.version e (initial_row encoding.version e.default_is_stmt) items)
-spelled_under notation h encoding e items bytes same base wide can built fit written =
+spelled_under layout h encoding e items bytes same base wide can built fit written =
     subst (λ x. AreFit x.version items
-    → items_bytes plain notation.big x e (initial_row x.version e.default_is_stmt) items ≡ Ok bytes
-    → Each (SpellsInstruction notation h) bytes
+    → items_bytes plain layout.is_big x e (initial_row x.version e.default_is_stmt) items ≡ Ok bytes
+    → Each (SpellsInstruction layout h) bytes
     (items_instructions x.version e (initial_row x.version e.default_is_stmt) items))
     same
-    (items-spelled notation h base wide e can _ _ _ (lit< tt) built)
+    (items-spelled layout h base wide e can _ _ _ (lit< tt) built)
     fit written
 
 -- the instructions of a written program
-pub cut-back : (notation : Notation) (h : Header) (p : Built) → IsBuilt p → 11 < notation.limit
+pub cut-back : (layout : OrderAndLimit) (h : Header) (p : Built) → IsBuilt p → 11 < layout.limit
     → h.parameters ≡ built_rules p.encoding p.line_encoding
-    → program_bytes plain notation.big p ≡ Ok h.program
-    → Decodes notation h h.program
+    → program_bytes plain layout.is_big p ≡ Ok h.program
+    → Decodes layout h h.program
     (items_instructions p.encoding.version p.line_encoding
     (initial_row p.encoding.version p.line_encoding.default_is_stmt) p.items)
     None
-cut-back notation h p built wide parameters written =
+cut-back layout h p built wide parameters written =
     cut_whole _ h _
     _
     (spelled_under _ h _ _ _ _ (ap (λ r. r.encoding) parameters)
@@ -108,18 +108,18 @@ rows_given parameters encoding e items same known can version built held =
     ∙ ap (λ (r : Parameters). events_after r [] list None) (sym same)
 
 -- the rows of a written program, where addresses hold its items and none is a tombstone
-pub rows-back : (notation : Notation) (h : Header) (p : Built) → IsBuilt p → p.encoding.version ≤ 5
-    → 11 < notation.limit
-    → h.parameters ≡ built_rules p.encoding p.line_encoding → program_bytes plain notation.big p ≡ Ok h.program
+pub rows-back : (layout : OrderAndLimit) (h : Header) (p : Built) → IsBuilt p → p.encoding.version ≤ 5
+    → 11 < layout.limit
+    → h.parameters ≡ built_rules p.encoding p.line_encoding → program_bytes plain layout.is_big p ≡ Ok h.program
     → AddressesFit p.encoding.address_size 0 (0, 0) p.items
-    → (rows : List ReadRow) × Events notation h h.program (map row rows) × RowsMatch p.encoding.version [] p.items rows
-rows-back notation h p built known wide parameters written held =
+    → (rows : List ReadRow) × Events layout h h.program (map row rows) × RowsMatch p.encoding.version [] p.items rows
+rows-back layout h p built known wide parameters written held =
     let first = initial_row p.encoding.version p.line_encoding.default_is_stmt in (
       items_rows p.encoding.version p.line_encoding 0 first p.items,
       record {
         list = items_instructions p.encoding.version p.line_encoding first p.items;
         end = None;
-        decoding = cut-back notation h p built wide parameters written;
+        decoding = cut-back layout h p built wide parameters written;
         given =
             rows_given h.parameters p.encoding p.line_encoding p.items parameters (built.is.address_size refl)
             built.is.lines known built.is.items_built held;

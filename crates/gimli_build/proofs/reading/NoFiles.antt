@@ -5,13 +5,13 @@ use Rattle.std.proofs.Common.{inl, inr, true≢false}
 use Rattle.std.specs.Prelude.{All, None, ℤ, pos, ◌-ℤ◌, ◌*◌, ◌+◌, ◌-◌}
 use Rattle.std.proofs.lemmas.List.{append-nil}
 use Rattle.std.proofs.lemmas.List.Elements.{All-nil, All-cons, All-head, All-tail, All-append}
-use Rattle.gimli_core.specs.Notation.{Notation}
+use Rattle.gimli_core.specs.Layout.{OrderAndLimit}
 use Rattle.gimli_core.specs.Production.{Each}
 use Rattle.gimli_core.specs.declared.common.LineEncoding.{LineEncoding}
 use Rattle.gimli_core.specs.declared.error.Error.{Error}
 use Rattle.gimli_core.specs.declared.error.Error.TheVariants.{AddressOverflow}
 use Rattle.gimli_line.specs.header.File.{File}
-use Rattle.gimli_line.specs.header.Orders.{Source}
+use Rattle.gimli_line.specs.header.Orders.{HeaderSource}
 use Rattle.gimli_line.specs.header.Header.{Header, without_files}
 use Rattle.gimli_line.specs.header.Parameters.{Parameters}
 use Rattle.gimli_line.specs.declared.run.row.LineRow.{LineRow as ReadRow}
@@ -28,7 +28,7 @@ use Rattle.gimli_line.specs.run.Events.{Event, row, fault, EventWithFiles, with_
 use Rattle.gimli_line.specs.run.Instruction.{files_after}
 use Rattle.gimli_line.specs.run.Machine.{is_refused, step_of, next_registers, made_from}
 use Rattle.gimli_line.specs.run.RunState.{RunState}
-use Rattle.gimli_line.specs.run.Progress.{with_reset_row, Progress}
+use Rattle.gimli_line.specs.run.Passing.{with_reset_row, PassesOver}
 use Rattle.gimli_line.specs.run.Rows.{live_events, WantsMemory, FaultIs}
 use Rattle.gimli_line.proofs.InstructionLaws.{is_decoded, one_decoding}
 use Rattle.gimli_build.specs.declared.built.row.LineRow.{LineRow}
@@ -128,9 +128,9 @@ items-none version e previous (item ∷ items) =
 
 -- ---- what is left of a program
 
-module _ (notation : Notation) (h : Header) where
+module _ (layout : OrderAndLimit) (h : Header) where
   abbrev Spelled : List ℕ → List Ins → Type 0
-  Spelled bytes list = Each (SpellsInstruction notation h) bytes list
+  Spelled bytes list = Each (SpellsInstruction layout h) bytes list
 
   each_joined : (front after : List ℕ) (list more : List Ins) → Spelled front list → Spelled after more
       → Spelled (front ++ after) (list ++ more)
@@ -144,22 +144,22 @@ module _ (notation : Notation) (h : Header) where
   )
 
   -- what stands after whole instructions of a program is the rest of it
-  pub rest_decoded : (bytes front rest : List ℕ) (list passed : List Ins) → Decodes notation h bytes list None
+  pub rest_decoded : (bytes front rest : List ℕ) (list passed : List Ins) → Decodes layout h bytes list None
       → bytes ≡ front ++ rest → Spelled front passed
-      → (more : List Ins) × (list ≡ passed ++ more) × Decodes notation h rest more None
+      → (more : List Ins) × (list ≡ passed ++ more) × Decodes layout h rest more None
   rest_decoded bytes front rest list passed all parts spelled =
-      let more = (decoded_at notation h rest).0 in
-      let end = (decoded_at notation h rest).1 in
-      let own = is_decoded notation h _ in
-      let joined : Decodes notation h bytes (passed ++ more) end = record {
+      let more = (decoded_at layout h rest).0 in
+      let end = (decoded_at layout h rest).1 in
+      let own = is_decoded layout h _ in
+      let joined : Decodes layout h bytes (passed ++ more) end = record {
         front = front ++ own.front;
         rest = own.rest;
         parts = parts ∙ ap (λ xs. front ++ xs) own.parts ∙ sym (append_assoc front own.front own.rest);
         spelled = each_joined _ _ _ _ spelled own.spelled;
         ended = own.ended;
       } in
-      let same : (list, None) ≡ (passed ++ more, end) = one_decoding notation h _ _ _ all
-      ∙ sym (one_decoding notation h _ _ _ joined) in
+      let same : (list, None) ≡ (passed ++ more, end) = one_decoding layout h _ _ _ all
+      ∙ sym (one_decoding layout h _ _ _ joined) in
       let ended : end ≡ None = sym (ap (λ p. p.1) same) in
       (more, ap (λ p. p.0) same, rw ended at own)
 
@@ -168,11 +168,11 @@ last_none [] more all = all
 last_none (i ∷ passed) more all = last_none passed more (All-tail NoFile i _ all)
 
 -- a run that has gone on still defines no file
-pub goes-none : (a b : RunState) (events : List Event) → DefinesNoFile a → Progress a b events → DefinesNoFile b
+pub goes-none : (a b : RunState) (events : List Event) → DefinesNoFile a → PassesOver a b events → DefinesNoFile b
 goes-none a b events none p =
-    let rest = rest_decoded a.unread.notation a.fixed _ _ _ _ _ none.decoding p.parts p.spelled in
+    let rest = rest_decoded a.unread.layout a.fixed _ _ _ _ _ none.decoding p.parts p.spelled in
     let all : All NoFile (p.list ++ rest.0) = rw rest.1 at none.none in
-    record { list = rest.0; decoding = rw (p.notation, p.fixed) rest.2; none = last_none _ _ all }
+    record { list = rest.0; decoding = rw (p.layout, p.fixed) rest.2; none = last_none _ _ all }
 
 -- ---- refusals
 
@@ -180,7 +180,7 @@ no_memory : (a b : RunState) → DefinesNoFile a → WantsMemory a b → ⊥
 no_memory a b none wants =
     let position = goes-none a wants.point [] none wants.passed in
     let rest =
-    rest_decoded wants.point.unread.notation wants.point.fixed wants.point.unread.bytes wants.front wants.rest
+    rest_decoded wants.point.unread.layout wants.point.fixed wants.point.unread.bytes wants.front wants.rest
     position.list (wants.definition ∷ [])
     position.decoding wants.parts
     (wants.front, [], sym (append-nil wants.front), wants.spelled, refl) in
@@ -226,7 +226,7 @@ pub refused-none : (a b : RunState) (e : Error) → DefinesNoFile a → FaultIs 
 refused-none a b e none (inl memory) =
     absurd (no_memory _ b (record { list = none.list; decoding = none.decoding; none = none.none }) memory.1)
 refused-none a b e none (inr next) =
-    let same = one_decoding a.unread.notation a.fixed _ _ _ none.decoding in
+    let same = one_decoding a.unread.layout a.fixed _ _ _ none.decoding in
     let whole =
     ap (λ p. given_of (made_from a.appends a.fixed.parameters (with_reset_row a).row a.files p.0 p.1)) same in
     only_overflow a.appends a.fixed.parameters (with_reset_row a).row a.files _ none.list _ e (whole ∙ next.0)
@@ -234,14 +234,14 @@ refused-none a b e none (inr next) =
 -- ---- a program from its start
 
 -- files have no part in how instructions are spelled
-bare_each : (notation : Notation) (h : Header) (front : List ℕ) (list : List Ins)
-    → Each (SpellsInstruction notation h) front list
-    → Each (SpellsInstruction notation (without_files h)) front list
-bare_each notation h front [] s = s
-bare_each notation h front (i ∷ list) s = (s.0, s.1, s.2, s.3, bare_each notation h s.1 list s.4)
+bare_each : (layout : OrderAndLimit) (h : Header) (front : List ℕ) (list : List Ins)
+    → Each (SpellsInstruction layout h) front list
+    → Each (SpellsInstruction layout (without_files h)) front list
+bare_each layout h front [] s = s
+bare_each layout h front (i ∷ list) s = (s.0, s.1, s.2, s.3, bare_each layout h s.1 list s.4)
 
-pub starts-none : (source : Source) (h : Header) (appends : Bool) (list : List Ins)
-    → Decodes source.notation h h.program list None
+pub starts-none : (source : HeaderSource) (h : Header) (appends : Bool) (list : List Ins)
+    → Decodes source.layout h h.program list None
     → All (λ i. defines_file i ≡ false) list → DefinesNoFile (program_started appends h source)
 starts-none source h appends list d none = record {
   list = list;

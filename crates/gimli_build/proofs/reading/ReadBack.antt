@@ -2,7 +2,7 @@
 use Rattle.std.proofs.Common.{◌≡◌, ℕ, ◌<◌, ◌≤◌, ◌^◌, Bool, List, [], ◌∷◌, length, Ok, if◌then◌else◌, ap, ◌∙◌, arith}
 use Rattle.std.proofs.Common.{length-append}
 use Rattle.std.specs.Prelude.{nat_le}
-use Rattle.gimli_core.specs.Notation.{Notation}
+use Rattle.gimli_core.specs.Layout.{OrderAndLimit}
 use Rattle.gimli_core.specs.declared.common.Encoding.{Encoding}
 use Rattle.gimli_bytes.specs.Hand.{Placement}
 use Rattle.gimli_bytes.specs.Relocations.{counted}
@@ -24,32 +24,32 @@ use Rattle.gimli_build.proofs.reading.UnitHeader.{AreShort, whole_written, heade
 use Rattle.gimli_build.proofs.reading.EventsBack.{cut-back, rows-back}
 
 -- a unit that is written has a known version
-unit_known : (at : Placement) (big : Bool) (p : Built) (texts : StringTables) (unit : List ℕ)
-    → whole_bytes (counted at) big p texts ≡ Ok unit
+unit_known : (at : Placement) (is_big : Bool) (p : Built) (texts : StringTables) (unit : List ℕ)
+    → whole_bytes (counted at) is_big p texts ≡ Ok unit
     → p.encoding.version ≤ 5
-unit_known at big p texts unit is =
+unit_known at is_big p texts unit is =
     let w = unit_written (counted at) _ p texts _ is in
     let address : List ℕ = if nat_le p.encoding.version 4 then [] else p.encoding.address_size ∷ 0 ∷ [] in
     let b = before_written _ _ _ w.opening_is in
     version-known _ _ _ b.front_is
 
-reads-back : (at : Placement) (notation : Notation) (unit_entry : UnitEntry) (sections : Sections) (big : Bool)
+reads-back : (at : Placement) (layout : OrderAndLimit) (unit_entry : UnitEntry) (sections : Sections) (is_big : Bool)
     (unit_encoding : Encoding) (p : Built)
     (old_texts : StringTables) (unit : List ℕ)
     → length unit < 2 ^ 64 → IsBuilt p → CanWrite p old_texts → AreTexts (texts_after p old_texts).strings
     → AreTexts (texts_after p old_texts).line_strings
     → AreShort at p (texts_after p old_texts)
-    → unit_bytes (counted at) big unit_encoding p old_texts ≡ Ok unit
-    → IsReadWell at notation unit_entry sections big p (texts_after p old_texts) unit
-    → ReadsBack notation unit_entry sections p (texts_after p old_texts) unit
-reads-back at notation unit_entry sections big unit_encoding p old_texts unit small built can are_texts are_line_texts
+    → unit_bytes (counted at) is_big unit_encoding p old_texts ≡ Ok unit
+    → IsReadWell at layout unit_entry sections is_big p (texts_after p old_texts) unit
+    → ReadsBack layout unit_entry sections p (texts_after p old_texts) unit
+reads-back at layout unit_entry sections is_big unit_encoding p old_texts unit small built can are_texts are_line_texts
     short is well =
     let texts = texts_after p old_texts in
     let h =
-    header-back at notation unit_entry sections big unit_encoding p old_texts unit small built can are_texts
+    header-back at layout unit_entry sections is_big unit_encoding p old_texts unit small built can are_texts
     are_line_texts short is well in
-    let whole = whole_written at big unit_encoding p old_texts unit is in
-    let known = unit_known at big p texts unit whole in
+    let whole = whole_written at is_big unit_encoding p old_texts unit is in
+    let known = unit_known at is_big p texts unit whole in
     let wide = well.instructions_held in
     record {
       header = h.header;
@@ -59,26 +59,26 @@ reads-back at notation unit_entry sections big unit_encoding p old_texts unit sm
       formats = h.formats;
       directories = h.directories;
       files = h.files;
-      decoding = cut-back notation h.header p built wide h.parameters h.program;
-      rows = rows-back notation h.header p built known wide h.parameters h.program;
+      decoding = cut-back layout h.header p built wide h.parameters h.program;
+      rows = rows-back layout h.header p built known wide h.parameters h.program;
     }
 
 -- what is appended is read back so
-pub appended-back : (at : Placement) (big : Bool) (unit_encoding : Encoding) (p : Built) (old_texts : StringTables)
+pub appended-back : (at : Placement) (is_big : Bool) (unit_encoding : Encoding) (p : Built) (old_texts : StringTables)
     (old new : List ℕ)
     → length new < 2 ^ 64 → IsBuilt p
     → CanWrite p old_texts → AreTexts (texts_after p old_texts).strings
     → AreTexts (texts_after p old_texts).line_strings
     → AreShort at p (texts_after p old_texts)
-    → Appends (unit_bytes (counted at) big unit_encoding p old_texts) old new
-    → AppendsThat (ReadsBackAt at big p (texts_after p old_texts)) old new
-appended-back at big unit_encoding p old_texts old new short built can are_texts are_line_texts held written =
-    let a = appended_bytes (unit_bytes (counted at) big unit_encoding p old_texts) old new written in
+    → Appends (unit_bytes (counted at) is_big unit_encoding p old_texts) old new
+    → AppendsThat (ReadsBackAt at is_big p (texts_after p old_texts)) old new
+appended-back at is_big unit_encoding p old_texts old new short built can are_texts are_line_texts held written =
+    let a = appended_bytes (unit_bytes (counted at) is_big unit_encoding p old_texts) old new written in
     let long = ap length a.2 ∙ length-append old a.0 in
     let small : length a.0 < 2 ^ 64 = omega arith in (
       a.0,
       a.2,
-      λ notation unit_entry sections well.
-          reads-back at notation unit_entry sections big unit_encoding p old_texts a.0 small built can are_texts
+      λ layout unit_entry sections well.
+          reads-back at layout unit_entry sections is_big unit_encoding p old_texts a.0 small built can are_texts
           are_line_texts held a.1 well,
     )

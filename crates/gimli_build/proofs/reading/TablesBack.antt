@@ -7,7 +7,7 @@ use Rattle.std.specs.Option.{option_to_list}
 use Rattle.std.proofs.lemmas.Bool.{leb-true}
 use Rattle.std.proofs.lemmas.List.{append-nil}
 use Rattle.std.proofs.lemmas.List.Elements.{All-drop}
-use Rattle.gimli_core.specs.Notation.{Notation}
+use Rattle.gimli_core.specs.Layout.{OrderAndLimit}
 use Rattle.gimli_core.specs.Values.{Value}
 use Rattle.gimli_core.specs.declared.attribute_value.AttributeValue.TheVariants.{String}
 use Rattle.gimli_bytes.specs.Hand.{Placement}
@@ -54,7 +54,7 @@ abbrev formats_of_files : Built → List (ℕ × ℕ)
 formats_of_files p = file_formats p
 
 -- what is read of the tables
-pub record TablesBack (notation : Notation) (unit_entry : UnitEntry) (sections : Sections) (p : Built)
+pub record TablesBack (layout : OrderAndLimit) (unit_entry : UnitEntry) (sections : Sections) (p : Built)
     (texts : StringTables) (bytes : List ℕ) : Type 0 where
   pub directory_formats : List FileEntryFormat
   pub directories : List Value
@@ -66,9 +66,9 @@ pub record TablesBack (notation : Notation) (unit_entry : UnitEntry) (sections :
   pub directory_formats_are : nat_le p.encoding.version 4 ≡ false
       → directory_formats ≡ map read_format (formats_of_directories p)
   pub file_formats_are : nat_le p.encoding.version 4 ≡ false → file_formats ≡ map read_format (formats_of_files p)
-  pub directories_spelled : (directory_table notation p.encoding).Spells directory_bytes
+  pub directories_spelled : (directory_table layout p.encoding).Spells directory_bytes
       (directory_formats, directories)
-  pub files_spelled : (file_table notation p.encoding).Spells file_bytes (file_formats, files)
+  pub files_spelled : (file_table layout p.encoding).Spells file_bytes (file_formats, files)
   pub directories_back : OneByOne (IsDirectory sections texts) (from_zero p unit_entry directories) p.directories
   pub files_back : OneByOne (IsFile sections p texts) files p.files
 
@@ -101,11 +101,11 @@ module _ (sections : Sections) (texts : StringTables) where
   files_back p [] old = tt
   files_back p (f ∷ fs) old = (file_back p f old, files_back p fs old)
 
-module _ (at : Placement) (notation : Notation) (unit_entry : UnitEntry) (sections : Sections) (p : Built)
+module _ (at : Placement) (layout : OrderAndLimit) (unit_entry : UnitEntry) (sections : Sections) (p : Built)
     (texts : StringTables) (built : IsBuilt p) where
   module _ (old : nat_le p.encoding.version 4 ≡ true) where
     old_directories_spelled : (bytes : List ℕ) → directories_bytes p.directories ≡ Ok bytes
-        → (directory_table notation p.encoding).Spells bytes
+        → (directory_table layout p.encoding).Spells bytes
         ([], map String (map (bytes_in texts) (drop 1 p.directories)))
     old_directories_spelled bytes is =
         let clean = All-drop HasNoZero 1 _ built.tables.directories_end in
@@ -116,7 +116,7 @@ module _ (at : Placement) (notation : Notation) (unit_entry : UnitEntry) (sectio
         (map (bytes_in texts) (drop 1 p.directories), bytes, [], sym (append-nil bytes), spelled, (refl, refl))
 
     old_files_spelled : (bytes : List ℕ) → files_bytes p.files ≡ Ok bytes
-        → (file_table notation p.encoding).Spells bytes ([], map (read_file texts) p.files)
+        → (file_table layout p.encoding).Spells bytes ([], map (read_file texts) p.files)
     old_files_spelled bytes is =
         let spelled =
         files-spelled texts _ _ (built.is.paths_not_empty (leb-true p.encoding.version 4 old)) built.tables.paths_end
@@ -131,7 +131,7 @@ module _ (at : Placement) (notation : Notation) (unit_entry : UnitEntry) (sectio
 
     old_tables : (bytes : List ℕ) → unit_entry.directory ≡ option_map (bytes_in texts) (slice_get p.directories 0)
         → result_append (directories_bytes p.directories) (files_bytes p.files) ≡ Ok bytes
-        → TablesBack notation unit_entry sections p texts bytes
+        → TablesBack layout unit_entry sections p texts bytes
     old_tables bytes known is =
         let b = both_written _ _ _ is in
         record {
@@ -154,26 +154,26 @@ module _ (at : Placement) (notation : Notation) (unit_entry : UnitEntry) (sectio
 
   module _ (new : nat_le p.encoding.version 4 ≡ false) (ready : AreReady p texts)
       (are_texts : AreTexts texts.strings) (are_line_texts : AreTexts texts.line_strings)
-      (held : AreOfTables (IsHeld notation.limit p.encoding.format at texts) p texts)
+      (held : AreOfTables (IsHeld layout.limit p.encoding.format at texts) p texts)
       (found : AreOfTables (IsFound sections at texts) p texts) where
     new_directories_spelled : (bytes : List ℕ)
-        → directory_table_bytes (counted at) notation.big p.encoding.format texts p ≡ Ok bytes → length bytes < 2 ^ 64
-        → (directory_table notation p.encoding).Spells bytes
+        → directory_table_bytes (counted at) layout.is_big p.encoding.format texts p ≡ Ok bytes → length bytes < 2 ^ 64
+        → (directory_table layout p.encoding).Spells bytes
         (map read_format (directory_formats p), map path_of (map (directory_entry at texts) p.directories))
     new_directories_spelled bytes is small =
         let entries = map (directory_entry at texts) p.directories in
-        let spelled = new-directories-spelled at notation p texts ready held bytes is small in
+        let spelled = new-directories-spelled at layout p texts ready held bytes is small in
         second-chosen (nat_le p.encoding.version 4) _ _ bytes _ new
         ((map read_format (directory_formats p), entries), bytes, [], sym (append-nil bytes), spelled, (refl, refl))
 
     new_files_spelled : (bytes : List ℕ)
-        → file_table_bytes (counted at) notation.big p.encoding.format texts p ≡ Ok bytes
+        → file_table_bytes (counted at) layout.is_big p.encoding.format texts p ≡ Ok bytes
         → length bytes < 2 ^ 64
-        → (file_table notation p.encoding).Spells bytes
+        → (file_table layout p.encoding).Spells bytes
         (map read_format (file_formats p), map file_of_entry (map (file_entry at p texts) p.files))
     new_files_spelled bytes is small =
         let entries = map (file_entry at p texts) p.files in
-        let spelled = new-files-spelled at notation p texts ready held bytes is small in
+        let spelled = new-files-spelled at layout p texts ready held bytes is small in
         second-chosen (nat_le p.encoding.version 4) _ _ bytes _ new
         ((map read_format (file_formats p), entries), bytes, [], sym (append-nil bytes), spelled, (refl, refl))
 
@@ -184,14 +184,14 @@ module _ (at : Placement) (notation : Notation) (unit_entry : UnitEntry) (sectio
         found.directories)
 
     new_tables : (bytes : List ℕ) → length bytes < 2 ^ 64
-        → result_append (directory_table_bytes (counted at) notation.big p.encoding.format texts p)
-        (file_table_bytes (counted at) notation.big p.encoding.format texts p)
+        → result_append (directory_table_bytes (counted at) layout.is_big p.encoding.format texts p)
+        (file_table_bytes (counted at) layout.is_big p.encoding.format texts p)
         ≡ Ok bytes
-        → TablesBack notation unit_entry sections p texts bytes
+        → TablesBack layout unit_entry sections p texts bytes
     new_tables bytes small is =
         let b =
-        both_written (directory_table_bytes (counted at) notation.big p.encoding.format texts p)
-        (file_table_bytes (counted at) notation.big p.encoding.format texts p) bytes
+        both_written (directory_table_bytes (counted at) layout.is_big p.encoding.format texts p)
+        (file_table_bytes (counted at) layout.is_big p.encoding.format texts p) bytes
         is in
         let whole = ap length b.whole ∙ length-append b.first b.rest in
         record {
@@ -221,25 +221,25 @@ module _ (at : Placement) (notation : Notation) (unit_entry : UnitEntry) (sectio
     pub are_texts : AreTexts texts.strings
     pub are_line_texts : AreTexts texts.line_strings
     pub held : nat_le p.encoding.version 4 ≡ false
-        → AreOfTables (IsHeld notation.limit p.encoding.format at texts) p texts
+        → AreOfTables (IsHeld layout.limit p.encoding.format at texts) p texts
     pub found : nat_le p.encoding.version 4 ≡ false → AreOfTables (IsFound sections at texts) p texts
 
   pub tables-back : (bytes : List ℕ) → AreReadWell → length bytes < 2 ^ 64
-      → tables_bytes (counted at) notation.big p texts ≡ Ok bytes
-      → TablesBack notation unit_entry sections p texts bytes
+      → tables_bytes (counted at) layout.is_big p texts ≡ Ok bytes
+      → TablesBack layout unit_entry sections p texts bytes
   tables-back bytes well small is =
       by (nat_le p.encoding.version 4) refl (result_append (directories_bytes p.directories) (files_bytes p.files))
-      (result_append (directory_table_bytes (counted at) notation.big p.encoding.format texts p)
-      (file_table_bytes (counted at) notation.big p.encoding.format texts p))
+      (result_append (directory_table_bytes (counted at) layout.is_big p.encoding.format texts p)
+      (file_table_bytes (counted at) layout.is_big p.encoding.format texts p))
       refl
       refl is
     where
       by : (b : Bool) → nat_le p.encoding.version 4 ≡ b → (r s : Result (List ℕ) Error)
           → r ≡ result_append (directories_bytes p.directories) (files_bytes p.files)
           → s
-          ≡ result_append (directory_table_bytes (counted at) notation.big p.encoding.format texts p)
-          (file_table_bytes (counted at) notation.big p.encoding.format texts p)
-          → (if b then r else s) ≡ Ok bytes → TablesBack notation unit_entry sections p texts bytes
+          ≡ result_append (directory_table_bytes (counted at) layout.is_big p.encoding.format texts p)
+          (file_table_bytes (counted at) layout.is_big p.encoding.format texts p)
+          → (if b then r else s) ≡ Ok bytes → TablesBack layout unit_entry sections p texts bytes
       by true old r s first second is = old_tables old bytes (well.directory old) (sym first ∙ is)
       by false new r s first second is =
           new_tables new (well.ready new) well.are_texts well.are_line_texts (well.held new) (well.found new) bytes

@@ -4,7 +4,7 @@ use Rattle.std.proofs.Common.{◌∙◌}
 use Rattle.std.proofs.Common.{arith, sym}
 use Rattle.std.specs.Prelude.{Result, Err, nat_le, All}
 use Rattle.std.proofs.lemmas.Bool.{leb-true, leb-false}
-use Rattle.gimli_core.specs.Notation.{Notation}
+use Rattle.gimli_core.specs.Layout.{OrderAndLimit}
 use Rattle.gimli_core.specs.declared.common.Encoding.{Encoding}
 use Rattle.gimli_core.specs.declared.common.Format.TheVariants.{Dwarf64}
 use Rattle.gimli_bytes.specs.Hand.{Placement, plain}
@@ -32,27 +32,27 @@ use Rattle.gimli_build.proofs.spellings.UnitSpellings.{UnitWritten, unit_written
 use Rattle.gimli_build.proofs.spellings.UnitSpellings.{fields-short, tables-short, header_of, unit-is}
 
 -- the bytes are a unit, and its header is what was built; its program is what was written of the items
-pub record HeaderBack (notation : Notation) (unit_entry : UnitEntry) (sections : Sections) (p : Built)
+pub record HeaderBack (layout : OrderAndLimit) (unit_entry : UnitEntry) (sections : Sections) (p : Built)
     (texts : StringTables) (unit : List ℕ) : Type 0 where
   pub header : Header
-  pub is_unit : IsUnit notation unit_entry unit header
+  pub is_unit : IsUnit layout unit_entry unit header
   pub parameters : header.parameters ≡ built_rules p.encoding p.line_encoding
   pub counts : header.operand_counts ≡ operand_counts
   pub formats : nat_le p.encoding.version 4 ≡ false → AreFormats p header
   pub directories : OneByOne (IsDirectory sections texts) (directories_from_zero header) p.directories
   pub files : OneByOne (IsFile sections p texts) header.files p.files
-  pub program : program_bytes plain notation.big p ≡ Ok header.program
+  pub program : program_bytes plain layout.is_big p ≡ Ok header.program
 
 -- 64 bits hold what the offsets of its texts become
 abbrev pub AreShort : Placement → Built → StringTables → Type 0
 AreShort at p texts = 5 ≤ p.encoding.version → All (λ t. IsOffsetHeld (2 ^ 64) at texts t.1) (emitted_texts p texts)
 
 -- a unit that is written is written whole
-pub whole_written : (at : Placement) (big : Bool) (unit_encoding : Encoding) (p : Built) (old_texts : StringTables)
+pub whole_written : (at : Placement) (is_big : Bool) (unit_encoding : Encoding) (p : Built) (old_texts : StringTables)
     (unit : List ℕ)
-    → unit_bytes (counted at) big unit_encoding p old_texts ≡ Ok unit
-    → whole_bytes (counted at) big p (texts_after p old_texts) ≡ Ok unit
-whole_written at big unit_encoding p old_texts unit is =
+    → unit_bytes (counted at) is_big unit_encoding p old_texts ≡ Ok unit
+    → whole_bytes (counted at) is_big p (texts_after p old_texts) ≡ Ok unit
+whole_written at is_big unit_encoding p old_texts unit is =
     by _ _ is
   where
     by : (b : Bool) (r : Result (List ℕ) Error)
@@ -61,32 +61,32 @@ whole_written at big unit_encoding p old_texts unit is =
     by true r is = absurd cc
     by false r is = is
 
-module _ (at : Placement) (notation : Notation) (unit_entry : UnitEntry) (sections : Sections) (p : Built)
+module _ (at : Placement) (layout : OrderAndLimit) (unit_entry : UnitEntry) (sections : Sections) (p : Built)
     (built : IsBuilt p) where
-  whole_back : (texts : StringTables) (unit : List ℕ) → AreReadWell at notation unit_entry sections p texts built
+  whole_back : (texts : StringTables) (unit : List ℕ) → AreReadWell at layout unit_entry sections p texts built
       → unit_entry.address_size ≡ p.encoding.address_size
-      → (p.encoding.format ≡ Dwarf64 → length unit - 12 < notation.limit) → length unit < 2 ^ 64
-      → UnitWritten (counted at) notation.big p texts unit
-      → HeaderBack notation unit_entry sections p texts unit
+      → (p.encoding.format ≡ Dwarf64 → length unit - 12 < layout.limit) → length unit < 2 ^ 64
+      → UnitWritten (counted at) layout.is_big p texts unit
+      → HeaderBack layout unit_entry sections p texts unit
   whole_back texts unit well same holds small w =
-      let v = fields_written (counted at) notation.big p texts w.fields w.fields_are in
-      let inside = inside-short (counted at) notation.big p texts unit w in
-      let fields = fields-short (counted at) notation.big p texts unit w in
-      let tables = tables-short (counted at) notation.big p texts w.fields v in
+      let v = fields_written (counted at) layout.is_big p texts w.fields w.fields_are in
+      let inside = inside-short (counted at) layout.is_big p texts unit w in
+      let fields = fields-short (counted at) layout.is_big p texts unit w in
+      let tables = tables-short (counted at) layout.is_big p texts w.fields v in
       let t =
-      tables-back at notation unit_entry sections p texts built v.tables well
+      tables-back at layout unit_entry sections p texts built v.tables well
       (omega (arith, inside, fields, tables, small)) v.tables_are in
       record {
         header =
-            header_of (counted at) notation unit_entry sections p texts built v.tables t (length w.inside)
+            header_of (counted at) layout unit_entry sections p texts built v.tables t (length w.inside)
             (length w.fields) w.program;
-        is_unit = unit-is (counted at) notation unit_entry sections p texts built unit w v t same holds small;
+        is_unit = unit-is (counted at) layout unit_entry sections p texts built unit w v t same holds small;
         parameters = refl;
         counts = refl;
         formats = λ new. record { directories = t.directory_formats_are new; files = t.file_formats_are new };
         directories = t.directories_back;
         files = t.files_back;
-        program = sym (items-plain at notation.big p.encoding p.line_encoding _ p.items) ∙ w.program_is;
+        program = sym (items-plain at layout.is_big p.encoding p.line_encoding _ p.items) ∙ w.program_is;
       }
 
   -- how the unit is read, the tables are
@@ -94,14 +94,14 @@ module _ (at : Placement) (notation : Notation) (unit_entry : UnitEntry) (sectio
       → AreTexts (texts_after p old_texts).strings
       → AreTexts (texts_after p old_texts).line_strings
       → AreShort at p (texts_after p old_texts)
-      → IsReadWell at notation unit_entry sections notation.big p (texts_after p old_texts) unit
-      → AreReadWell at notation unit_entry sections p (texts_after p old_texts) built
+      → IsReadWell at layout unit_entry sections layout.is_big p (texts_after p old_texts) unit
+      → AreReadWell at layout unit_entry sections p (texts_after p old_texts) built
   read_well old_texts unit can are_texts are_line_texts short well = record {
     directory = λ old. well.directory (leb-true p.encoding.version 4 old);
     ready = λ new. tables-ready p old_texts new built can;
     are_texts = are_texts;
     are_line_texts = are_line_texts;
-    held = λ new. of-tables (IsHeld notation.limit p.encoding.format at (texts_after p old_texts)) p _ new
+    held = λ new. of-tables (IsHeld layout.limit p.encoding.format at (texts_after p old_texts)) p _ new
         (λ i d lt. (λ wide. well.texts_held (late new) wide i d lt, short (late new) i d lt));
     found = λ new. of-tables (IsFound sections at (texts_after p old_texts)) p _ new (well.texts_found (late new));
   }
@@ -110,22 +110,22 @@ module _ (at : Placement) (notation : Notation) (unit_entry : UnitEntry) (sectio
       late new = let above = leb-false p.encoding.version 4 new in omega (arith, above)
 
 -- a unit whose length 64 bits hold
-pub header-back : (at : Placement) (notation : Notation) (unit_entry : UnitEntry) (sections : Sections) (big : Bool)
+pub header-back : (at : Placement) (layout : OrderAndLimit) (unit_entry : UnitEntry) (sections : Sections) (is_big : Bool)
     (unit_encoding : Encoding) (p : Built)
     (old_texts : StringTables) (unit : List ℕ)
     → length unit < 2 ^ 64 → IsBuilt p → CanWrite p old_texts → AreTexts (texts_after p old_texts).strings
     → AreTexts (texts_after p old_texts).line_strings
     → AreShort at p (texts_after p old_texts)
-    → unit_bytes (counted at) big unit_encoding p old_texts ≡ Ok unit
-    → IsReadWell at notation unit_entry sections big p (texts_after p old_texts) unit
-    → HeaderBack notation unit_entry sections p (texts_after p old_texts) unit
-header-back at notation unit_entry sections big unit_encoding p old_texts unit small built can are_texts are_line_texts
+    → unit_bytes (counted at) is_big unit_encoding p old_texts ≡ Ok unit
+    → IsReadWell at layout unit_entry sections is_big p (texts_after p old_texts) unit
+    → HeaderBack layout unit_entry sections p (texts_after p old_texts) unit
+header-back at layout unit_entry sections is_big unit_encoding p old_texts unit small built can are_texts are_line_texts
     short is well =
     let texts = texts_after p old_texts in
-    let whole : whole_bytes (counted at) notation.big p texts ≡ Ok unit =
+    let whole : whole_bytes (counted at) layout.is_big p texts ≡ Ok unit =
     ap (λ (b : Bool). whole_bytes (counted at) b p texts) well.order
-    ∙ whole_written at big unit_encoding p old_texts unit is in
-    let same : IsReadWell at notation unit_entry sections notation.big p texts unit = record {
+    ∙ whole_written at is_big unit_encoding p old_texts unit is in
+    let same : IsReadWell at layout unit_entry sections layout.is_big p texts unit = record {
       order = refl;
       address_size = well.address_size;
       directory = well.directory;
@@ -134,6 +134,6 @@ header-back at notation unit_entry sections big unit_encoding p old_texts unit s
       length_held = well.length_held;
       texts_held = well.texts_held;
     } in
-    whole_back at notation unit_entry sections p built texts unit
-    (read_well at notation unit_entry sections p built old_texts unit can are_texts are_line_texts short same)
-    same.address_size same.length_held small (unit_written (counted at) notation.big p texts unit whole)
+    whole_back at layout unit_entry sections p built texts unit
+    (read_well at layout unit_entry sections p built old_texts unit can are_texts are_line_texts short same)
+    same.address_size same.length_held small (unit_written (counted at) layout.is_big p texts unit whole)

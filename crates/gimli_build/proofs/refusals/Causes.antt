@@ -64,14 +64,14 @@ abbrev items_cause : Built → Option Error
 items_cause p = first_of (map (item_cause p.encoding.address_size) p.items)
 
 abbrev unit_cause : Bool → Built → StringTables → Option Error
-unit_cause big p texts = unit_length_cause p.encoding.format (unit_length big p texts)
+unit_cause is_big p texts = unit_length_cause p.encoding.format (unit_length is_big p texts)
 
 -- ---- the version and what stands with it
 
-opening-refusal : (big : Bool) (encoding : Encoding)
-    → refusal (opening_bytes big encoding)
+opening-refusal : (is_big : Bool) (encoding : Encoding)
+    → refusal (opening_bytes is_big encoding)
     ≡ cause_if (not (nat_le 2 encoding.version && nat_le encoding.version 5)) (UnsupportedVersion encoding.version)
-opening-refusal big encoding =
+opening-refusal is_big encoding =
     let version = encoding.version in
     joined-refusal _ _
     ∙ first_before_none _
@@ -116,53 +116,53 @@ seen-refusal : (view : List ℕ → List ℕ) (written : Result (List ℕ) Error
 seen-refusal view (Ok bytes) = refl
 seen-refusal view (Err e) = refl
 
-item-refusal : (big : Bool) (encoding : Encoding) (e : LineEncoding) (previous : LineRow)
+item-refusal : (is_big : Bool) (encoding : Encoding) (e : LineEncoding) (previous : LineRow)
     → IsTrue (is_address_size encoding.address_size)
     → (item : BuiltItem)
-    → refusal (item_bytes plain big encoding e previous item) ≡ item_cause encoding.address_size item
-item-refusal big encoding e previous known (SetAddress (Constant a)) =
+    → refusal (item_bytes plain is_big encoding e previous item) ≡ item_cause encoding.address_size item
+item-refusal is_big encoding e previous known (SetAddress (Constant a)) =
     seen-refusal _ _
     ∙ address-refusal _ a _ known
-item-refusal big encoding e previous known (SetAddress (Symbol symbol addend)) = refl
-item-refusal big encoding e previous known (Row r) = refl
-item-refusal big encoding e previous known (End offset op_index) = refl
+item-refusal is_big encoding e previous known (SetAddress (Symbol symbol addend)) = refl
+item-refusal is_big encoding e previous known (Row r) = refl
+item-refusal is_big encoding e previous known (End offset op_index) = refl
 
-items-refusal : (big : Bool) (encoding : Encoding) (e : LineEncoding) → IsTrue (is_address_size encoding.address_size)
+items-refusal : (is_big : Bool) (encoding : Encoding) (e : LineEncoding) → IsTrue (is_address_size encoding.address_size)
     → (previous : LineRow) (items : List BuiltItem)
-    → refusal (items_bytes plain big encoding e previous items)
+    → refusal (items_bytes plain is_big encoding e previous items)
     ≡ first_of (map (item_cause encoding.address_size) items)
-items-refusal big encoding e known previous [] = refl
-items-refusal big encoding e known previous (item ∷ items) =
+items-refusal is_big encoding e known previous [] = refl
+items-refusal is_big encoding e known previous (item ∷ items) =
     let size = encoding.address_size in
     let next = next_previous encoding.version e.default_is_stmt previous item in
     joined-refusal _ _
-    ∙ ap (λ c. or_first c (refusal (items_bytes plain big encoding e next items)))
-    (item-refusal big encoding e previous known item)
-    ∙ ap (λ c. or_first (item_cause size item) c) (items-refusal big encoding e known next items)
+    ∙ ap (λ c. or_first c (refusal (items_bytes plain is_big encoding e next items)))
+    (item-refusal is_big encoding e previous known item)
+    ∙ ap (λ c. or_first (item_cause size item) c) (items-refusal is_big encoding e known next items)
     ∙ sym (first_apart (item_cause size item) (map (item_cause size) items))
 
 -- ---- the unit
 
-module _ (big : Bool) (p : Built) (texts : StringTables) where
-  fields-refusal : refusal (fields_bytes plain big p texts) ≡ or_first (encoding_cause p) (texts_cause p texts)
+module _ (is_big : Bool) (p : Built) (texts : StringTables) where
+  fields-refusal : refusal (fields_bytes plain is_big p texts) ≡ or_first (encoding_cause p) (texts_cause p texts)
   fields-refusal =
-      let tables = tables_bytes plain big p texts in
+      let tables = tables_bytes plain is_big p texts in
       let rest = result_append (Ok opcode_bytes) tables in
       joined-refusal (line_encoding_bytes p.encoding.version p.line_encoding) rest
       ∙ ap (λ (c : Option Error). or_first c (refusal rest)) (line_encoding-refusal p.encoding.version p.line_encoding)
       ∙ ap (λ (c : Option Error). or_first (encoding_cause p) c)
-      (joined-refusal (Ok opcode_bytes) tables ∙ tables-refusal big p texts)
+      (joined-refusal (Ok opcode_bytes) tables ∙ tables-refusal is_big p texts)
 
   -- the causes of the header
   abbrev first_causes : Option Error
   first_causes = or_first (or_first (encoding_cause p) (texts_cause p texts)) (header_cause p texts)
 
-  header-refusal : refusal (header_bytes plain big p texts) ≡ first_causes
+  header-refusal : refusal (header_bytes plain is_big p texts) ≡ first_causes
   header-refusal =
       let format = p.encoding.format in
       let cause = header_cause p texts in
-      after-refusal (λ n. format_word big format n) (fields_bytes plain big p texts) cause
-      (λ bytes is. word-refusal big format (length bytes) ∙ ap (word_cause format) (fields_size big p texts bytes is))
+      after-refusal (λ n. format_word is_big format n) (fields_bytes plain is_big p texts) cause
+      (λ bytes is. word-refusal is_big format (length bytes) ∙ ap (word_cause format) (fields_size is_big p texts bytes is))
       ∙ ap (λ (c : Option Error). or_first c cause) fields-refusal
 
   -- the causes of what the unit length counts
@@ -170,42 +170,42 @@ module _ (big : Bool) (p : Built) (texts : StringTables) where
   inside_cause = or_first (version_cause p) (or_first first_causes (items_cause p))
 
   module _ (known : IsTrue (is_address_size p.encoding.address_size)) where
-    inside-refusal : refusal (inside_bytes plain big p texts) ≡ inside_cause
+    inside-refusal : refusal (inside_bytes plain is_big p texts) ≡ inside_cause
     inside-refusal =
-        let program = program_bytes plain big p in
-        let header = header_bytes plain big p texts in
+        let program = program_bytes plain is_big p in
+        let header = header_bytes plain is_big p texts in
         let rest = result_append header program in
         let first = initial_row p.encoding.version p.line_encoding.default_is_stmt in
-        joined-refusal (opening_bytes big p.encoding) rest
-        ∙ ap (λ (c : Option Error). or_first c (refusal rest)) (opening-refusal big p.encoding)
+        joined-refusal (opening_bytes is_big p.encoding) rest
+        ∙ ap (λ (c : Option Error). or_first c (refusal rest)) (opening-refusal is_big p.encoding)
         ∙ ap (λ (c : Option Error). or_first (version_cause p) c)
         (joined-refusal header program
         ∙ ap (λ (c : Option Error). or_first c (refusal program)) header-refusal
         ∙ ap (λ (c : Option Error). or_first first_causes c)
-        (items-refusal big p.encoding p.line_encoding known first p.items))
+        (items-refusal is_big p.encoding p.line_encoding known first p.items))
 
-    whole-refusal : refusal (whole_bytes plain big p texts) ≡ or_first inside_cause (unit_cause big p texts)
+    whole-refusal : refusal (whole_bytes plain is_big p texts) ≡ or_first inside_cause (unit_cause is_big p texts)
     whole-refusal =
         let format = p.encoding.format in
-        let cause = unit_cause big p texts in
-        after-refusal (λ n. result_append (Ok (escape_bytes big format)) (length_word big format n))
-        (inside_bytes plain big p texts) cause
-        (λ bytes is. joined-refusal (Ok (escape_bytes big format)) (length_word big format (length bytes))
-        ∙ length-refusal big format (length bytes) ∙ ap (unit_length_cause format) (inside_size big p texts bytes is))
+        let cause = unit_cause is_big p texts in
+        after-refusal (λ n. result_append (Ok (escape_bytes is_big format)) (length_word is_big format n))
+        (inside_bytes plain is_big p texts) cause
+        (λ bytes is. joined-refusal (Ok (escape_bytes is_big format)) (length_word is_big format (length bytes))
+        ∙ length-refusal is_big format (length bytes) ∙ ap (unit_length_cause format) (inside_size is_big p texts bytes is))
         ∙ ap (λ (c : Option Error). or_first c cause) inside-refusal
 
 -- the first cause of a program is what its bytes are refused for
-pub cause-is : (big : Bool) (unit : Encoding) (p : Built) (texts : StringTables)
+pub cause-is : (is_big : Bool) (unit : Encoding) (p : Built) (texts : StringTables)
     → IsTrue (is_address_size p.encoding.address_size)
-    → first_cause big unit p texts ≡ refusal (unit_bytes plain big unit p texts)
-cause-is big unit p texts known =
+    → first_cause is_big unit p texts ≡ refusal (unit_bytes plain is_big unit p texts)
+cause-is is_big unit p texts known =
     let barred = is_incompatible unit p.encoding in
     let bar = cause_if barred IncompatibleLineProgramEncoding in
     let after = texts_after p texts in
     seven_causes bar (version_cause p) (encoding_cause p) (texts_cause p after) (header_cause p after) (items_cause p)
-    (unit_cause big p after)
-    ∙ ap (λ (c : Option Error). or_first bar c) (sym (whole-refusal big p after known))
-    ∙ sym (barred-refusal barred IncompatibleLineProgramEncoding (whole_bytes plain big p after))
+    (unit_cause is_big p after)
+    ∙ ap (λ (c : Option Error). or_first bar c) (sym (whole-refusal is_big p after known))
+    ∙ sym (barred-refusal barred IncompatibleLineProgramEncoding (whole_bytes plain is_big p after))
 
 -- ---- what a call knows
 

@@ -133,19 +133,19 @@ not_below m n = grind (arith, nat_le)
     by false false h k = grind (arith, nat_tests)
 
 -- the word of a header length or an offset
-pub word-refusal : (big : Bool) (format : Format) (n : ℕ) → refusal (format_word big format n) ≡ word_cause format n
-word-refusal big Dwarf32 n =
+pub word-refusal : (is_big : Bool) (format : Format) (n : ℕ) → refusal (format_word is_big format n) ≡ word_cause format n
+word-refusal is_big Dwarf32 n =
     grind (arith, tested-refusal, not_below)
-word-refusal big Dwarf64 n = refl
+word-refusal is_big Dwarf64 n = refl
 
 -- the word of a unit length
-pub length-refusal : (big : Bool) (format : Format) (n : ℕ)
-    → refusal (length_word big format n) ≡ unit_length_cause format n
-length-refusal big Dwarf32 n =
+pub length-refusal : (is_big : Bool) (format : Format) (n : ℕ)
+    → refusal (length_word is_big format n) ≡ unit_length_cause format n
+length-refusal is_big Dwarf32 n =
     grind (arith, not_below, nat_le)
   where
     by : (keeps_bytes held : Bool) → nat_lt n 0xffff_fff0 ≡ keeps_bytes → nat_lt n (2 ^ 32) ≡ held
-        → refusal (if keeps_bytes then Ok (number_bytes big 4 n)
+        → refusal (if keeps_bytes then Ok (number_bytes is_big 4 n)
         else (if held then Err InitialLengthOverflow else Err ValueTooLarge))
         ≡ first_of (cause_if (not held) ValueTooLarge ∷ cause_if (not keeps_bytes) InitialLengthOverflow ∷ [])
     by true true h k = refl
@@ -153,7 +153,7 @@ length-refusal big Dwarf32 n =
         grind (arith, ltb-true, ltb-false)
     by false true h k = refl
     by false false h k = refl
-length-refusal big Dwarf64 n = refl
+length-refusal is_big Dwarf64 n = refl
 
 -- a number of one of the sizes of an address
 known_size : (one two three four eight : Bool) → IsTrue (one || two || four || eight)
@@ -163,7 +163,7 @@ known_size false true three four eight h = refl
 known_size false false true four eight h = refl
 known_size false false false four eight h = h
 
-pub address-refusal : (big : Bool) (a size : ℕ) → IsTrue (is_address_size size)
-    → refusal (udata big a size) ≡ cause_if (nat_le (256 ^ size) a) ValueTooLarge
-address-refusal big a size known =
+pub address-refusal : (is_big : Bool) (a size : ℕ) → IsTrue (is_address_size size)
+    → refusal (udata is_big a size) ≡ cause_if (nat_le (256 ^ size) a) ValueTooLarge
+address-refusal is_big a size known =
     grind (arith, known_size, nat_eq, tested-refusal, not_below)

@@ -75,16 +75,16 @@ module _ (format : Format) (texts : StringTables) where
 
   -- ---- texts of version 5
 
-  module _ (big : Bool) where
-    stored-refusal : (t : LineText) → refusal (text_bytes plain big format texts t) ≡ offset_cause format texts t
+  module _ (is_big : Bool) where
+    stored-refusal : (t : LineText) → refusal (text_bytes plain is_big format texts t) ≡ offset_cause format texts t
     stored-refusal (Inline text) = refl
-    stored-refusal (InStrings i) = word-refusal big format (offset_of texts.strings i)
-    stored-refusal (InLineStrings i) = word-refusal big format (offset_of texts.line_strings i)
+    stored-refusal (InStrings i) = word-refusal is_big format (offset_of texts.strings i)
+    stored-refusal (InLineStrings i) = word-refusal is_big format (offset_of texts.line_strings i)
 
     formed-refusal : (form : ℕ) (t : LineText)
-        → refusal (text_in_form plain big format texts form t) ≡ cause_of (form, t)
+        → refusal (text_in_form plain is_big format texts form t) ≡ cause_of (form, t)
     formed-refusal form t =
-        by (nat_eq (text_form t) form) (text_bytes plain big format texts t) (offset_cause format texts t)
+        by (nat_eq (text_form t) form) (text_bytes plain is_big format texts t) (offset_cause format texts t)
         (stored-refusal t)
       where
         by : (same : Bool) (written : Result (List ℕ) Error) (cause : Option Error) → refusal written ≡ cause
@@ -95,7 +95,7 @@ module _ (format : Format) (texts : StringTables) where
 
     -- a source that is written, or none
     source-refusal : (has : Bool) (form : ℕ) (t : LineText)
-        → refusal (if has then text_in_form plain big format texts form t else Ok [])
+        → refusal (if has then text_in_form plain is_big format texts form t else Ok [])
         ≡ first_of (map cause_of (if has then (form, t) ∷ [] else []))
     source-refusal true form t = formed-refusal _ t ∙ sym (first_alone _)
     source-refusal false form t = refl
@@ -107,12 +107,12 @@ after-refusal : (first : List ℕ) (rest : Result (List ℕ) Error) (cause : Opt
     → refusal (result_append (Ok first) rest) ≡ cause
 after-refusal first rest cause h = joined-refusal (Ok first) rest ∙ h
 
-module _ (big : Bool) (p : Built) (texts : StringTables) where
+module _ (is_big : Bool) (p : Built) (texts : StringTables) where
   abbrev own_cause : ℕ × LineText → Option Error
   own_cause t = text_cause p.encoding.format texts t
 
   entry-refusal : (f : File)
-      → refusal (file_entry_bytes plain big p.encoding.format texts p f)
+      → refusal (file_entry_bytes plain is_big p.encoding.format texts p f)
       ≡ first_of (map own_cause (file_texts p texts f))
   entry-refusal f =
       let format = p.encoding.format in
@@ -120,45 +120,45 @@ module _ (big : Bool) (p : Built) (texts : StringTables) where
       let form = first_form (sources p.files) in
       let source = unwrap_or f.1.source (empty_text form texts) in
       let last = if p.file_has_source then (form, source) ∷ [] else [] in
-      let path = text_in_form plain big format texts path_form f.0.0 in
-      let written = source_bytes plain big format texts p f in
+      let path = text_in_form plain is_big format texts path_form f.0.0 in
+      let written = source_bytes plain is_big format texts p f in
       let details = Ok (detail_bytes p f) in
       joined-refusal path (result_append details written)
       ∙ ap (λ (c : Option Error). or_first c (refusal (result_append details written)))
-      (formed-refusal format texts big path_form f.0.0)
+      (formed-refusal format texts is_big path_form f.0.0)
       ∙ ap (λ (c : Option Error). or_first (own_cause (path_form, f.0.0)) c)
       (after-refusal (detail_bytes p f) written (first_of (map own_cause last))
-      (source-refusal format texts big p.file_has_source form source))
+      (source-refusal format texts is_big p.file_has_source form source))
       ∙ sym (first_apart (own_cause (path_form, f.0.0)) (map own_cause last))
 
-  directory_table-refusal : refusal (directory_table_bytes plain big p.encoding.format texts p)
+  directory_table-refusal : refusal (directory_table_bytes plain is_big p.encoding.format texts p)
       ≡ first_of (map own_cause (map (λ (t : LineText). (first_form p.directories, t)) p.directories))
   directory_table-refusal =
       let format = p.encoding.format in
       let form = first_form p.directories in
-      let text = text_in_form plain big format texts form in
+      let text = text_in_form plain is_big format texts form in
       after-refusal (formats_bytes (directory_formats p) ++ uleb (length p.directories)) _
       _
-      (parts-refusal _ _ (formed-refusal format texts big form) p.directories
+      (parts-refusal _ _ (formed-refusal format texts is_big form) p.directories
       ∙ sym (causes_map own_cause (λ (t : LineText). (form, t)) p.directories))
 
-  file_table-refusal : refusal (file_table_bytes plain big p.encoding.format texts p)
+  file_table-refusal : refusal (file_table_bytes plain is_big p.encoding.format texts p)
       ≡ first_of (map own_cause (flat_map (file_texts p texts) p.files))
   file_table-refusal =
-      let entry = file_entry_bytes plain big p.encoding.format texts p in
+      let entry = file_entry_bytes plain is_big p.encoding.format texts p in
       let own = file_texts p texts in
       after-refusal (formats_bytes (file_formats p) ++ uleb (length p.files)) _
       _
       (parts-refusal _ _ entry-refusal _
       ∙ sym (causes_flat own_cause own p.files))
 
-  new-refusal : refusal (result_append (directory_table_bytes plain big p.encoding.format texts p)
-      (file_table_bytes plain big p.encoding.format texts p))
+  new-refusal : refusal (result_append (directory_table_bytes plain is_big p.encoding.format texts p)
+      (file_table_bytes plain is_big p.encoding.format texts p))
       ≡ first_of (map own_cause
       (map (λ (t : LineText). (first_form p.directories, t)) p.directories ++ flat_map (file_texts p texts) p.files))
   new-refusal =
-      let directories = directory_table_bytes plain big p.encoding.format texts p in
-      let files = file_table_bytes plain big p.encoding.format texts p in
+      let directories = directory_table_bytes plain is_big p.encoding.format texts p in
+      let files = file_table_bytes plain is_big p.encoding.format texts p in
       let named = map (λ (t : LineText). (first_form p.directories, t)) p.directories in
       let filed = flat_map (file_texts p texts) p.files in
       joined-refusal directories files
@@ -169,11 +169,11 @@ module _ (big : Bool) (p : Built) (texts : StringTables) where
   -- ---- both
 
   -- the tables are refused for the first text that has a cause
-  pub tables-refusal : refusal (tables_bytes plain big p texts) ≡ first_of (map own_cause (emitted_texts p texts))
+  pub tables-refusal : refusal (tables_bytes plain is_big p texts) ≡ first_of (map own_cause (emitted_texts p texts))
   tables-refusal =
       by (nat_le p.encoding.version 4) (result_append (directories_bytes p.directories) (files_bytes p.files))
-      (result_append (directory_table_bytes plain big p.encoding.format texts p)
-      (file_table_bytes plain big p.encoding.format texts p))
+      (result_append (directory_table_bytes plain is_big p.encoding.format texts p)
+      (file_table_bytes plain is_big p.encoding.format texts p))
       (map (λ (t : LineText). (0x08, t)) (drop 1 p.directories ++ path_texts p.files))
       (map (λ (t : LineText). (first_form p.directories, t)) p.directories ++ flat_map (file_texts p texts) p.files)
       (old-refusal p.encoding.format texts p.directories p.files) new-refusal

@@ -77,11 +77,11 @@ size_after length_of (Err e) m n before counted = size_of_none e _
 -- ---- numbers
 
 -- a word of a format
-pub format_word_size : (big : Bool) (format : Format) (n : ℕ) → HasSize (format_word big format n) (word_size format)
-format_word_size big Dwarf32 n =
+pub format_word_size : (is_big : Bool) (format : Format) (n : ℕ) → HasSize (format_word is_big format n) (word_size format)
+format_word_size is_big Dwarf32 n =
     size_as _ _ 4 (length-number _ 4 n)
     (size_tested _ _ _)
-format_word_size big Dwarf64 n =
+format_word_size is_big Dwarf64 n =
     size_as _ _ 8 (length-number _ 8 n) (size_of_ok _)
 
 -- ---- how many bytes a unit is, where it is written
@@ -118,23 +118,23 @@ files_size format files =
 
 -- ---- texts of version 5
 
-module _ (big : Bool) (format : Format) (texts : StringTables) where
-  stored_size : (t : LineText) → HasSize (text_bytes plain big format texts t) (text_size format t)
+module _ (is_big : Bool) (format : Format) (texts : StringTables) where
+  stored_size : (t : LineText) → HasSize (text_bytes plain is_big format texts t) (text_size format t)
   stored_size (Inline text) = name_size format (Inline text)
   stored_size (InStrings i) = format_word_size _ _ _
   stored_size (InLineStrings i) = format_word_size _ _ _
 
   tested_text : (same : Bool) (t : LineText)
-      → HasSize (if same then text_bytes plain big format texts t else Err LineStringFormMismatch) (text_size format t)
+      → HasSize (if same then text_bytes plain is_big format texts t else Err LineStringFormMismatch) (text_size format t)
   tested_text true t = stored_size t
   tested_text false t = size_of_none _ _
 
-  formed_size : (form : ℕ) (t : LineText) → HasSize (text_in_form plain big format texts form t) (text_size format t)
+  formed_size : (form : ℕ) (t : LineText) → HasSize (text_in_form plain is_big format texts form t) (text_size format t)
   formed_size form t = tested_text _ t
 
   -- a source that is written, or none
   source_size : (has : Bool) (form : ℕ) (t : LineText)
-      → HasSize (if has then text_in_form plain big format texts form t else Ok [])
+      → HasSize (if has then text_in_form plain is_big format texts form t else Ok [])
       (sum_by (λ (s : ℕ × LineText). text_size format s.1) (if has then (form, t) ∷ [] else []))
   source_size true form t =
       grind (arith, formed_size)
@@ -151,8 +151,8 @@ prefixed_size formats number rest n size =
 path_first : (path details source : ℕ) → path + (details + source) ≡ (path + source) + details
 path_first path details source = omega arith
 
-module _ (big : Bool) (p : Built) (texts : StringTables) where
-  one_entry_size : (f : File) → HasSize (file_entry_bytes plain big p.encoding.format texts p f) (entry_size p texts f)
+module _ (is_big : Bool) (p : Built) (texts : StringTables) where
+  one_entry_size : (f : File) → HasSize (file_entry_bytes plain is_big p.encoding.format texts p f) (entry_size p texts f)
   one_entry_size f =
       let format = p.encoding.format in
       let form = first_form (sources p.files) in
@@ -161,17 +161,17 @@ module _ (big : Bool) (p : Built) (texts : StringTables) where
       let last = if p.file_has_source then (form, source) ∷ [] else [] in
       let path = text_size format f.0.0 in
       let details = length (detail_bytes p f) in
-      let written = source_bytes plain big format texts p f in
+      let written = source_bytes plain is_big format texts p f in
       size_as _ _ _
       (path_first path details (sum_by sized last)
       ∙ ap (λ (k : ℕ). k + details) (sym (sum_by-cons sized (first_form (path_texts p.files), f.0.0) last)))
       (size_joined _ _ _
       _
-      (formed_size big format texts (first_form (path_texts p.files)) f.0.0)
+      (formed_size is_big format texts (first_form (path_texts p.files)) f.0.0)
       (size_joined _ _ _ _ (size_of_ok (detail_bytes p f))
-      (source_size big format texts p.file_has_source form source)))
+      (source_size is_big format texts p.file_has_source form source)))
 
-  directory_table_size : HasSize (directory_table_bytes plain big p.encoding.format texts p)
+  directory_table_size : HasSize (directory_table_bytes plain is_big p.encoding.format texts p)
       (length (formats_bytes (directory_formats p)) + length (uleb (length p.directories))
       + sum_by (text_size p.encoding.format) p.directories)
   directory_table_size =
@@ -179,19 +179,19 @@ module _ (big : Bool) (p : Built) (texts : StringTables) where
       let form = first_form p.directories in
       prefixed_size (formats_bytes (directory_formats p)) (uleb (length p.directories))
       _ _
-      (size_parts _ _ (formed_size big format texts form) p.directories)
+      (size_parts _ _ (formed_size is_big format texts form) p.directories)
 
-  file_table_size : HasSize (file_table_bytes plain big p.encoding.format texts p)
+  file_table_size : HasSize (file_table_bytes plain is_big p.encoding.format texts p)
       (length (formats_bytes (file_formats p)) + length (uleb (length p.files)) + sum_by (entry_size p texts) p.files)
   file_table_size =
-      let entry = file_entry_bytes plain big p.encoding.format texts p in
+      let entry = file_entry_bytes plain is_big p.encoding.format texts p in
       prefixed_size (formats_bytes (file_formats p)) (uleb (length p.files)) _ _
       (size_parts _ _ one_entry_size _)
 
   -- ---- both
 
   -- the tables are as long as is said
-  pub tables-size : HasSize (tables_bytes plain big p texts) (tables_size p texts)
+  pub tables-size : HasSize (tables_bytes plain is_big p texts) (tables_size p texts)
   tables-size =
       let format = p.encoding.format in
       let old_directories = sum_by (text_size format) (drop 1 p.directories) + 1 in
@@ -202,8 +202,8 @@ module _ (big : Bool) (p : Built) (texts : StringTables) where
       let files =
       length (formats_bytes (file_formats p)) + length (uleb (length p.files))
       + sum_by (entry_size p texts) p.files in
-      let directory_table = directory_table_bytes plain big format texts p in
-      let file_table = file_table_bytes plain big format texts p in
+      let directory_table = directory_table_bytes plain is_big format texts p in
+      let file_table = file_table_bytes plain is_big format texts p in
       size_either (nat_le p.encoding.version 4) _
       _
       _ _
@@ -215,9 +215,9 @@ module _ (big : Bool) (p : Built) (texts : StringTables) where
 
 -- ---- the version and what stands with it
 
-opening_size : (big : Bool) (encoding : Encoding)
-    → HasSize (opening_bytes big encoding) (if nat_le encoding.version 4 then 2 else 4)
-opening_size big encoding =
+opening_size : (is_big : Bool) (encoding : Encoding)
+    → HasSize (opening_bytes is_big encoding) (if nat_le encoding.version 4 then 2 else 4)
+opening_size is_big encoding =
     grind (arith)
 
 -- ---- what the header length counts
@@ -237,36 +237,36 @@ own_size (Err e) = size_of_none e 0
 two_and_two : (a b c d : ℕ) → a + ((b + c) + d) ≡ a + b + c + d
 two_and_two a b c d = omega arith
 
-module _ (big : Bool) (p : Built) (texts : StringTables) where
+module _ (is_big : Bool) (p : Built) (texts : StringTables) where
   -- what the header length counts is as long as it says
-  pub fields_size : HasSize (fields_bytes plain big p texts) (header_length p texts)
+  pub fields_size : HasSize (fields_bytes plain is_big p texts) (header_length p texts)
   fields_size =
       let encoding = if nat_le 4 p.encoding.version then 5 else 4 in
-      let tables = tables_bytes plain big p texts in
+      let tables = tables_bytes plain is_big p texts in
       let count = tables_size p texts in
       size_as _ _ _ (three_parts encoding 13 count)
       (size_joined _ _ _ _
       (line_encoding_size p.encoding.version p.line_encoding)
-      (size_joined _ _ _ _ (size_of_ok opcode_bytes) (tables-size big p texts)))
+      (size_joined _ _ _ _ (size_of_ok opcode_bytes) (tables-size is_big p texts)))
 
   -- ---- what the unit length counts
 
-  header_size : HasSize (header_bytes plain big p texts) (word_size p.encoding.format + header_length p texts)
+  header_size : HasSize (header_bytes plain is_big p texts) (word_size p.encoding.format + header_length p texts)
   header_size =
       let word = word_size p.encoding.format in
-      size_after (λ n. format_word big p.encoding.format n) _ word _
-      (λ n. format_word_size big p.encoding.format n) fields_size
+      size_after (λ n. format_word is_big p.encoding.format n) _ word _
+      (λ n. format_word_size is_big p.encoding.format n) fields_size
 
   -- what the unit length counts is as long as it says
-  pub inside_size : HasSize (inside_bytes plain big p texts) (unit_length big p texts)
+  pub inside_size : HasSize (inside_bytes plain is_big p texts) (unit_length is_big p texts)
   inside_size =
       let opening = if nat_le p.encoding.version 4 then 2 else 4 in
       let word = word_size p.encoding.format in
-      let program = size_of (program_bytes plain big p) in
-      let header = header_bytes plain big p texts in
+      let program = size_of (program_bytes plain is_big p) in
+      let header = header_bytes plain is_big p texts in
       let counted = header_length p texts in
       size_as _ _ _
       (two_and_two opening word counted program)
       (size_joined _ _ _ _
-      (opening_size big p.encoding)
-      (size_joined _ _ _ _ header_size (own_size (program_bytes plain big p))))
+      (opening_size is_big p.encoding)
+      (size_joined _ _ _ _ header_size (own_size (program_bytes plain is_big p))))

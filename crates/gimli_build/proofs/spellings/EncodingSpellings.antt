@@ -7,7 +7,7 @@ use Rattle.std.proofs.Common.{rules}
 use Rattle.std.proofs.lemmas.Int.{ints, to_z-of_z}
 use Rattle.std.proofs.lemmas.Bool.{ltb-true, leb-true, leb-false, lt-ltb, lt-leb, le-leb, ne_eqb, eqb-true}
 use Rattle.std.proofs.lemmas.List.{append-nil}
-use Rattle.gimli_core.specs.Notation.{Notation}
+use Rattle.gimli_core.specs.Layout.{OrderAndLimit}
 use Rattle.gimli_core.specs.Numbers.{SpellsNumber, SpellsInitialLength, number_bytes, word_size, is_address_size}
 use Rattle.gimli_core.specs.Production.{Production, ◌>>=◌, done, check, choose, byte, offset_word, unit_length}
 use Rattle.gimli_core.specs.Production.{fits_offset}
@@ -154,34 +154,34 @@ both_true true c is = is
 both_true false c is = absurd cc
 
 -- a version that is written is one, and its bytes spell it
-pub record VersionWritten (big : Bool) (version : ℕ) (bytes : List ℕ) : Type 0 where
-  pub bytes_are : bytes ≡ number_bytes big 2 version
+pub record VersionWritten (is_big : Bool) (version : ℕ) (bytes : List ℕ) : Type 0 where
+  pub bytes_are : bytes ≡ number_bytes is_big 2 version
   pub known : (nat_le 2 version && nat_le version 5) ≡ true
 
-version_written : (big : Bool) (version : ℕ) (bytes : List ℕ) → version_bytes big version ≡ Ok bytes
-    → VersionWritten big version bytes
-version_written big version bytes is = grind arith
+version_written : (is_big : Bool) (version : ℕ) (bytes : List ℕ) → version_bytes is_big version ≡ Ok bytes
+    → VersionWritten is_big version bytes
+version_written is_big version bytes is = grind arith
   where
     by : (b : Bool) → (nat_le 2 version && nat_le version 5) ≡ b
-        → (let r : Result (List ℕ) Error = if b then Ok (number_bytes big 2 version)
+        → (let r : Result (List ℕ) Error = if b then Ok (number_bytes is_big 2 version)
         else Err (UnsupportedVersion version) in
         r)
         ≡ Ok bytes
-        → VersionWritten big version bytes
+        → VersionWritten is_big version bytes
     by true t is = grind (arith, same_written)
     by false t is = absurd cc
 
-pub version-known : (big : Bool) (version : ℕ) (bytes : List ℕ) → version_bytes big version ≡ Ok bytes → version ≤ 5
-version-known big version bytes is =
+pub version-known : (is_big : Bool) (version : ℕ) (bytes : List ℕ) → version_bytes is_big version ≡ Ok bytes → version ≤ 5
+version-known is_big version bytes is =
     grind (arith, leb-true, both_true, version_written)
 
-pub version-spelled : (big : Bool) (version : ℕ) (bytes : List ℕ) → version_bytes big version ≡ Ok bytes
-    → (version_production big).Spells bytes version
-version-spelled big version bytes is =
-    let w = version_written big version bytes is in
-    let known = version-known big version bytes is in
-    let number : SpellsNumber big 2 bytes version =
-    rw w.bytes_are (number_spelled big 2 version (omega (arith, known))) in
+pub version-spelled : (is_big : Bool) (version : ℕ) (bytes : List ℕ) → version_bytes is_big version ≡ Ok bytes
+    → (version_production is_big).Spells bytes version
+version-spelled is_big version bytes is =
+    let w = version_written is_big version bytes is in
+    let known = version-known is_big version bytes is in
+    let number : SpellsNumber is_big 2 bytes version =
+    rw w.bytes_are (number_spelled is_big 2 version (omega (arith, known))) in
     (version, bytes, [], sym (append-nil bytes), number, (tt, [], [], refl, (refl, w.known), (refl, refl)))
 
 -- ---- the size of an address
@@ -220,75 +220,75 @@ address-spelled version handed size same known = by (nat_le version 4)
 -- ---- lengths
 
 -- an offset of a reader holds any word of the 32-bit format, and one of the 64-bit format that is below its limit
-held : (notation : Notation) (format : Format) (n : ℕ) → (format ≡ Dwarf64 → n < notation.limit)
-    → fits_offset notation format n ≡ true
-held notation Dwarf32 n lt = refl
-held notation Dwarf64 n lt = grind (arith, lt-ltb)
+held : (layout : OrderAndLimit) (format : Format) (n : ℕ) → (format ≡ Dwarf64 → n < layout.limit)
+    → fits_offset layout format n ≡ true
+held layout Dwarf32 n lt = refl
+held layout Dwarf64 n lt = grind (arith, lt-ltb)
 
 -- eight bytes hold any number of the 64-bit format, which is told by no test
-word_spelled : (big : Bool) (format : Format) (n : ℕ) (bytes : List ℕ) → n < 2 ^ 64
-    → format_word big format n ≡ Ok bytes
-    → SpellsNumber big (word_size format) bytes n
-word_spelled big Dwarf32 n bytes small is = grind arith
+word_spelled : (is_big : Bool) (format : Format) (n : ℕ) (bytes : List ℕ) → n < 2 ^ 64
+    → format_word is_big format n ≡ Ok bytes
+    → SpellsNumber is_big (word_size format) bytes n
+word_spelled is_big Dwarf32 n bytes small is = grind arith
   where
     by : (b : Bool) → nat_lt n (2 ^ 32) ≡ b
-        → (let r : Result (List ℕ) Error = if b then Ok (number_bytes big 4 n) else Err ValueTooLarge in r) ≡ Ok bytes
-        → SpellsNumber big 4 bytes n
+        → (let r : Result (List ℕ) Error = if b then Ok (number_bytes is_big 4 n) else Err ValueTooLarge in r) ≡ Ok bytes
+        → SpellsNumber is_big 4 bytes n
     by true t is = grind (arith, same_written, number_spelled, ltb-true)
     by false t is = absurd cc
-word_spelled big Dwarf64 n bytes small is = grind (arith, same_written, number_spelled)
+word_spelled is_big Dwarf64 n bytes small is = grind (arith, same_written, number_spelled)
 
 -- a word has bytes
-pub word-long : (big : Bool) (format : Format) (n : ℕ) (bytes : List ℕ) → format_word big format n ≡ Ok bytes
+pub word-long : (is_big : Bool) (format : Format) (n : ℕ) (bytes : List ℕ) → format_word is_big format n ≡ Ok bytes
     → 0 < length bytes
-word-long big format n bytes is =
+word-long is_big format n bytes is =
     grind (arith, format_word_size)
   where
     word_some : (f : Format) → 0 < word_size f
     word_some Dwarf32 = lit< tt
     word_some Dwarf64 = lit< tt
 
-pub offset-spelled : (notation : Notation) (format : Format) (n : ℕ) (bytes : List ℕ)
-    → (format ≡ Dwarf64 → n < notation.limit) → n < 2 ^ 64
-    → format_word notation.big format n ≡ Ok bytes
-    → (offset_word notation format).Spells bytes n
-offset-spelled notation format n bytes lt small is = (
+pub offset-spelled : (layout : OrderAndLimit) (format : Format) (n : ℕ) (bytes : List ℕ)
+    → (format ≡ Dwarf64 → n < layout.limit) → n < 2 ^ 64
+    → format_word layout.is_big format n ≡ Ok bytes
+    → (offset_word layout format).Spells bytes n
+offset-spelled layout format n bytes lt small is = (
   n,
   bytes,
   [],
   sym (append-nil bytes),
   word_spelled _ _ n _ small is,
-  (tt, [], [], refl, (refl, held notation _ n lt), (refl, refl)),
+  (tt, [], [], refl, (refl, held layout _ n lt), (refl, refl)),
 )
 
 -- eight bytes hold any length of the 64-bit format, which is told by no test
-initial_spelled : (big : Bool) (format : Format) (n : ℕ) (word : List ℕ) → n < 2 ^ 64
-    → length_word big format n ≡ Ok word
-    → SpellsInitialLength big (escape_bytes big format ++ word) format n
-initial_spelled big Dwarf32 n word small is = grind arith
+initial_spelled : (is_big : Bool) (format : Format) (n : ℕ) (word : List ℕ) → n < 2 ^ 64
+    → length_word is_big format n ≡ Ok word
+    → SpellsInitialLength is_big (escape_bytes is_big format ++ word) format n
+initial_spelled is_big Dwarf32 n word small is = grind arith
   where
     by : (b : Bool) → nat_lt n 0xffff_fff0 ≡ b → (c : Bool)
-        → (let r : Result (List ℕ) Error = if b then Ok (number_bytes big 4 n)
+        → (let r : Result (List ℕ) Error = if b then Ok (number_bytes is_big 4 n)
         else (if c then Err InitialLengthOverflow else Err ValueTooLarge) in
         r)
         ≡ Ok word
-        → SpellsNumber big 4 word n × (n < 0xffff_fff0)
+        → SpellsNumber is_big 4 word n × (n < 0xffff_fff0)
     by true t c is =
         grind (arith, ltb-true, same_written, number_spelled)
     by false t true is = absurd cc
     by false t false is = absurd cc
-initial_spelled big Dwarf64 n word small is = grind (arith, number_spelled, same_written)
+initial_spelled is_big Dwarf64 n word small is = grind (arith, number_spelled, same_written)
 
-pub length-spelled : (notation : Notation) (format : Format) (n : ℕ) (word : List ℕ)
-    → (format ≡ Dwarf64 → n < notation.limit) → n < 2 ^ 64
-    → length_word notation.big format n ≡ Ok word
-    → (unit_length notation).Spells (escape_bytes notation.big format ++ word) (n, format)
-length-spelled notation format n word lt small is =
-    let bytes = escape_bytes notation.big format ++ word in (
+pub length-spelled : (layout : OrderAndLimit) (format : Format) (n : ℕ) (word : List ℕ)
+    → (format ≡ Dwarf64 → n < layout.limit) → n < 2 ^ 64
+    → length_word layout.is_big format n ≡ Ok word
+    → (unit_length layout).Spells (escape_bytes layout.is_big format ++ word) (n, format)
+length-spelled layout format n word lt small is =
+    let bytes = escape_bytes layout.is_big format ++ word in (
       (n, format),
       bytes,
       [],
       sym (append-nil bytes),
       initial_spelled _ _ n _ small is,
-      (tt, [], [], refl, (refl, held notation _ n lt), (refl, refl)),
+      (tt, [], [], refl, (refl, held layout _ n lt), (refl, refl)),
     )

@@ -4,7 +4,7 @@ use Rattle.std.proofs.Common.{sym, ap, ◌∙◌, subst}
 use Rattle.std.proofs.Common.{append_assoc, if◌then◌else◌}
 use Rattle.std.specs.Prelude.{nat_eq, replicate}
 use Rattle.std.proofs.lemmas.List.{append-nil}
-use Rattle.gimli_core.specs.Notation.{Notation}
+use Rattle.gimli_core.specs.Layout.{OrderAndLimit}
 use Rattle.gimli_core.specs.Values.{Value}
 use Rattle.gimli_core.specs.inside.Form.{SpellsForm}
 use Rattle.gimli_core.specs.declared.common.Format.{Format}
@@ -12,14 +12,14 @@ use Rattle.gimli_core.specs.declared.attribute_value.AttributeValue.TheVariants.
 use Rattle.gimli_bytes.specs.Number.{uleb}
 use Rattle.gimli_bytes.proofs.ShortestUleb.{uleb_shortest}
 use Rattle.gimli_line.specs.header.File.{File as ReadFile}
-use Rattle.gimli_line.specs.header.HeaderGrammar.{Entry, entry_production, digest, file_of_entry}
+use Rattle.gimli_line.specs.header.HeaderGrammar.{TableEntry, entry_production, digest, file_of_entry}
 use Rattle.gimli_build.specs.Due.{when}
 use Rattle.gimli_build.proofs.spellings.FormatForms.{read_format, formats_of, nested}
 
 -- ---- what is read
 
 -- an entry with these values, where the flags are these
-abbrev pub entry_of : (time size has_digest source : Bool) → Value → ℕ → ℕ → ℕ → List ℕ → Value → Entry
+abbrev pub entry_of : (time size has_digest source : Bool) → Value → ℕ → ℕ → ℕ → List ℕ → Value → TableEntry
 entry_of time size has_digest source path directory timestamp bytes md5 text =
     (0x0001, path) ∷ (0x0002, Udata directory)
     ∷ (when time (0x0003, Udata timestamp)
@@ -76,41 +76,41 @@ file-read time size has_digest source path directory timestamp bytes md5 text wh
 regrouped : (a b c d e : List ℕ) → (a ++ b ++ c ++ d) ++ e ≡ a ++ (b ++ (c ++ (d ++ e)))
 regrouped a b c d e = append_assoc (a ++ b ++ c) d e ∙ nested a b c _
 
-module _ (notation : Notation) (format : Format) where
-  udata_spelled : (n : ℕ) → n < 2 ^ 64 → SpellsForm notation format 0x0f (uleb n) (Udata n)
+module _ (layout : OrderAndLimit) (format : Format) where
+  udata_spelled : (n : ℕ) → n < 2 ^ 64 → SpellsForm layout format 0x0f (uleb n) (Udata n)
   udata_spelled n lt = (n, uleb n, [], sym (append-nil (uleb n)), (uleb_shortest n lt).spells, (refl, refl))
 
-  digest_spelled : (md5 : List ℕ) → length md5 ≡ 16 → SpellsForm notation format 0x1e md5 (Block md5)
+  digest_spelled : (md5 : List ℕ) → length md5 ≡ 16 → SpellsForm layout format 0x1e md5 (Block md5)
   digest_spelled md5 whole = (md5, md5, [], sym (append-nil md5), (whole, refl), (refl, refl))
 
-  abbrev pub IsSpelled : List (ℕ × ℕ) → List ℕ → Entry → Type 0
-  IsSpelled formats bytes entry = (entry_production notation format (map read_format formats)).Spells bytes entry
+  abbrev pub IsSpelled : List (ℕ × ℕ) → List ℕ → TableEntry → Type 0
+  IsSpelled formats bytes entry = (entry_production layout format (map read_format formats)).Spells bytes entry
 
   -- a value, and the values after it
   pub value-spelled : (content form : ℕ) (bytes : List ℕ) (v : Value) (formats : List (ℕ × ℕ)) (rest : List ℕ)
-      (entry : Entry)
-      → SpellsForm notation format form bytes v → IsSpelled formats rest entry
+      (entry : TableEntry)
+      → SpellsForm layout format form bytes v → IsSpelled formats rest entry
       → IsSpelled ((content, form) ∷ formats) (bytes ++ rest) ((content, v) ∷ entry)
   value-spelled content form bytes v formats rest entry own after =
       (v, bytes, rest, refl, own, (entry, rest, [], sym (append-nil rest), after, (refl, refl)))
 
   -- a value where a flag asks for it
   when_spelled : (due : Bool) (content form : ℕ) (bytes : List ℕ) (v : Value) (formats : List (ℕ × ℕ)) (rest : List ℕ)
-      (entry : Entry)
-      → SpellsForm notation format form bytes v → IsSpelled formats rest entry
+      (entry : TableEntry)
+      → SpellsForm layout format form bytes v → IsSpelled formats rest entry
       → IsSpelled (when due (content, form) ++ formats) ((if due then bytes else []) ++ rest)
       (when due (content, v) ++ entry)
   when_spelled true content form bytes v formats rest entry own after = value-spelled _ form _ v _ _ _ own after
   when_spelled false content form bytes v formats rest entry own after = after
 
   -- a value alone
-  pub last-spelled : (content form : ℕ) (bytes : List ℕ) (v : Value) → SpellsForm notation format form bytes v
+  pub last-spelled : (content form : ℕ) (bytes : List ℕ) (v : Value) → SpellsForm layout format form bytes v
       → IsSpelled ((content, form) ∷ []) bytes ((content, v) ∷ [])
   last-spelled content form bytes v own =
       (v, bytes, [], sym (append-nil bytes), own, ([], [], [], refl, (refl, refl), (refl, refl)))
 
   source_spelled : (due : Bool) (form : ℕ) (bytes : List ℕ) (v : Value)
-      → (due ≡ true → SpellsForm notation format form bytes v) → (due ≡ false → bytes ≡ [])
+      → (due ≡ true → SpellsForm layout format form bytes v) → (due ≡ false → bytes ≡ [])
       → IsSpelled (when due (0x2001, form)) bytes (when due (0x2001, v))
   source_spelled true form bytes v own none = last-spelled _ form _ v (own refl)
   source_spelled false form bytes v own none = (none refl, refl)
@@ -118,9 +118,9 @@ module _ (notation : Notation) (format : Format) where
   pub entry-spelled : (time size has_digest source : Bool) (path_form source_form : ℕ) (path : Value)
       (directory timestamp count : ℕ) (md5 : List ℕ)
       (text : Value) (path_bytes source_bytes : List ℕ)
-      → SpellsForm notation format path_form path_bytes path → directory < 2 ^ 64 → timestamp < 2 ^ 64 → count < 2 ^ 64
+      → SpellsForm layout format path_form path_bytes path → directory < 2 ^ 64 → timestamp < 2 ^ 64 → count < 2 ^ 64
       → length md5 ≡ 16
-      → (source ≡ true → SpellsForm notation format source_form source_bytes text)
+      → (source ≡ true → SpellsForm layout format source_form source_bytes text)
       → (source ≡ false → source_bytes ≡ [])
       → IsSpelled (formats_of time size has_digest source path_form source_form)
       (path_bytes

@@ -3,7 +3,7 @@ use Rattle.std.proofs.Common.{◌≡◌, ℕ, ◌<◌, ◌^◌, List, [], ◌∷
 use Rattle.std.proofs.Common.{lit<}
 use Rattle.std.specs.Prelude.{Result, IfOk}
 use Rattle.std.proofs.lemmas.List.{append-nil}
-use Rattle.gimli_core.specs.Notation.{Notation}
+use Rattle.gimli_core.specs.Layout.{OrderAndLimit}
 use Rattle.gimli_core.specs.Production.{Each}
 use Rattle.gimli_core.specs.declared.common.Encoding.{Encoding}
 use Rattle.gimli_core.specs.declared.common.LineEncoding.{LineEncoding}
@@ -33,10 +33,10 @@ joined_ok (Ok a) (Ok b) bytes e = let p : a ++ b ≡ bytes = cc in (a, b, refl, 
 joined_ok (Ok a) (Err d) bytes e = absurd cc
 joined_ok (Err d) s bytes e = absurd cc
 
-module _ (notation : Notation) (h : Header) (base : h.parameters.opcode_base ≡ 13) (wide : 11 < notation.limit)
+module _ (layout : OrderAndLimit) (h : Header) (base : h.parameters.opcode_base ≡ 13) (wide : 11 < layout.limit)
     (e : LineEncoding) (can : CanEncode e) where
   abbrev Spelled : List ℕ → List Ins → Type 0
-  Spelled bytes is = Each (SpellsInstruction notation h) bytes is
+  Spelled bytes is = Each (SpellsInstruction layout h) bytes is
 
   each_append : (a b : List ℕ) (is js : List Ins) → Spelled a is → Spelled b js → Spelled (a ++ b) (is ++ js)
   each_append a b [] js p q = rw p q
@@ -52,27 +52,27 @@ module _ (notation : Notation) (h : Header) (base : h.parameters.opcode_base ≡
 
   pub items-spelled : (previous : LineRow) (items : List BuiltItem) (bytes : List ℕ) → previous.line < 2 ^ 63
       → AreBuilt e (previous.address_offset, previous.op_index) items → AreFit h.parameters.encoding.version items
-      → items_bytes plain notation.big h.parameters.encoding e previous items ≡ Ok bytes
+      → items_bytes plain layout.is_big h.parameters.encoding e previous items ≡ Ok bytes
       → Spelled bytes (items_instructions h.parameters.encoding.version e previous items)
   items-spelled previous [] bytes line built fit is = same_bytes [] bytes is
   items-spelled previous (SetAddress (Constant a) ∷ items) bytes line built fit is =
       let next : LineRow = record previous { address_offset = 0; op_index = 0 } in
       let p =
-      joined_ok (item_bytes plain notation.big h.parameters.encoding e previous (SetAddress (Constant a)))
-      (items_bytes plain notation.big h.parameters.encoding e next items) bytes is in
+      joined_ok (item_bytes plain layout.is_big h.parameters.encoding e previous (SetAddress (Constant a)))
+      (items_bytes plain layout.is_big h.parameters.encoding e next items) bytes is in
       each_joined p.0 p.1 bytes (read.SetAddress a ∷ []) (items_instructions h.parameters.encoding.version e next items)
       p.4
-      (p.0, [], sym (append-nil p.0), address-spelled notation h base wide a p.0 p.2, refl)
+      (p.0, [], sym (append-nil p.0), address-spelled layout h base wide a p.0 p.2, refl)
       (items-spelled next items p.1 line built.1 fit.1 p.3)
   items-spelled previous (SetAddress (Symbol s d) ∷ items) bytes line built fit is = absurd cc
   items-spelled previous (Row r ∷ items) bytes line built fit is =
       let version = h.parameters.encoding.version in
       let p =
-      joined_ok (item_bytes plain notation.big h.parameters.encoding e previous (Row r))
-      (items_bytes plain notation.big h.parameters.encoding e r items) bytes
+      joined_ok (item_bytes plain layout.is_big h.parameters.encoding e previous (Row r))
+      (items_bytes plain layout.is_big h.parameters.encoding e r items) bytes
       is in
       let own =
-      each-spelled notation h base wide (row_instructions version e previous r)
+      each-spelled layout h base wide (row_instructions version e previous r)
       (all_row version e previous r can built.0.0 line fit.0) in
       each_joined p.0 p.1 bytes (row_instructions version e previous r) (items_instructions version e r items) p.4
       (rw (same_bytes (instructions_bytes (row_instructions version e previous r)) p.0 p.2) own)
@@ -81,29 +81,29 @@ module _ (notation : Notation) (h : Header) (base : h.parameters.opcode_base ≡
       let version = h.parameters.encoding.version in
       let next : LineRow = initial_row version e.default_is_stmt in
       let p =
-      joined_ok (item_bytes plain notation.big h.parameters.encoding e previous (End o i))
-      (items_bytes plain notation.big h.parameters.encoding e next items)
+      joined_ok (item_bytes plain layout.is_big h.parameters.encoding e previous (End o i))
+      (items_bytes plain layout.is_big h.parameters.encoding e next items)
       bytes
       is in
-      let own = each-spelled notation h base wide (end_instructions e previous o i) (all_end e previous o i built.0) in
+      let own = each-spelled layout h base wide (end_instructions e previous o i) (all_end e previous o i built.0) in
       each_joined p.0 p.1 bytes (end_instructions e previous o i) (items_instructions version e next items) p.4
       (rw (same_bytes (instructions_bytes (end_instructions e previous o i)) p.0 p.2) own)
       (items-spelled next items p.1 (lit< tt) built.1 fit.1 p.3)
 
 -- the same where the header has this encoding
-pub items-spelled-under : (notation : Notation) (h : Header) (encoding : Encoding) (e : LineEncoding)
+pub items-spelled-under : (layout : OrderAndLimit) (h : Header) (encoding : Encoding) (e : LineEncoding)
     (previous : LineRow) (items : List BuiltItem)
     (bytes : List ℕ)
-    → h.parameters.encoding ≡ encoding → h.parameters.opcode_base ≡ 13 → 11 < notation.limit → CanEncode e
+    → h.parameters.encoding ≡ encoding → h.parameters.opcode_base ≡ 13 → 11 < layout.limit → CanEncode e
     → previous.line < 2 ^ 63
     → AreBuilt e (previous.address_offset, previous.op_index) items
-    → AreFit encoding.version items → items_bytes plain notation.big encoding e previous items ≡ Ok bytes
-    → Each (SpellsInstruction notation h) bytes (items_instructions encoding.version e previous items)
-items-spelled-under notation h encoding e previous items bytes same base wide can line built fit written =
+    → AreFit encoding.version items → items_bytes plain layout.is_big encoding e previous items ≡ Ok bytes
+    → Each (SpellsInstruction layout h) bytes (items_instructions encoding.version e previous items)
+items-spelled-under layout h encoding e previous items bytes same base wide can line built fit written =
     subst (λ x.
-    AreFit x.version items → items_bytes plain notation.big x e previous items ≡ Ok bytes
-    → Each (SpellsInstruction notation h) bytes (items_instructions x.version e previous items))
-    same (items-spelled notation h base wide e can _ _ _ line built) fit written
+    AreFit x.version items → items_bytes plain layout.is_big x e previous items ≡ Ok bytes
+    → Each (SpellsInstruction layout h) bytes (items_instructions x.version e previous items))
+    same (items-spelled layout h base wide e can _ _ _ line built) fit written
 
 -- what is true of bytes wherever they are written
 pub if_written : (written : Result (List ℕ) Error) (Is : List ℕ → Type 0)

@@ -12,7 +12,7 @@ use borrow.Author.Tests.{ltb-true}
 use Rattle.std.proofs.lemmas.List.{append-nil}
 use Rattle.std.proofs.lemmas.Bool.{lt-ltb, lt-leb, le-leb, ne_eqb}
 use Rattle.gimli_core.specs.declared.common.LineEncoding.{LineEncoding}
-use Rattle.gimli_core.specs.Notation.{Notation}
+use Rattle.gimli_core.specs.Layout.{OrderAndLimit}
 use Rattle.gimli_core.specs.Numbers.{SpellsUleb128, SpellsNumber, number_bytes}
 use Rattle.gimli_core.specs.Production.{Each}
 use Rattle.gimli_core.proofs.Written.{number_spelled}
@@ -47,18 +47,18 @@ use Rattle.gimli_build.specs.Encode.{operation_part, row_instructions, end_instr
 use Rattle.gimli_build.specs.InstructionBytes.{instruction_bytes, instructions_bytes, set_address_bytes, IsWritten}
 use Rattle.gimli_build.specs.InstructionBytes.{FitsInstructions}
 
-module _ (notation : Notation) (h : Header) (base : h.parameters.opcode_base ≡ 13) (wide : 11 < notation.limit) where
+module _ (layout : OrderAndLimit) (h : Header) (base : h.parameters.opcode_base ≡ 13) (wide : 11 < layout.limit) where
   -- an instruction by a standard opcode
-  standard : (x : ℕ) (rest : List ℕ) (i : Ins) → 0 < x → x < 13 → (standard_production notation h x).Spells rest i
-      → SpellsInstruction notation h (x ∷ rest) i
+  standard : (x : ℕ) (rest : List ℕ) (i : Ins) → 0 < x → x < 13 → (standard_production layout h x).Spells rest i
+      → SpellsInstruction layout h (x ∷ rest) i
   standard x rest i some low s =
       grind (arith, ne_eqb, lt-leb)
 
   -- an instruction by an extended opcode
   extended : (size : List ℕ) (opcode : ℕ) (operands : List ℕ) (i : Ins) → SpellsUleb128 64 size (length operands + 1)
-      → length operands + 1 < notation.limit
-      → (extended_operands notation h opcode operands).Spells [] i
-      → SpellsInstruction notation h (0 ∷ size ++ opcode ∷ operands) i
+      → length operands + 1 < layout.limit
+      → (extended_operands layout h opcode operands).Spells [] i
+      → SpellsInstruction layout h (0 ∷ size ++ opcode ∷ operands) i
   extended size opcode operands i spelled fits s =
       grind (arith, lt-ltb, append-nil)
 
@@ -69,7 +69,7 @@ module _ (notation : Notation) (h : Header) (base : h.parameters.opcode_base ≡
   unsigned_short : (n : ℕ) → n < 2 ^ 64 → length (uleb n) ≤ 10
   unsigned_short n lt = grind (arith, unsigned_spelled)
 
-  pub instruction-spelled : (i : Ins) → IsWritten i → SpellsInstruction notation h (instruction_bytes i) i
+  pub instruction-spelled : (i : Ins) → IsWritten i → SpellsInstruction layout h (instruction_bytes i) i
   instruction-spelled (Special o) w =
       let opened : nat_eq o 0 ≡ false = ne_eqb o 0 (λ e. absurd (omega (arith, w.0))) in
       let above : nat_le h.parameters.opcode_base o
@@ -108,27 +108,27 @@ module _ (notation : Notation) (h : Header) (base : h.parameters.opcode_base ≡
   abbrev Operand : ℕ → List ℕ → Type 0
   Operand a bytes =
       (size : ℕ) × (h.parameters.encoding.address_size ≡ size) × (size ≤ 8) × (a < 256 ^ size)
-      × (bytes ≡ 0 ∷ uleb (size + 1) ++ 2 ∷ number_bytes notation.big size a)
+      × (bytes ≡ 0 ∷ uleb (size + 1) ++ 2 ∷ number_bytes layout.is_big size a)
 
-  address_written : (a : ℕ) (bytes : List ℕ) → Operand a bytes → SpellsInstruction notation h bytes (SetAddress a)
+  address_written : (a : ℕ) (bytes : List ℕ) → Operand a bytes → SpellsInstruction layout h bytes (SetAddress a)
   address_written a bytes (size, is, small, fits, written) =
       grind (arith, number_spelled, unsigned_spelled, extended, append-nil)
 
   -- a set address that is written
   address_operand : (a : ℕ) (bytes : List ℕ)
-      → set_address_bytes plain notation.big (Constant a) h.parameters.encoding.address_size ≡ Ok bytes
+      → set_address_bytes plain layout.is_big (Constant a) h.parameters.encoding.address_size ≡ Ok bytes
       → Operand a bytes
   address_operand a bytes is = grind arith
 
   -- a set address that is written spells it
   pub address-spelled : (a : ℕ) (bytes : List ℕ)
-      → set_address_bytes plain notation.big (Constant a) h.parameters.encoding.address_size ≡ Ok bytes
-      → SpellsInstruction notation h bytes (SetAddress a)
+      → set_address_bytes plain layout.is_big (Constant a) h.parameters.encoding.address_size ≡ Ok bytes
+      → SpellsInstruction layout h bytes (SetAddress a)
   address-spelled a bytes is = address_written a _ (address_operand a _ is)
 
   -- instructions one after the other
   pub each-spelled : (is : List Ins) → AllByRecursion IsWritten is
-      → Each (SpellsInstruction notation h) (instructions_bytes is) is
+      → Each (SpellsInstruction layout h) (instructions_bytes is) is
   each-spelled [] all = refl
   each-spelled (i ∷ is) all =
       grind (arith, instruction-spelled)

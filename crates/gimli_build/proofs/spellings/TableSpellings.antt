@@ -8,7 +8,7 @@ use Rattle.gimli_core.specs.Numbers.{SpellsUleb128}
 use Rattle.gimli_bytes.specs.Number.{uleb}
 use Rattle.gimli_bytes.proofs.ShortestUleb.{uleb_shortest}
 use Rattle.gimli_bytes.specs.Texts.{StringTables}
-use Rattle.gimli_line.specs.header.Productions.{name}
+use Rattle.gimli_line.specs.header.Productions.{path_text}
 use Rattle.gimli_line.specs.header.Header.{plain_file}
 use Rattle.gimli_line.specs.header.File.{File as ReadFile}
 use Rattle.gimli_line.specs.header.HeaderGrammar.{file_production}
@@ -26,7 +26,7 @@ unsigned_spelled n lt = (uleb_shortest n lt).spells
 module _ (texts : StringTables) where
   -- a text in the unit itself is its bytes
   name_spelled : (t : LineText) (bytes : List ℕ) → IsNotEmpty t → HasNoZero t → name_bytes t ≡ Ok bytes
-      → name.Spells bytes (bytes_in texts t)
+      → path_text.Spells bytes (bytes_in texts t)
   name_spelled (Inline text) bytes some clean is =
       (some, (recursion_from_All (λ b. b ≢ 0) _ clean, same_written _ _ is))
   name_spelled (InStrings i) bytes some clean is = absurd cc
@@ -36,7 +36,7 @@ module _ (texts : StringTables) where
 
   names_spelled : (ts : List LineText) (bytes : List ℕ) → All IsNotEmpty ts → All HasNoZero ts
       → result_concat name_bytes ts ≡ Ok bytes
-      → Each name.Spells bytes (map (bytes_in texts) ts)
+      → Each path_text.Spells bytes (map (bytes_in texts) ts)
   names_spelled [] bytes some clean is = same_written _ _ is
   names_spelled (t ∷ ts) bytes some clean is =
       let b = both_written _ _ _ is in
@@ -59,7 +59,7 @@ module _ (texts : StringTables) where
 
   -- a path, and what stands after it
   abbrev entry_production : Production ReadFile
-  entry_production = name >>= file_production
+  entry_production = path_text >>= file_production
 
   -- what is read of a file up to version 4
   abbrev pub read_file : File → ReadFile

@@ -7,7 +7,7 @@ use Rattle.std.proofs.lemmas.Bool.{eqb-true}
 use Rattle.std.proofs.lemmas.List.{append-nil}
 use Rattle.std.proofs.lemmas.List.Elements.{recursion_from_All}
 use Rattle.std.proofs.lemmas.Option.{slice_get-get_or}
-use Rattle.gimli_core.specs.Notation.{Notation}
+use Rattle.gimli_core.specs.Layout.{OrderAndLimit}
 use Rattle.gimli_core.specs.Values.{Value}
 use Rattle.gimli_core.specs.Form.{form_production}
 use Rattle.gimli_core.specs.inside.Form.{SpellsForm}
@@ -57,10 +57,10 @@ abbrev pub IsHeld : ℕ → Format → Placement → StringTables → LineText �
 IsHeld limit format at texts t =
     (format ≡ Dwarf64 → IsOffsetHeld limit at texts t) × IsOffsetHeld (2 ^ 64) at texts t
 
-module _ (at : Placement) (notation : Notation) (format : Format) (texts : StringTables) where
-  text_spelled : (t : LineText) (bytes : List ℕ) → HasNoZero t → IsHeld notation.limit format at texts t
-      → text_bytes (counted at) notation.big format texts t ≡ Ok bytes
-      → (form_production notation format (text_form t)).Spells bytes (read_text at texts t)
+module _ (at : Placement) (layout : OrderAndLimit) (format : Format) (texts : StringTables) where
+  text_spelled : (t : LineText) (bytes : List ℕ) → HasNoZero t → IsHeld layout.limit format at texts t
+      → text_bytes (counted at) layout.is_big format texts t ≡ Ok bytes
+      → (form_production layout format (text_form t)).Spells bytes (read_text at texts t)
   text_spelled (Inline text) bytes clean held is = (
     text,
     bytes,
@@ -88,41 +88,41 @@ module _ (at : Placement) (notation : Notation) (format : Format) (texts : Strin
 
   -- a text that has the form of its table
   pub text-spelled : (form : ℕ) (t : LineText) (bytes : List ℕ) → IsReady texts t
-      → IsHeld notation.limit format at texts t
-      → text_in_form (counted at) notation.big format texts form t ≡ Ok bytes
-      → SpellsForm notation format form bytes (read_text at texts t)
+      → IsHeld layout.limit format at texts t
+      → text_in_form (counted at) layout.is_big format texts form t ≡ Ok bytes
+      → SpellsForm layout format form bytes (read_text at texts t)
   text-spelled form t bytes ready held is = by (nat_eq (text_form t) form) refl is
     where
       by : (b : Bool) → nat_eq (text_form t) form ≡ b
-          → (let r : Result (List ℕ) Error = if b then text_bytes (counted at) notation.big format texts t
+          → (let r : Result (List ℕ) Error = if b then text_bytes (counted at) layout.is_big format texts t
           else Err LineStringFormMismatch in
           r)
           ≡ Ok bytes
-          → SpellsForm notation format form bytes (read_text at texts t)
+          → SpellsForm layout format form bytes (read_text at texts t)
       by true same is =
-          subst (λ n. SpellsForm notation format n bytes (read_text at texts t)) (eqb-true (text_form t) form same)
+          subst (λ n. SpellsForm layout format n bytes (read_text at texts t)) (eqb-true (text_form t) form same)
           (text_spelled t _ ready.clean held is)
       by false same is = absurd cc
 
 -- at least one byte is written of a text
-text_long : (at : Placement) (big : Bool) (format : Format) (texts : StringTables) (t : LineText) (bytes : List ℕ)
-    → text_bytes (counted at) big format texts t ≡ Ok bytes
+text_long : (at : Placement) (is_big : Bool) (format : Format) (texts : StringTables) (t : LineText) (bytes : List ℕ)
+    → text_bytes (counted at) is_big format texts t ≡ Ok bytes
     → 0 < length bytes
-text_long at big format texts (Inline text) bytes is =
+text_long at is_big format texts (Inline text) bytes is =
     let long = ap length (same_written _ _ is) ∙ length-append text (0 ∷ []) in
     omega (arith, long)
-text_long at big format texts (InStrings i) bytes is =
-    word-long big format (at.section DebugStr (offset_of texts.strings i)) _ is
-text_long at big format texts (InLineStrings i) bytes is =
-    word-long big format (at.section DebugLineStr (offset_of texts.line_strings i)) _ is
+text_long at is_big format texts (InStrings i) bytes is =
+    word-long is_big format (at.section DebugStr (offset_of texts.strings i)) _ is
+text_long at is_big format texts (InLineStrings i) bytes is =
+    word-long is_big format (at.section DebugLineStr (offset_of texts.line_strings i)) _ is
 
-pub text-long : (at : Placement) (big : Bool) (format : Format) (texts : StringTables) (form : ℕ) (t : LineText)
+pub text-long : (at : Placement) (is_big : Bool) (format : Format) (texts : StringTables) (form : ℕ) (t : LineText)
     (bytes : List ℕ)
-    → text_in_form (counted at) big format texts form t ≡ Ok bytes → 0 < length bytes
-text-long at big format texts form t bytes is = by (nat_eq (text_form t) form) is
+    → text_in_form (counted at) is_big format texts form t ≡ Ok bytes → 0 < length bytes
+text-long at is_big format texts form t bytes is = by (nat_eq (text_form t) form) is
   where
     by : (b : Bool)
-        → (let r : Result (List ℕ) Error = if b then text_bytes (counted at) big format texts t
+        → (let r : Result (List ℕ) Error = if b then text_bytes (counted at) is_big format texts t
         else Err LineStringFormMismatch in
         r)
         ≡ Ok bytes

@@ -4,7 +4,7 @@ use Rattle.std.proofs.Common.{if◌then◌else◌, refl, sym, ap, ◌∙◌, ari
 use Rattle.std.proofs.Common.{append_assoc}
 use Rattle.std.specs.Prelude.{Result, nat_le}
 use Rattle.std.proofs.lemmas.List.{append-nil, length-append}
-use Rattle.gimli_core.specs.Notation.{Notation}
+use Rattle.gimli_core.specs.Layout.{OrderAndLimit}
 use Rattle.gimli_core.specs.declared.common.Format.{Format}
 use Rattle.gimli_core.specs.declared.common.Format.TheVariants.{Dwarf32, Dwarf64}
 use Rattle.gimli_core.specs.declared.error.Error.TheVariants.{OpcodeBaseZero}
@@ -13,7 +13,7 @@ use Rattle.gimli_bytes.specs.Number.{length_word}
 use Rattle.gimli_bytes.specs.declared.error.Error.{Error}
 use Rattle.gimli_bytes.specs.Texts.{StringTables}
 use Rattle.gimli_line.specs.header.Header.{Header, UnitEntry, plain_file}
-use Rattle.gimli_line.specs.header.HeaderGrammar.{Opening, handed_value, parameters_production, opening_production}
+use Rattle.gimli_line.specs.header.HeaderGrammar.{HeaderOpening, handed_value, parameters_production, opening_production}
 use Rattle.gimli_line.specs.header.HeaderGrammar.{fields_production, header_production}
 use Rattle.gimli_build.specs.Built.{Built}
 use Rattle.gimli_build.specs.inside.Conditions.{IsBuilt}
@@ -33,20 +33,20 @@ use Rattle.gimli_build.proofs.reading.TablesBack.{TablesBack}
 
 -- ---- a unit that was written, and its parts
 
-pub record UnitWritten (hand : Hand) (big : Bool) (p : Built) (texts : StringTables) (unit : List ℕ) : Type 0 where
+pub record UnitWritten (hand : Hand) (is_big : Bool) (p : Built) (texts : StringTables) (unit : List ℕ) : Type 0 where
   pub length_bytes : List ℕ
   pub opening : List ℕ
   pub size : List ℕ
   pub fields : List ℕ
   pub program : List ℕ
   pub inside : List ℕ
-  pub length_is : length_word big p.encoding.format (length inside) ≡ Ok length_bytes
-  pub opening_is : opening_bytes big p.encoding ≡ Ok opening
-  pub size_is : format_word big p.encoding.format (length fields) ≡ Ok size
-  pub fields_are : fields_bytes hand big p texts ≡ Ok fields
-  pub program_is : program_bytes hand big p ≡ Ok program
+  pub length_is : length_word is_big p.encoding.format (length inside) ≡ Ok length_bytes
+  pub opening_is : opening_bytes is_big p.encoding ≡ Ok opening
+  pub size_is : format_word is_big p.encoding.format (length fields) ≡ Ok size
+  pub fields_are : fields_bytes hand is_big p texts ≡ Ok fields
+  pub program_is : program_bytes hand is_big p ≡ Ok program
   pub inside_is : inside ≡ opening ++ ((size ++ fields) ++ program)
-  pub whole : unit ≡ (escape_bytes big p.encoding.format ++ length_bytes) ++ inside
+  pub whole : unit ≡ (escape_bytes is_big p.encoding.format ++ length_bytes) ++ inside
 
 -- a front in two parts
 front_in_two : (whole front rest first second : List ℕ) → whole ≡ front ++ rest → front ≡ first ++ second
@@ -60,16 +60,16 @@ rest_in_three : (whole first rest header size fields last : List ℕ) → whole 
 rest_in_three whole first rest header size fields last is parts inner =
     grind arith
 
-pub unit_written : (hand : Hand) (big : Bool) (p : Built) (texts : StringTables) (unit : List ℕ)
-    → whole_bytes hand big p texts ≡ Ok unit → UnitWritten hand big p texts unit
-unit_written hand big p texts unit is =
-    let escape = escape_bytes big p.encoding.format in
-    let word : ℕ → Result (List ℕ) Error = λ n. length_word big p.encoding.format n in
+pub unit_written : (hand : Hand) (is_big : Bool) (p : Built) (texts : StringTables) (unit : List ℕ)
+    → whole_bytes hand is_big p texts ≡ Ok unit → UnitWritten hand is_big p texts unit
+unit_written hand is_big p texts unit is =
+    let escape = escape_bytes is_big p.encoding.format in
+    let word : ℕ → Result (List ℕ) Error = λ n. length_word is_big p.encoding.format n in
     let a = counted_written (λ n. result_append (Ok escape) (word n)) _ _ is in
     let b = after_written escape _ _ a.size_is in
     let c = both_written _ _ _ a.inside_is in
     let d = both_written _ _ _ c.rest_is in
-    let e = counted_written (λ n. format_word big p.encoding.format n) _ _ d.first_is in
+    let e = counted_written (λ n. format_word is_big p.encoding.format n) _ _ d.first_is in
     record {
       length_bytes = b.rest;
       opening = c.first;
@@ -87,17 +87,17 @@ unit_written hand big p texts unit is =
     }
 
 -- the fields, and their parts
-pub record FieldsWritten (hand : Hand) (big : Bool) (p : Built) (texts : StringTables) (fields : List ℕ) : Type 0 where
+pub record FieldsWritten (hand : Hand) (is_big : Bool) (p : Built) (texts : StringTables) (fields : List ℕ) : Type 0 where
   encoding : List ℕ
   pub tables : List ℕ
   encoding_is : line_encoding_bytes p.encoding.version p.line_encoding ≡ Ok encoding
-  pub tables_are : tables_bytes hand big p texts ≡ Ok tables
+  pub tables_are : tables_bytes hand is_big p texts ≡ Ok tables
   whole : fields ≡ (encoding ++ 13 ∷ []) ++ (operand_counts ++ tables)
 
-pub fields_written : (hand : Hand) (big : Bool) (p : Built) (texts : StringTables) (fields : List ℕ)
-    → fields_bytes hand big p texts ≡ Ok fields
-    → FieldsWritten hand big p texts fields
-fields_written hand big p texts fields is =
+pub fields_written : (hand : Hand) (is_big : Bool) (p : Built) (texts : StringTables) (fields : List ℕ)
+    → fields_bytes hand is_big p texts ≡ Ok fields
+    → FieldsWritten hand is_big p texts fields
+fields_written hand is_big p texts fields is =
     let a =
     both_written _ _ _ is in
     let b = after_written opcode_bytes _ _ a.rest_is in
@@ -111,34 +111,34 @@ fields_written hand big p texts fields is =
     }
 
 -- what is written of a unit is no longer than the unit
-pub inside-short : (hand : Hand) (big : Bool) (p : Built) (texts : StringTables) (unit : List ℕ)
-    (w : UnitWritten hand big p texts unit)
+pub inside-short : (hand : Hand) (is_big : Bool) (p : Built) (texts : StringTables) (unit : List ℕ)
+    (w : UnitWritten hand is_big p texts unit)
     → length w.inside ≤ length unit
-inside-short hand big p texts unit w =
+inside-short hand is_big p texts unit w =
     let whole = ap (λ l. length l) w.whole in
-    omega (arith, whole, length-append (escape_bytes big p.encoding.format ++ w.length_bytes) w.inside)
+    omega (arith, whole, length-append (escape_bytes is_big p.encoding.format ++ w.length_bytes) w.inside)
 
 -- in the 64-bit format twelve bytes stand before what the unit length counts
-length_wide : (big : Bool) (format : Format) (n : ℕ) (word : List ℕ) → format ≡ Dwarf64
-    → length_word big format n ≡ Ok word
-    → length (escape_bytes big format ++ word) ≡ 12
-length_wide big Dwarf32 n word wide is = absurd cc
-length_wide big Dwarf64 n word wide is =
+length_wide : (is_big : Bool) (format : Format) (n : ℕ) (word : List ℕ) → format ≡ Dwarf64
+    → length_word is_big format n ≡ Ok word
+    → length (escape_bytes is_big format ++ word) ≡ 12
+length_wide is_big Dwarf32 n word wide is = absurd cc
+length_wide is_big Dwarf64 n word wide is =
     grind (arith)
 
-inside-wide : (hand : Hand) (big : Bool) (p : Built) (texts : StringTables) (unit : List ℕ)
-    (w : UnitWritten hand big p texts unit)
+inside-wide : (hand : Hand) (is_big : Bool) (p : Built) (texts : StringTables) (unit : List ℕ)
+    (w : UnitWritten hand is_big p texts unit)
     → p.encoding.format ≡ Dwarf64
     → length w.inside + 12 ≡ length unit
-inside-wide hand big p texts unit w wide =
+inside-wide hand is_big p texts unit w wide =
     let whole = ap (λ l. length l) w.whole in
     let front = length_wide _ _ _ _ wide w.length_is in
-    omega (arith, whole, front, length-append (escape_bytes big p.encoding.format ++ w.length_bytes) w.inside)
+    omega (arith, whole, front, length-append (escape_bytes is_big p.encoding.format ++ w.length_bytes) w.inside)
 
-pub fields-short : (hand : Hand) (big : Bool) (p : Built) (texts : StringTables) (unit : List ℕ)
-    (w : UnitWritten hand big p texts unit)
+pub fields-short : (hand : Hand) (is_big : Bool) (p : Built) (texts : StringTables) (unit : List ℕ)
+    (w : UnitWritten hand is_big p texts unit)
     → length w.fields ≤ length w.inside
-fields-short hand big p texts unit w =
+fields-short hand is_big p texts unit w =
     let whole = ap (λ l. length l) w.inside_is in
     omega (
       arith,
@@ -149,10 +149,10 @@ fields-short hand big p texts unit w =
     )
 
 -- the tables are no longer than the fields
-pub tables-short : (hand : Hand) (big : Bool) (p : Built) (texts : StringTables) (fields : List ℕ)
-    (w : FieldsWritten hand big p texts fields)
+pub tables-short : (hand : Hand) (is_big : Bool) (p : Built) (texts : StringTables) (fields : List ℕ)
+    (w : FieldsWritten hand is_big p texts fields)
     → length w.tables ≤ length fields
-tables-short hand big p texts fields w =
+tables-short hand is_big p texts fields w =
     let whole = ap (λ l. length l) w.whole in
     omega (
       arith,
@@ -163,10 +163,10 @@ tables-short hand big p texts fields w =
 
 -- ---- the header
 
-module _ (hand : Hand) (notation : Notation) (unit_entry : UnitEntry) (sections : Sections) (p : Built)
+module _ (hand : Hand) (layout : OrderAndLimit) (unit_entry : UnitEntry) (sections : Sections) (p : Built)
     (texts : StringTables) (built : IsBuilt p) where
   abbrev pub Tables : List ℕ → Type 0
-  Tables bytes = TablesBack notation unit_entry sections p texts bytes
+  Tables bytes = TablesBack layout unit_entry sections p texts bytes
 
   abbrev pub header_of : (bytes : List ℕ) → Tables bytes → ℕ → ℕ → List ℕ → Header
   header_of bytes t unit_size fields_size program = record {
@@ -183,7 +183,7 @@ module _ (hand : Hand) (notation : Notation) (unit_entry : UnitEntry) (sections 
     comp_file = handed_value p.encoding (option_map (λ path. plain_file path 0 0 0) unit_entry.name);
   }
 
-  abbrev opening_of : List ℕ → Opening
+  abbrev opening_of : List ℕ → HeaderOpening
   opening_of fields = record { encoding = p.encoding; header_length = length fields; fields = fields }
 
   rules_spelled : (bytes : List ℕ) → line_encoding_bytes p.encoding.version p.line_encoding ≡ Ok bytes
@@ -197,9 +197,9 @@ module _ (hand : Hand) (notation : Notation) (unit_entry : UnitEntry) (sections 
     (13, 13 ∷ [], [], refl, positive-spelled _ OpcodeBaseZero (omega arith), (refl, refl)),
   )
 
-  fields_spelled : (unit_size : ℕ) (fields program : List ℕ) (w : FieldsWritten hand notation.big p texts fields)
+  fields_spelled : (unit_size : ℕ) (fields program : List ℕ) (w : FieldsWritten hand layout.is_big p texts fields)
       (t : Tables w.tables)
-      → (fields_production notation unit_entry unit_size (opening_of fields) program).Spells fields
+      → (fields_production layout unit_entry unit_size (opening_of fields) program).Spells fields
       (header_of w.tables t unit_size (length fields) program)
   fields_spelled unit_size fields program w t = (
     built_rules p.encoding p.line_encoding,
@@ -226,10 +226,10 @@ module _ (hand : Hand) (notation : Notation) (unit_entry : UnitEntry) (sections 
 
   -- the fields in front of those, read with the address size of the program
   opening_spelled : (opening size fields : List ℕ) → unit_entry.address_size ≡ p.encoding.address_size
-      → (p.encoding.format ≡ Dwarf64 → length fields < notation.limit) → length fields < 2 ^ 64
-      → opening_bytes notation.big p.encoding ≡ Ok opening
-      → format_word notation.big p.encoding.format (length fields) ≡ Ok size
-      → (opening_production notation unit_entry.address_size p.encoding.format).Spells (opening ++ (size ++ fields))
+      → (p.encoding.format ≡ Dwarf64 → length fields < layout.limit) → length fields < 2 ^ 64
+      → opening_bytes layout.is_big p.encoding ≡ Ok opening
+      → format_word layout.is_big p.encoding.format (length fields) ≡ Ok size
+      → (opening_production layout unit_entry.address_size p.encoding.format).Spells (opening ++ (size ++ fields))
       (opening_of fields)
   opening_spelled opening size fields same holds small opening_is size_is =
       let address : List ℕ = if nat_le p.encoding.version 4 then [] else p.encoding.address_size ∷ 0 ∷ [] in
@@ -256,26 +256,26 @@ module _ (hand : Hand) (notation : Notation) (unit_entry : UnitEntry) (sections 
         ),
       )
 
-  module _ (unit : List ℕ) (w : UnitWritten hand notation.big p texts unit)
-      (v : FieldsWritten hand notation.big p texts w.fields)
+  module _ (unit : List ℕ) (w : UnitWritten hand layout.is_big p texts unit)
+      (v : FieldsWritten hand layout.is_big p texts w.fields)
       (t : Tables v.tables)
       (same : unit_entry.address_size ≡ p.encoding.address_size)
-      (holds : p.encoding.format ≡ Dwarf64 → length unit - 12 < notation.limit)
+      (holds : p.encoding.format ≡ Dwarf64 → length unit - 12 < layout.limit)
       (small : length unit < 2 ^ 64) where
     abbrev header : Header
     header = header_of v.tables t (length w.inside) (length w.fields) w.program
 
-    unit_fields : (fields_production notation unit_entry (length w.inside) (opening_of w.fields) w.program).Spells
+    unit_fields : (fields_production layout unit_entry (length w.inside) (opening_of w.fields) w.program).Spells
         w.fields header
     unit_fields = fields_spelled _ _ _ v t
 
-    unit_spelled : (header_production notation unit_entry).Spells unit header
+    unit_spelled : (header_production layout unit_entry).Spells unit header
     unit_spelled =
-        let inside = inside-short hand notation.big p texts _ w in
-        let fields = fields-short hand notation.big p texts unit w in
-        let inside_held : p.encoding.format ≡ Dwarf64 → length w.inside < notation.limit = λ wide.
-        (let rest = inside-wide hand notation.big p texts _ w wide in let lt = holds wide in omega (arith, rest, lt)) in
-        let fields_held : p.encoding.format ≡ Dwarf64 → length w.fields < notation.limit = λ wide.
+        let inside = inside-short hand layout.is_big p texts _ w in
+        let fields = fields-short hand layout.is_big p texts unit w in
+        let inside_held : p.encoding.format ≡ Dwarf64 → length w.inside < layout.limit = λ wide.
+        (let rest = inside-wide hand layout.is_big p texts _ w wide in let lt = holds wide in omega (arith, rest, lt)) in
+        let fields_held : p.encoding.format ≡ Dwarf64 → length w.fields < layout.limit = λ wide.
         (let lt = inside_held wide in omega (arith, fields, lt)) in
         let length_spelled =
         length-spelled _ _ _ _ inside_held (omega (arith, inside, small)) w.length_is in
@@ -284,7 +284,7 @@ module _ (hand : Hand) (notation : Notation) (unit_entry : UnitEntry) (sections 
         let parted : w.inside ≡ (w.opening ++ (w.size ++ w.fields)) ++ w.program = w.inside_is
         ∙ sym (append_assoc w.opening (w.size ++ w.fields) w.program) in (
           (length w.inside, p.encoding.format),
-          escape_bytes notation.big p.encoding.format ++ w.length_bytes,
+          escape_bytes layout.is_big p.encoding.format ++ w.length_bytes,
           w.inside,
           w.whole,
           length_spelled,
@@ -306,10 +306,10 @@ module _ (hand : Hand) (notation : Notation) (unit_entry : UnitEntry) (sections 
         )
 
     unit_parts : unit
-        ≡ ((escape_bytes notation.big p.encoding.format ++ w.length_bytes) ++ (w.opening ++ w.size)) ++ w.fields
+        ≡ ((escape_bytes layout.is_big p.encoding.format ++ w.length_bytes) ++ (w.opening ++ w.size)) ++ w.fields
         ++ w.program
     unit_parts =
-        let front = escape_bytes notation.big p.encoding.format ++ w.length_bytes in
+        let front = escape_bytes layout.is_big p.encoding.format ++ w.length_bytes in
         let inner : w.inside ≡ ((w.opening ++ w.size) ++ w.fields) ++ w.program =
         w.inside_is ∙ sym (append_assoc w.opening (w.size ++ w.fields) w.program)
         ∙ ap (λ l. l ++ w.program) (sym (append_assoc w.opening w.size w.fields)) in
@@ -318,11 +318,11 @@ module _ (hand : Hand) (notation : Notation) (unit_entry : UnitEntry) (sections 
         ∙ sym (append_assoc front ((w.opening ++ w.size) ++ w.fields) w.program)
         ∙ ap (λ l. l ++ w.program) (sym (append_assoc front (w.opening ++ w.size) w.fields))
 
-    pub unit-is : IsUnit notation unit_entry unit (header_of v.tables t (length w.inside) (length w.fields) w.program)
+    pub unit-is : IsUnit layout unit_entry unit (header_of v.tables t (length w.inside) (length w.fields) w.program)
     unit-is = record {
       spelled = unit_spelled;
       opening = opening_of w.fields;
-      before = (escape_bytes notation.big p.encoding.format ++ w.length_bytes) ++ (w.opening ++ w.size);
+      before = (escape_bytes layout.is_big p.encoding.format ++ w.length_bytes) ++ (w.opening ++ w.size);
       parts = unit_parts;
       whole = refl;
       no_slack = unit_fields;

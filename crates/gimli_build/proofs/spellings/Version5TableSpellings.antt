@@ -6,7 +6,7 @@ use Rattle.std.specs.Prelude.{Result, nat_le, replicate, All}
 use Rattle.std.specs.Option.{option_map_or}
 use Rattle.std.proofs.lemmas.List.{append-nil}
 use Rattle.std.proofs.lemmas.List.Elements.{All-head, All-tail}
-use Rattle.gimli_core.specs.Notation.{Notation}
+use Rattle.gimli_core.specs.Layout.{OrderAndLimit}
 use Rattle.gimli_core.specs.Values.{Value}
 use Rattle.gimli_core.specs.Production.{times}
 use Rattle.gimli_core.specs.declared.common.Format.{Format}
@@ -17,7 +17,7 @@ use Rattle.gimli_bytes.specs.Texts.{AreTexts, StringTables}
 use Rattle.gimli_bytes.specs.declared.error.Error.{Error}
 use Rattle.gimli_bytes.proofs.ShortestUleb.{uleb_shortest}
 use Rattle.gimli_line.specs.header.File.{File as ReadFile}
-use Rattle.gimli_line.specs.header.HeaderGrammar.{Entry, entry_production, table_production, path_of, file_of_entry}
+use Rattle.gimli_line.specs.header.HeaderGrammar.{TableEntry, entry_production, table_production, path_of, file_of_entry}
 use Rattle.gimli_line.specs.inside.header.HeaderGrammar.{SpellsFormats}
 use Rattle.gimli_build.specs.LineText.{LineText, bytes_in}
 use Rattle.gimli_build.specs.Tables.{File, Details}
@@ -40,12 +40,12 @@ use Rattle.gimli_build.proofs.reading.EmittedTexts.{IsOfFile, AreOfTables}
 
 -- ---- a table of entries
 
-module _ (notation : Notation) (format : Format) {X : Type 0} (formats : List (ℕ × ℕ)) (P : X → Type 0)
-    (part : X → Result (List ℕ) Error) (entry : X → Entry)
-    (spelled : (x : X) (bytes : List ℕ) → P x → part x ≡ Ok bytes → IsSpelled notation format formats bytes (entry x))
+module _ (layout : OrderAndLimit) (format : Format) {X : Type 0} (formats : List (ℕ × ℕ)) (P : X → Type 0)
+    (part : X → Result (List ℕ) Error) (entry : X → TableEntry)
+    (spelled : (x : X) (bytes : List ℕ) → P x → part x ≡ Ok bytes → IsSpelled layout format formats bytes (entry x))
     (long : (x : X) (bytes : List ℕ) → part x ≡ Ok bytes → 0 < length bytes) where
   each_spelled : (xs : List X) (bytes : List ℕ) → All P xs → result_concat part xs ≡ Ok bytes
-      → (times (length xs) (entry_production notation format (map read_format formats))).Spells bytes (map entry xs)
+      → (times (length xs) (entry_production layout format (map read_format formats))).Spells bytes (map entry xs)
   each_spelled [] bytes all is = (same_written _ _ is, refl)
   each_spelled (x ∷ xs) bytes all is =
       let b = both_written _ _ _ is in
@@ -72,7 +72,7 @@ module _ (notation : Notation) (format : Format) {X : Type 0} (formats : List (�
       → All P xs
       → result_append (Ok (formats_bytes formats ++ uleb (length xs))) (result_concat part xs) ≡ Ok bytes
       → length bytes < 2 ^ 64
-      → (table_production notation format).Spells bytes (map read_format formats, map entry xs)
+      → (table_production layout format).Spells bytes (map read_format formats, map entry xs)
   table_spelled xs bytes formats_spelled all is small =
       let front = formats_bytes formats in
       let count = uleb (length xs) in
@@ -98,18 +98,18 @@ module _ (notation : Notation) (format : Format) {X : Type 0} (formats : List (�
 
 -- ---- the tables of a program
 
-abbrev pub directory_entry : Placement → StringTables → LineText → Entry
+abbrev pub directory_entry : Placement → StringTables → LineText → TableEntry
 directory_entry at texts t = (0x0001, read_text at texts t) ∷ []
 
-abbrev pub file_entry : Placement → Built → StringTables → File → Entry
+abbrev pub file_entry : Placement → Built → StringTables → File → TableEntry
 file_entry at p texts f =
     entry_of p.file_has_timestamp p.file_has_size p.file_has_md5 p.file_has_source
     (read_text at texts f.0.0) f.0.1 f.1.timestamp f.1.size f.1.md5 (read_text at texts (source_of p texts f))
 
-module _ (at : Placement) (notation : Notation) (p : Built) (texts : StringTables) (ready : AreReady p texts)
-    (held : AreOfTables (IsHeld notation.limit p.encoding.format at texts) p texts) where
+module _ (at : Placement) (layout : OrderAndLimit) (p : Built) (texts : StringTables) (ready : AreReady p texts)
+    (held : AreOfTables (IsHeld layout.limit p.encoding.format at texts) p texts) where
   abbrev IsHeldHere : LineText → Type 0
-  IsHeldHere t = IsHeld notation.limit p.encoding.format at texts t
+  IsHeldHere t = IsHeld layout.limit p.encoding.format at texts t
 
   -- a text can be read back, by this reader
   abbrev IsReadable : LineText → Type 0
@@ -119,25 +119,25 @@ module _ (at : Placement) (notation : Notation) (p : Built) (texts : StringTable
   IsFileReadable f = IsFileReady p texts f × IsOfFile IsHeldHere p texts f
 
   abbrev text_written : ℕ → LineText → Result (List ℕ) Error
-  text_written form t = text_in_form (counted at) notation.big p.encoding.format texts form t
+  text_written form t = text_in_form (counted at) layout.is_big p.encoding.format texts form t
 
   pub new-directories-spelled : (bytes : List ℕ)
-      → directory_table_bytes (counted at) notation.big p.encoding.format texts p ≡ Ok bytes → length bytes < 2 ^ 64
-      → (table_production notation p.encoding.format).Spells bytes
+      → directory_table_bytes (counted at) layout.is_big p.encoding.format texts p ≡ Ok bytes → length bytes < 2 ^ 64
+      → (table_production layout p.encoding.format).Spells bytes
       (map read_format (directory_formats p), map (directory_entry at texts) p.directories)
   new-directories-spelled bytes is small =
       let form = first_form p.directories in
-      table_spelled notation p.encoding.format (directory_formats p) IsReadable (text_written form)
+      table_spelled layout p.encoding.format (directory_formats p) IsReadable (text_written form)
       (directory_entry at texts)
-      (λ t b own written. last-spelled notation p.encoding.format 0x0001 form b (read_text at texts t)
-      (text-spelled at notation p.encoding.format texts form t b own.0 own.1 written))
-      (λ t b written. text-long at notation.big p.encoding.format texts form t b written)
+      (λ t b own written. last-spelled layout p.encoding.format 0x0001 form b (read_text at texts t)
+      (text-spelled at layout p.encoding.format texts form t b own.0 own.1 written))
+      (λ t b written. text-long at layout.is_big p.encoding.format texts form t b written)
       p.directories bytes (directory-formats p)
       (λ i d lt. (ready.directories i d lt, held.directories i d lt)) is small
 
   -- the bytes of a source, where it is written
   source_written : (f : File) (bytes : List ℕ)
-      → source_bytes (counted at) notation.big p.encoding.format texts p f ≡ Ok bytes
+      → source_bytes (counted at) layout.is_big p.encoding.format texts p f ≡ Ok bytes
       → (p.file_has_source ≡ true → text_written (first_form (sources p.files)) (source_of p texts f) ≡ Ok bytes)
       × (p.file_has_source ≡ false → bytes ≡ [])
   source_written f bytes is = by _ _ is
@@ -149,52 +149,52 @@ module _ (at : Placement) (notation : Notation) (p : Built) (texts : StringTable
       by false r is = (λ same. absurd cc, λ same. same_written _ _ is)
 
   file_spelled : (f : File) (bytes : List ℕ) → IsFileReadable f
-      → file_entry_bytes (counted at) notation.big p.encoding.format texts p f ≡ Ok bytes
-      → IsSpelled notation p.encoding.format (file_formats p) bytes (file_entry at p texts f)
+      → file_entry_bytes (counted at) layout.is_big p.encoding.format texts p f ≡ Ok bytes
+      → IsSpelled layout p.encoding.format (file_formats p) bytes (file_entry at p texts f)
   file_spelled f bytes own is =
       let path_form = first_form (path_texts p.files) in
       let source_form = first_form (sources p.files) in
-      let source = source_bytes (counted at) notation.big p.encoding.format texts p f in
+      let source = source_bytes (counted at) layout.is_big p.encoding.format texts p f in
       let a = both_written _ _ _ is in
       let b = after_written _ _ _ a.rest_is in
       let s = source_written f _ b.rest_is in
-      let spell = text-spelled at notation p.encoding.format texts in
+      let spell = text-spelled at layout p.encoding.format texts in
       let whole : bytes ≡ a.first ++ (detail_bytes p f ++ b.rest) = a.whole ∙ ap (λ l. a.first ++ l) b.whole in
       let text = source_of p texts f in
       let list =
       formats_of p.file_has_timestamp p.file_has_size p.file_has_md5 p.file_has_source path_form source_form in
       let entry = file_entry at p texts f in
-      let spelled : IsSpelled notation p.encoding.format list (a.first ++ (detail_bytes p f ++ b.rest)) entry =
-      entry-spelled notation p.encoding.format _ _ _ _ path_form _
+      let spelled : IsSpelled layout p.encoding.format list (a.first ++ (detail_bytes p f ++ b.rest)) entry =
+      entry-spelled layout p.encoding.format _ _ _ _ path_form _
       _ _ _ _ _ _ _ _
       (spell path_form f.0.0 a.first own.0.path own.1.path a.first_is) own.0.fits.directory
       own.0.fits.timestamp own.0.fits.size own.0.fits.md5
       (λ flag. spell source_form text b.rest (own.0.source flag) (own.1.source flag) (s.0 flag)) s.1 in
-      let same : IsSpelled notation p.encoding.format list bytes entry =
-      subst (λ l. IsSpelled notation p.encoding.format list l entry) (sym whole) spelled in
-      subst (λ l. IsSpelled notation p.encoding.format l bytes entry) (sym (formats-same p)) same
+      let same : IsSpelled layout p.encoding.format list bytes entry =
+      subst (λ l. IsSpelled layout p.encoding.format list l entry) (sym whole) spelled in
+      subst (λ l. IsSpelled layout p.encoding.format l bytes entry) (sym (formats-same p)) same
 
   file_long : (f : File) (bytes : List ℕ)
-      → file_entry_bytes (counted at) notation.big p.encoding.format texts p f ≡ Ok bytes
+      → file_entry_bytes (counted at) layout.is_big p.encoding.format texts p f ≡ Ok bytes
       → 0 < length bytes
   file_long f bytes is =
       let form = first_form (path_texts p.files) in
       let a =
       both_written (text_written form f.0.0)
-      (result_append (Ok (detail_bytes p f)) (source_bytes (counted at) notation.big p.encoding.format texts p f)) bytes
+      (result_append (Ok (detail_bytes p f)) (source_bytes (counted at) layout.is_big p.encoding.format texts p f)) bytes
       is in
       let whole = ap length a.whole ∙ length-append a.first a.rest in
-      let long = text-long at notation.big p.encoding.format texts form f.0.0 a.first a.first_is in
+      let long = text-long at layout.is_big p.encoding.format texts form f.0.0 a.first a.first_is in
       omega (arith, whole, long)
 
   pub new-files-spelled : (bytes : List ℕ)
-      → file_table_bytes (counted at) notation.big p.encoding.format texts p ≡ Ok bytes
+      → file_table_bytes (counted at) layout.is_big p.encoding.format texts p ≡ Ok bytes
       → length bytes < 2 ^ 64
-      → (table_production notation p.encoding.format).Spells bytes
+      → (table_production layout p.encoding.format).Spells bytes
       (map read_format (file_formats p), map (file_entry at p texts) p.files)
   new-files-spelled bytes is small =
-      table_spelled notation p.encoding.format (file_formats p) IsFileReadable
-      (file_entry_bytes (counted at) notation.big p.encoding.format texts p)
+      table_spelled layout p.encoding.format (file_formats p) IsFileReadable
+      (file_entry_bytes (counted at) layout.is_big p.encoding.format texts p)
       (file_entry at p texts)
       file_spelled file_long p.files bytes (file-formats p)
       (λ i d lt. (ready.files i d lt, held.files i d lt)) is small

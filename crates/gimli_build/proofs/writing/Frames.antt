@@ -94,7 +94,7 @@ pub record Blank (escape blank old new : List ℕ) (position : ℕ) : Type 0 whe
 pub record Counts {W : Type 0} (sink : Ghosts W) (escape blank : List ℕ) (position n : ℕ) (old opened filled : W)
     : Type 0 where
   pub keeps : Begins (sink.contents old) (sink.contents opened)
-  pub ordered : sink.big opened ≡ sink.big old
+  pub ordered : sink.is_big opened ≡ sink.is_big old
   pub stays : IsTrue (sink.completes old) → IsTrue (sink.completes opened)
   pub after : length (sink.contents old) ≤ position
   pub held : IsTrue sink.keeps_bytes → Blank escape blank (sink.contents old) (sink.contents opened) position
@@ -136,25 +136,25 @@ counted_written {sink = sink} {r = r} {escape = escape} {blank = blank} {positio
 
 -- ---- words
 
-pub size_4 : (big : Bool) (n : ℕ) → length (number_bytes big 4 n) ≡ 4
+pub size_4 : (is_big : Bool) (n : ℕ) → length (number_bytes is_big 4 n) ≡ 4
 size_4 true n = refl
 size_4 false n = refl
 
-pub size_8 : (big : Bool) (n : ℕ) → length (number_bytes big 8 n) ≡ 8
+pub size_8 : (is_big : Bool) (n : ℕ) → length (number_bytes is_big 8 n) ≡ 8
 size_8 true n = refl
 size_8 false n = refl
 
 abbrev pub open_word : Bool → Format → List ℕ
-open_word big Dwarf32 = number_bytes big 4 0
-open_word big Dwarf64 = number_bytes big 8 0
+open_word is_big Dwarf32 = number_bytes is_big 4 0
+open_word is_big Dwarf64 = number_bytes is_big 8 0
 
-pub escape_is : (big : Bool) (format : Format)
-    → open_length big format ≡ escape_bytes big format ++ open_word big format
-escape_is big Dwarf32 = refl
-escape_is big Dwarf64 = refl
+pub escape_is : (is_big : Bool) (format : Format)
+    → open_length is_big format ≡ escape_bytes is_big format ++ open_word is_big format
+escape_is is_big Dwarf32 = refl
+escape_is is_big Dwarf64 = refl
 
-pub escape_long : (big : Bool) (format : Format) → length (escape_bytes big format) ≡ escape_size format
-escape_long big Dwarf32 = refl
+pub escape_long : (is_big : Bool) (format : Format) → length (escape_bytes is_big format) ≡ escape_size format
+escape_long is_big Dwarf32 = refl
 escape_long true Dwarf64 = refl
 escape_long false Dwarf64 = refl
 
@@ -170,27 +170,27 @@ ok_if_if true c xs ys d e h = cc
 ok_if_if false true xs ys d e h = cc
 ok_if_if false false xs ys d e h = cc
 
-pub length_word_long : (big : Bool) (format : Format) (n : ℕ) (word : List ℕ) → length_word big format n ≡ Ok word
-    → length word ≡ length (open_word big format)
-length_word_long big Dwarf32 n word h =
+pub length_word_long : (is_big : Bool) (format : Format) (n : ℕ) (word : List ℕ) → length_word is_big format n ≡ Ok word
+    → length word ≡ length (open_word is_big format)
+length_word_long is_big Dwarf32 n word h =
     grind (arith, ok_if_if, size_4)
-length_word_long big Dwarf64 n word h = grind (arith, same_ok, size_8)
+length_word_long is_big Dwarf64 n word h = grind (arith, same_ok, size_8)
 
-pub header_word_long : (big : Bool) (format : Format) (n : ℕ) (word : List ℕ) → format_word big format n ≡ Ok word
-    → length word ≡ length (open_word big format)
-header_word_long big Dwarf32 n word h = grind (arith, ok_if, size_4)
-header_word_long big Dwarf64 n word h = grind (arith, same_ok, size_8)
+pub header_word_long : (is_big : Bool) (format : Format) (n : ℕ) (word : List ℕ) → format_word is_big format n ≡ Ok word
+    → length word ≡ length (open_word is_big format)
+header_word_long is_big Dwarf32 n word h = grind (arith, ok_if, size_4)
+header_word_long is_big Dwarf64 n word h = grind (arith, same_ok, size_8)
 
 -- where 64 bits hold a number, it is written as a word of the format is
-pub word_is : (big : Bool) (format : Format) (n : ℕ) → n < 2 ^ 64
-    → udata big n (word_size format) ≡ format_word big format n
-word_is big Dwarf32 n small = refl
-word_is big Dwarf64 n small = grind (arith, lt-ltb)
+pub word_is : (is_big : Bool) (format : Format) (n : ℕ) → n < 2 ^ 64
+    → udata is_big n (word_size format) ≡ format_word is_big format n
+word_is is_big Dwarf32 n small = refl
+word_is is_big Dwarf64 n small = grind (arith, lt-ltb)
 
 -- a word of 0 fits
-pub zero_word : (big : Bool) (format : Format) → udata big 0 (word_size format) ≡ Ok (open_word big format)
-zero_word big Dwarf32 = refl
-zero_word big Dwarf64 = refl
+pub zero_word : (is_big : Bool) (format : Format) → udata is_big 0 (word_size format) ≡ Ok (open_word is_big format)
+zero_word is_big Dwarf32 = refl
+zero_word is_big Dwarf64 = refl
 
 pub no_escape : (r : Result (List ℕ) Error) → r ≡ result_append (Ok []) r
 no_escape (Ok bytes) = refl

@@ -23,34 +23,34 @@ use Rattle.gimli_build.proofs.reading.ItemRuns.{start_position}
 use Rattle.gimli_build.proofs.writing.Joined.{appended_bytes, joined-joined, begins_self, begins_then}
 
 -- these bytes stand for the items so far, and those are left
-pub record Standing (hand : Hand) (big : Bool) (encoding : Encoding) (e : LineEncoding) (whole : Result (List ℕ) Error)
+pub record Standing (hand : Hand) (is_big : Bool) (encoding : Encoding) (e : LineEncoding) (whole : Result (List ℕ) Error)
     (old new : List ℕ) (previous : LineRow)
     (left : List BuiltItem) : Type 0 where
   pub done : List ℕ
   pub written : new ≡ old ++ done
-  pub parts : whole ≡ result_append (Ok done) (items_bytes hand big encoding e previous left)
+  pub parts : whole ≡ result_append (Ok done) (items_bytes hand is_big encoding e previous left)
 
 -- one item more
-pub standing_more : (hand : Hand) (big : Bool) (encoding : Encoding) (e : LineEncoding) (whole : Result (List ℕ) Error)
+pub standing_more : (hand : Hand) (is_big : Bool) (encoding : Encoding) (e : LineEncoding) (whole : Result (List ℕ) Error)
     (old new newer : List ℕ)
     (previous : LineRow)
     (item : BuiltItem) (left : List BuiltItem)
-    → Standing hand big encoding e whole old new previous (item ∷ left)
-    → Appends (item_bytes hand big encoding e previous item) new newer
-    → Standing hand big encoding e whole old newer (next_previous encoding.version e.default_is_stmt previous item) left
-standing_more hand big encoding e whole old new newer previous item left so more =
+    → Standing hand is_big encoding e whole old new previous (item ∷ left)
+    → Appends (item_bytes hand is_big encoding e previous item) new newer
+    → Standing hand is_big encoding e whole old newer (next_previous encoding.version e.default_is_stmt previous item) left
+standing_more hand is_big encoding e whole old new newer previous item left so more =
     let a = appended_bytes _ _ _ more in
-    let rest = items_bytes hand big encoding e (next_previous encoding.version e.default_is_stmt previous item) left in
+    let rest = items_bytes hand is_big encoding e (next_previous encoding.version e.default_is_stmt previous item) left in
     record {
       done = so.done ++ a.0;
       written = a.2 ∙ ap (λ l. l ++ a.0) so.written ∙ append_assoc old so.done a.0;
       parts = so.parts ∙ ap (λ r. result_append (Ok so.done) (result_append r rest)) a.1 ∙ joined-joined _ _ _;
     }
 
-pub standing_start : (hand : Hand) (big : Bool) (encoding : Encoding) (e : LineEncoding) (old : List ℕ)
+pub standing_start : (hand : Hand) (is_big : Bool) (encoding : Encoding) (e : LineEncoding) (old : List ℕ)
     (previous : LineRow) (items : List BuiltItem)
-    → Standing hand big encoding e (items_bytes hand big encoding e previous items) old old previous items
-standing_start hand big encoding e old previous items = record {
+    → Standing hand is_big encoding e (items_bytes hand is_big encoding e previous items) old old previous items
+standing_start hand is_big encoding e old previous items = record {
   done = [];
   written = sym (append-nil old);
   parts = nothing _;
@@ -61,25 +61,25 @@ standing_start hand big encoding e old previous items = record {
     nothing (Err d) = refl
 
 -- the items so far are written, in a call that writes these
-pub record Written {W : Type 0} (sink : Ghosts W) (big : Bool) (encoding : Encoding) (e : LineEncoding)
+pub record Written {W : Type 0} (sink : Ghosts W) (is_big : Bool) (encoding : Encoding) (e : LineEncoding)
     (whole : Hand → Result (List ℕ) Error) (old new : W)
     (previous : LineRow) (left : List BuiltItem) : Type 0 where
   pub keeps : Begins (sink.contents old) (sink.contents new)
-  pub ordered : sink.big new ≡ sink.big old
+  pub ordered : sink.is_big new ≡ sink.is_big old
   pub stays : IsTrue (sink.completes old) → IsTrue (sink.completes new)
   pub held : IsTrue sink.keeps_bytes
-      → Standing plain big encoding e (whole plain) (sink.contents old) (sink.contents new) previous left
+      → Standing plain is_big encoding e (whole plain) (sink.contents old) (sink.contents new) previous left
   pub linked : (at : Placement) → IsTrue (sink.completes old)
-      → Standing (sink.hand at) big encoding e (whole (sink.hand at)) (sink.completed at old) (sink.completed at new)
+      → Standing (sink.hand at) is_big encoding e (whole (sink.hand at)) (sink.completed at old) (sink.completed at new)
       previous left
 
-pub written_more : {W X : Type 0} {sink : Ghosts W} {old mid new : W} {x : X} {big : Bool} {encoding : Encoding}
+pub written_more : {W X : Type 0} {sink : Ghosts W} {old mid new : W} {x : X} {is_big : Bool} {encoding : Encoding}
     {e : LineEncoding}
     {whole : Hand → Result (List ℕ) Error} {previous : LineRow} {item : BuiltItem} {left : List BuiltItem}
-    → Written sink big encoding e whole old mid previous (item ∷ left)
-    → Writes sink mid new (Ok x) (λ hand. item_bytes hand big encoding e previous item)
-    → Written sink big encoding e whole old new (next_previous encoding.version e.default_is_stmt previous item) left
-written_more {sink = sink} {big = big} {encoding = encoding} {e = e} {whole = whole} {previous = previous}
+    → Written sink is_big encoding e whole old mid previous (item ∷ left)
+    → Writes sink mid new (Ok x) (λ hand. item_bytes hand is_big encoding e previous item)
+    → Written sink is_big encoding e whole old new (next_previous encoding.version e.default_is_stmt previous item) left
+written_more {sink = sink} {is_big = is_big} {encoding = encoding} {e = e} {whole = whole} {previous = previous}
     {item = item} {left = left} so more = record {
       keeps = begins_then _ _ _ so.keeps more.keeps;
       ordered = more.ordered ∙ so.ordered;
@@ -91,10 +91,10 @@ written_more {sink = sink} {big = big} {encoding = encoding} {e = e} {whole = wh
           (more.completed at (so.stays completes));
     }
 
-pub none_standing : {W : Type 0} (sink : Ghosts W) (big : Bool) (encoding : Encoding) (e : LineEncoding) (old : W)
+pub none_standing : {W : Type 0} (sink : Ghosts W) (is_big : Bool) (encoding : Encoding) (e : LineEncoding) (old : W)
     (previous : LineRow) (items : List BuiltItem)
-    → Written sink big encoding e (λ hand. items_bytes hand big encoding e previous items) old old previous items
-none_standing sink big encoding e old previous items = record {
+    → Written sink is_big encoding e (λ hand. items_bytes hand is_big encoding e previous items) old old previous items
+none_standing sink is_big encoding e old previous items = record {
   keeps = begins_self _;
   ordered = refl;
   stays = λ completes. completes;

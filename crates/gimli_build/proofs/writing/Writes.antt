@@ -24,7 +24,7 @@ pub record Leaves {X : Type 0} (Own : Error → Type 0) (result : Result X Error
 pub record InViews {W X : Type 0} (sink : Ghosts W) (old new : W) (result : Result X Error)
     (wanted : Hand → Result (List ℕ) Error) : Type 0 where
   pub keeps : Begins (sink.contents old) (sink.contents new)
-  pub ordered : sink.big new ≡ sink.big old
+  pub ordered : sink.is_big new ≡ sink.is_big old
   pub stays : IsTrue (sink.completes old) → IsTrue (sink.completes new)
   pub held : IsTrue sink.keeps_bytes → Leaves sink.refuses result (wanted plain) (sink.contents old) (sink.contents new)
   pub memory : IsTrue sink.keeps_bytes → IsTrue sink.fails_for_memory_alone
@@ -146,7 +146,7 @@ passed_on {r = r} is refused = let p = err_from_is_err_and r is in rw (p.1, p.2)
 -- after what is written so far: what refuses it, refuses the whole
 pub later_unwritten : {W X Y : Type 0} {sink : Ghosts W} {old mid new : W} {e : Error}
     (part whole : Hand → Result (List ℕ) Error)
-    → Begins (sink.contents old) (sink.contents mid) → sink.big mid ≡ sink.big old
+    → Begins (sink.contents old) (sink.contents mid) → sink.is_big mid ≡ sink.is_big old
     → (IsTrue (sink.completes old) → IsTrue (sink.completes mid))
     → (IsTrue sink.keeps_bytes → part plain ≡ Err e → whole plain ≡ Err e)
     → ((at : Placement) → IsTrue (sink.completes old) → part (sink.hand at) ≡ Err e → whole (sink.hand at) ≡ Err e)
@@ -199,7 +199,7 @@ unwritten first refused =
 -- what a length counts
 pub counted_unwritten : {W X Y : Type 0} {sink : Ghosts W} {old mid new : W} {e : Error} {body : Hand
     → Result (List ℕ) Error}
-    (full : ℕ → Result (List ℕ) Error) → Begins (sink.contents old) (sink.contents mid) → sink.big mid ≡ sink.big old
+    (full : ℕ → Result (List ℕ) Error) → Begins (sink.contents old) (sink.contents mid) → sink.is_big mid ≡ sink.is_big old
     → (IsTrue (sink.completes old) → IsTrue (sink.completes mid)) → Writes {X = X} sink mid new (Err e) body
     → Writes {X = Y} sink old new (Err e) (λ hand. after_length full (body hand))
 counted_unwritten {body = body} full begins same stays refused =
@@ -212,7 +212,7 @@ counted_unwritten {body = body} full begins same stays refused =
 pub record WritesSoFar {W A : Type 0} (sink : Ghosts W) (part : Hand → A → Result (List ℕ) Error) (all left : List A)
     (old new : W) : Type 0 where
   pub keeps : Begins (sink.contents old) (sink.contents new)
-  pub ordered : sink.big new ≡ sink.big old
+  pub ordered : sink.is_big new ≡ sink.is_big old
   pub stays : IsTrue (sink.completes old) → IsTrue (sink.completes new)
   pub held : IsTrue sink.keeps_bytes → SoFar (part plain) all left (sink.contents old) (sink.contents new)
   pub linked : (at : Placement) → IsTrue (sink.completes old)

@@ -14,7 +14,7 @@ always wanted hand = wanted
 pub record Writes {W X : Type 0} (sink : Ghosts W) (old new : W) (result : Result X Error)
     (wanted : Hand → Result (List ℕ) Error) : Type 0 where
   pub keeps : Begins (sink.contents old) (sink.contents new)
-  pub ordered : sink.big new ≡ sink.big old
+  pub ordered : sink.is_big new ≡ sink.is_big old
   pub stays : IsTrue (sink.completes old) → IsTrue (sink.completes new)
   pub ok : IsTrue sink.keeps_bytes
       → OnOk result (Appends (wanted plain) (sink.contents old) (sink.contents new))

@@ -45,7 +45,7 @@ pub(crate) fn write_items<W: Writer>(
     requires can { CanEncode line_encoding }
     requires built { AreBuilt line_encoding (0, 0) items.now }
     ensures writes { Writes W.Sink w.old w.new result
-        (λ hand. items_bytes hand (W.big w.old) encoding line_encoding
+        (λ hand. items_bytes hand (W.is_big w.old) encoding line_encoding
         (initial_row encoding.version line_encoding.default_is_stmt) items.now) }
     ensures fit { OnOk result (AreFit encoding.version items.now) }
 {
@@ -105,7 +105,7 @@ fn write_item<W: Writer>(
     requires built { CanBuild line_encoding (place.now.address_offset, place.now.op_index)
         item.now }
     ensures writes { Writes W.Sink w.old w.new result
-        (λ hand. item_bytes hand (W.big w.old) encoding line_encoding
+        (λ hand. item_bytes hand (W.is_big w.old) encoding line_encoding
         (at_position (place.now.address_offset, place.now.op_index) previous.now) item.now) }
     ensures fit { OnOk result (FitsItem encoding.version item.now) }
 {

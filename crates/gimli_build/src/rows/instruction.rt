@@ -79,7 +79,7 @@ pub(crate) fn write_if<W: Writer>(w: &mut W, due: bool, instruction: LineInstruc
 #[inline(never)]
 pub(crate) fn write_set_address<W: Writer>(w: &mut W, address: &Address, size: u8) -> Result<()>
     ensures { Writes W.Sink w.old w.new result
-        (λ hand. set_address_bytes hand (W.big w.old) address.now size) }
+        (λ hand. set_address_bytes hand (W.is_big w.old) address.now size) }
 {
     write_byte(w, 0)?;
     w.write_uleb128(u64::from(size) + 1)?;

@@ -156,8 +156,8 @@ pub(crate) fn write_version_5_tables<W: Writer>(w: &mut W, input: &UnitInput<'_>
     requires version { 5 ≤ input.now.program.encoding.version }
     ensures writes { Writes W.Sink w.old w.new result
         (λ hand. let program = input.now.program in let format = program.encoding.format in
-        result_append (directory_table_bytes hand (W.big w.old) format input.now.texts program)
-        (file_table_bytes hand (W.big w.old) format input.now.texts program)) }
+        result_append (directory_table_bytes hand (W.is_big w.old) format input.now.texts program)
+        (file_table_bytes hand (W.is_big w.old) format input.now.texts program)) }
     ensures fit { OnOk result (All FitsFile input.now.program.files) }
 {
     write_directory_table(w, input)?;
@@ -167,7 +167,7 @@ pub(crate) fn write_version_5_tables<W: Writer>(w: &mut W, input: &UnitInput<'_>
 /// Appends the directories.
 fn write_directory_table<W: Writer>(w: &mut W, input: &UnitInput<'_>) -> Result<()>
     ensures { Writes W.Sink w.old w.new result
-        (λ hand. directory_table_bytes hand (W.big w.old) input.now.program.encoding.format
+        (λ hand. directory_table_bytes hand (W.is_big w.old) input.now.program.encoding.format
         input.now.texts input.now.program) }
 {
     let directories = input.program().tables().directories();
@@ -233,7 +233,7 @@ fn write_texts<W: Writer>(
 ) -> Result<()>
     requires { All (IsWithin input.now.texts) (map line_text texts.now) }
     ensures { Writes W.Sink w.old w.new result
-        (λ hand. result_concat (text_in_form hand (W.big w.old) input.now.program.encoding.format
+        (λ hand. result_concat (text_in_form hand (W.is_big w.old) input.now.program.encoding.format
         input.now.texts form.0) (map line_text texts.now)) }
 {
     for text in texts {
@@ -252,7 +252,7 @@ fn write_line_string<W: Writer>(
 ) -> Result<()>
     requires { IsWithin input.now.texts (line_text text.now) }
     ensures { Writes W.Sink w.old w.new result
-        (λ hand. text_in_form hand (W.big w.old) input.now.program.encoding.format input.now.texts
+        (λ hand. text_in_form hand (W.is_big w.old) input.now.program.encoding.format input.now.texts
         form.0 (line_text text.now)) }
 {
     if text.form() != form {
@@ -275,7 +275,7 @@ fn write_line_string<W: Writer>(
 fn write_file_table<W: Writer>(w: &mut W, input: &UnitInput<'_>) -> Result<()>
     requires version { 5 ≤ input.now.program.encoding.version }
     ensures writes { Writes W.Sink w.old w.new result
-        (λ hand. file_table_bytes hand (W.big w.old) input.now.program.encoding.format
+        (λ hand. file_table_bytes hand (W.is_big w.old) input.now.program.encoding.format
         input.now.texts input.now.program) }
     ensures fit { OnOk result (All FitsFile input.now.program.files) }
 {
@@ -333,7 +333,7 @@ fn write_file_entries<W: Writer>(
     requires source_form { source_form.0 ≡ first_form (sources input.now.program.files) }
     ensures writes { Writes W.Sink w.old w.new result
         (λ hand. let program = input.now.program in
-        result_concat (file_entry_bytes hand (W.big w.old) program.encoding.format
+        result_concat (file_entry_bytes hand (W.is_big w.old) program.encoding.format
         input.now.texts program) program.files) }
     ensures fit { OnOk result (All FitsFile input.now.program.files) }
 {
@@ -357,7 +357,7 @@ fn write_file_entry<W: Writer>(
         ((line_text file.0.now, file.1), details file.2.now) }
     requires source_form { source_form.0 ≡ first_form (sources input.now.program.files) }
     ensures writes { Writes W.Sink w.old w.new result
-        (λ hand. file_entry_bytes hand (W.big w.old) input.now.program.encoding.format
+        (λ hand. file_entry_bytes hand (W.is_big w.old) input.now.program.encoding.format
         input.now.texts input.now.program
         ((line_text file.entry.0.now, file.entry.1), details file.entry.2.now)) }
     ensures fit { OnOk result
@@ -422,7 +422,7 @@ fn write_source<W: Writer>(
         → needs_empty input.now.program ≡ true }
     requires form { form.0 ≡ first_form (sources input.now.program.files) }
     ensures { Writes W.Sink w.old w.new result
-        (λ hand. source_bytes hand (W.big w.old) input.now.program.encoding.format
+        (λ hand. source_bytes hand (W.is_big w.old) input.now.program.encoding.format
         input.now.texts input.now.program ((Inline [], 0), details info.now)) }
 {
     if !input.program().file_has_source {

@@ -17,7 +17,7 @@ use gimli_core::LineEncoding;
 /// Appends the header length, and what it counts.
 pub(crate) fn write_header<W: Writer>(w: &mut W, input: &UnitInput<'_>) -> Result<()>
     ensures writes { Writes W.Sink w.old w.new result
-        (λ hand. header_bytes hand (W.big w.old) input.now.program input.now.texts) }
+        (λ hand. header_bytes hand (W.is_big w.old) input.now.program input.now.texts) }
     ensures fit { OnOk result (All FitsFile input.now.program.files) }
 {
     let size = input.format().word_size();
@@ -32,7 +32,7 @@ pub(crate) fn write_header<W: Writer>(w: &mut W, input: &UnitInput<'_>) -> Resul
 /// Appends what the header length counts.
 fn write_fields<W: Writer>(w: &mut W, input: &UnitInput<'_>) -> Result<()>
     ensures writes { Writes W.Sink w.old w.new result
-        (λ hand. fields_bytes hand (W.big w.old) input.now.program input.now.texts) }
+        (λ hand. fields_bytes hand (W.is_big w.old) input.now.program input.now.texts) }
     ensures fit { OnOk result (All FitsFile input.now.program.files) }
 {
     let program = input.program();
@@ -75,7 +75,7 @@ fn write_operation_count<W: Writer>(w: &mut W, version: u16, operations: u8) -> 
 /// Appends the directories and the files.
 fn write_tables<W: Writer>(w: &mut W, input: &UnitInput<'_>) -> Result<()>
     ensures writes { Writes W.Sink w.old w.new result
-        (λ hand. tables_bytes hand (W.big w.old) input.now.program input.now.texts) }
+        (λ hand. tables_bytes hand (W.is_big w.old) input.now.program input.now.texts) }
     ensures fit { OnOk result (All FitsFile input.now.program.files) }
 {
     let program = input.program();

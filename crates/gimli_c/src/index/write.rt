@@ -2,7 +2,7 @@
 
 ghost use Rattle.std.specs.Prelude.{◌≡◌, ◌≢◌, ◌⊎◌, ◌^◌, ℕ, true, false, IfErr, IfOk, List};
 ghost use Rattle.gimli_core.specs.Numbers.{is_address_size};
-ghost use Rattle.gimli_core.specs.Order.{is_big};
+ghost use Rattle.gimli_core.specs.Order.{is_big_endian};
 ghost use Rattle.gimli_compilation.specs.Sections.{sections_of};
 ghost use Rattle.gimli_c.specs.CompDir.{sections_handed};
 ghost use Rattle.gimli_c.specs.MadeIndex.{make_status, index_source, program, AreAllUnitsOf};
@@ -37,7 +37,7 @@ pub struct GimliIndexOptions {
     /// The number of bytes of an address up to version 4: 1, 2, 4 or 8.
     pub address_size: u8,
     /// Whether the most significant byte of a number comes first.
-    pub big: bool,
+    pub is_big: bool,
     /// The most bytes that all paths of the index may have, of which each stands once.
     pub limit: usize,
 }
@@ -69,10 +69,10 @@ fn units_of<'s>(
 ) -> Result<SectionLookup<Slice<'s>>, u32>
     requires { is_address_size options.now.address_size ≡ true }
     ensures ok { (line_strings strings : List ℕ) → IfOk result (AreAllUnitsOf (program section.now
-        options.now.big options.now.address_size options.now.lowest line_strings strings)) }
+        options.now.is_big options.now.address_size options.now.lowest line_strings strings)) }
     ensures err { IfErr result (λ s. s ≡ OUT_OF_MEMORY) }
 {
-    let section = DebugLine::new(section, order(options.big));
+    let section = DebugLine::new(section, order(options.is_big));
     match SectionLookup::new(&section, alloc, options.address_size, options.lowest) {
         Ok(units) => Ok(units),
         Err(_) => Err(OUT_OF_MEMORY),
@@ -90,9 +90,9 @@ fn made_index<'s>(
 ) -> Result<Vec<u8>, u32>
     requires { is_address_size options.now.address_size ≡ true }
     ensures ok { IfOk result (λ bytes. IsIndexBytesOf (index_source
-        (program section.now options.now.big options.now.address_size options.now.lowest
+        (program section.now options.now.is_big options.now.address_size options.now.lowest
         texts.now.debug_line_str.slice.now texts.now.debug_str.slice.now)
-        (sections_of (λ s. s.slice.now) (λ s. is_big s.endian) (2 ^ 64) sections.now) identity.now)
+        (sections_of (λ s. s.slice.now) (λ s. is_big_endian s.endian) (2 ^ 64) sections.now) identity.now)
         bytes.items) }
     ensures err { IfErr result IsIndexRefusal }
 {
@@ -140,15 +140,15 @@ pub extern "C" fn gimli_line_proved_index_write(
     stored: &mut [u8],
     size: &mut usize,
 ) -> u32
-    ensures ok { result ≡ OK → GivesIndexOf (index_source (program section.now options.now.big
+    ensures ok { result ≡ OK → GivesIndexOf (index_source (program section.now options.now.is_big
         options.now.address_size options.now.lowest line_strings.now strings.now)
         (sections_handed info.now abbreviations.now line_strings.now strings.now
-        string_offsets.now options.now.big) identity.now) stored.old stored.new size.new }
+        string_offsets.now options.now.is_big) identity.now) stored.old stored.new size.new }
     ensures room { result ≡ NO_ROOM
-        → NeedsIndexRoom (index_source (program section.now options.now.big
+        → NeedsIndexRoom (index_source (program section.now options.now.is_big
         options.now.address_size options.now.lowest line_strings.now strings.now)
         (sections_handed info.now abbreviations.now line_strings.now strings.now
-        string_offsets.now options.now.big) identity.now) stored.old size.new }
+        string_offsets.now options.now.is_big) identity.now) stored.old size.new }
     ensures options { options.now.size ≢ OPTIONS_SIZE → result ≡ UNKNOWN_OPTIONS }
     ensures size { options.now.size ≡ OPTIONS_SIZE →
         is_address_size options.now.address_size ≡ false → result ≡ UNSUPPORTED_ADDRESS_SIZE }
@@ -165,7 +165,7 @@ pub extern "C" fn gimli_line_proved_index_write(
     if !is_address_size(options.address_size) {
         return UNSUPPORTED_ADDRESS_SIZE;
     }
-    let order = order(options.big);
+    let order = order(options.is_big);
     let texts = StringSections {
         debug_line_str: EndianSlice::new(line_strings, order),
         debug_str: EndianSlice::new(strings, order),
@@ -176,7 +176,7 @@ pub extern "C" fn gimli_line_proved_index_write(
         line_strings,
         strings,
         string_offsets,
-        options.big,
+        options.is_big,
     );
     let made = match made_index(alloc, section, &texts, &sections, options, identity) {
         Ok(made) => made,

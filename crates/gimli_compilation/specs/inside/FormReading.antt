@@ -1,6 +1,6 @@
 -- What is taken of the values of attributes, and what is left.
 use Rattle.std.specs.Prelude.{ℕ, ◌≤◌, List, Some, None, Ok, Err, nat_eq, if◌then◌else◌}
-use Rattle.gimli_core.specs.Notation.{Notation}
+use Rattle.gimli_core.specs.Layout.{OrderAndLimit}
 use Rattle.gimli_core.specs.Reading.{Read, ◌>>=◌, split_at, text_at, number_at, unsigned_at}
 use Rattle.gimli_core.specs.Reading.{unsigned_16_at, signed_at, offset_of}
 use Rattle.gimli_core.specs.declared.common.Encoding.{Encoding}
@@ -26,15 +26,15 @@ passed_at limit n bytes =
     (offset_of limit n, bytes) >>= λ count rest. split_at count rest >>= λ passed left.
     (Ok Passed, left)
 
-module _ (notation : Notation) where
+module _ (layout : OrderAndLimit) where
   abbrev pub shape_at : Shape → List ℕ → Read (Value (List ℕ))
   shape_at (Fixed size kind) bytes =
-      number_at notation.big size bytes >>= λ n rest. (Ok (Number kind n), rest)
+      number_at layout.is_big size bytes >>= λ n rest. (Ok (Number kind n), rest)
   shape_at (Unsigned kind) bytes = unsigned_at bytes >>= λ n rest. (Ok (Number kind n), rest)
   shape_at Signed bytes = signed_at bytes >>= λ z rest. (Ok Passed, rest)
-  shape_at (Block size) bytes = passed_at notation.limit size bytes
-  shape_at (Counted size) bytes = number_at notation.big size bytes >>= passed_at notation.limit
-  shape_at UnsignedCounted bytes = unsigned_at bytes >>= passed_at notation.limit
+  shape_at (Block size) bytes = passed_at layout.limit size bytes
+  shape_at (Counted size) bytes = number_at layout.is_big size bytes >>= passed_at layout.limit
+  shape_at UnsignedCounted bytes = unsigned_at bytes >>= passed_at layout.limit
   shape_at String bytes = text_at bytes >>= λ name rest. (Ok (Text name), rest)
 
   module _ (encoding : Encoding) where

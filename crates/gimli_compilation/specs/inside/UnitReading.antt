@@ -1,7 +1,7 @@
 -- What is taken of a unit, and what is left.
 use Rattle.std.specs.Prelude.{ℕ, ◌+◌, ◌*◌, ◌^◌, List, Result, Ok, Err, Option, Some, None, nat_lt}
 use Rattle.std.specs.Prelude.{if◌then◌else◌}
-use Rattle.gimli_core.specs.Notation.{Notation}
+use Rattle.gimli_core.specs.Layout.{OrderAndLimit}
 use Rattle.gimli_core.specs.Numbers.{word_size}
 use Rattle.gimli_core.specs.Reading.{Read, ◌>>=◌, split_at, text_at, number_at, unsigned_at}
 use Rattle.gimli_core.specs.Reading.{offset_of}
@@ -11,8 +11,8 @@ use Rattle.gimli_core.specs.declared.error.Error.{Error}
 use Rattle.gimli_core.specs.declared.error.Error.TheVariants.{UnsupportedOffset}
 use Rattle.gimli_compilation.specs.declared.abbreviation.Specification.{Specification}
 use Rattle.gimli_compilation.specs.declared.attributes.Attributes.{Attributes}
-use Rattle.gimli_compilation.specs.declared.form.Kind.{Kind}
-use Rattle.gimli_compilation.specs.declared.form.Kind.TheVariants.{
+use Rattle.gimli_compilation.specs.declared.form.NumberKind.{NumberKind}
+use Rattle.gimli_compilation.specs.declared.form.NumberKind.TheVariants.{
   StringOffset,
   LineStringOffset,
   StringIndex,
@@ -56,27 +56,27 @@ place_of base index size =
     else Err UnsupportedOffset
 
 -- the string offset of an index
-unfoldable pub string_offset_at : Notation → Format → ℕ → ℕ → List ℕ → Read ℕ
-string_offset_at notation format base index section =
+unfoldable pub string_offset_at : OrderAndLimit → Format → ℕ → ℕ → List ℕ → Read ℕ
+string_offset_at layout format base index section =
     (place_of base index (word_size format), section) >>= λ place rest.
-    from_offset_at notation.limit place (number_at notation.big (word_size format)) rest
+    from_offset_at layout.limit place (number_at layout.is_big (word_size format)) rest
 
 -- the specifications of a code in the table at an offset
 unfoldable pub table_at : ℕ → ℕ → List ℕ → Read (Option (List Specification))
 table_at offset code bytes = split_at offset bytes >>= λ before rest. abbreviation_at code rest
 
 module _ (sections : Sections) where
-  unfoldable pub text_by_at : Format → Option ℕ → Kind → ℕ → List ℕ → Read (Option (List ℕ))
+  unfoldable pub text_by_at : Format → Option ℕ → NumberKind → ℕ → List ℕ → Read (Option (List ℕ))
   text_by_at format base StringOffset n bytes =
-      ((text_from_at sections.notation.limit n sections.strings).0, bytes) >>= λ name rest.
+      ((text_from_at sections.layout.limit n sections.strings).0, bytes) >>= λ name rest.
       (Ok (Some name), rest)
   text_by_at format base LineStringOffset n bytes =
-      ((text_from_at sections.notation.limit n sections.line_strings).0, bytes) >>= λ name rest.
+      ((text_from_at sections.layout.limit n sections.line_strings).0, bytes) >>= λ name rest.
       (Ok (Some name), rest)
   text_by_at format (Some base) StringIndex n bytes =
-      ((string_offset_at sections.offsets_notation format base n sections.string_offsets).0, bytes)
+      ((string_offset_at sections.offsets_layout format base n sections.string_offsets).0, bytes)
       >>= λ offset rest.
-      ((text_from_at sections.notation.limit offset sections.strings).0, rest) >>= λ name left.
+      ((text_from_at sections.layout.limit offset sections.strings).0, rest) >>= λ name left.
       (Ok (Some name), left)
   text_by_at format None StringIndex n bytes = (Ok None, bytes)
   text_by_at format base kind n bytes = (Ok None, bytes)
@@ -106,7 +106,7 @@ module _ (sections : Sections) where
   -- an entry whose specifications are known
   unfoldable pub found_entry_at : Encoding → List Specification → List ℕ → Read (Outcome (List ℕ))
   found_entry_at encoding specifications bytes =
-      attributes_at sections.notation encoding no_attributes specifications bytes
+      attributes_at sections.layout encoding no_attributes specifications bytes
       >>= λ attributes rest.
       compilation_at encoding attributes rest >>= λ compilation left. (Ok (Found compilation), left)
 
@@ -124,13 +124,13 @@ module _ (sections : Sections) where
 
   unfoldable pub content_at : Format → List ℕ → Read (Outcome (List ℕ))
   content_at format bytes =
-      header_at sections.notation format bytes >>= λ header rest.
+      header_at sections.layout format bytes >>= λ header rest.
       if is_unit_type header.unit_type then entry_at header rest
       else (Ok (unknown_unit_type header.unit_type), rest)
 
   unfoldable pub unit_at : List ℕ → Read (Outcome (List ℕ))
   unit_at bytes =
-      frame_at sections.notation bytes >>= λ unit rest. ((content_at unit.1 unit.0).0, rest)
+      frame_at sections.layout bytes >>= λ unit rest. ((content_at unit.1 unit.0).0, rest)
 
 -- an outcome, its texts seen by bytes
 abbrev pub outcome_seen : {R : Type 0} → (Compilation R → Compilation (List ℕ)) → Outcome R

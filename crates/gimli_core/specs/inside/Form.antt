@@ -1,11 +1,11 @@
 -- The forms of the tables of version 5 (DWARF 5, section 7.5.5): how a value lies in the bytes.
 use Rattle.std.specs.Prelude.{ℕ, List}
-use Rattle.gimli_core.specs.Notation.{Notation}
+use Rattle.gimli_core.specs.Layout.{OrderAndLimit}
 use Rattle.gimli_core.specs.Values.{Value}
 use Rattle.gimli_core.specs.declared.common.Format.{Format}
 use Rattle.gimli_core.specs.Form.{form_production}
 
-module _ (notation : Notation) (format : Format) where
+module _ (layout : OrderAndLimit) (format : Format) where
   -- the bytes are a value in this form
   abbrev pub SpellsForm : ℕ → List ℕ → Value → Type 0
-  SpellsForm form = (form_production notation format form).Spells
+  SpellsForm form = (form_production layout format form).Spells

@@ -22,20 +22,20 @@ module _ {R Offset Endian : Type 0} (bytes : R → List ℕ) (number : Offset �
 abbrev pub FileOrders : Type 0
 FileOrders = Option Bool × Option (Option Bool)
 
-module _ {R Offset Endian : Type 0} (big : R → Bool) where
+module _ {R Offset Endian : Type 0} (is_big : R → Bool) where
   abbrev pub file_orders : FileEntry R Offset Endian → FileOrders
-  file_orders f = (value_order big f.path_name, option_map (value_order big) f.source)
+  file_orders f = (value_order is_big f.path_name, option_map (value_order is_big) f.source)
 
 -- the readers of a file, in its path and its source, have this order
 abbrev pub AreFileOrders : Bool → FileOrders → Type 0
 AreFileOrders order o = IsOrder order o.0 × IfSome o.1 (IsOrder order)
 
-module _ {R Offset Endian : Type 0} (big : R → Bool) (order : Bool) where
+module _ {R Offset Endian : Type 0} (is_big : R → Bool) (order : Bool) where
   abbrev pub FileHasOrder : FileEntry R Offset Endian → Type 0
-  FileHasOrder f = AreFileOrders order (file_orders big f)
+  FileHasOrder f = AreFileOrders order (file_orders is_big f)
 
 -- a file, its readers seen by bytes and order, and its offsets by number
-module _ {R Offset Endian : Type 0} (bytes : R → List ℕ) (big : R → Bool)
+module _ {R Offset Endian : Type 0} (bytes : R → List ℕ) (is_big : R → Bool)
     (number : Offset → ℕ) where
   abbrev pub file_by : FileEntry R Offset Endian → File × FileOrders
-  file_by f = (file_seen bytes number f, file_orders big f)
+  file_by f = (file_seen bytes number f, file_orders is_big f)

@@ -8,7 +8,7 @@ use Rattle.gimli_core.specs.Values.{Value}
 use Rattle.gimli_core.specs.declared.attribute_value.AttributeValue.{AttributeValue}
 use Rattle.gimli_core.specs.declared.attribute_value.AttributeValue.TheVariants.{String}
 use Rattle.gimli_core.specs.declared.common.DebugLineOffset.{DebugLineOffset}
-use Rattle.gimli_core.specs.Notation.{Notation}
+use Rattle.gimli_core.specs.Layout.{OrderAndLimit}
 use Rattle.gimli_line.specs.header.Parameters.{Parameters}
 use Rattle.gimli_line.specs.header.File.{File}
 use Rattle.gimli_line.specs.declared.header.file_entry.FileEntry.{FileEntry}
@@ -99,10 +99,10 @@ with_defined_file appends f h = record h { files = files_with appends f h.files 
 
 -- ---- how contracts see a header
 
--- what it says, the notation of its program, and its parts as they are
+-- what it says, the layout of its program, and its parts as they are
 pub record SeenHeader (R Offset Endian : Type 0) : Type 0 where
   pub meaning : Header
-  pub notation : Notation
+  pub layout : OrderAndLimit
   pub parameters : Parameters
   pub offset : DebugLineOffset Offset
   pub unit_length : Offset

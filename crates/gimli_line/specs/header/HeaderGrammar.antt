@@ -25,20 +25,20 @@ use Rattle.gimli_core.specs.declared.error.Error.TheVariants.{MinimumInstruction
 use Rattle.gimli_core.specs.declared.error.Error.TheVariants.{MaximumOperationsPerInstructionZero}
 use Rattle.gimli_core.specs.declared.error.Error.TheVariants.{LineRangeZero, OpcodeBaseZero}
 use Rattle.gimli_core.specs.declared.error.Error.TheVariants.{MissingFileEntryFormatPath}
-use Rattle.gimli_core.specs.Notation.{Notation}
+use Rattle.gimli_core.specs.Layout.{OrderAndLimit}
 use Rattle.gimli_line.specs.LineNumbers.{DW_LNCT_path, DW_LNCT_directory_index, DW_LNCT_timestamp}
 use Rattle.gimli_line.specs.LineNumbers.{DW_LNCT_size, DW_LNCT_MD5, DW_LNCT_LLVM_source}
 use Rattle.gimli_line.specs.header.Parameters.{Parameters}
 use Rattle.gimli_line.specs.header.File.{File}
 use Rattle.gimli_line.specs.header.Header.{Header, UnitEntry, plain_file}
-use Rattle.gimli_line.specs.header.Productions.{name, positive}
+use Rattle.gimli_line.specs.header.Productions.{path_text, positive}
 use Rattle.gimli_line.specs.declared.header.file_entry.FileEntryFormat.{FileEntryFormat}
 
 -- ---- tables up to version 4 (DWARF 4, section 6.2.4, parts 11 and 12)
 
 -- directories: texts that aren't empty, closed by a zero byte
 abbrev pub paths_production : Production (List (List ℕ))
-paths_production = list_to_zero name
+paths_production = list_to_zero path_text
 
 -- after the path of a file: its directory, its timestamp and its size
 abbrev pub file_production : List ℕ → Production File
@@ -51,7 +51,7 @@ file_production path = do
 -- files: each a path that isn't empty and three numbers, closed by a zero byte
 abbrev pub files_production : Production (List File)
 files_production = list_to_zero (do
-  path ← name
+  path ← path_text
   file_production path)
 
 -- ---- tables of version 5 (DWARF 5, section 6.2.4, parts 13 to 20)
@@ -77,33 +77,33 @@ formats_production = do
   done formats
 
 -- the values of an entry, each beside its content type
-abbrev pub Entry : Type 0
-Entry = List (ℕ × Value)
+abbrev pub TableEntry : Type 0
+TableEntry = List (ℕ × Value)
 
-module _ (notation : Notation) (format : Format) where
+module _ (layout : OrderAndLimit) (format : Format) where
   -- an entry: a value for each format
-  abbrev pub entry_production : List FileEntryFormat → Production Entry
+  abbrev pub entry_production : List FileEntryFormat → Production TableEntry
   entry_production [] = done []
   entry_production (f ∷ formats) = do
-    value ← form_production notation format f.form.0
+    value ← form_production layout format f.form.0
     values ← entry_production formats
     done ((f.content_type.0, value) ∷ values)
 
   -- a count and so many entries
-  abbrev pub entries_production : List FileEntryFormat → Production (List Entry)
+  abbrev pub entries_production : List FileEntryFormat → Production (List TableEntry)
   entries_production formats = do
     count ← unsigned
     times count (entry_production formats)
 
   -- a table: its formats and its entries
-  abbrev pub table_production : Production (List FileEntryFormat × List Entry)
+  abbrev pub table_production : Production (List FileEntryFormat × List TableEntry)
   table_production = do
     formats ← formats_production
     entries ← entries_production formats
     done (formats, entries)
 
 -- the last value of a content type that is of use, else what stands at first
-abbrev pub last_value : {A : Type 0} → ℕ → (Value → Option A) → A → Entry → A
+abbrev pub last_value : {A : Type 0} → ℕ → (Value → Option A) → A → TableEntry → A
 last_value content pick first [] = first
 last_value content pick first (v ∷ entry) =
     elim (if nat_eq v.0 content then pick v.1 else None)
@@ -114,13 +114,13 @@ abbrev pub digest : Value → Option (List ℕ)
 digest (Block bytes) = if nat_eq (length bytes) 16 then Some bytes else None
 digest v = None
 
-abbrev pub path_of : Entry → Value
+abbrev pub path_of : TableEntry → Value
 path_of entry = last_value DW_LNCT_path Some (String []) entry
 
 -- the file of an entry. The standard names no value for a part that no format has, and says nothing
 -- of two formats of one content type: that the first is 0 or empty, and that the later of two
 -- counts, is ours, as gimli has it
-abbrev pub file_of_entry : Entry → File
+abbrev pub file_of_entry : TableEntry → File
 file_of_entry entry = record {
   path_name = path_of entry;
   directory_index = last_value DW_LNCT_directory_index udata_value 0 entry;
@@ -134,8 +134,8 @@ file_of_entry entry = record {
 
 -- from version 2 to version 5
 abbrev pub version_production : Bool → Production ℕ
-version_production big = do
-  version ← number big 2
+version_production is_big = do
+  version ← number is_big 2
   check (nat_le 2 version && nat_le version 5) (UnknownVersion version)
   done version
 
@@ -151,16 +151,16 @@ address_size_production version handed =
       done size)
 
 -- the fields in front of the header length, and the bytes of that length
-pub record Opening : Type 0 where
+pub record HeaderOpening : Type 0 where
   pub encoding : Encoding
   pub header_length : ℕ
   pub fields : List ℕ
 
-abbrev pub opening_production : Notation → ℕ → Format → Production Opening
-opening_production notation handed format = do
-  version ← version_production notation.big
+abbrev pub opening_production : OrderAndLimit → ℕ → Format → Production HeaderOpening
+opening_production layout handed format = do
+  version ← version_production layout.is_big
   address_size ← address_size_production version handed
-  header_length ← offset_word notation format
+  header_length ← offset_word layout format
   fields ← some_bytes header_length
   done (record {
     encoding = record { address_size = address_size; format = format; version = version };
@@ -192,25 +192,25 @@ parameters_production encoding = do
   done (record { encoding = encoding; line_encoding = line_encoding; opcode_base = opcode_base })
 
 -- the directories, with their formats
-abbrev pub directory_table : Notation → Encoding → Production (List FileEntryFormat × List Value)
-directory_table notation encoding =
+abbrev pub directory_table : OrderAndLimit → Encoding → Production (List FileEntryFormat × List Value)
+directory_table layout encoding =
     choose (nat_le encoding.version 4)
     (do
       paths ← paths_production
       done ([], map String paths))
     (do
-      table ← table_production notation encoding.format
+      table ← table_production layout encoding.format
       done (table.0, map path_of table.1))
 
 -- the files, with their formats
-abbrev pub file_table : Notation → Encoding → Production (List FileEntryFormat × List File)
-file_table notation encoding =
+abbrev pub file_table : OrderAndLimit → Encoding → Production (List FileEntryFormat × List File)
+file_table layout encoding =
     choose (nat_le encoding.version 4)
     (do
       files ← files_production
       done ([], files))
     (do
-      table ← table_production notation encoding.format
+      table ← table_production layout encoding.format
       done (table.0, map file_of_entry table.1))
 
 -- what was handed in, where the version takes it
@@ -218,12 +218,12 @@ abbrev pub handed_value : {A : Type 0} → Encoding → Option A → Option A
 handed_value encoding handed = if nat_le encoding.version 4 then handed else None
 
 -- the further fields of a header, whose program was found already
-abbrev pub fields_production : Notation → UnitEntry → ℕ → Opening → List ℕ → Production Header
-fields_production notation unit_entry unit opening program = do
+abbrev pub fields_production : OrderAndLimit → UnitEntry → ℕ → HeaderOpening → List ℕ → Production Header
+fields_production layout unit_entry unit opening program = do
   parameters ← parameters_production opening.encoding
   counts ← some_bytes (parameters.opcode_base - 1)
-  directories ← directory_table notation opening.encoding
-  files ← file_table notation opening.encoding
+  directories ← directory_table layout opening.encoding
+  files ← file_table layout opening.encoding
   done (record {
     parameters = parameters;
     unit_length = unit;
@@ -244,37 +244,29 @@ fields_production notation unit_entry unit opening program = do
 -- a unit: its length, and that many bytes. At their front stand the version and so on, up to the
 -- fields that the header length counts, with slack after the last of these; after them stands the
 -- program
-abbrev pub header_production : Notation → UnitEntry → Production Header
-header_production notation unit_entry = do
-  unit ← unit_length notation
+abbrev pub header_production : OrderAndLimit → UnitEntry → Production Header
+header_production layout unit_entry = do
+  unit ← unit_length layout
   inside ← some_bytes unit.0
-  opened ← within inside (opening_production notation unit_entry.address_size unit.1)
-  fields ← within opened.0.fields (fields_production notation unit_entry unit.0 opened.0 opened.1)
+  opened ← within inside (opening_production layout unit_entry.address_size unit.1)
+  fields ← within opened.0.fields (fields_production layout unit_entry unit.0 opened.0 opened.1)
   done fields.0
 
 -- the bytes begin with a unit that has this header, whatever follows
-abbrev pub SpellsUnit : Notation → UnitEntry → List ℕ → Header → Type 0
-SpellsUnit notation unit_entry bytes h =
+abbrev pub SpellsUnit : OrderAndLimit → UnitEntry → List ℕ → Header → Type 0
+SpellsUnit layout unit_entry bytes h =
     (unit : List ℕ) × (after : List ℕ) × (bytes ≡ unit ++ after)
-    × (header_production notation unit_entry).Spells unit h
+    × (header_production layout unit_entry).Spells unit h
 
 -- the bytes begin with no unit, and this is the refusal
-abbrev pub HasHeaderFault : Notation → UnitEntry → List ℕ → Error → Type 0
-HasHeaderFault notation unit_entry bytes e = (header_production notation unit_entry).Fault bytes e
-
--- the bytes begin with some unit
-abbrev pub HasUnit : Notation → UnitEntry → List ℕ → Type 0
-HasUnit notation unit_entry bytes = (h : Header) × SpellsUnit notation unit_entry bytes h
-
--- they begin with none, and have some refusal
-abbrev pub HasNoUnit : Notation → UnitEntry → List ℕ → Type 0
-HasNoUnit notation unit_entry bytes = (e : Error) × HasHeaderFault notation unit_entry bytes e
+abbrev pub HasUnitFault : OrderAndLimit → UnitEntry → List ℕ → Error → Type 0
+HasUnitFault layout unit_entry bytes e = (header_production layout unit_entry).Fault bytes e
 
 -- ---- what spells a table
 
 -- the entries of a table of version 5
-abbrev pub SpellsEntries : Notation → Format → List FileEntryFormat → List ℕ → List Entry → Type 0
-SpellsEntries notation format formats = (entries_production notation format formats).Spells
+abbrev pub SpellsEntries : OrderAndLimit → Format → List FileEntryFormat → List ℕ → List TableEntry → Type 0
+SpellsEntries layout format formats = (entries_production layout format formats).Spells
 
 -- the bytes begin with a count, which spells n, and at least n bytes stand after it
 abbrev pub HoldsCount : List ℕ → ℕ → Type 0
@@ -283,7 +275,7 @@ HoldsCount bytes n =
     × (n ≤ length after)
 
 -- whatever entries of these formats bytes spell, the bytes hold their count
-abbrev pub HaveCountedEntries : Notation → Format → List FileEntryFormat → Type 0
-HaveCountedEntries notation format formats =
-    (bytes : List ℕ) (entries : List Entry) → SpellsEntries notation format formats bytes entries
+abbrev pub HaveCountedEntries : OrderAndLimit → Format → List FileEntryFormat → Type 0
+HaveCountedEntries layout format formats =
+    (bytes : List ℕ) (entries : List TableEntry) → SpellsEntries layout format formats bytes entries
     → HoldsCount bytes (length entries)

@@ -58,7 +58,7 @@ module _ {R Offset Endian : Type 0} where
   ComparesParts eq = (x y : SeenHeader R Offset Endian) → Decides (eq x y) (parts_of x ≡ parts_of y)
 
 -- a header by its parts as they are seen
-module _ {R Offset Endian : Type 0} (bytes : R → List ℕ) (big : R → Bool)
+module _ {R Offset Endian : Type 0} (bytes : R → List ℕ) (is_big : R → Bool)
     (number : Offset → ℕ) where
   abbrev pub header_by : SeenHeader R Offset Endian → SeenParts
   header_by h = record {
@@ -66,14 +66,14 @@ module _ {R Offset Endian : Type 0} (bytes : R → List ℕ) (big : R → Bool)
     offset = record { 0 = number h.offset.0 };
     unit_length = number h.unit_length;
     header_length = number h.header_length;
-    operand_counts = both bytes big h.standard_opcode_lengths;
+    operand_counts = both bytes is_big h.standard_opcode_lengths;
     directory_formats = h.directory_entry_format.items;
-    directories = map (value_by bytes big number) h.include_directories.items;
+    directories = map (value_by bytes is_big number) h.include_directories.items;
     file_formats = h.file_name_entry_format.items;
-    files = map (file_by bytes big number) h.file_names.items;
-    program = both bytes big h.program_buf;
-    comp_dir = option_map (both bytes big) h.comp_dir;
-    comp_file = option_map (file_by bytes big number) h.comp_file;
+    files = map (file_by bytes is_big number) h.file_names.items;
+    program = both bytes is_big h.program_buf;
+    comp_dir = option_map (both bytes is_big) h.comp_dir;
+    comp_file = option_map (file_by bytes is_big number) h.comp_file;
   }
 
   -- an equality of headers holds exactly where the two agree in all their parts as they are seen

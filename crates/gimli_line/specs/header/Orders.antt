@@ -1,6 +1,6 @@
 -- The orders of bytes of the readers that a header takes from its section.
 use Rattle.std.specs.Prelude.{◌≡◌, ℕ, Bool, List, map, Option, option_map, All}
-use Rattle.gimli_core.specs.Notation.{Notation}
+use Rattle.gimli_core.specs.Layout.{OrderAndLimit}
 use Rattle.gimli_core.specs.Values.{value_order, IsOrder}
 use Rattle.gimli_line.specs.header.File.{FileOrders, file_orders, AreFileOrders}
 use Rattle.gimli_line.specs.header.Header.{SeenHeader}
@@ -18,13 +18,13 @@ pub record HeaderOrders : Type 0 where
   pub files : List FileOrders
   pub handed : HandedOrders
 
-module _ {R Offset Endian : Type 0} (big : R → Bool) where
+module _ {R Offset Endian : Type 0} (is_big : R → Bool) where
   abbrev pub header_orders : SeenHeader R Offset Endian → HeaderOrders
   header_orders h = record {
-    operand_counts = big h.standard_opcode_lengths;
-    directories = map (value_order big) h.include_directories.items;
-    files = map (file_orders big) h.file_names.items;
-    handed = (option_map big h.comp_dir, option_map (file_orders big) h.comp_file);
+    operand_counts = is_big h.standard_opcode_lengths;
+    directories = map (value_order is_big) h.include_directories.items;
+    files = map (file_orders is_big) h.file_names.items;
+    handed = (option_map is_big h.comp_dir, option_map (file_orders is_big) h.comp_file);
   }
 
 -- all that were taken from the section have this order
@@ -35,29 +35,29 @@ pub record AreOneOrder (order : Bool) (o : HeaderOrders) : Type 0 where
 
 -- ---- the source of a header
 
--- how its program notes numbers, where it stands in its section, and the orders of its readers
-pub record Source : Type 0 where
-  pub notation : Notation
+-- the layout of its program, where it stands in its section, and the orders of its readers
+pub record HeaderSource : Type 0 where
+  pub layout : OrderAndLimit
   pub offset : ℕ
   pub orders : HeaderOrders
 
-module _ {R Offset Endian : Type 0} (big : R → Bool) where
-  abbrev pub source_of : (Offset → ℕ) → SeenHeader R Offset Endian → Source
+module _ {R Offset Endian : Type 0} (is_big : R → Bool) where
+  abbrev pub source_of : (Offset → ℕ) → SeenHeader R Offset Endian → HeaderSource
   source_of number h = record {
-    notation = h.notation;
+    layout = h.layout;
     offset = number h.offset.0;
-    orders = header_orders big h;
+    orders = header_orders is_big h;
   }
 
   -- the readers that were taken from the section, in the operand counts and both tables, have the
   -- order of the program
   abbrev pub HasOneOrder : SeenHeader R Offset Endian → Type 0
-  HasOneOrder h = AreOneOrder h.notation.big (header_orders big h)
+  HasOneOrder h = AreOneOrder h.layout.is_big (header_orders is_big h)
 
 -- it is still the same source: readers that were handed in keep their order, and those that were
 -- taken from the section have one order as before, if what is added fits it
-pub record KeepsSource (Fits : Bool → Type 0) (old new : Source) : Type 0 where
-  pub notation : new.notation ≡ old.notation
+pub record KeepsSource (Fits : Bool → Type 0) (old new : HeaderSource) : Type 0 where
+  pub layout : new.layout ≡ old.layout
   pub offset : new.offset ≡ old.offset
   pub handed : new.orders.handed ≡ old.orders.handed
   pub order : (order : Bool) → Fits order → AreOneOrder order old.orders

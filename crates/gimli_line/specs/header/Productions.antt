@@ -14,15 +14,15 @@ bytes_of l = record {
 }
 
 -- what stands beside a number in a table
-abbrev pub among : {A : Type 0} → ℕ → List (ℕ × A) → Option A
-among n [] = None
-among n (row ∷ rows) = if nat_eq n row.0 then Some row.1 else among n rows
+abbrev pub operand_of : {A : Type 0} → ℕ → List (ℕ × A) → Option A
+operand_of n [] = None
+operand_of n (row ∷ rows) = if nat_eq n row.0 then Some row.1 else operand_of n rows
 
 -- ---- single productions
 
 -- a text that isn't empty, and its zero byte
-abbrev pub name : Production (List ℕ)
-name = record { Spells = λ bytes xs. (xs ≢ []) × text.Spells bytes xs; Fault = text.Fault }
+abbrev pub path_text : Production (List ℕ)
+path_text = record { Spells = λ bytes xs. (xs ≢ []) × text.Spells bytes xs; Fault = text.Fault }
 
 -- a byte that isn't 0
 abbrev pub positive : Error → Production ℕ

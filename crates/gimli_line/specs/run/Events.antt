@@ -6,7 +6,7 @@ use Rattle.gimli_core.specs.declared.error.Error.{Error}
 use Rattle.gimli_core.specs.declared.error.Error.TheVariants.{AddressOverflow}
 use Rattle.gimli_line.specs.declared.run.instruction.LineInstruction.TheVariants.{DefineFile}
 use Rattle.gimli_line.specs.declared.run.row.LineRow.{LineRow}
-use Rattle.gimli_core.specs.Notation.{Notation}
+use Rattle.gimli_core.specs.Layout.{OrderAndLimit}
 use Rattle.gimli_line.specs.header.Parameters.{Parameters}
 use Rattle.gimli_line.specs.run.Instruction.{Ins, is_end, makes_row}
 use Rattle.gimli_line.specs.header.File.{File}
@@ -99,11 +99,11 @@ abbrev pub program_events : Parameters → List Ins → Option Error → List Ev
 program_events parameters list end = events_after parameters [] list end
 
 -- the events of a program's bytes
-pub record Events (notation : Notation) (h : Header) (bytes : List ℕ) (events : List Event)
+pub record Events (layout : OrderAndLimit) (h : Header) (bytes : List ℕ) (events : List Event)
     : Type 0 where
   pub list : List Ins
   pub end : Option Error
-  pub decoding : Decodes notation h bytes list end
+  pub decoding : Decodes layout h bytes list end
   pub given : events ≡ program_events h.parameters list end
 
 -- ---- files and ends

@@ -1,7 +1,7 @@
 -- What a program makes and gives, with the files of the header at each point.
 use Rattle.std.specs.Prelude.{◌≡◌, ℕ, Bool, List, [], Option}
 use Rattle.gimli_core.specs.declared.error.Error.{Error}
-use Rattle.gimli_core.specs.Notation.{Notation}
+use Rattle.gimli_core.specs.Layout.{OrderAndLimit}
 use Rattle.gimli_line.specs.run.Instruction.{Ins}
 use Rattle.gimli_line.specs.header.File.{File}
 use Rattle.gimli_line.specs.header.Header.{Header}
@@ -15,25 +15,25 @@ program_made appends h list end =
     made_after h.parameters (files_at appends h.files) [] list end
 
 -- what the bytes of a program make from its start
-pub record Makes (notation : Notation) (appends : Bool) (h : Header) (bytes : List ℕ)
+pub record Makes (layout : OrderAndLimit) (appends : Bool) (h : Header) (bytes : List ℕ)
     (events : List EventWithFiles) : Type 0 where
   pub list : List Ins
   pub end : Option Error
-  pub decoding : Decodes notation h bytes list end
+  pub decoding : Decodes layout h bytes list end
   pub made : events ≡ program_made appends h list end
 
 -- what they give
-pub record EventsWithFiles (notation : Notation) (appends : Bool) (h : Header) (bytes : List ℕ)
+pub record EventsWithFiles (layout : OrderAndLimit) (appends : Bool) (h : Header) (bytes : List ℕ)
     (events : List EventWithFiles) : Type 0 where
   pub list : List Ins
   pub end : Option Error
-  pub decoding : Decodes notation h bytes list end
+  pub decoding : Decodes layout h bytes list end
   pub given : events ≡ given_of (program_made appends h list end)
 
 -- the files after the last instruction of the bytes of a program
-pub record FilesAtEnd (notation : Notation) (appends : Bool) (h : Header) (bytes : List ℕ)
+pub record FilesAtEnd (layout : OrderAndLimit) (appends : Bool) (h : Header) (bytes : List ℕ)
     (files : List File) : Type 0 where
   pub list : List Ins
   pub end : Option Error
-  pub decoding : Decodes notation h bytes list end
+  pub decoding : Decodes layout h bytes list end
   pub given : files ≡ files_at appends h.files (past_at_end [] list)

@@ -68,11 +68,11 @@ IsExecutedAs parameters read rest old new told =
 abbrev pub ExecutesNext : Header → Unread → Unread → LineRow → LineRow → Executed → Type 0
 ExecutesNext h old new row after No = (new ≡ old) × (after ≡ row)
 ExecutesNext h old new row after told =
-    IsExecutedAs h.parameters (ins_at old.notation h old.bytes) new.bytes row after told
+    IsExecutedAs h.parameters (ins_at old.layout h old.bytes) new.bytes row after told
 
 -- the next instruction was refused: the address would pass the greatest one of its size; the
 -- registers go on, but for the address
 abbrev pub RefusesNext : Header → Unread → Unread → LineRow → LineRow → Error → Type 0
 RefusesNext h old new row after e =
     (e ≡ AddressOverflow)
-    × IsExecuted h.parameters (ins_at old.notation h old.bytes) new.bytes row after true
+    × IsExecuted h.parameters (ins_at old.layout h old.bytes) new.bytes row after true

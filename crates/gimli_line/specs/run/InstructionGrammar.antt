@@ -31,7 +31,7 @@ use Rattle.gimli_line.specs.declared.run.instruction.LineInstruction.TheVariants
   SetDiscriminator,
   UnknownExtended,
 }
-use Rattle.gimli_core.specs.Notation.{Notation}
+use Rattle.gimli_core.specs.Layout.{OrderAndLimit}
 use Rattle.gimli_line.specs.LineNumbers.{DW_LNS_copy, DW_LNS_advance_pc, DW_LNS_advance_line}
 use Rattle.gimli_line.specs.LineNumbers.{DW_LNS_set_file, DW_LNS_set_column, DW_LNS_negate_stmt}
 use Rattle.gimli_line.specs.LineNumbers.{DW_LNS_set_basic_block, DW_LNS_const_add_pc}
@@ -43,7 +43,7 @@ use Rattle.gimli_line.specs.run.Instruction.{Ins}
 use Rattle.gimli_line.specs.header.File.{File}
 use Rattle.gimli_line.specs.header.Header.{Header}
 use Rattle.gimli_line.specs.header.HeaderGrammar.{file_production}
-use Rattle.gimli_line.specs.header.Productions.{bytes_of, among}
+use Rattle.gimli_line.specs.header.Productions.{bytes_of, operand_of}
 
 -- ---- opcodes and their operands
 
@@ -55,7 +55,7 @@ pub data Operand : Type 0 where
   uleb : (ℕ → Ins) → Operand
   sleb : (ℤ → Ins) → Operand
   -- a number of two bytes
-  half : (ℕ → Ins) → Operand
+  uhalf : (ℕ → Ins) → Operand
   -- an address of the header's size
   address : (ℕ → Ins) → Operand
   -- a text, which may be empty, and three numbers
@@ -68,7 +68,7 @@ standard_opcodes =
     ∷ (DW_LNS_advance_line, sleb AdvanceLine) ∷ (DW_LNS_set_file, uleb SetFile)
     ∷ (DW_LNS_set_column, uleb SetColumn) ∷ (DW_LNS_negate_stmt, none NegateStatement)
     ∷ (DW_LNS_set_basic_block, none SetBasicBlock) ∷ (DW_LNS_const_add_pc, none ConstAddPc)
-    ∷ (DW_LNS_fixed_advance_pc, half FixedAddPc) ∷ (DW_LNS_set_prologue_end, none SetPrologueEnd)
+    ∷ (DW_LNS_fixed_advance_pc, uhalf FixedAddPc) ∷ (DW_LNS_set_prologue_end, none SetPrologueEnd)
     ∷ (DW_LNS_set_epilogue_begin, none SetEpilogueBegin) ∷ (DW_LNS_set_isa, uleb SetIsa) ∷ []
 
 -- the extended opcodes (DWARF 5, section 6.2.5.3; DWARF 4, section 6.2.5.3); files are defined up
@@ -79,7 +79,7 @@ extended_opcodes version =
     ∷ (DW_LNE_set_discriminator, uleb SetDiscriminator)
     ∷ (if nat_le version 4 then (DW_LNE_define_file, file DefineFile) ∷ [] else [])
 
-module _ (notation : Notation) (h : Header) where
+module _ (layout : OrderAndLimit) (h : Header) where
   abbrev pub operand_production : Operand → Production Ins
   operand_production (none i) = done i
   operand_production (uleb make) = do
@@ -88,11 +88,11 @@ module _ (notation : Notation) (h : Header) where
   operand_production (sleb make) = do
     z ← signed
     done (make z)
-  operand_production (half make) = do
-    n ← number notation.big 2
+  operand_production (uhalf make) = do
+    n ← number layout.is_big 2
     done (make n)
   operand_production (address make) = do
-    a ← number notation.big h.parameters.encoding.address_size
+    a ← number layout.is_big h.parameters.encoding.address_size
     done (make a)
   operand_production (file make) = do
     path ← text
@@ -111,7 +111,7 @@ module _ (notation : Notation) (h : Header) where
 
   -- after an opcode below the opcode base
   abbrev pub standard_production : ℕ → Production Ins
-  standard_production opcode = elim (among opcode standard_opcodes) [
+  standard_production opcode = elim (operand_of opcode standard_opcodes) [
     | Some operand ↦ operand_production operand
     | None ↦ unknown_production opcode (slice_index h.operand_counts (opcode - 1))
   ]
@@ -119,7 +119,7 @@ module _ (notation : Notation) (h : Header) where
   -- an extended opcode, and the bytes after it within its instruction; surplus ones are skipped
   abbrev pub extended_operands : ℕ → List ℕ → Production Ins
   extended_operands opcode operands =
-      elim (among opcode (extended_opcodes h.parameters.encoding.version)) [
+      elim (operand_of opcode (extended_opcodes h.parameters.encoding.version)) [
         | Some operand ↦ within operands (operand_production operand) >>= λ read. done read.0
         | None ↦ done (UnknownExtended (record { 0 = opcode }) operands)
       ]
@@ -127,7 +127,7 @@ module _ (notation : Notation) (h : Header) where
   -- after a zero byte: a length, and that many bytes, of which the first is the opcode
   abbrev pub extended_production : Production Ins
   extended_production = do
-    size ← below_limit notation unsigned
+    size ← below_limit layout unsigned
     inside ← some_bytes size
     opened ← within inside byte
     extended_operands opened.0 opened.1
@@ -171,9 +171,9 @@ module _ (notation : Notation) (h : Header) where
 
 -- the refusals that an instruction may have: bytes are missing, a LEB128 number is none of 64 bits,
 -- or a length is too large for the reader's offsets, where these have less than 64 bits
-abbrev pub IsInstructionRefusal : Notation → Error → Type 0
-IsInstructionRefusal notation (UnexpectedEof point) = Unit {0}
-IsInstructionRefusal notation BadUnsignedLeb128 = Unit {0}
-IsInstructionRefusal notation BadSignedLeb128 = Unit {0}
-IsInstructionRefusal notation UnsupportedOffset = notation.limit < 2 ^ 64
-IsInstructionRefusal notation e = ⊥
+abbrev pub IsInstructionRefusal : OrderAndLimit → Error → Type 0
+IsInstructionRefusal layout (UnexpectedEof point) = Unit {0}
+IsInstructionRefusal layout BadUnsignedLeb128 = Unit {0}
+IsInstructionRefusal layout BadSignedLeb128 = Unit {0}
+IsInstructionRefusal layout UnsupportedOffset = layout.limit < 2 ^ 64
+IsInstructionRefusal layout e = ⊥

@@ -2,7 +2,7 @@
 use Rattle.std.specs.Prelude.{ℕ, zero, suc, ◌-◌, List, [], ◌∷◌, length, take}
 use Rattle.std.specs.Prelude.{nat_eq, nat_le, if◌then◌else◌, Option, Some, None, Ok, Err}
 use Rattle.std.specs.Prelude.{slice_index}
-use Rattle.gimli_core.specs.Notation.{Notation}
+use Rattle.gimli_core.specs.Layout.{OrderAndLimit}
 use Rattle.gimli_core.specs.Reading.{Read, ◌>>=◌, byte_at, split_at, text_at, number_at}
 use Rattle.gimli_core.specs.Reading.{unsigned_at, signed_at, times_at, within_at}
 use Rattle.gimli_core.specs.declared.error.Error.{Error}
@@ -15,24 +15,24 @@ use Rattle.gimli_line.specs.declared.run.instruction.LineInstruction.TheVariants
 }
 use Rattle.gimli_line.specs.run.Instruction.{Ins}
 use Rattle.gimli_line.specs.header.Header.{Header}
-use Rattle.gimli_line.specs.header.Productions.{among}
+use Rattle.gimli_line.specs.header.Productions.{operand_of}
 use Rattle.gimli_line.specs.header.FormReading.{offset_at}
 use Rattle.gimli_line.specs.header.HeaderReading.{plain_file_at}
-use Rattle.gimli_line.specs.run.InstructionGrammar.{Operand, none, uleb, sleb, half, address, file}
+use Rattle.gimli_line.specs.run.InstructionGrammar.{Operand, none, uleb, sleb, uhalf, address, file}
 use Rattle.gimli_line.specs.run.InstructionGrammar.{standard_opcodes, extended_opcodes}
 
 -- the bytes that are taken, in place of the value
 abbrev pub bytes_at : {A : Type 0} → (List ℕ → Read A) → List ℕ → Read (List ℕ)
 bytes_at read bytes = read bytes >>= λ x rest. (Ok (take (length bytes - length rest) bytes), rest)
 
-module _ (notation : Notation) (h : Header) where
+module _ (layout : OrderAndLimit) (h : Header) where
   abbrev pub operand_at : Operand → List ℕ → Read Ins
   operand_at (none i) bytes = (Ok i, bytes)
   operand_at (uleb make) bytes = unsigned_at bytes >>= λ n rest. (Ok (make n), rest)
   operand_at (sleb make) bytes = signed_at bytes >>= λ z rest. (Ok (make z), rest)
-  operand_at (half make) bytes = number_at notation.big 2 bytes >>= λ n rest. (Ok (make n), rest)
+  operand_at (uhalf make) bytes = number_at layout.is_big 2 bytes >>= λ n rest. (Ok (make n), rest)
   operand_at (address make) bytes =
-      number_at notation.big h.parameters.encoding.address_size bytes >>= λ a rest.
+      number_at layout.is_big h.parameters.encoding.address_size bytes >>= λ a rest.
       (Ok (make a), rest)
   operand_at (file make) bytes =
       text_at bytes >>= λ path rest. plain_file_at path rest >>= λ f rest. (Ok (make f), rest)
@@ -48,7 +48,7 @@ module _ (notation : Notation) (h : Header) where
 
   -- after an opcode below the opcode base
   unfoldable pub standard_at : ℕ → List ℕ → Read Ins
-  standard_at opcode bytes = elim (among opcode standard_opcodes) [
+  standard_at opcode bytes = elim (operand_of opcode standard_opcodes) [
     | Some operand ↦ operand_at operand bytes
     | None ↦ unknown_at opcode (slice_index h.operand_counts (opcode - 1)) bytes
   ]
@@ -56,7 +56,7 @@ module _ (notation : Notation) (h : Header) where
   -- an extended opcode, with the bytes after it within its instruction
   unfoldable pub extended_operands_at : ℕ → List ℕ → List ℕ → Read Ins
   extended_operands_at opcode operands bytes =
-      elim (among opcode (extended_opcodes h.parameters.encoding.version)) [
+      elim (operand_of opcode (extended_opcodes h.parameters.encoding.version)) [
         | Some operand ↦
             within_at operands (operand_at operand) bytes >>= λ read rest. (Ok read.0, rest)
         | None ↦ (Ok (UnknownExtended (record { 0 = opcode }) operands), bytes)
@@ -65,7 +65,7 @@ module _ (notation : Notation) (h : Header) where
   -- after a zero byte
   unfoldable pub extended_at : List ℕ → Read Ins
   extended_at bytes =
-      offset_at notation.limit unsigned_at bytes >>= λ size rest.
+      offset_at layout.limit unsigned_at bytes >>= λ size rest.
       split_at size rest >>= λ inside rest.
       within_at inside byte_at rest >>= λ opened rest. extended_operands_at opened.0 opened.1 rest
 

@@ -10,9 +10,9 @@ use Rattle.gimli_line.specs.run.Unread.{Unread}
 abbrev pub TakesNext : Header → Unread → Unread → Option Ins → Type 0
 TakesNext h old new None = (old.bytes ≡ []) × (new.bytes ≡ [])
 TakesNext h old new (Some i) =
-    (front : List ℕ) × (old.bytes ≡ front ++ new.bytes) × SpellsInstruction old.notation h front i
+    (front : List ℕ) × (old.bytes ≡ front ++ new.bytes) × SpellsInstruction old.layout h front i
 
 -- bytes are left that begin with no instruction, and this is the refusal; after it none are left
 abbrev pub EndsByFault : Header → Unread → Unread → Error → Type 0
 EndsByFault h old new e =
-    (old.bytes ≢ []) × (new.bytes ≡ []) × (instruction_production old.notation h).Fault old.bytes e
+    (old.bytes ≢ []) × (new.bytes ≡ []) × (instruction_production old.layout h).Fault old.bytes e

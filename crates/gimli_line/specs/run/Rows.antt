@@ -7,7 +7,7 @@ use Rattle.gimli_core.specs.declared.error.Error.TheVariants.{AddressOverflow, O
 use Rattle.gimli_line.specs.declared.run.row.LineRow.{LineRow}
 use Rattle.gimli_line.specs.header.File.{File}
 use Rattle.gimli_line.specs.header.Header.{Header, SeenHeader, without_files}
-use Rattle.gimli_line.specs.header.Orders.{Source, source_of, AreOneOrder, KeepsSource}
+use Rattle.gimli_line.specs.header.Orders.{HeaderSource, source_of, AreOneOrder, KeepsSource}
 use Rattle.gimli_line.specs.run.Instruction.{Ins, defines_file}
 use Rattle.gimli_line.specs.run.InstructionGrammar.{SpellsInstruction}
 use Rattle.gimli_line.specs.run.InstructionReading.{decoded_at}
@@ -15,7 +15,7 @@ use Rattle.gimli_line.specs.run.Events.{Event, row, fault, EventWithFiles, given
 use Rattle.gimli_line.specs.run.Machine.{initial, made_from}
 use Rattle.gimli_line.specs.run.Unread.{Unread, whole_program}
 use Rattle.gimli_line.specs.run.RunState.{RunState}
-use Rattle.gimli_line.specs.run.Progress.{with_reset_row, files_from, Progress}
+use Rattle.gimli_line.specs.run.Passing.{with_reset_row, files_from, PassesOver}
 
 -- ---- what is still to come
 
@@ -23,7 +23,7 @@ use Rattle.gimli_line.specs.run.Progress.{with_reset_row, files_from, Progress}
 -- the header at its point
 abbrev pub live_made : RunState → List EventWithFiles
 live_made a =
-    let c = decoded_at a.unread.notation a.fixed a.unread.bytes in
+    let c = decoded_at a.unread.layout a.fixed a.unread.bytes in
     made_from a.appends a.fixed.parameters a.row a.files c.0 c.1
 
 -- those of them that are given
@@ -41,14 +41,14 @@ events_left a = live_events (with_reset_row a)
 -- the files after the last instruction that is still to come
 abbrev pub files_at_end : RunState → List File
 files_at_end a =
-    files_from a.appends a.files (decoded_at a.unread.notation a.fixed a.unread.bytes).0
+    files_from a.appends a.files (decoded_at a.unread.layout a.fixed a.unread.bytes).0
 
 -- an event, and the files that the header has then
 abbrev pub event_of : Event → RunState → EventWithFiles
 event_of e a = record { event = e; files = a.files }
 
 -- rows at the start of a sequence
-abbrev pub start_of_run : Bool → Header → Source → Unread → RunState
+abbrev pub start_of_run : Bool → Header → HeaderSource → Unread → RunState
 start_of_run appends h source unread = record {
   fixed = without_files h;
   files = h.files;
@@ -59,17 +59,17 @@ start_of_run appends h source unread = record {
 }
 
 -- rows of a whole program, from its start to its end
-abbrev pub whole_run : Header → Source → RunState
-whole_run h source = start_of_run true h source (whole_program h source.notation)
+abbrev pub whole_run : Header → HeaderSource → RunState
+whole_run h source = start_of_run true h source (whole_program h source.layout)
 
 -- where files are added, the instructions to come have this order
 abbrev pub AddsInOrder : RunState → Bool → Type 0
-AddsInOrder a order = a.appends ≡ true → a.unread.notation.big ≡ order
+AddsInOrder a order = a.appends ≡ true → a.unread.layout.is_big ≡ order
 
 -- the readers of the header have the order of its program, and so has what is added
 pub record IsOfOneOrder (a : RunState) : Type 0 where
-  pub readers : AreOneOrder a.source.notation.big a.source.orders
-  pub unread : AddsInOrder a a.source.notation.big
+  pub readers : AreOneOrder a.source.layout.is_big a.source.orders
+  pub unread : AddsInOrder a a.source.layout.is_big
 
 -- an event is a row
 abbrev pub IsRow : EventWithFiles → Type 0
@@ -84,7 +84,7 @@ pub record GivesRowsAlone (a : RunState) : Type 0 where
 pub record KeepsRun (old new : RunState) : Type 0 where
   pub fixed : new.fixed ≡ old.fixed
   pub appends : new.appends ≡ old.appends
-  pub unread : new.unread.notation ≡ old.unread.notation
+  pub unread : new.unread.layout ≡ old.unread.layout
   pub source : KeepsSource (AddsInOrder old) old.source new.source
 
 -- and a run that is refused for nothing stays one
@@ -93,10 +93,10 @@ pub record KeepsHeader (old new : RunState) : Type 0 where
   pub alone : GivesRowsAlone old → GivesRowsAlone new
 
 -- a header is that of a run but for its files, and it comes from the same source
-pub record SeesHeader {R Offset Endian : Type 0} (big : R → Bool) (number : Offset → ℕ)
+pub record SeesHeader {R Offset Endian : Type 0} (is_big : R → Bool) (number : Offset → ℕ)
     (a : RunState) (h : SeenHeader R Offset Endian) : Type 0 where
   pub fixed : without_files h.meaning ≡ a.fixed
-  pub source : KeepsSource (AddsInOrder a) a.source (source_of big number h)
+  pub source : KeepsSource (AddsInOrder a) a.source (source_of is_big number h)
 
 -- ---- an answer; `live` is `live_events` or `live_made`
 
@@ -119,12 +119,12 @@ EndIs live old new =
 -- files are those of its point, and nothing comes after it
 pub record WantsMemory (old new : RunState) : Type 0 where
   pub point : RunState
-  pub passed : Progress old point []
+  pub passed : PassesOver old point []
   pub definition : Ins
   pub front : List ℕ
   pub rest : List ℕ
   pub parts : point.unread.bytes ≡ front ++ rest
-  pub spelled : SpellsInstruction point.unread.notation point.fixed front definition
+  pub spelled : SpellsInstruction point.unread.layout point.fixed front definition
   pub defines : defines_file definition ≡ true
   pub appends : new.appends ≡ true
   pub files : new.files ≡ point.files

@@ -3,7 +3,7 @@ use Rattle.std.specs.Prelude.{Bool, List}
 use Rattle.gimli_line.specs.declared.run.row.LineRow.{LineRow}
 use Rattle.gimli_line.specs.header.Header.{Header}
 use Rattle.gimli_line.specs.header.File.{File}
-use Rattle.gimli_line.specs.header.Orders.{Source}
+use Rattle.gimli_line.specs.header.Orders.{HeaderSource}
 use Rattle.gimli_line.specs.run.Unread.{Unread}
 
 pub record RunState : Type 0 where
@@ -13,7 +13,7 @@ pub record RunState : Type 0 where
   -- whether files are added
   pub appends : Bool
   -- where the header comes from
-  pub source : Source
+  pub source : HeaderSource
   -- the registers
   pub row : LineRow
   -- the instructions to come

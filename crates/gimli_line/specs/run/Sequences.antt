@@ -2,7 +2,7 @@
 use Rattle.std.specs.Prelude.{◌≡◌, ℕ, true, false, List, [], ◌∷◌, ◌++◌, map, flat_map, Option, None}
 use Rattle.std.specs.List.{AllByRecursion}
 use Rattle.gimli_core.specs.declared.error.Error.{Error}
-use Rattle.gimli_core.specs.Notation.{Notation}
+use Rattle.gimli_core.specs.Layout.{OrderAndLimit}
 use Rattle.gimli_line.specs.declared.run.row.LineRow.{LineRow}
 use Rattle.gimli_line.specs.declared.run.sequences.LineSequence.{LineSequence}
 use Rattle.gimli_line.specs.header.Header.{Header}
@@ -14,13 +14,13 @@ pub use Rattle.gimli_line.specs.run.Events.{events_of}
 use Rattle.gimli_line.specs.run.Unread.{Unread}
 
 -- a sequence: the addresses that it names, and the instructions that give its rows
-pub record Part : Type 0 where
+pub record Sequence : Type 0 where
   pub start : ℕ
   pub end : ℕ
   pub unread : Unread
 
-abbrev pub part_of : {A B C : Type 0} → LineSequence A B C → Part
-part_of s = record { start = s.start; end = s.end; unread = s.instructions }
+abbrev pub sequence_of : {A B C : Type 0} → LineSequence A B C → Sequence
+sequence_of s = record { start = s.start; end = s.end; unread = s.instructions }
 
 -- the address of the first row; 0 where there is none
 abbrev pub first_address : List LineRow → ℕ
@@ -40,28 +40,28 @@ pub record IsSequence (events : List Event) (start end : ℕ) : Type 0 where
 
 -- the run of a sequence over a header: what its bytes give as a program of their own, which is the
 -- rows of one sequence
-pub record HasRun (h : Header) (s : Part) (run : List Event) : Type 0 where
-  pub given : Events s.unread.notation h s.unread.bytes run
+pub record HasRun (h : Header) (s : Sequence) (run : List Event) : Type 0 where
+  pub given : Events s.unread.layout h s.unread.bytes run
   pub is : IsSequence run s.start s.end
 
 -- the runs of sequences, one for each
-abbrev pub HaveRuns : Header → List Part → List (List Event) → Type 0
+abbrev pub HaveRuns : Header → List Sequence → List (List Event) → Type 0
 HaveRuns h [] [] = Unit {0}
 HaveRuns h (s ∷ parts) (run ∷ runs) = HasRun h s run × HaveRuns h parts runs
 HaveRuns h parts runs = ⊥
 
 -- the bytes of a sequence give rows alone over a header, so that a run of them is refused for
 -- nothing
-pub record ResumesToRows (h : Header) (s : Part) : Type 0 where
+pub record ResumesToRows (h : Header) (s : Sequence) : Type 0 where
   pub rows : List LineRow
-  pub given : Events s.unread.notation h s.unread.bytes (map row rows)
+  pub given : Events s.unread.layout h s.unread.bytes (map row rows)
 
 -- the sequences of a program with the header h, over the complete header c: the program has no
 -- fault, c has its files, each sequence has a run of its own, and all runs in order are that of the
 -- program through its last end
-pub record AreSequences (notation : Notation) (h c : Header) (parts : List Part) : Type 0 where
+pub record AreSequences (layout : OrderAndLimit) (h c : Header) (parts : List Sequence) : Type 0 where
   pub list : List Ins
-  pub decoding : Decodes notation h h.program list None
+  pub decoding : Decodes layout h h.program list None
   pub rows : List LineRow
   pub given : program_events h.parameters list None ≡ map row rows
   pub files : c ≡ record h { files = defined_files h.files (past_at_end [] list) }
@@ -70,10 +70,10 @@ pub record AreSequences (notation : Notation) (h c : Header) (parts : List Part)
   pub joined : flat_map (λ run. run) runs ≡ through_last_end (program_events h.parameters list None)
 
 -- the first fault of a program, after rows
-pub record HasFirstFault (notation : Notation) (h : Header) (e : Error) : Type 0 where
+pub record HasFirstFault (layout : OrderAndLimit) (h : Header) (e : Error) : Type 0 where
   pub list : List Ins
   pub end : Option Error
-  pub decoding : Decodes notation h h.program list end
+  pub decoding : Decodes layout h h.program list end
   pub rows : List LineRow
   pub rest : List Event
   pub given : program_events h.parameters list end ≡ map row rows ++ fault e ∷ rest

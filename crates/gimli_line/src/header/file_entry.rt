@@ -67,7 +67,7 @@ where
         ensures file { file_seen R.bytes Offset.number result
             ≡ plain_file (R.bytes path_name) 0 0 0 }
         ensures path { result.path_name ≡ String path_name }
-        ensures order { FileHasOrder R.big (R.big path_name) result }
+        ensures order { FileHasOrder R.is_big (R.is_big path_name) result }
     {
         FileEntry {
             path_name: AttributeValue::String(path_name),
@@ -85,8 +85,8 @@ where
     pub(crate) fn parse(input: &mut R, path_name: R) -> Result<Self>
         ensures read { (result_map (file_seen R.bytes Offset.number) result, R.bytes input.new)
             ≡ plain_file_at (R.bytes path_name) (R.bytes input.old) }
-        ensures order { R.big input.new ≡ R.big input.old }
-        ensures file { IfOk result (FileHasOrder R.big (R.big path_name)) }
+        ensures order { R.is_big input.new ≡ R.is_big input.old }
+        ensures file { IfOk result (FileHasOrder R.is_big (R.is_big path_name)) }
     {
         let directory_index = read_uleb128(input)?;
         let timestamp = read_uleb128(input)?;
@@ -107,9 +107,9 @@ where
         ensures file { file_seen R.bytes Offset.number self.new
             ≡ file_with (file_seen R.bytes Offset.number self.old) content_type.0
             (value_seen R.bytes Offset.number value) }
-        ensures order { (order : Bool) → FileHasOrder R.big order self.old
-            → ValueHasOrder R.big order value
-            → FileHasOrder R.big order self.new }
+        ensures order { (order : Bool) → FileHasOrder R.is_big order self.old
+            → ValueHasOrder R.is_big order value
+            → FileHasOrder R.is_big order self.new }
     {
         match content_type {
             constants::DW_LNCT_path => self.path_name = value,

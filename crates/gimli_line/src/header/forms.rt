@@ -2,7 +2,7 @@
 
 ghost use Rattle.std.specs.Prelude.{◌≡◌, IfOk};
 ghost use Rattle.gimli_core.specs.Reading.{result_map, unsigned_at};
-ghost use Rattle.gimli_core.specs.Notation.{notation_of};
+ghost use Rattle.gimli_core.specs.Layout.{layout_of};
 ghost use Rattle.gimli_core.specs.Values.{value_seen, ValueHasOrder};
 ghost use Rattle.gimli_line.specs.header.FormReading.{offset_at};
 ghost use Rattle.gimli_line.specs.inside.header.FormReading.{form_at, number_form_at, word_form_at};
@@ -22,9 +22,9 @@ pub(crate) fn parse_attribute<R: Reader>(
     form: DwForm,
 ) -> Result<AttributeValue<R>>
     ensures read { (result_map (value_seen R.bytes R.Offset.number) result, R.bytes input.new)
-        ≡ form_at (notation_of (R.big input.old) R.Offset.limit) format form.0 (R.bytes input.old) }
-    ensures order { R.big input.new ≡ R.big input.old }
-    ensures part { IfOk result (ValueHasOrder R.big (R.big input.old)) }
+        ≡ form_at (layout_of (R.is_big input.old) R.Offset.limit) format form.0 (R.bytes input.old) }
+    ensures order { R.is_big input.new ≡ R.is_big input.old }
+    ensures part { IfOk result (ValueHasOrder R.is_big (R.is_big input.old)) }
 {
     match form {
         constants::DW_FORM_block1 => {
@@ -52,10 +52,10 @@ pub(crate) fn parse_attribute<R: Reader>(
 #[tactic(auto, unfolding(crate::specs::inside::header::FormReading::number_form_at, crate::specs::inside::header::FormReading::word_form_at))]
 fn parse_number<R: Reader>(input: &mut R, format: Format, form: DwForm) -> Result<AttributeValue<R>>
     ensures read { (result_map (value_seen R.bytes R.Offset.number) result, R.bytes input.new)
-        ≡ number_form_at (notation_of (R.big input.old) R.Offset.limit) format form.0
+        ≡ number_form_at (layout_of (R.is_big input.old) R.Offset.limit) format form.0
         (R.bytes input.old) }
-    ensures order { R.big input.new ≡ R.big input.old }
-    ensures part { IfOk result (ValueHasOrder R.big (R.big input.old)) }
+    ensures order { R.is_big input.new ≡ R.is_big input.old }
+    ensures part { IfOk result (ValueHasOrder R.is_big (R.is_big input.old)) }
 {
     match form {
         constants::DW_FORM_data1 => Ok(AttributeValue::Data1(input.read_u8()?)),
@@ -77,10 +77,10 @@ fn parse_word_or_text<R: Reader>(
     form: DwForm,
 ) -> Result<AttributeValue<R>>
     ensures read { (result_map (value_seen R.bytes R.Offset.number) result, R.bytes input.new)
-        ≡ word_form_at (notation_of (R.big input.old) R.Offset.limit) format form.0
+        ≡ word_form_at (layout_of (R.is_big input.old) R.Offset.limit) format form.0
         (R.bytes input.old) }
-    ensures order { R.big input.new ≡ R.big input.old }
-    ensures part { IfOk result (ValueHasOrder R.big (R.big input.old)) }
+    ensures order { R.is_big input.new ≡ R.is_big input.old }
+    ensures part { IfOk result (ValueHasOrder R.is_big (R.is_big input.old)) }
 {
     match form {
         constants::DW_FORM_sec_offset => Ok(AttributeValue::SecOffset(input.read_offset(format)?)),
@@ -108,10 +108,10 @@ fn parse_word_or_text<R: Reader>(
 #[tactic(auto, unfolding(crate::specs::inside::header::FormReading::index_form_at))]
 fn parse_index<R: Reader>(input: &mut R, format: Format, form: DwForm) -> Result<AttributeValue<R>>
     ensures read { (result_map (value_seen R.bytes R.Offset.number) result, R.bytes input.new)
-        ≡ index_form_at (notation_of (R.big input.old) R.Offset.limit) format form.0
+        ≡ index_form_at (layout_of (R.is_big input.old) R.Offset.limit) format form.0
         (R.bytes input.old) }
-    ensures order { R.big input.new ≡ R.big input.old }
-    ensures part { IfOk result (ValueHasOrder R.big (R.big input.old)) }
+    ensures order { R.is_big input.new ≡ R.is_big input.old }
+    ensures part { IfOk result (ValueHasOrder R.is_big (R.is_big input.old)) }
 {
     let index = match form {
         constants::DW_FORM_strx | constants::DW_FORM_GNU_str_index => parse_offset(input)?,
@@ -128,8 +128,8 @@ fn parse_index<R: Reader>(input: &mut R, format: Format, form: DwForm) -> Result
 fn parse_block<R: Reader>(input: &mut R, len: R::Offset) -> Result<AttributeValue<R>>
     ensures read { (result_map (value_seen R.bytes R.Offset.number) result, R.bytes input.new)
         ≡ block_at (R.Offset.number len) (R.bytes input.old) }
-    ensures order { R.big input.new ≡ R.big input.old }
-    ensures part { IfOk result (ValueHasOrder R.big (R.big input.old)) }
+    ensures order { R.is_big input.new ≡ R.is_big input.old }
+    ensures part { IfOk result (ValueHasOrder R.is_big (R.is_big input.old)) }
 {
     let block = input.split(len)?;
     Ok(AttributeValue::Block(block))
@@ -140,7 +140,7 @@ fn parse_block<R: Reader>(input: &mut R, len: R::Offset) -> Result<AttributeValu
 pub(crate) fn parse_offset<R: Reader>(input: &mut R) -> Result<R::Offset>
     ensures read { (result_map R.Offset.number result, R.bytes input.new)
         ≡ offset_at R.Offset.limit unsigned_at (R.bytes input.old) }
-    ensures order { R.big input.new ≡ R.big input.old }
+    ensures order { R.is_big input.new ≡ R.is_big input.old }
 {
     let number = read_uleb128(input)?;
     R::Offset::from_u64(number)

@@ -2,7 +2,7 @@
 //! 6.2.4).
 
 ghost use Rattle.std.specs.Prelude.{◌≡◌, ◌<◌, IfOk, IsTrue, option_map};
-ghost use Rattle.gimli_core.specs.Notation.{notation_of};
+ghost use Rattle.gimli_core.specs.Layout.{layout_of};
 ghost use Rattle.gimli_core.specs.Numbers.{is_address_size};
 ghost use Rattle.gimli_core.specs.Reading.{result_map};
 ghost use Rattle.gimli_line.specs.inside.header.HeaderReading.{
@@ -29,7 +29,7 @@ use std::alloc::Global;
 #[tactic(auto, unfolding(crate::specs::inside::header::HeaderReading::positive_at))]
 fn parse_positive<R: Reader>(input: &mut R, error: Error) -> Result<u8>
     ensures read { (result, R.bytes input.new) ≡ positive_at error (R.bytes input.old) }
-    ensures order { R.big input.new ≡ R.big input.old }
+    ensures order { R.is_big input.new ≡ R.is_big input.old }
     ensures positive { IfOk result (λ n. 0 < n) }
 {
     let n = input.read_u8()?;
@@ -43,8 +43,8 @@ fn parse_positive<R: Reader>(input: &mut R, error: Error) -> Result<u8>
 /// appendix F). Refused by `UnknownVersion` at any other.
 #[tactic(auto, unfolding(crate::specs::inside::header::HeaderReading::version_at))]
 fn parse_version<R: Reader>(input: &mut R) -> Result<u16>
-    ensures read { (result, R.bytes input.new) ≡ version_at (R.big input.old) (R.bytes input.old) }
-    ensures order { R.big input.new ≡ R.big input.old }
+    ensures read { (result, R.bytes input.new) ≡ version_at (R.is_big input.old) (R.bytes input.old) }
+    ensures order { R.is_big input.new ≡ R.is_big input.old }
 {
     let version = input.read_u16()?;
     if version < 2 || version > 5 {
@@ -59,7 +59,7 @@ fn parse_version<R: Reader>(input: &mut R) -> Result<u16>
 fn parse_address_size<R: Reader>(input: &mut R, version: u16, handed: u8) -> Result<u8>
     requires { IsTrue (is_address_size handed) }
     ensures read { (result, R.bytes input.new) ≡ size_at version handed (R.bytes input.old) }
-    ensures order { R.big input.new ≡ R.big input.old }
+    ensures order { R.is_big input.new ≡ R.is_big input.old }
     ensures size { IfOk result (λ n. IsTrue (is_address_size n)) }
 {
     if version <= 4 {
@@ -77,7 +77,7 @@ fn parse_address_size<R: Reader>(input: &mut R, version: u16, handed: u8) -> Res
 #[tactic(auto, unfolding(crate::specs::inside::header::HeaderReading::line_encoding_at))]
 fn parse_line_encoding<R: Reader>(input: &mut R, version: u16) -> Result<LineEncoding>
     ensures read { (result, R.bytes input.new) ≡ line_encoding_at version (R.bytes input.old) }
-    ensures order { R.big input.new ≡ R.big input.old }
+    ensures order { R.is_big input.new ≡ R.is_big input.old }
     ensures allowed { IfOk result IsLineEncoding }
 {
     let minimum_instruction_length = parse_positive(input, Error::MinimumInstructionLengthZero)?;
@@ -98,7 +98,7 @@ fn parse_line_encoding<R: Reader>(input: &mut R, version: u16) -> Result<LineEnc
 /// instructions are bundles of operations.
 fn parse_operations<R: Reader>(input: &mut R, version: u16) -> Result<u8>
     ensures read { (result, R.bytes input.new) ≡ operations_at version (R.bytes input.old) }
-    ensures order { R.big input.new ≡ R.big input.old }
+    ensures order { R.is_big input.new ≡ R.is_big input.old }
     ensures positive { IfOk result (λ n. 0 < n) }
 {
     if version <= 3 {
@@ -112,7 +112,7 @@ fn parse_operations<R: Reader>(input: &mut R, version: u16) -> Result<u8>
 fn parse_parameters<R: Reader>(input: &mut R, encoding: Encoding) -> Result<Parameters>
     requires { IsTrue (is_address_size encoding.address_size) }
     ensures read { (result, R.bytes input.new) ≡ parameters_at encoding (R.bytes input.old) }
-    ensures order { R.big input.new ≡ R.big input.old }
+    ensures order { R.is_big input.new ≡ R.is_big input.old }
     ensures positive { IfOk result (λ parameters. 0 < parameters.opcode_base) }
     ensures encoding { IfOk result (λ parameters. parameters.encoding ≡ encoding) }
 {
@@ -127,26 +127,26 @@ fn parse_parameters<R: Reader>(input: &mut R, encoding: Encoding) -> Result<Para
 
 /// What stands in front of the header length, and what that length counts.
 #[derive(Drop)]
-struct Opening<R: Reader> {
+struct HeaderOpening<R: Reader> {
     encoding: Encoding,
     header_length: R::Offset,
     /// The further fields of the header.
     fields: R,
 }
 
-impl<R: Reader> Opening<R> {
+impl<R: Reader> HeaderOpening<R> {
     ghost use Rattle.gimli_line.specs.inside.header.HeaderReading.{opening_at};
-    ghost use Rattle.gimli_line.specs.inside.header.Opening.{opening_seen};
+    ghost use Rattle.gimli_line.specs.inside.header.HeaderOpening.{opening_seen};
 
     /// Takes a unit up to the end of its header; what is left is its program.
     #[tactic(auto, unfolding(crate::specs::inside::header::HeaderReading::opening_at))]
     fn parse(input: &mut R, handed: u8, format: Format) -> Result<Self>
         requires { IsTrue (is_address_size handed) }
         ensures read { (result_map (opening_seen R.bytes R.Offset.number) result, R.bytes input.new)
-            ≡ opening_at (notation_of (R.big input.old) R.Offset.limit) handed format
+            ≡ opening_at (layout_of (R.is_big input.old) R.Offset.limit) handed format
             (R.bytes input.old) }
-        ensures order { R.big input.new ≡ R.big input.old }
-        ensures fields { IfOk result (λ opening. R.big opening.fields ≡ R.big input.old) }
+        ensures order { R.is_big input.new ≡ R.is_big input.old }
+        ensures fields { IfOk result (λ opening. R.is_big opening.fields ≡ R.is_big input.old) }
         ensures size { IfOk result (λ opening.
             IsTrue (is_address_size opening.encoding.address_size)) }
     {
@@ -154,7 +154,7 @@ impl<R: Reader> Opening<R> {
         let address_size = parse_address_size(input, version, handed)?;
         let header_length = input.read_length(format)?;
         let fields = input.split(header_length)?;
-        Ok(Opening {
+        Ok(HeaderOpening {
             encoding: Encoding {
                 address_size,
                 format,
@@ -177,7 +177,7 @@ where
     ghost use Rattle.gimli_line.specs.header.Orders.{HasOneOrder};
     ghost use Rattle.gimli_line.specs.header.HeaderGrammar.{handed_value};
     ghost use Rattle.gimli_line.specs.inside.header.HeaderReading.{fields_at, header_at};
-    ghost use Rattle.gimli_line.specs.inside.header.Opening.{opening_seen};
+    ghost use Rattle.gimli_line.specs.inside.header.HeaderOpening.{opening_seen};
     ghost use Rattle.gimli_line.specs.header.File.{file_seen};
 
     /// Takes the header of a unit, and its program. The unit length says where the unit ends, and
@@ -194,12 +194,12 @@ where
     ) -> Result<Self>
         requires { IsTrue (is_address_size address_size) }
         ensures read { IsAnswer (λ header. header.meaning) result
-            (header_at (notation_of (R.big input.old) Offset.limit)
+            (header_at (layout_of (R.is_big input.old) Offset.limit)
             (unit_entry R.bytes address_size comp_dir comp_name) (R.bytes input.old)).0 }
-        ensures notation { IfOk result (λ header.
-            header.notation ≡ notation_of (R.big input.old) Offset.limit) }
+        ensures layout { IfOk result (λ header.
+            header.layout ≡ layout_of (R.is_big input.old) Offset.limit) }
         ensures offset { IfOk result (λ header. header.offset ≡ offset) }
-        ensures order { IfOk result (HasOneOrder R.big) }
+        ensures order { IfOk result (HasOneOrder R.is_big) }
         ensures directory { IfOk result (λ header. header.comp_dir
             ≡ handed_value header.meaning.parameters.encoding comp_dir) }
         ensures name { IfOk result (λ header. option_map (λ file. file.path_name) header.comp_file
@@ -207,7 +207,7 @@ where
     {
         let (unit_length, format) = input.read_initial_length()?;
         let mut program_buf = input.split(unit_length)?;
-        let opening = Opening::parse(&mut program_buf, address_size, format)?;
+        let opening = HeaderOpening::parse(&mut program_buf, address_size, format)?;
         Self::parse_fields(
             alloc,
             opening,
@@ -223,7 +223,7 @@ where
     #[tactic(auto, unfolding(crate::specs::inside::header::HeaderReading::fields_at))]
     fn parse_fields(
         alloc: Global,
-        opening: Opening<R>,
+        opening: HeaderOpening<R>,
         program_buf: R,
         offset: DebugLineOffset<Offset>,
         unit_length: Offset,
@@ -231,17 +231,17 @@ where
         comp_name: Option<R>,
     ) -> Result<Self>
         requires size { IsTrue (is_address_size opening.encoding.address_size) }
-        requires order { R.big opening.fields ≡ R.big program_buf }
+        requires order { R.is_big opening.fields ≡ R.is_big program_buf }
         ensures read { IsAnswer (λ header. header.meaning) result
-            (fields_at (notation_of (R.big program_buf) Offset.limit)
+            (fields_at (layout_of (R.is_big program_buf) Offset.limit)
             (unit_entry R.bytes opening.encoding.address_size comp_dir comp_name)
             (Offset.number unit_length)
             (opening_seen R.bytes Offset.number opening) (R.bytes program_buf)
             (R.bytes opening.fields)).0 }
-        ensures notation { IfOk result (λ header.
-            header.notation ≡ notation_of (R.big program_buf) Offset.limit) }
+        ensures layout { IfOk result (λ header.
+            header.layout ≡ layout_of (R.is_big program_buf) Offset.limit) }
         ensures offset { IfOk result (λ header. header.offset ≡ offset) }
-        ensures order { IfOk result (HasOneOrder R.big) }
+        ensures order { IfOk result (HasOneOrder R.is_big) }
         ensures directory { IfOk result (λ header. header.comp_dir
             ≡ handed_value header.meaning.parameters.encoding comp_dir) }
         ensures name { IfOk result (λ header. option_map (λ file. file.path_name) header.comp_file

@@ -67,7 +67,7 @@ where
         comp_dir = option_map R.bytes a.comp_dir;
         comp_file = option_map (file_seen R.bytes Offset.number) a.comp_file;
       };
-      notation = record { big = R.big a.program_buf; limit = Offset.limit };
+      layout = record { is_big = R.is_big a.program_buf; limit = Offset.limit };
       parameters = a.parameters;
       offset = a.offset;
       unit_length = a.unit_length;
@@ -132,7 +132,7 @@ where
     pub fn clone(&self) -> Result<Self>
         ensures parts { IfOk result (λ copy. parts_of copy ≡ parts_of self.now) }
         ensures meaning { IfOk result (λ copy. copy.meaning ≡ self.now.meaning) }
-        ensures notation { IfOk result (λ copy. copy.notation ≡ self.now.notation) }
+        ensures layout { IfOk result (λ copy. copy.layout ≡ self.now.layout) }
         ensures offset { IfOk result (λ copy. copy.offset ≡ self.now.offset) }
         ensures err { IfErr result (λ e. e ≡ Error.OutOfMemory) }
     {
@@ -412,8 +412,8 @@ where
             ≡ with_file (file_seen R.bytes Offset.number file) self.old.meaning) }
         ensures err { OnErr result (self.new.meaning ≡ self.old.meaning) }
         ensures memory { IfErr result (λ e. e ≡ Error.OutOfMemory) }
-        ensures source { KeepsSource (λ order. FileHasOrder R.big order file)
-            (source_of R.big Offset.number self.old) (source_of R.big Offset.number self.new) }
+        ensures source { KeepsSource (λ order. FileHasOrder R.is_big order file)
+            (source_of R.is_big Offset.number self.old) (source_of R.is_big Offset.number self.new) }
     {
         push(&mut self.file_names, file)
     }
@@ -421,7 +421,7 @@ where
     /// The bytes of the program.
     pub fn raw_program_buf(&self) -> R
         ensures bytes { R.bytes result ≡ self.now.meaning.program }
-        ensures order { R.big result ≡ self.now.notation.big }
+        ensures order { R.is_big result ≡ self.now.layout.is_big }
         ensures own { result ≡ self.now.program_buf }
     {
         self.program_buf

@@ -3,7 +3,7 @@
 ghost use Rattle.std.specs.Prelude.{◌≡◌, [], ◌∷◌, ◌++◌, map, IfErr, IfOk, OnErr, OnOk};
 ghost use Rattle.gimli_core.specs.Reading.{result_map, times_at};
 ghost use Rattle.std.specs.List.{All};
-ghost use Rattle.gimli_core.specs.Notation.{notation_of};
+ghost use Rattle.gimli_core.specs.Layout.{layout_of};
 ghost use Rattle.gimli_core.specs.Values.{value_seen, ValueHasOrder};
 ghost use Rattle.gimli_core.specs.declared.attribute_value.AttributeValue.TheVariants.{String};
 ghost use Rattle.gimli_line.specs.inside.header.Outcome.{IsOutcome, IsListOutcome, IsTableOutcome};
@@ -43,7 +43,7 @@ pub(crate) fn push<T: Drop>(list: &mut Vec<T>, item: T) -> Result<()>
 pub(crate) fn parse_formats<R: Reader>(alloc: Global, input: &mut R) -> Result<Vec<FileEntryFormat>>
     ensures read { IsOutcome (λ formats. formats.items) result (R.bytes input.new)
         (formats_at (R.bytes input.old)) }
-    ensures order { R.big input.new ≡ R.big input.old }
+    ensures order { R.is_big input.new ≡ R.is_big input.old }
 {
     let count = input.read_u8()?;
     let formats = parse_all_formats(alloc, input, count)?;
@@ -65,7 +65,7 @@ fn parse_all_formats<R: Reader>(
 ) -> Result<Vec<FileEntryFormat>>
     ensures read { IsOutcome (λ formats. formats.items) result (R.bytes input.new)
         (times_at count format_at (R.bytes input.old)) }
-    ensures order { R.big input.new ≡ R.big input.old }
+    ensures order { R.is_big input.new ≡ R.is_big input.old }
 {
     let mut formats = Vec::new(alloc);
     for _ in 0..count {
@@ -79,7 +79,7 @@ fn parse_all_formats<R: Reader>(
 #[tactic(auto, unfolding(crate::specs::inside::header::HeaderReading::format_at))]
 fn parse_format<R: Reader>(input: &mut R) -> Result<FileEntryFormat>
     ensures read { (result, R.bytes input.new) ≡ format_at (R.bytes input.old) }
-    ensures order { R.big input.new ≡ R.big input.old }
+    ensures order { R.is_big input.new ≡ R.is_big input.old }
 {
     let content_type = input.read_uleb128()?.min(0xffff) as u16;
     let form = input.read_uleb128_u16()?;
@@ -95,9 +95,9 @@ fn parse_format<R: Reader>(input: &mut R) -> Result<FileEntryFormat>
 fn parse_directories<R: Reader>(alloc: Global, input: &mut R) -> Result<Vec<AttributeValue<R>>>
     ensures read { IsListOutcome (value_seen R.bytes R.Offset.number) result (R.bytes input.new)
         (read_map (map String) (paths_at (R.bytes input.old))) }
-    ensures order { R.big input.new ≡ R.big input.old }
+    ensures order { R.is_big input.new ≡ R.is_big input.old }
     ensures parts { IfOk result (λ directories.
-        All (ValueHasOrder R.big (R.big input.old)) directories.items) }
+        All (ValueHasOrder R.is_big (R.is_big input.old)) directories.items) }
 {
     let mut directories = Vec::new(alloc);
     loop {
@@ -113,8 +113,8 @@ fn parse_directories<R: Reader>(alloc: Global, input: &mut R) -> Result<Vec<Attr
 fn parse_files<R: Reader>(alloc: Global, input: &mut R) -> Result<Vec<FileEntry<R>>>
     ensures read { IsListOutcome (file_seen R.bytes R.Offset.number) result (R.bytes input.new)
         (files_at (R.bytes input.old)) }
-    ensures order { R.big input.new ≡ R.big input.old }
-    ensures parts { IfOk result (λ files. All (FileHasOrder R.big (R.big input.old)) files.items) }
+    ensures order { R.is_big input.new ≡ R.is_big input.old }
+    ensures parts { IfOk result (λ files. All (FileHasOrder R.is_big (R.is_big input.old)) files.items) }
 {
     let mut files = Vec::new(alloc);
     loop {
@@ -132,7 +132,7 @@ fn parse_files<R: Reader>(alloc: Global, input: &mut R) -> Result<Vec<FileEntry<
 /// A reader in place of an empty text.
 fn nothing<R: Reader>(input: &R) -> R
     ensures bytes { R.bytes result ≡ [] }
-    ensures order { R.big result ≡ R.big input.now }
+    ensures order { R.is_big result ≡ R.is_big input.now }
 {
     let mut nothing = *input;
     nothing.empty();
@@ -146,10 +146,10 @@ fn parse_directory_v5<R: Reader>(
     formats: &[FileEntryFormat],
 ) -> Result<AttributeValue<R>>
     ensures read { (result_map (value_seen R.bytes R.Offset.number) result, R.bytes input.new)
-        ≡ directory_at (notation_of (R.big input.old) R.Offset.limit) format formats.now
+        ≡ directory_at (layout_of (R.is_big input.old) R.Offset.limit) format formats.now
         (R.bytes input.old) }
-    ensures order { R.big input.new ≡ R.big input.old }
-    ensures part { IfOk result (ValueHasOrder R.big (R.big input.old)) }
+    ensures order { R.is_big input.new ≡ R.is_big input.old }
+    ensures part { IfOk result (ValueHasOrder R.is_big (R.is_big input.old)) }
 {
     let file = parse_file_v5(input, format, formats)?;
     Ok(file.path_name)
@@ -162,10 +162,10 @@ fn parse_file_v5<R: Reader>(
     formats: &[FileEntryFormat],
 ) -> Result<FileEntry<R>>
     ensures read { (result_map (file_seen R.bytes R.Offset.number) result, R.bytes input.new)
-        ≡ file_at (notation_of (R.big input.old) R.Offset.limit) format formats.now
+        ≡ file_at (layout_of (R.is_big input.old) R.Offset.limit) format formats.now
         (R.bytes input.old) }
-    ensures order { R.big input.new ≡ R.big input.old }
-    ensures part { IfOk result (FileHasOrder R.big (R.big input.old)) }
+    ensures order { R.is_big input.new ≡ R.is_big input.old }
+    ensures part { IfOk result (FileHasOrder R.is_big (R.is_big input.old)) }
 {
     let mut file = FileEntry::of_path(nothing(input));
     for entry_format in formats {
@@ -184,11 +184,11 @@ fn parse_directories_v5<R: Reader>(
     formats: &[FileEntryFormat],
 ) -> Result<Vec<AttributeValue<R>>>
     ensures read { IsListOutcome (value_seen R.bytes R.Offset.number) result (R.bytes input.new)
-        (directory_entries_at (notation_of (R.big input.old) R.Offset.limit) format formats.now
+        (directory_entries_at (layout_of (R.is_big input.old) R.Offset.limit) format formats.now
         (R.bytes input.old)) }
-    ensures order { R.big input.new ≡ R.big input.old }
+    ensures order { R.is_big input.new ≡ R.is_big input.old }
     ensures parts { IfOk result (λ directories.
-        All (ValueHasOrder R.big (R.big input.old)) directories.items) }
+        All (ValueHasOrder R.is_big (R.is_big input.old)) directories.items) }
 {
     let count = input.read_uleb128()?;
     let mut directories = Vec::new(alloc);
@@ -208,10 +208,10 @@ fn parse_files_v5<R: Reader>(
     formats: &[FileEntryFormat],
 ) -> Result<Vec<FileEntry<R>>>
     ensures read { IsListOutcome (file_seen R.bytes R.Offset.number) result (R.bytes input.new)
-        (file_entries_at (notation_of (R.big input.old) R.Offset.limit) format formats.now
+        (file_entries_at (layout_of (R.is_big input.old) R.Offset.limit) format formats.now
         (R.bytes input.old)) }
-    ensures order { R.big input.new ≡ R.big input.old }
-    ensures parts { IfOk result (λ files. All (FileHasOrder R.big (R.big input.old)) files.items) }
+    ensures order { R.is_big input.new ≡ R.is_big input.old }
+    ensures parts { IfOk result (λ files. All (FileHasOrder R.is_big (R.is_big input.old)) files.items) }
 {
     let count = input.read_uleb128()?;
     let mut files = Vec::new(alloc);
@@ -231,11 +231,11 @@ pub(crate) fn parse_directory_table<R: Reader>(
     encoding: Encoding,
 ) -> Result<(Vec<FileEntryFormat>, Vec<AttributeValue<R>>)>
     ensures read { IsTableOutcome (value_seen R.bytes R.Offset.number) result (R.bytes input.new)
-        (directories_at (notation_of (R.big input.old) R.Offset.limit) encoding
+        (directories_at (layout_of (R.is_big input.old) R.Offset.limit) encoding
         (R.bytes input.old)) }
-    ensures order { R.big input.new ≡ R.big input.old }
+    ensures order { R.is_big input.new ≡ R.is_big input.old }
     ensures parts { IfOk result (λ table.
-        All (ValueHasOrder R.big (R.big input.old)) table.1.items) }
+        All (ValueHasOrder R.is_big (R.is_big input.old)) table.1.items) }
 {
     if encoding.version <= 4 {
         let directories = parse_directories(alloc, input)?;
@@ -253,11 +253,11 @@ pub(crate) fn parse_file_table<R: Reader>(
     encoding: Encoding,
 ) -> Result<(Vec<FileEntryFormat>, Vec<FileEntry<R>>)>
     ensures read { IsTableOutcome (file_seen R.bytes R.Offset.number) result (R.bytes input.new)
-        (file_names_at (notation_of (R.big input.old) R.Offset.limit) encoding
+        (file_names_at (layout_of (R.is_big input.old) R.Offset.limit) encoding
         (R.bytes input.old)) }
-    ensures order { R.big input.new ≡ R.big input.old }
+    ensures order { R.is_big input.new ≡ R.is_big input.old }
     ensures parts { IfOk result (λ table.
-        All (FileHasOrder R.big (R.big input.old)) table.1.items) }
+        All (FileHasOrder R.is_big (R.is_big input.old)) table.1.items) }
 {
     if encoding.version <= 4 {
         let files = parse_files(alloc, input)?;

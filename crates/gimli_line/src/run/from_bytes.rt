@@ -13,7 +13,7 @@
 //! one that `next_instruction` returns.
 
 ghost use Rattle.std.specs.Prelude.{◌≡◌, ◌<◌, IfErr, IfOk, IfSome, IsNone, IsTrue, Ok};
-ghost use Rattle.gimli_core.specs.Notation.{Notation, notation_of};
+ghost use Rattle.gimli_core.specs.Layout.{OrderAndLimit, layout_of};
 ghost use Rattle.gimli_core.specs.Reading.{number_at, unsigned_at};
 ghost use Rattle.gimli_line.specs.declared.run.instruction.LineInstruction.TheVariants.{DefineFile};
 ghost use Rattle.gimli_line.specs.header.File.{file_seen, FileHasOrder};
@@ -70,7 +70,7 @@ impl Executed {
 fn read_short_offset<R: Reader>(input: &mut R) -> Option<R::Offset>
     ensures read { IfSome result (λ offset. (Ok (R.Offset.number offset), R.bytes input.new)
         ≡ offset_at R.Offset.limit unsigned_at (R.bytes input.old)) }
-    ensures order { R.big input.new ≡ R.big input.old }
+    ensures order { R.is_big input.new ≡ R.is_big input.old }
 {
     let Some(number) = read_short_uleb128(input) else {
         return None;
@@ -84,7 +84,7 @@ fn read_short_offset<R: Reader>(input: &mut R) -> Option<R::Offset>
 /// Takes the operand of a set address.
 fn read_set_address<R: Reader>(operands: &mut R, parameters: &Parameters) -> Result<u64>
     ensures read { (result, R.bytes operands.new)
-        ≡ number_at (R.big operands.old) parameters.now.encoding.address_size
+        ≡ number_at (R.is_big operands.old) parameters.now.encoding.address_size
         (R.bytes operands.old) }
 {
     operands.read_address(parameters.encoding.address_size)
@@ -98,11 +98,11 @@ fn read_defined_file<R: Reader>(
     input: &mut R,
 ) -> Option<FileEntry<R>>
     ensures read { IfSome result (λ file.
-        extended_at (notation_of (R.big input.old) R.Offset.limit) header.now.meaning
+        extended_at (layout_of (R.is_big input.old) R.Offset.limit) header.now.meaning
         (R.bytes input.old)
         ≡ (Ok (DefineFile (file_seen R.bytes R.Offset.number file)), R.bytes input.new)) }
-    ensures order { R.big input.new ≡ R.big input.old }
-    ensures file { IfSome result (FileHasOrder R.big (R.big input.old)) }
+    ensures order { R.is_big input.new ≡ R.is_big input.old }
+    ensures file { IfSome result (FileHasOrder R.is_big (R.is_big input.old)) }
 {
     let Some(length) = read_short_offset(input) else {
         return None;
@@ -132,12 +132,12 @@ impl LineRow {
     /// executed is another opcode, or one whose operand isn't short; no register changes then.
     #[inline(always)]
     fn exec_common_opcode<R: Reader>(&mut self, opcode: DwLns, input: &mut R) -> Executed
-        ensures executed { IsTrue (is_executed result) → (n : Notation) → (h : Header) →
+        ensures executed { IsTrue (is_executed result) → (n : OrderAndLimit) → (h : Header) →
             IsExecutedAs h.parameters (standard_at n h opcode.0 (R.bytes input.old))
             (R.bytes input.new) self.old self.new result }
         ensures some { IsTrue (is_executed result) → 0 < opcode.0 }
         ensures none { result ≡ Executed.No → self.new ≡ self.old }
-        ensures order { R.big input.new ≡ R.big input.old }
+        ensures order { R.is_big input.new ≡ R.is_big input.old }
     {
         match opcode {
             constants::DW_LNS_copy => return Executed::Row,
@@ -176,10 +176,10 @@ impl LineRow {
         input: &mut R,
     ) -> Executed
         ensures executed { IsTrue (is_executed result) → IsExecutedAs header.now.meaning.parameters
-            (extended_at (notation_of (R.big input.old) R.Offset.limit) header.now.meaning
+            (extended_at (layout_of (R.is_big input.old) R.Offset.limit) header.now.meaning
             (R.bytes input.old)) (R.bytes input.new) self.old self.new result }
         ensures none { result ≡ Executed.No → self.new ≡ self.old }
-        ensures order { R.big input.new ≡ R.big input.old }
+        ensures order { R.is_big input.new ≡ R.is_big input.old }
     {
         let Some(length) = read_short_offset(input) else {
             return Executed::No;
@@ -230,7 +230,7 @@ impl<R: Reader> LineInstructions<R> {
             (ExecutesNext header.now.meaning self.old self.new row.old row.new) }
         ensures err { IfErr result
             (RefusesNext header.now.meaning self.old self.new row.old row.new) }
-        ensures notation { self.new.notation ≡ self.old.notation }
+        ensures layout { self.new.layout ≡ self.old.layout }
     {
         let executed = match self.execute_common(header, row) {
             Ok(executed) => executed,
@@ -257,7 +257,7 @@ impl<R: Reader> LineInstructions<R> {
             (ExecutesNext header.now.meaning self.old self.new row.old row.new) }
         ensures err { IfErr result
             (RefusesNext header.now.meaning self.old self.new row.old row.new) }
-        ensures notation { self.new.notation ≡ self.old.notation }
+        ensures layout { self.new.layout ≡ self.old.layout }
     {
         let mut input = self.input;
         let Ok(opcode) = input.read_u8() else {
@@ -285,11 +285,11 @@ impl<R: Reader> LineInstructions<R> {
         header: &LineProgramHeader<R>,
     ) -> Option<FileEntry<R>>
         ensures read { IfSome result (λ file.
-            ins_at self.old.notation header.now.meaning self.old.bytes
+            ins_at self.old.layout header.now.meaning self.old.bytes
             ≡ (Ok (DefineFile (file_seen R.bytes R.Offset.number file)), self.new.bytes)) }
         ensures none { IsNone result → self.new ≡ self.old }
-        ensures notation { self.new.notation ≡ self.old.notation }
-        ensures order { IfSome result (FileHasOrder R.big self.old.notation.big) }
+        ensures layout { self.new.layout ≡ self.old.layout }
+        ensures order { IfSome result (FileHasOrder R.is_big self.old.layout.is_big) }
     {
         let mut input = self.input;
         let Ok(opcode) = input.read_u8() else {
@@ -320,7 +320,7 @@ impl<R: Reader> LineInstructions<R> {
             (ExecutesNext header.now.meaning self.old self.new row.old row.new) }
         ensures err { IfErr result
             (RefusesNext header.now.meaning self.old self.new row.old row.new) }
-        ensures notation { self.new.notation ≡ self.old.notation }
+        ensures layout { self.new.layout ≡ self.old.layout }
     {
         let mut input = self.input;
         let Ok(opcode) = input.read_u8() else {

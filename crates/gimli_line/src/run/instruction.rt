@@ -116,12 +116,12 @@ where
     #[tactic(auto, unfolding(crate::specs::run::InstructionReading::ins_at))]
     pub(crate) fn parse(header: &LineProgramHeader<R, Offset>, input: &mut R) -> Result<Self>
         ensures read { (result_map (ins_seen R.bytes Offset.number) result, R.bytes input.new)
-            ≡ ins_at (record { big = R.big input.old; limit = Offset.limit }) header.now.meaning
+            ≡ ins_at (record { is_big = R.is_big input.old; limit = Offset.limit }) header.now.meaning
             (R.bytes input.old) }
-        ensures order { R.big input.new ≡ R.big input.old }
+        ensures order { R.is_big input.new ≡ R.is_big input.old }
         ensures allowed { IfOk result (λ i. IsAllowed header.now.meaning.parameters
             (ins_seen R.bytes Offset.number i)) }
-        ensures operands { IfOk result (InsHasOrder R.big (R.big input.old)) }
+        ensures operands { IfOk result (InsHasOrder R.is_big (R.is_big input.old)) }
     {
         let opcode = input.read_u8()?;
         if opcode == 0 {
@@ -138,13 +138,13 @@ where
     #[tactic(auto, unfolding(crate::specs::run::InstructionReading::extended_at))]
     fn parse_extended(header: &LineProgramHeader<R, Offset>, input: &mut R) -> Result<Self>
         ensures read { (result_map (ins_seen R.bytes Offset.number) result, R.bytes input.new)
-            ≡ extended_at (record { big = R.big input.old; limit = Offset.limit })
+            ≡ extended_at (record { is_big = R.is_big input.old; limit = Offset.limit })
             header.now.meaning
             (R.bytes input.old) }
-        ensures order { R.big input.new ≡ R.big input.old }
+        ensures order { R.is_big input.new ≡ R.is_big input.old }
         ensures allowed { IfOk result (λ i. IsAllowed header.now.meaning.parameters
             (ins_seen R.bytes Offset.number i)) }
-        ensures operands { IfOk result (InsHasOrder R.big (R.big input.old)) }
+        ensures operands { IfOk result (InsHasOrder R.is_big (R.is_big input.old)) }
     {
         let length = parse_offset(input)?;
         let mut inside = input.split(length)?;
@@ -162,11 +162,11 @@ where
         ensures read { (after : List ℕ)
             → (result_map (ins_seen R.bytes Offset.number) result, after)
             ≡ extended_operands_at
-            (record { big = R.big operands; limit = Offset.limit }) header.now.meaning opcode.0
+            (record { is_big = R.is_big operands; limit = Offset.limit }) header.now.meaning opcode.0
             (R.bytes operands) after }
         ensures allowed { IfOk result (λ i. IsAllowed header.now.meaning.parameters
             (ins_seen R.bytes Offset.number i)) }
-        ensures operands { IfOk result (InsHasOrder R.big (R.big operands)) }
+        ensures operands { IfOk result (InsHasOrder R.is_big (R.is_big operands)) }
     {
         let encoding = header.parameters.encoding;
         let mut input = operands;
@@ -198,13 +198,13 @@ where
     ) -> Result<Self>
         requires { 0 < opcode.0 }
         ensures read { (result_map (ins_seen R.bytes Offset.number) result, R.bytes input.new)
-            ≡ standard_at (record { big = R.big input.old; limit = Offset.limit })
+            ≡ standard_at (record { is_big = R.is_big input.old; limit = Offset.limit })
             header.now.meaning opcode.0
             (R.bytes input.old) }
-        ensures order { R.big input.new ≡ R.big input.old }
+        ensures order { R.is_big input.new ≡ R.is_big input.old }
         ensures allowed { IfOk result (λ i. IsAllowed header.now.meaning.parameters
             (ins_seen R.bytes Offset.number i)) }
-        ensures operands { IfOk result (InsHasOrder R.big (R.big input.old)) }
+        ensures operands { IfOk result (InsHasOrder R.is_big (R.is_big input.old)) }
     {
         match opcode {
             constants::DW_LNS_copy => Ok(LineInstruction::Copy),
@@ -236,13 +236,13 @@ where
     ) -> Result<Self>
         requires { 0 < opcode.0 }
         ensures read { (result_map (ins_seen R.bytes Offset.number) result, R.bytes input.new)
-            ≡ unknown_at (record { big = R.big input.old; limit = Offset.limit }) header.now.meaning
+            ≡ unknown_at (record { is_big = R.is_big input.old; limit = Offset.limit }) header.now.meaning
             opcode.0
             (slice_index header.now.meaning.operand_counts (opcode.0 - 1)) (R.bytes input.old) }
-        ensures order { R.big input.new ≡ R.big input.old }
+        ensures order { R.is_big input.new ≡ R.is_big input.old }
         ensures allowed { IfOk result (λ i. IsAllowed header.now.meaning.parameters
             (ins_seen R.bytes Offset.number i)) }
-        ensures operands { IfOk result (InsHasOrder R.big (R.big input.old)) }
+        ensures operands { IfOk result (InsHasOrder R.is_big (R.is_big input.old)) }
     {
         match header.operand_count(opcode) {
             0 => Ok(LineInstruction::UnknownStandard0(opcode)),
@@ -259,8 +259,8 @@ where
 fn parse_operands<R: Reader>(input: &mut R, count: u8) -> Result<R>
     ensures read { (result_map R.bytes result, R.bytes input.new)
         ≡ bytes_at (times_at count unsigned_at) (R.bytes input.old) }
-    ensures order { R.big input.new ≡ R.big input.old }
-    ensures part { IfOk result (λ part. R.big part ≡ R.big input.old) }
+    ensures order { R.is_big input.new ≡ R.is_big input.old }
+    ensures part { IfOk result (λ part. R.is_big part ≡ R.is_big input.old) }
 {
     let mut operands = *input;
     skip_operands(input, count)?;
@@ -273,7 +273,7 @@ fn parse_operands<R: Reader>(input: &mut R, count: u8) -> Result<R>
 fn skip_operands<R: Reader>(input: &mut R, count: u8) -> Result<()>
     ensures read { (result, R.bytes input.new)
         ≡ without_value (times_at count unsigned_at (R.bytes input.old)) }
-    ensures order { R.big input.new ≡ R.big input.old }
+    ensures order { R.is_big input.new ≡ R.is_big input.old }
 {
     for _ in 0..count {
         input.read_uleb128()?;
@@ -295,7 +295,7 @@ impl<R: Reader> Model for LineInstructions<R> {
     ghost view = { λ a.
         record {
           bytes = R.bytes a.input;
-          notation = record { big = R.big a.input; limit = R.Offset.limit };
+          layout = record { is_big = R.is_big a.input; limit = R.Offset.limit };
         } };
 }
 
@@ -310,7 +310,7 @@ impl<R: Reader> LineInstructions<R> {
 
     /// The instructions of these bytes.
     pub(crate) fn new(input: R) -> Self
-        ensures { result ≡ unread_of R.bytes R.big R.Offset.limit input }
+        ensures { result ≡ unread_of R.bytes R.is_big R.Offset.limit input }
     {
         LineInstructions { input }
     }
@@ -354,9 +354,9 @@ impl<R: Reader> LineInstructions<R> {
         ensures ended { self.old.bytes ≡ [] → result ≡ Ok None }
         ensures allowed { IfOk result (λ next. IfSome next
             (λ i. IsAllowed header.now.meaning.parameters (ins_seen R.bytes R.Offset.number i))) }
-        ensures notation { self.new.notation ≡ self.old.notation }
+        ensures layout { self.new.layout ≡ self.old.layout }
         ensures operands { IfOk result
-            (λ next. IfSome next (InsHasOrder R.big self.old.notation.big)) }
+            (λ next. IfSome next (InsHasOrder R.is_big self.old.layout.is_big)) }
     {
         if self.input.is_empty() {
             return Ok(None);
@@ -381,7 +381,7 @@ where
 
     /// The instructions of the program.
     pub fn instructions(&self) -> LineInstructions<R>
-        ensures { result ≡ whole_program self.now.meaning self.now.notation }
+        ensures { result ≡ whole_program self.now.meaning self.now.layout }
     {
         LineInstructions::new(self.program_buf)
     }

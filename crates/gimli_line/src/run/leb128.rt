@@ -10,7 +10,7 @@ use gimli_core::{Reader, Result};
 #[inline(always)]
 pub(crate) fn read_uleb128<R: Reader>(input: &mut R) -> Result<u64>
     ensures read { (result, R.bytes input.new) ≡ unsigned_at (R.bytes input.old) }
-    ensures order { R.big input.new ≡ R.big input.old }
+    ensures order { R.is_big input.new ≡ R.is_big input.old }
 {
     let mut short = *input;
     let Some(number) = read_short_uleb128(&mut short) else {
@@ -27,7 +27,7 @@ pub(crate) fn read_uleb128<R: Reader>(input: &mut R) -> Result<u64>
 pub(crate) fn read_short_uleb128<R: Reader>(input: &mut R) -> Option<u64>
     ensures read { IfSome result (λ n.
         (Ok n, R.bytes input.new) ≡ unsigned_at (R.bytes input.old)) }
-    ensures order { R.big input.new ≡ R.big input.old }
+    ensures order { R.is_big input.new ≡ R.is_big input.old }
 {
     let Ok(first) = input.read_u8() else {
         return None;
@@ -50,7 +50,7 @@ pub(crate) fn read_short_uleb128<R: Reader>(input: &mut R) -> Option<u64>
 #[tactic(auto, unfolding(gimli_core::specs::Reading::sleb_at))]
 pub(crate) fn read_short_sleb128<R: Reader>(input: &mut R) -> Option<i64>
     ensures read { IfSome result (λ z. (Ok z, R.bytes input.new) ≡ signed_at (R.bytes input.old)) }
-    ensures order { R.big input.new ≡ R.big input.old }
+    ensures order { R.is_big input.new ≡ R.is_big input.old }
 {
     let Ok(first) = input.read_u8() else {
         return None;

@@ -10,13 +10,13 @@ pub trait LineProgram<R: Reader> {
     ghost use Rattle.std.specs.Prelude.{◌≡◌, Bool, true, OnOk, OnErr, IfErr};
     ghost use Rattle.gimli_line.specs.header.Header.{Header, with_defined_file};
     ghost use Rattle.gimli_line.specs.header.File.{file_seen, FileHasOrder};
-    ghost use Rattle.gimli_line.specs.header.Orders.{Source, source_of, KeepsSource};
+    ghost use Rattle.gimli_line.specs.header.Orders.{HeaderSource, source_of, KeepsSource};
 
     /// What the header says.
     ghost meaning: { Self → Header };
 
     /// Where the header comes from.
-    ghost source: { Self → Source };
+    ghost source: { Self → HeaderSource };
 
     /// Whether a file is added, or the list is complete.
     ghost appends: { Bool };
@@ -24,7 +24,7 @@ pub trait LineProgram<R: Reader> {
     /// The header.
     fn header(&self) -> &LineProgramHeader<R>
         ensures meaning { result.now.meaning ≡ meaning self.now }
-        ensures source { source_of R.big R.Offset.number result.now ≡ source self.now };
+        ensures source { source_of R.is_big R.Offset.number result.now ≡ source self.now };
 
     /// Adds a file that the program defines, where the list of files isn't complete. Refused by
     /// `OutOfMemory` alone; nothing is changed then.
@@ -33,7 +33,7 @@ pub trait LineProgram<R: Reader> {
             (file_seen R.bytes R.Offset.number file) (meaning self.old)) }
         ensures err { OnErr result (meaning self.new ≡ meaning self.old) }
         ensures memory { IfErr result (λ e. (e ≡ Error.OutOfMemory) × (appends ≡ true)) }
-        ensures source { KeepsSource (λ order. appends ≡ true → FileHasOrder R.big order file)
+        ensures source { KeepsSource (λ order. appends ≡ true → FileHasOrder R.is_big order file)
             (source self.old) (source self.new) };
 }
 
@@ -74,7 +74,7 @@ where
     pub fn clone(&self) -> Result<Self>
         ensures parts { IfOk result (λ copy. parts_of copy ≡ parts_of self.now) }
         ensures meaning { IfOk result (λ copy. copy.meaning ≡ self.now.meaning) }
-        ensures notation { IfOk result (λ copy. copy.notation ≡ self.now.notation) }
+        ensures layout { IfOk result (λ copy. copy.layout ≡ self.now.layout) }
         ensures offset { IfOk result (λ copy. copy.offset ≡ self.now.offset) }
         ensures err { IfErr result (λ e. e ≡ Error.OutOfMemory) }
     {
@@ -99,7 +99,7 @@ impl<R: Reader> LineProgram<R> for IncompleteLineProgram<R> {
 
     ghost meaning = { λ p. p.meaning };
 
-    ghost source = { λ p. source_of R.big R.Offset.number p };
+    ghost source = { λ p. source_of R.is_big R.Offset.number p };
 
     ghost appends = { true };
 
@@ -112,9 +112,9 @@ impl<R: Reader> LineProgram<R> for IncompleteLineProgram<R> {
             ≡ with_file (file_seen R.bytes R.Offset.number file) self.old.meaning) }
         ensures err { OnErr result (self.new.meaning ≡ self.old.meaning) }
         ensures memory { IfErr result (λ e. (e ≡ Error.OutOfMemory) × (true ≡ true)) }
-        ensures source { KeepsSource (λ order. true ≡ true → FileHasOrder R.big order file)
-            (source_of R.big R.Offset.number self.old)
-            (source_of R.big R.Offset.number self.new) }
+        ensures source { KeepsSource (λ order. true ≡ true → FileHasOrder R.is_big order file)
+            (source_of R.is_big R.Offset.number self.old)
+            (source_of R.is_big R.Offset.number self.new) }
     {
         self.header.add_file(file)
     }
@@ -157,7 +157,7 @@ where
     pub fn clone(&self) -> Result<Self>
         ensures parts { IfOk result (λ copy. parts_of copy ≡ parts_of self.now) }
         ensures meaning { IfOk result (λ copy. copy.meaning ≡ self.now.meaning) }
-        ensures notation { IfOk result (λ copy. copy.notation ≡ self.now.notation) }
+        ensures layout { IfOk result (λ copy. copy.layout ≡ self.now.layout) }
         ensures offset { IfOk result (λ copy. copy.offset ≡ self.now.offset) }
         ensures err { IfErr result (λ e. e ≡ Error.OutOfMemory) }
     {
@@ -181,7 +181,7 @@ impl<'program, R: Reader> LineProgram<R> for &'program CompleteLineProgram<R> {
 
     ghost meaning = { λ p. p.now.meaning };
 
-    ghost source = { λ p. source_of R.big R.Offset.number p.now };
+    ghost source = { λ p. source_of R.is_big R.Offset.number p.now };
 
     ghost appends = { false };
 
@@ -194,9 +194,9 @@ impl<'program, R: Reader> LineProgram<R> for &'program CompleteLineProgram<R> {
         ensures ok { OnOk result (self.new.now.meaning ≡ self.old.now.meaning) }
         ensures err { OnErr result (self.new.now.meaning ≡ self.old.now.meaning) }
         ensures memory { IfErr result (λ e. (e ≡ Error.OutOfMemory) × (false ≡ true)) }
-        ensures source { KeepsSource (λ order. false ≡ true → FileHasOrder R.big order _file)
-            (source_of R.big R.Offset.number self.old.now)
-            (source_of R.big R.Offset.number self.new.now) }
+        ensures source { KeepsSource (λ order. false ≡ true → FileHasOrder R.is_big order _file)
+            (source_of R.is_big R.Offset.number self.old.now)
+            (source_of R.is_big R.Offset.number self.new.now) }
         ensures only { IsOk result }
     {
         Ok(())

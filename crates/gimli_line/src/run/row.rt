@@ -228,7 +228,7 @@ impl LineRow {
             (ins_seen R.bytes R.Offset.number instruction) self.old self.new) }
         ensures kept { OnErr result (P.meaning program.new ≡ P.meaning program.old) }
         ensures source { KeepsSource (λ order.
-            P.appends ≡ true → InsHasOrder R.big order instruction)
+            P.appends ≡ true → InsHasOrder R.is_big order instruction)
             (P.source program.old) (P.source program.new) }
     {
         let parameters = program.header().parameters;

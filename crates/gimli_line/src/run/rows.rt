@@ -9,7 +9,7 @@ use gimli_core::{Error, Reader, Result};
 use std::marker::Model;
 
 /// What was done on the way to a row.
-enum Step {
+enum RowStep {
     /// Nothing: there was no instruction.
     Done,
     /// A row was made, which may be under a tombstone.
@@ -70,7 +70,7 @@ impl<R: Reader, P: LineProgram<R>> LineRows<R, P> {
     ghost use Rattle.std.specs.Io.BufRead.{Rests};
     ghost use Rattle.gimli_line.specs.run.Events.{row as row_event};
     ghost use Rattle.gimli_line.specs.header.Header.{without_files};
-    ghost use Rattle.gimli_line.specs.run.Progress.{with_reset_row, Progress};
+    ghost use Rattle.gimli_line.specs.run.Passing.{with_reset_row, PassesOver};
     ghost use Rattle.gimli_line.specs.run.Rows.{start_of_run, GivesRowsAlone};
     ghost use Rattle.gimli_line.specs.run.Rows.{KeepsRun, KeepsHeader, SeesHeader, NextIs, RowIs};
     ghost use Rattle.gimli_line.specs.run.Rows.{EndIs, FaultIs};
@@ -92,7 +92,7 @@ impl<R: Reader, P: LineProgram<R>> LineRows<R, P> {
 
     /// The header, with the files that were defined so far.
     pub fn header(&self) -> &LineProgramHeader<R>
-        ensures header { SeesHeader R.big R.Offset.number self.now result.now }
+        ensures header { SeesHeader R.is_big R.Offset.number self.now result.now }
         ensures files { result.now.meaning.files ≡ self.now.files }
     {
         self.program.header()
@@ -109,7 +109,7 @@ impl<R: Reader, P: LineProgram<R>> LineRows<R, P> {
             (λ new. KeepsHeader self.old new × NextIs live_events self.old new result)) }
         ensures ended { self.old.unread.bytes ≡ [] → result ≡ Ok None }
         ensures header { IfOk result (λ found. IfSome found
-            (λ next. SeesHeader R.big R.Offset.number self.old next.0.now)) }
+            (λ next. SeesHeader R.is_big R.Offset.number self.old next.0.now)) }
         ensures unrefused { GivesRowsAlone self.old → IsOk result }
     {
         match self.advance() {
@@ -127,7 +127,7 @@ impl<R: Reader, P: LineProgram<R>> LineRows<R, P> {
         ensures* after { sem 𝓛 (Rests ⟦<LineRows<R, P> as Lent>⟧.lent self.entry
             (λ new. KeepsHeader self.old new × NextIs live_made self.old new result)) }
         ensures header { IfOk result (λ found. IfSome found
-            (λ next. SeesHeader R.big R.Offset.number self.old next.0.now)) }
+            (λ next. SeesHeader R.is_big R.Offset.number self.old next.0.now)) }
     {
         match self.advance_any() {
             Err(e) => Err(e),
@@ -169,9 +169,9 @@ impl<R: Reader, P: LineProgram<R>> LineRows<R, P> {
         ensures err { IfErr result (FaultIs live_events (with_reset_row self.old) self.new) }
         ensures keeps { KeepsRun self.old self.new }
         ensures passes { IfOk result (λ found. MatchBool found
-            (Progress (with_reset_row self.old) (with_reset_row self.new)
+            (PassesOver (with_reset_row self.old) (with_reset_row self.new)
             (row_event self.new.row ∷ []))
-            ((self.new.unread.bytes ≡ []) × Progress (with_reset_row self.old) self.new [])) }
+            ((self.new.unread.bytes ≡ []) × PassesOver (with_reset_row self.old) self.new [])) }
     {
         'rows: loop {
             match self.advance_any() {
@@ -196,16 +196,16 @@ impl<R: Reader, P: LineProgram<R>> LineRows<R, P> {
         ensures err { IfErr result (FaultIs live_made (with_reset_row self.old) self.new) }
         ensures keeps { KeepsRun self.old self.new }
         ensures passes { IfOk result (λ found. MatchBool found
-            (Progress (with_reset_row self.old) (with_reset_row self.new) (given_row self.new.row))
-            ((self.new.unread.bytes ≡ []) × Progress (with_reset_row self.old) self.new [])) }
+            (PassesOver (with_reset_row self.old) (with_reset_row self.new) (given_row self.new.row))
+            ((self.new.unread.bytes ≡ []) × PassesOver (with_reset_row self.old) self.new [])) }
     {
         self.row.reset(self.program.header());
         'instructions: loop {
             match self.execute_some() {
                 Err(e) => return Err(e),
-                Ok(Step::Done) => return Ok(false),
-                Ok(Step::Made) => return Ok(true),
-                Ok(Step::More) => {}
+                Ok(RowStep::Done) => return Ok(false),
+                Ok(RowStep::Made) => return Ok(true),
+                Ok(RowStep::More) => {}
             }
         }
     }
@@ -214,7 +214,7 @@ impl<R: Reader, P: LineProgram<R>> LineRows<R, P> {
     /// another one, and that one too. What is read from stands in a variable of its own over the
     /// loop, so that it stays in the processor's registers.
     #[inline(always)]
-    fn execute_some(&mut self) -> Result<Step>
+    fn execute_some(&mut self) -> Result<RowStep>
         ensures { StepsTo self.old self.new result }
     {
         let mut instructions = self.instructions.clone();
@@ -231,7 +231,7 @@ impl<R: Reader, P: LineProgram<R>> LineRows<R, P> {
                 Executed::No => break,
                 Executed::Row => {
                     self.instructions = instructions;
-                    return Ok(Step::Made);
+                    return Ok(RowStep::Made);
                 }
                 _ => {}
             }
@@ -243,14 +243,14 @@ impl<R: Reader, P: LineProgram<R>> LineRows<R, P> {
     /// Executes one instruction. In line, so that the room for the answer is cleared here alone,
     /// and not in front of the loop above.
     #[inline(always)]
-    fn execute_one(&mut self) -> Result<Step>
+    fn execute_one(&mut self) -> Result<RowStep>
         ensures { StepsTo self.old self.new result }
     {
         self.execute_uncommon()
     }
 
     /// Executes one instruction that isn't a common one, from its bytes or as it is parsed.
-    fn execute_uncommon(&mut self) -> Result<Step>
+    fn execute_uncommon(&mut self) -> Result<RowStep>
         ensures { StepsTo self.old self.new result }
     {
         let header = self.program.header();
@@ -260,14 +260,14 @@ impl<R: Reader, P: LineProgram<R>> LineRows<R, P> {
         };
         match executed {
             Executed::No => self.define_file(),
-            Executed::Row => Ok(Step::Made),
-            _ => Ok(Step::More),
+            Executed::Row => Ok(RowStep::Made),
+            _ => Ok(RowStep::More),
         }
     }
 
     /// Adds the file that the next instruction defines, from its bytes; an instruction of another
     /// kind is executed as it is parsed.
-    fn define_file(&mut self) -> Result<Step>
+    fn define_file(&mut self) -> Result<RowStep>
         ensures { StepsTo self.old self.new result }
     {
         let header = self.program.header();
@@ -279,17 +279,17 @@ impl<R: Reader, P: LineProgram<R>> LineRows<R, P> {
                 self.instructions.clear();
                 Err(e)
             }
-            Ok(()) => Ok(Step::More),
+            Ok(()) => Ok(RowStep::More),
         }
     }
 
     /// Executes one instruction of any kind, as it is parsed.
-    fn execute_parsed(&mut self) -> Result<Step>
+    fn execute_parsed(&mut self) -> Result<RowStep>
         ensures { StepsTo self.old self.new result }
     {
         let instruction = match self.instructions.next_instruction(self.program.header()) {
             Err(e) => return Err(e),
-            Ok(None) => return Ok(Step::Done),
+            Ok(None) => return Ok(RowStep::Done),
             Ok(Some(instruction)) => instruction,
         };
         let made = match self.row.execute(instruction, &mut self.program) {
@@ -303,14 +303,14 @@ impl<R: Reader, P: LineProgram<R>> LineRows<R, P> {
             Ok(made) => made,
         };
         if !made {
-            return Ok(Step::More);
+            return Ok(RowStep::More);
         }
-        Ok(Step::Made)
+        Ok(RowStep::Made)
     }
 
     /// The header and the row, as they are.
     fn current(&self) -> (&LineProgramHeader<R>, &LineRow)
-        ensures header { SeesHeader R.big R.Offset.number self.now result.0.now }
+        ensures header { SeesHeader R.is_big R.Offset.number self.now result.0.now }
         ensures files { result.0.now.meaning.files ≡ self.now.files }
         ensures row { result.1.now ≡ self.now.row }
     {
@@ -357,13 +357,13 @@ impl<R: Reader> IncompleteLineProgram<R> {
 
     /// The rows of the program, from its start to its end.
     pub fn rows(self) -> OneShotLineRows<R>
-        ensures events { EventsWithFiles self.notation true self.meaning self.meaning.program
+        ensures events { EventsWithFiles self.layout true self.meaning self.meaning.program
             (events_left result) }
-        ensures made { Makes self.notation true self.meaning self.meaning.program
+        ensures made { Makes self.layout true self.meaning self.meaning.program
             (made_left result) }
-        ensures files { FilesAtEnd self.notation true self.meaning self.meaning.program
+        ensures files { FilesAtEnd self.layout true self.meaning self.meaning.program
             (files_at_end result) }
-        ensures start { result ≡ whole_run self.meaning (source_of R.big R.Offset.number self) }
+        ensures start { result ≡ whole_run self.meaning (source_of R.is_big R.Offset.number self) }
     {
         let instructions = self.header.instructions();
         LineRows::start(self, instructions)

@@ -48,13 +48,13 @@ struct SequenceSplit<R: Reader> {
 impl<R: Reader> Model for SequenceSplit<R> {
     ghost use Rattle.std.specs.Prelude.{map};
     ghost use Rattle.gimli_line.specs.inside.run.SequenceSplit.{SequenceSplit};
-    ghost use Rattle.gimli_line.specs.run.Sequences.{part_of};
+    ghost use Rattle.gimli_line.specs.run.Sequences.{sequence_of};
 
     ghost Value = { SequenceSplit };
 
     ghost view = { λ a.
         record {
-          parts = map part_of a.sequences.items;
+          parts = map sequence_of a.sequences.items;
           unread = a.instructions;
           start = a.start;
         } };
@@ -63,7 +63,7 @@ impl<R: Reader> Model for SequenceSplit<R> {
 impl<R: Reader> SequenceSplit<R> {
     ghost use Rattle.std.specs.Prelude.{◌≡◌, ◌++◌, ℕ, List, [], None, map, IfErr, OnOk};
     ghost use Rattle.gimli_line.specs.inside.run.SequenceSplit.{with_row};
-    ghost use Rattle.gimli_line.specs.run.Sequences.{part_of};
+    ghost use Rattle.gimli_line.specs.run.Sequences.{sequence_of};
 
     /// No sequence yet, and an open one that starts with these instructions.
     fn new(alloc: Global, instructions: LineInstructions<R>) -> Self
@@ -101,7 +101,7 @@ impl<R: Reader> SequenceSplit<R> {
 
     /// The sequences that were found.
     fn into_sequences(self) -> Vec<LineSequence<R>>
-        ensures { map part_of result.items ≡ self.parts }
+        ensures { map sequence_of result.items ≡ self.parts }
     {
         self.sequences
     }
@@ -161,21 +161,21 @@ impl<R: Reader> IncompleteLineProgram<R> {
     ghost use Rattle.std.specs.Prelude.{◌≡◌, ◌≢◌, map, All, IfErr, IfOk};
     ghost use Rattle.gimli_line.specs.run.Events.{row};
     ghost use Rattle.gimli_line.specs.header.Orders.{source_of, KeepsSource};
-    ghost use Rattle.gimli_line.specs.run.Sequences.{part_of, AreSequences, HasFirstFault};
+    ghost use Rattle.gimli_line.specs.run.Sequences.{sequence_of, AreSequences, HasFirstFault};
     ghost use Rattle.gimli_line.specs.run.Sequences.{HaveRuns, ResumesToRows};
 
     /// Runs the whole program, and splits it into its sequences, so that each can be run by itself.
     /// Rows after the last end row are in no sequence. Refused by the first fault of the run,
     /// wherever it stands, or by `OutOfMemory`.
     pub fn sequences(self) -> Result<(CompleteLineProgram<R>, Vec<LineSequence<R>>)>
-        ensures ok { IfOk result (λ found. AreSequences self.notation self.meaning found.0.meaning
-            (map part_of found.1.items)) }
-        ensures source { IfOk result (λ found. KeepsSource (λ order. self.notation.big ≡ order)
-            (source_of R.big R.Offset.number self) (source_of R.big R.Offset.number found.0)) }
+        ensures ok { IfOk result (λ found. AreSequences self.layout self.meaning found.0.meaning
+            (map sequence_of found.1.items)) }
+        ensures source { IfOk result (λ found. KeepsSource (λ order. self.layout.is_big ≡ order)
+            (source_of R.is_big R.Offset.number self) (source_of R.is_big R.Offset.number found.0)) }
         ensures unrefused { IfOk result (λ found.
-            All (ResumesToRows found.0.meaning) (map part_of found.1.items)) }
+            All (ResumesToRows found.0.meaning) (map sequence_of found.1.items)) }
         ensures err { IfErr result
-            (λ e. e ≢ Error.OutOfMemory → HasFirstFault self.notation self.meaning e) }
+            (λ e. e ≢ Error.OutOfMemory → HasFirstFault self.layout self.meaning e) }
     {
         let alloc = *self.header.file_names.allocator();
         let mut rows = self.rows();
@@ -194,15 +194,15 @@ impl<R: Reader> IncompleteLineProgram<R> {
         self,
     ) -> Result<(CompleteLineProgram<R>, Vec<LineSequence<R>>, Vec<RowList>)>
         ensures ok { IfOk result (λ found.
-            AreSequences self.notation self.meaning found.0.meaning (map part_of found.1.items)) }
+            AreSequences self.layout self.meaning found.0.meaning (map sequence_of found.1.items)) }
         ensures each { IfOk result (λ found.
-            HaveRuns found.0.meaning (map part_of found.1.items) (map (map row) found.2.items)) }
-        ensures source { IfOk result (λ found. KeepsSource (λ order. self.notation.big ≡ order)
-            (source_of R.big R.Offset.number self) (source_of R.big R.Offset.number found.0)) }
+            HaveRuns found.0.meaning (map sequence_of found.1.items) (map (map row) found.2.items)) }
+        ensures source { IfOk result (λ found. KeepsSource (λ order. self.layout.is_big ≡ order)
+            (source_of R.is_big R.Offset.number self) (source_of R.is_big R.Offset.number found.0)) }
         ensures unrefused { IfOk result (λ found.
-            All (ResumesToRows found.0.meaning) (map part_of found.1.items)) }
+            All (ResumesToRows found.0.meaning) (map sequence_of found.1.items)) }
         ensures err { IfErr result
-            (λ e. e ≢ Error.OutOfMemory → HasFirstFault self.notation self.meaning e) }
+            (λ e. e ≢ Error.OutOfMemory → HasFirstFault self.layout self.meaning e) }
     {
         let alloc = *self.header.file_names.allocator();
         let mut run = self.rows();
@@ -229,22 +229,22 @@ impl<R: Reader> CompleteLineProgram<R> {
     ghost use Rattle.gimli_line.specs.run.EventsWithFiles.{EventsWithFiles};
     ghost use Rattle.gimli_line.specs.run.Rows.{events_left, files_at_end, start_of_run};
     ghost use Rattle.gimli_line.specs.run.Rows.{GivesRowsAlone};
-    ghost use Rattle.gimli_line.specs.run.Sequences.{events_of, part_of, ResumesToRows};
+    ghost use Rattle.gimli_line.specs.run.Sequences.{events_of, sequence_of, ResumesToRows};
 
     /// The rows of one of the program's sequences. The header has all files from the start.
     pub fn resume_from<'program>(
         &'program self,
         sequence: &LineSequence<R>,
     ) -> ResumedLineRows<'program, R>
-        ensures events { EventsWithFiles sequence.now.instructions.notation false self.now.meaning
+        ensures events { EventsWithFiles sequence.now.instructions.layout false self.now.meaning
             sequence.now.instructions.bytes (events_left result) }
         ensures run { (run : List Event)
-            → Events sequence.now.instructions.notation self.now.meaning
+            → Events sequence.now.instructions.layout self.now.meaning
             sequence.now.instructions.bytes run → events_of (events_left result) ≡ run }
         ensures files { files_at_end result ≡ self.now.meaning.files }
         ensures start { result ≡ start_of_run false self.now.meaning
-            (source_of R.big R.Offset.number self.now) sequence.now.instructions }
-        ensures unrefused { ResumesToRows self.now.meaning (part_of sequence.now)
+            (source_of R.is_big R.Offset.number self.now) sequence.now.instructions }
+        ensures unrefused { ResumesToRows self.now.meaning (sequence_of sequence.now)
             → GivesRowsAlone result }
     {
         LineRows::start(self, sequence.instructions.clone())

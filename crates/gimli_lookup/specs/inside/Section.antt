@@ -10,8 +10,8 @@ use Rattle.gimli_lookup.specs.Section.{KeptHeader, ListedUnit}
 abbrev pub IsOutcome : {R Offset Endian : Type 0} → ℕ → Result (SeenHeader R Offset Endian) Error
     → ListedUnit → List (List LineRow) → Type 0
 IsOutcome lowest (Ok program) unit sequences =
-    (h : KeptHeader) × (unit.header ≡ Some h) × (h.notation ≡ program.notation)
-    × IsKept program.notation lowest program.meaning h.meaning unit.fault sequences
+    (h : KeptHeader) × (unit.header ≡ Some h) × (h.layout ≡ program.layout)
+    × IsKept program.layout lowest program.meaning h.meaning unit.fault sequences
 IsOutcome lowest (Err e) unit sequences =
     (unit.header ≡ None) × (unit.fault ≡ Some e) × (sequences ≡ [])
 

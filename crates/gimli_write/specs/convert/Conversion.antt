@@ -11,7 +11,7 @@ use Rattle.gimli_write.specs.convert.Items.{ReadsItems}
 use Rattle.gimli_write.specs.convert.SourceRun.{SourceRun, start_of_source, reading_left}
 use Rattle.gimli_write.specs.convert.Outcome.{Outcome, outcome_of, ComesTo, without_items}
 use Rattle.gimli_write.specs.convert.Preparation.{tables_of_header}
-use Rattle.gimli_write.specs.convert.Sources.{Source}
+use Rattle.gimli_write.specs.convert.Sources.{ToConvert}
 use Rattle.gimli_write.specs.convert.Texts.{IsRefusedBy}
 
 pub record Conversion : Type 0 where
@@ -124,32 +124,32 @@ with_program p c = record c { tables = record c.tables { program = p } }
 
 -- the directories and files of a source are added, by the steps of its header; these are the line
 -- strings before it
-abbrev pub IsPrepared : Source → List (List ℕ) → Progress → Type 0
+abbrev pub IsPrepared : ToConvert → List (List ℕ) → Progress → Type 0
 IsPrepared s old new =
     tables_of_header s.sections s.header s.given old
     ≡ Ok (tables_with new.line_strings new.conversion.tables)
 
 -- why they aren't added: what refuses a step, or `OutOfMemory`
-abbrev pub IsHeaderRefusal : Source → List (List ℕ) → ConvertError → Type 0
+abbrev pub IsHeaderRefusal : ToConvert → List (List ℕ) → ConvertError → Type 0
 IsHeaderRefusal s line_strings =
     IsRefusedBy (tables_of_header s.sections s.header s.given line_strings)
 
 -- the whole program of a source is still to be read, with these tables at its start
-abbrev pub ReadsWhole : Source → Progress → Type 0
+abbrev pub ReadsWhole : ToConvert → Progress → Type 0
 ReadsWhole s p =
-    ReadsItems s.notation s.sections s.header (tables_with p.line_strings p.conversion.tables)
+    ReadsItems s.layout s.sections s.header (tables_with p.line_strings p.conversion.tables)
     s.header.program
     (reading_of p)
 
 -- nothing of the program of a source is read yet
-abbrev pub IsUnread : Source → Conversion → Type 0
+abbrev pub IsUnread : ToConvert → Conversion → Type 0
 IsUnread s c =
     c
     ≡ start_of_conversion s.sections
-    (start_of_source s.header (record { bytes = s.header.program; notation = s.notation })) c.tables
+    (start_of_source s.header (record { bytes = s.header.program; layout = s.layout })) c.tables
 
 -- a conversion of a source is begun, which had these line strings
-pub record IsBegun (s : Source) (old : List (List ℕ)) (new : Progress) : Type 0 where
+pub record IsBegun (s : ToConvert) (old : List (List ℕ)) (new : Progress) : Type 0 where
   -- its directories and files are added
   pub prepared : IsPrepared s old new
   -- all that its program gives is still to be read
@@ -159,11 +159,11 @@ pub record IsBegun (s : Source) (old : List (List ℕ)) (new : Progress) : Type 
 
 -- what comes of a source, where nothing is built before: the refusal of a step of its header, else
 -- what comes of reading its program
-abbrev pub IsConverted : (ℕ → Option Address) → Source → List (List ℕ) → Result Outcome ConvertError
+abbrev pub IsConverted : (ℕ → Option Address) → ToConvert → List (List ℕ) → Result Outcome ConvertError
     → Type 0
 IsConverted convert_address s line_strings outcome =
     (reading : Reading) × MatchResult (tables_of_header s.sections s.header s.given line_strings)
-    (λ first. ReadsItems s.notation s.sections s.header first s.header.program reading
+    (λ first. ReadsItems s.layout s.sections s.header first s.header.program reading
     × (outcome_of convert_address reading first.program ≡ outcome))
     (λ e. outcome ≡ Err e)
 
@@ -199,24 +199,24 @@ outcome_of_rest convert_address p = outcome_of convert_address (reading_of p) (b
 
 -- what can come of a source, where nothing is built before: the refusal of a step of its header,
 -- else what can come of reading its program
-abbrev pub SourceComesTo : (ℕ → Option Address → Type 0) → Source → List (List ℕ)
+abbrev pub SourceComesTo : (ℕ → Option Address → Type 0) → ToConvert → List (List ℕ)
     → Result Outcome ConvertError → Type 0
 SourceComesTo map s line_strings outcome =
     (reading : Reading) × MatchResult (tables_of_header s.sections s.header s.given line_strings)
-    (λ first. ReadsItems s.notation s.sections s.header first s.header.program reading
+    (λ first. ReadsItems s.layout s.sections s.header first s.header.program reading
     × ComesTo map reading first.program outcome)
     (λ e. outcome ≡ Err e)
 
 -- by a map that answers as a function a source is converted to this answer; the old line strings
 -- are those before it, the new ones those after it
-abbrev pub ConvertsTo : (ℕ → Option Address → Type 0) → Source → List (List ℕ)
+abbrev pub ConvertsTo : (ℕ → Option Address → Type 0) → ToConvert → List (List ℕ)
     → Built × Vec ℕ Global → List (List ℕ) → Type 0
 ConvertsTo map s old answer new =
     (g : ℕ → Option Address) → AnswersAs map g → IsConverted g s old (Ok (outcome_with answer new))
 
 module _ (map : ℕ → Option Address → Type 0) where
   -- why a source isn't converted: what refuses it, or `OutOfMemory`
-  pub record IsConvertRefusal (s : Source) (line_strings : List (List ℕ)) (e : ConvertError)
+  pub record IsConvertRefusal (s : ToConvert) (line_strings : List (List ℕ)) (e : ConvertError)
       : Type 0 where
     -- by what the map answers
     pub answers : (e ≡ OutOfMemory) ⊎ SourceComesTo map s line_strings (Err e)

@@ -1,19 +1,19 @@
 -- A conversion that was done, and what is read back of it.
 use Rattle.gimli_write.specs.Prelude
-use Prelude.{ℕ, true, List, map, Option, Ok, Notation, Address, StringTables, texts_in, ReadRow}
+use Prelude.{ℕ, true, List, map, Option, Ok, OrderAndLimit, Address, StringTables, texts_in, ReadRow}
 use Prelude.{UnitEntry, File, Events, row, FilesAtEnd, Built, bytes_in, ReadsBack, Sections}
 use Prelude.{OneByOne, texts_after}
 use Rattle.gimli_write.specs.RoundTrip.{built_file}
 use Rattle.gimli_write.specs.convert.Conversion.{IsConverted}
 use Rattle.gimli_write.specs.convert.Outcome.{Outcome}
 use Rattle.gimli_write.specs.convert.Mapped.{CanBeFaithful, IsReadAs, AreFilesReadAs}
-use Rattle.gimli_write.specs.convert.Sources.{Source}
+use Rattle.gimli_write.specs.convert.Sources.{ToConvert}
 
 -- a conversion that was done: the map of addresses, the source, the line strings before it, and
 -- what came of it
 pub record DoneConversion : Type 0 where
   pub convert_address : ℕ → Option Address
-  pub source : Source
+  pub source : ToConvert
   pub line_strings : List (List ℕ)
   pub outcome : Outcome
   pub is : IsConverted convert_address source line_strings (Ok outcome)
@@ -26,7 +26,7 @@ IsToBeFaithful d = CanBeFaithful d.convert_address d.source
 
 -- its source gives these rows and no fault
 abbrev pub SourceGives : DoneConversion → List ReadRow → Type 0
-SourceGives d rows = Events d.source.notation d.source.header d.source.header.program (map row rows)
+SourceGives d rows = Events d.source.layout d.source.header d.source.header.program (map row rows)
 
 -- rows that are read back of it say what rows of its source say, one by one
 abbrev pub AreReadAs : DoneConversion → List ReadRow → List ReadRow → Type 0
@@ -36,16 +36,16 @@ AreReadAs d =
 
 -- a unit of a program that is read back, with the tables after it was written
 pub record UnitReadBack (p : Built) : Type 0 where
-  pub notation : Notation
+  pub layout : OrderAndLimit
   pub unit_entry : UnitEntry
   pub sections : Sections
   pub texts : StringTables
   pub bytes : List ℕ
-  pub back : ReadsBack notation unit_entry sections p texts bytes
+  pub back : ReadsBack layout unit_entry sections p texts bytes
 
 -- it gives these rows and no fault
 abbrev pub UnitGives : {p : Built} → UnitReadBack p → List ReadRow → Type 0
-UnitGives unit rows = Events unit.notation unit.back.header unit.back.header.program (map row rows)
+UnitGives unit rows = Events unit.layout unit.back.header unit.back.header.program (map row rows)
 
 -- it gives rows that say what these rows of the source of a conversion say
 abbrev pub GivesBack : (d : DoneConversion) → List ReadRow → UnitReadBack d.outcome.program → Type 0
@@ -56,7 +56,7 @@ GivesBack d rows unit = (found : List ReadRow) × UnitGives unit found × AreRea
 -- the files of its source where the program ends
 abbrev pub SourceFilesAre : DoneConversion → List File → Type 0
 SourceFilesAre d files =
-    FilesAtEnd d.source.notation true d.source.header d.source.header.program files
+    FilesAtEnd d.source.layout true d.source.header d.source.header.program files
 
 -- each of these files has an id, which is the index of the file that is read back in its place,
 -- with the same paths

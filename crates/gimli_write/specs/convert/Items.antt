@@ -3,7 +3,7 @@
 -- before it, the nearest first.
 use Rattle.gimli_write.specs.Prelude
 use Prelude.{◌≡◌, ℕ, Bool, true, false, ◌-◌, not, ◌&&◌, if◌then◌else◌, nat_eq, nat_le, List, []}
-use Prelude.{◌∷◌, slice_get, Option, Some, None, ok_or, Result, Ok, Err, Notation, Error, Header}
+use Prelude.{◌∷◌, slice_get, Option, Some, None, ok_or, Result, Ok, Err, OrderAndLimit, Error, Header}
 use Prelude.{Parameters, Ins, makes_row, Decodes, is_under_tombstone, overflows, row_at, Sections}
 use Prelude.{LineRow, ConvertError, Read, InvalidFileIndex, SourceRow, ConvertLineRow, SetAddress}
 use Prelude.{EndSequence}
@@ -164,9 +164,9 @@ reading_after sections parameters first past (i ∷ list) end =
     (with_definition i (reading_after sections parameters first (i ∷ past) list end)))
 
 -- what is read of a program's bytes, with these tables at its start
-pub record ReadsItems (notation : Notation) (sections : Sections) (h : Header)
+pub record ReadsItems (layout : OrderAndLimit) (sections : Sections) (h : Header)
     (first : TablesAndTexts) (bytes : List ℕ) (reading : Reading) : Type 0 where
   pub list : List Ins
   pub end : Option Error
-  pub decoding : Decodes notation h bytes list end
+  pub decoding : Decodes layout h bytes list end
   pub given : reading ≡ reading_after sections h.parameters first [] list end

@@ -3,7 +3,7 @@
 use Rattle.gimli_write.specs.Prelude
 use Prelude.{◌≡◌, ◌≢◌, ℕ, ◌+◌, ◌≤◌, Bool, true, false, not, ◌&&◌, ◌||◌, if◌then◌else◌, List, []}
 use Prelude.{◌∷◌, ◌++◌, map, slice_get, Option, Some, None, option_map, All, Ok, Vec, Global}
-use Prelude.{Notation, Value, Error, Address, StringTables, texts_in, ReadRow, File, Header}
+use Prelude.{OrderAndLimit, Value, Error, Address, StringTables, texts_in, ReadRow, File, Header}
 use Prelude.{directory_of, entry_of, Parameters, Events, row, FilesAtEnd, Ins, is_end, makes_row}
 use Prelude.{Decodes, is_under_tombstone, Built, address_value, file_number, LineText, bytes_in}
 use Prelude.{CanWrite, read_row, RowsMatch, Sections, IsText, IsOptionalText, OneByOne, LineRow}
@@ -14,7 +14,7 @@ use Rattle.gimli_build.specs.declared.built.items.BuiltItem.TheVariants.{SetAddr
 use Rattle.gimli_write.specs.RoundTrip.{FileAnswer, HasFittingAddresses}
 use Rattle.gimli_write.specs.convert.Outcome.{Outcome}
 use Rattle.gimli_write.specs.convert.Preparation.{encoding_of}
-use Rattle.gimli_write.specs.convert.Sources.{Source}
+use Rattle.gimli_write.specs.convert.Sources.{ToConvert}
 use Rattle.gimli_write.specs.convert.Conversion.{AnswersAs, outcome_with, SourceComesTo}
 use Rattle.gimli_write.specs.convert.Conversion.{ConvertsTo}
 
@@ -39,18 +39,18 @@ NoneEndsUnderTombstone parameters past (i ∷ list) =
     × NoneEndsUnderTombstone parameters (i ∷ past) list
 
 -- no sequence of a program that gave a row ends under a tombstone
-pub record NoSequenceEndsUnderTombstone (notation : Notation) (h : Header) (bytes : List ℕ)
+pub record NoSequenceEndsUnderTombstone (layout : OrderAndLimit) (h : Header) (bytes : List ℕ)
     : Type 0 where
   pub list : List Ins
   pub end : Option Error
-  pub decoding : Decodes notation h bytes list end
+  pub decoding : Decodes layout h bytes list end
   pub seen : NoneEndsUnderTombstone h.parameters [] list
 
 -- what is asked of a source and of what is handed, so that a conversion is faithful
-pub record CanBeFaithful (convert_address : ℕ → Option Address) (s : Source) : Type 0 where
+pub record CanBeFaithful (convert_address : ℕ → Option Address) (s : ToConvert) : Type 0 where
   pub itself : MapsToItself convert_address
   pub wide : s.header.parameters.encoding.address_size ≤ (encoding_of s.header s.given).address_size
-  pub no_end_under_tombstone : NoSequenceEndsUnderTombstone s.notation s.header s.header.program
+  pub no_end_under_tombstone : NoSequenceEndsUnderTombstone s.layout s.header s.header.program
 
 -- ---- rows and ends
 
@@ -84,10 +84,10 @@ RowsMapped version file_ids base (End offset op_index ∷ items) (source ∷ row
 RowsMapped version file_ids base (item ∷ items) [] = ⊥
 
 -- the events of a source are rows, and these are the built rows and ends
-pub record AreRowsMapped (notation : Notation) (h : Header) (bytes : List ℕ) (c : Outcome)
+pub record AreRowsMapped (layout : OrderAndLimit) (h : Header) (bytes : List ℕ) (c : Outcome)
     : Type 0 where
   pub rows : List ReadRow
-  pub events : Events notation h bytes (map row rows)
+  pub events : Events layout h bytes (map row rows)
   pub mapped : RowsMapped h.parameters.encoding.version c.file_ids 0 c.program.items rows
 
 -- ---- files
@@ -185,12 +185,12 @@ HasConstantAddresses p = All SetsConstant p.items
 -- ---- all of it
 
 -- a converted program says what its source says, beside these strings
-pub record IsFaithful (s : Source) (strings : List (List ℕ)) (c : Outcome) : Type 0 where
+pub record IsFaithful (s : ToConvert) (strings : List (List ℕ)) (c : Outcome) : Type 0 where
   -- its rows and ends are those of the source, one by one
-  pub rows : AreRowsMapped s.notation s.header s.header.program c
+  pub rows : AreRowsMapped s.layout s.header s.header.program c
   -- its files stand for those of the source, the ones that its program defines too
   pub source_files : List File
-  pub at_end : FilesAtEnd s.notation true s.header s.header.program source_files
+  pub at_end : FilesAtEnd s.layout true s.header s.header.program source_files
   pub files : AreFilesMapped s.sections s.header source_files strings c
   -- it can be written, and its addresses are numbers, fit and hide nothing
   pub can_write : CanWrite c.program (texts_in strings c.line_strings)
@@ -198,7 +198,7 @@ pub record IsFaithful (s : Source) (strings : List (List ℕ)) (c : Outcome) : T
   pub addresses : HasFittingAddresses c.program
   -- rows that are read back as it was built say what the rows of the source say
   pub read_back : (rows back : List ReadRow)
-      → Events s.notation s.header s.header.program (map row rows)
+      → Events s.layout s.header s.header.program (map row rows)
       → RowsMatch c.program.encoding.version [] c.program.items back
       → OneByOne
       (IsReadAs s.header.parameters.encoding.version c.program.encoding.version c.file_ids) rows
@@ -207,7 +207,7 @@ pub record IsFaithful (s : Source) (strings : List (List ℕ)) (c : Outcome) : T
 -- a source is converted to this answer: by what this map of addresses answers, and, for each
 -- function that gives what it may answer, as that function says; and then it says what the source
 -- says, where what is asked for that holds. The old line strings are those before it
-pub record ConvertsWell (map : ℕ → Option Address → Type 0) (s : Source) (old : List (List ℕ))
+pub record ConvertsWell (map : ℕ → Option Address → Type 0) (s : ToConvert) (old : List (List ℕ))
     (answer : Built × Vec ℕ Global) (texts : StringTables) : Type 0 where
   pub answers : SourceComesTo map s old (Ok (outcome_with answer texts.line_strings))
   pub converts : ConvertsTo map s old answer texts.line_strings

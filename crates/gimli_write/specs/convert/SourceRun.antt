@@ -78,7 +78,7 @@ reading_from sections s there (i ∷ list) end =
 -- what is still to be read
 abbrev pub reading_upon : Sections → SourceRun → Result TablesAndTexts ConvertError → Reading
 reading_upon sections s there =
-    let c = decoded_at s.unread.notation s.header s.unread.bytes in
+    let c = decoded_at s.unread.layout s.header s.unread.bytes in
     reading_from sections s there c.0 c.1
 
 abbrev pub reading_left : Sections → SourceRun → TablesAndTexts → Reading

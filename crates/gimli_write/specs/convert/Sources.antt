@@ -1,23 +1,23 @@
 -- A source that is converted, with what is handed for it.
 use Rattle.gimli_write.specs.Prelude
-use Prelude.{ℕ, List, Option, option_map, Notation, Encoding, LineEncoding, Header, SeenHeader}
+use Prelude.{ℕ, List, Option, option_map, OrderAndLimit, Encoding, LineEncoding, Header, SeenHeader}
 use Prelude.{Sections}
 use Rattle.gimli_write.specs.convert.Preparation.{Handed, handed_of}
 
--- a source: its notation and its header, the sections that hold its texts, and what is handed for
+-- a source: its layout and its header, the sections that hold its texts, and what is handed for
 -- the conversion
-pub record Source : Type 0 where
-  pub notation : Notation
+pub record ToConvert : Type 0 where
+  pub layout : OrderAndLimit
   pub sections : Sections
   pub header : Header
   pub given : Handed
 
 -- the source that a call is handed, where these are the bytes of a reader
-abbrev pub source_of : {R Offset Endian : Type 0} → (R → List ℕ) → R → R
-    → SeenHeader R Offset Endian → Option R → Option Encoding → Option LineEncoding → Source
-source_of bytes debug_str debug_line_str from_program from_comp_name encoding line_encoding =
+abbrev pub to_convert : {R Offset Endian : Type 0} → (R → List ℕ) → R → R
+    → SeenHeader R Offset Endian → Option R → Option Encoding → Option LineEncoding → ToConvert
+to_convert bytes debug_str debug_line_str from_program from_comp_name encoding line_encoding =
     record {
-      notation = from_program.notation;
+      layout = from_program.layout;
       sections = record { strings = bytes debug_str; line_strings = bytes debug_line_str };
       header = from_program.meaning;
       given = handed_of encoding line_encoding (option_map bytes from_comp_name);

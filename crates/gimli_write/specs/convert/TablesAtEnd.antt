@@ -36,7 +36,7 @@ tables_after sections s tables (i ∷ list) =
 -- the tables after all that is unread, or at what is refused of it
 abbrev pub tables_at_end : Sections → SourceRun → TablesAndTexts → TablesAndTexts
 tables_at_end sections s tables =
-    tables_after sections s tables (decoded_at s.unread.notation s.header s.unread.bytes).0
+    tables_after sections s tables (decoded_at s.unread.layout s.header s.unread.bytes).0
 
 -- the same where a row, if there is one, comes first
 abbrev pub tables_after_row : ℕ → TablesAndTexts → Option SourceRow → TablesAndTexts

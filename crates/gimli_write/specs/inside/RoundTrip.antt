@@ -1,6 +1,6 @@
 -- What is answered of a unit that was written and read again.
 use Rattle.gimli_write.specs.Prelude
-use Prelude.{ℕ, List, Some, None, All, Notation, Header, UnitEntry, Sections}
+use Prelude.{ℕ, List, Some, None, All, OrderAndLimit, Header, UnitEntry, Sections}
 use Prelude.{directories_from_zero}
 use Rattle.gimli_line.specs.header.HeaderGrammar.{SpellsUnit}
 use Rattle.gimli_write.specs.inside.TextReading.{HasText, HasFileTexts}
@@ -14,9 +14,9 @@ unit_entry_with size directory = record {
 }
 
 -- the bytes begin with a unit that has this header
-pub record BeginsUnit (notation : Notation) (unit_entry : UnitEntry) (bytes : List ℕ) (h : Header)
+pub record BeginsUnit (layout : OrderAndLimit) (unit_entry : UnitEntry) (bytes : List ℕ) (h : Header)
     : Type 0 where
-  pub spelled : SpellsUnit notation unit_entry bytes h
+  pub spelled : SpellsUnit layout unit_entry bytes h
 
 -- the texts of a header are there
 pub record HasTexts (sections : Sections) (h : Header) : Type 0 where
@@ -24,8 +24,8 @@ pub record HasTexts (sections : Sections) (h : Header) : Type 0 where
   pub files : All (HasFileTexts sections) h.files
 
 -- the bytes begin with a unit whose texts are there
-pub record CanRead (notation : Notation) (unit_entry : UnitEntry) (sections : Sections)
+pub record CanRead (layout : OrderAndLimit) (unit_entry : UnitEntry) (sections : Sections)
     (bytes : List ℕ) : Type 0 where
   pub header : Header
-  pub unit : BeginsUnit notation unit_entry bytes header
+  pub unit : BeginsUnit layout unit_entry bytes header
   pub texts : HasTexts sections header

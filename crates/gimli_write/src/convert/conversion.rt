@@ -70,7 +70,7 @@ impl<R: Reader> Conversion<R> {
         tables: SourceTables,
     ) -> Self
         ensures { result ≡ start_of_conversion sections (start_of_source program.meaning
-            (record { bytes = program.meaning.program; notation = program.notation })) tables }
+            (record { bytes = program.meaning.program; layout = program.layout })) tables }
     {
         Conversion {
             sections,

@@ -11,7 +11,7 @@ ghost use Rattle.gimli_write.specs.convert.KeptTables.{IsWritable, HasWritable};
 ghost use Rattle.gimli_write.specs.convert.LentTables.{lent, SameStringTables, KeepsStringTables};
 ghost use Rattle.gimli_write.specs.convert.Reads.{ReadsOn, LeavesTables, RepeatsRefusal};
 ghost use Rattle.gimli_write.specs.convert.Converter.{progress, lent_tables, program_of, Builds};
-ghost use Rattle.gimli_write.specs.convert.Sources.{source_of};
+ghost use Rattle.gimli_write.specs.convert.Sources.{to_convert};
 ghost use Rattle.gimli_write.specs.convert.Mapped.{ConvertsWell};
 ghost use Rattle.gimli_write.specs.convert.Conversion.{beside, reading_of, Asks, CanBuildRow};
 ghost use Rattle.gimli_write.specs.convert.Conversion.{IsBegun, IsHeaderRefusal};
@@ -100,10 +100,10 @@ impl<R: Reader> ConvertLineHeader<R> {
     ) -> ConvertResult<Self>
         requires address_size { IfSome encoding (λ e. IsTrue (is_address_size e.address_size)) }
         requires lines { IfSome line_encoding CanEncode }
-        ensures ok { IfOk result (λ header. IsBegun (source_of R.bytes debug_str debug_line_str
+        ensures ok { IfOk result (λ header. IsBegun (to_convert R.bytes debug_str debug_line_str
             from_program from_comp_name encoding line_encoding) line_strings.old
             (beside line_strings.new header)) }
-        ensures err { IfErr result (IsHeaderRefusal (source_of R.bytes debug_str debug_line_str
+        ensures err { IfErr result (IsHeaderRefusal (to_convert R.bytes debug_str debug_line_str
             from_program from_comp_name encoding line_encoding) line_strings.old) }
         // What was begun can be written.
         ensures writable { IfOk result (λ header. HasWritable (beside line_strings.new header)) }
@@ -175,10 +175,10 @@ impl<'a, 'b, R: Reader> ConvertLineProgram<'a, 'b, R, Conversion<R>> {
     ) -> ConvertResult<Self>
         requires address_size { IfSome encoding (λ e. IsTrue (is_address_size e.address_size)) }
         requires lines { IfSome line_encoding CanEncode }
-        ensures ok { IfOk result (λ convert. IsBegun (source_of R.bytes debug_str debug_line_str
+        ensures ok { IfOk result (λ convert. IsBegun (to_convert R.bytes debug_str debug_line_str
             from_program from_comp_name encoding line_encoding)
             line_strings.old (progress convert)) }
-        ensures err { IfErr result (IsHeaderRefusal (source_of R.bytes debug_str debug_line_str
+        ensures err { IfErr result (IsHeaderRefusal (to_convert R.bytes debug_str debug_line_str
             from_program from_comp_name encoding line_encoding) line_strings.old) }
         // What was begun can be written, and both tables are those that were handed.
         ensures writable { IfOk result (λ convert. HasWritable (progress convert)) }
@@ -354,11 +354,11 @@ pub fn convert_program<R: Reader, F: Fn(u64) -> Option<Address>>(
     requires lines { IfSome line_encoding CanEncode }
     requires callable { F.IsAlwaysCallable convert_address }
     ensures outcome { IfOk result (λ answer. ConvertsWell (F.post convert_address)
-        (source_of R.bytes debug_str debug_line_str
+        (to_convert R.bytes debug_str debug_line_str
         from_program from_comp_name encoding line_encoding)
         line_strings.old answer (texts_in strings.new line_strings.new)) }
     ensures refusal { IfErr result (IsConvertRefusal (F.post convert_address)
-        (source_of R.bytes debug_str debug_line_str
+        (to_convert R.bytes debug_str debug_line_str
         from_program from_comp_name encoding line_encoding) line_strings.old) }
     ensures stays { KeepsTexts line_strings.old line_strings.new }
     ensures strings { strings.new ≡ strings.old }

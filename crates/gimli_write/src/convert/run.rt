@@ -141,9 +141,9 @@ impl<R: Reader> SourceRun<R> {
     /// The source, from its start on.
     pub(crate) fn start(program: IncompleteLineProgram<R>) -> Self
         ensures start { result ≡ start_of_source program.meaning
-            (record { bytes = program.meaning.program; notation = program.notation }) }
+            (record { bytes = program.meaning.program; layout = program.layout }) }
         ensures reads { (sections : Sections) (first : TablesAndTexts) →
-            ReadsItems program.notation sections program.meaning first program.meaning.program
+            ReadsItems program.layout sections program.meaning first program.meaning.program
             (reading_left sections result first) }
     {
         let header = program.header();
@@ -181,7 +181,7 @@ impl<R: Reader> SourceRun<R> {
             → tables_at_end sections self.old tables ≡ tables) }
         ensures shorter { IfOk result (λ step. Shortens step self.old self.new) }
         ensures header { self.new.header ≡ self.old.header }
-        ensures notation { self.new.unread.notation ≡ self.old.unread.notation }
+        ensures layout { self.new.unread.layout ≡ self.old.unread.layout }
     {
         let header = self.program.header();
         let executed = match self.instructions.execute_next(header, &mut self.row) {

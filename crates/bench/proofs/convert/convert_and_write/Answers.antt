@@ -5,7 +5,7 @@ use Rattle.gimli_bytes.specs.declared.address.Address.{Address}
 use Rattle.gimli_bytes.specs.declared.address.Address.TheVariants.{Constant}
 use Rattle.gimli_write.specs.convert.Conversion.{outcome_with}
 use Rattle.gimli_write.specs.convert.DoneConversions.{DoneConversion}
-use Rattle.gimli_write.specs.convert.Sources.{Source, source_of}
+use Rattle.gimli_write.specs.convert.Sources.{ToConvert, to_convert}
 use Rattle.bench.proofs.convert.convert_and_write.Goals as goal
 
 abbrev itself : ℕ → Option Address
@@ -13,8 +13,8 @@ itself a = Some (Constant a)
 
 pub write-requires : goal.write-requires
 write-requires g c =
-    let source : Source =
-    source_of g.R.Reader.bytes c.args.no_texts c.args.no_texts c.args.from_program None None None in
+    let source : ToConvert =
+    to_convert g.R.Reader.bytes c.args.no_texts c.args.no_texts c.args.from_program None None None in
     let done : DoneConversion = record {
       convert_address = itself;
       source = source;

@@ -3,4 +3,4 @@ use Rattle.gimli_build.proofs.laws.end_is_spelled.Goals as goal
 
 pub returns : goal.returns
 returns c = λ u here o i follows.
-    each-spelled u.notation u.header u.opcode_base u.longest _ (all_end _ here.previous o i follows)
+    each-spelled u.layout u.header u.opcode_base u.longest _ (all_end _ here.previous o i follows)

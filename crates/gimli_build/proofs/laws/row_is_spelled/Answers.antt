@@ -3,5 +3,5 @@ use Rattle.gimli_build.proofs.laws.row_is_spelled.Goals as goal
 
 pub returns : goal.returns
 returns c = λ u here r can.
-    each-spelled u.notation u.header u.opcode_base u.longest _
+    each-spelled u.layout u.header u.opcode_base u.longest _
     (all_row _ _ here.previous r can.encode can.follows can.line_before can.fits)

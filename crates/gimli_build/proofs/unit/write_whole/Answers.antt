@@ -9,18 +9,18 @@ use Rattle.gimli_build.proofs.unit.write_whole.Goals as goal
 
 pub returns-clause-writes : goal.returns-clause-writes
 returns-clause-writes g c =
-    let big = g.W.Sink.big c.args.w.now in
+    let is_big = g.W.Sink.is_big c.args.w.now in
     let format = c.args.input.now.program.encoding.format in
     let n = c.len.result - c.len-start.result in
     let opening = rw c.format-format.ensures at c.in_ok-length.ensures in
     let inside = rw opening.appends.ordered at c.in_ok-write_inside.ensures.writes in
     let call =
     rw (inside.ordered ∙ opening.appends.ordered, c.format-format.ensures) at c.write_initial_length_at.ensures in
-    let whole = λ (k : ℕ). result_append (Ok (escape_bytes big format)) (length_word big format k) in
-    let blank = λ (old new : List ℕ) (is : new ≡ old ++ open_length big format).
-    is ∙ ap (λ l. old ++ l) (escape_is big format)
-    ∙ sym (append_assoc old (escape_bytes big format) (open_word big format)) in
-    counted_written whole (length_word big format) (λ k. refl) (length_word_long big format n) (record {
+    let whole = λ (k : ℕ). result_append (Ok (escape_bytes is_big format)) (length_word is_big format k) in
+    let blank = λ (old new : List ℕ) (is : new ≡ old ++ open_length is_big format).
+    is ∙ ap (λ l. old ++ l) (escape_is is_big format)
+    ∙ sym (append_assoc old (escape_bytes is_big format) (open_word is_big format)) in
+    counted_written whole (length_word is_big format) (λ k. refl) (length_word_long is_big format n) (record {
       keeps = opening.appends.keeps;
       ordered = opening.appends.ordered;
       stays = opening.appends.stays;

@@ -19,7 +19,7 @@ returns-in-None-clause-none c = λ _.
     record {
       header = complete start;
       unit =
-          has_complete _ _ _ start c.in-Ok.ensures.unit c.in-Ok.ensures.notation c.rows-rows.ensures.files
+          has_complete _ _ _ start c.in-Ok.ensures.unit c.in-Ok.ensures.layout c.rows-rows.ensures.files
           (ap (λ a. a.fixed) c.rows-rows.ensures.start);
       none = sym (file_is start c.run_to_file.new.rows h c.args.number l) ∙ c.in-None.ensures.none;
     }
@@ -38,7 +38,7 @@ returns-clause-found c = λ _.
       record {
         header = complete start;
         unit =
-            has_complete _ _ _ start c.in-Ok.ensures.unit c.in-Ok.ensures.notation c.rows-rows.ensures.files
+            has_complete _ _ _ start c.in-Ok.ensures.unit c.in-Ok.ensures.layout c.rows-rows.ensures.files
             (ap (λ a. a.fixed) c.rows-rows.ensures.start);
         file = told.file;
         is_file = sym (file_is start c.run_to_file.new.rows h c.args.number l) ∙ told.is_file;
@@ -68,7 +68,7 @@ returns-then-path_bytes-path-clause-larger c = λ _.
       record {
         header = complete start;
         unit =
-            has_complete _ _ _ start c.in-Ok.ensures.unit c.in-Ok.ensures.notation c.rows-rows.ensures.files
+            has_complete _ _ _ start c.in-Ok.ensures.unit c.in-Ok.ensures.layout c.rows-rows.ensures.files
             (ap (λ a. a.fixed) c.rows-rows.ensures.start);
         file = told.file;
         is_file = sym (file_is start c.run_to_file.new.rows h c.args.number l) ∙ told.is_file;

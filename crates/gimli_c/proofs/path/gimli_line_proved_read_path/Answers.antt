@@ -10,14 +10,14 @@ pub returns-in-Err-clause-refused : goal.returns-in-Err-clause-refused
 returns-in-Err-clause-refused c = λ _ _ memory.
     subst
     (λ (texts : Strings).
-    HasNoPath (location c.args.section.now c.args.big c.args.address_size c.args.offset) texts c.args.number
+    HasNoPath (location c.args.section.now c.args.is_big c.args.address_size c.args.offset) texts c.args.number
     c.args.comp_dir.now c.in-Err.status)
     (same_texts _ _ c.args.line_strings.now c.args.strings.now c.new.ensures.bytes c.new-2.ensures.bytes)
     (c.in-Err.ensures.err memory)
 
 pub returns-in-Ok-clause-found : goal.returns-in-Ok-clause-found
 returns-in-Ok-clause-found c = λ ok.
-    let p = location c.args.section.now c.args.big c.args.address_size c.args.offset in (
+    let p = location c.args.section.now c.args.is_big c.args.address_size c.args.offset in (
       c.in-Ok.whole.items,
       subst (λ (texts : Strings). GivesPath p texts c.args.number c.args.comp_dir.now c.in-Ok.whole.items)
           (same_texts _ _ c.args.line_strings.now c.args.strings.now c.new.ensures.bytes c.new-2.ensures.bytes)
@@ -29,7 +29,7 @@ returns-in-Ok-clause-found c = λ ok.
 
 pub returns-in-Ok-clause-larger : goal.returns-in-Ok-clause-larger
 returns-in-Ok-clause-larger c = λ no_room.
-    let p = location c.args.section.now c.args.big c.args.address_size c.args.offset in
+    let p = location c.args.section.now c.args.is_big c.args.address_size c.args.offset in
     let same = ap (λ (xs : List ℕ). length xs) c.as_slice-bytes.ensures.value in (
       c.in-Ok.whole.items,
       subst (λ (texts : Strings). GivesPath p texts c.args.number c.args.comp_dir.now c.in-Ok.whole.items)

@@ -21,7 +21,7 @@ returns-in-None-clause-err c = λ other.
       record {
         header = complete start;
         unit =
-            has_complete _ _ _ start c.in-Ok.ensures.unit c.in-Ok.ensures.notation c.rows-rows.ensures.files
+            has_complete _ _ _ start c.in-Ok.ensures.unit c.in-Ok.ensures.layout c.rows-rows.ensures.files
             (ap (λ a. a.fixed) c.rows-rows.ensures.start);
         none = sym (file_is start c.run_to_file.new.rows h c.args.number l) ∙ sym c.in-None.ensures.file;
       },
@@ -41,7 +41,7 @@ returns-clause-ok c =
       file = seen;
       is = record {
         unit =
-            has_complete _ _ _ start c.in-Ok.ensures.unit c.in-Ok.ensures.notation c.rows-rows.ensures.files
+            has_complete _ _ _ start c.in-Ok.ensures.unit c.in-Ok.ensures.layout c.rows-rows.ensures.files
             (ap (λ a. a.fixed) c.rows-rows.ensures.start);
         is_file = sym (file_is start c.run_to_file.new.rows h c.args.number l) ∙ sym c.in-Some.ensures.file;
       };
@@ -67,7 +67,7 @@ returns-clause-err c =
         file = seen;
         is = record {
           unit =
-              has_complete _ _ _ start c.in-Ok.ensures.unit c.in-Ok.ensures.notation c.rows-rows.ensures.files
+              has_complete _ _ _ start c.in-Ok.ensures.unit c.in-Ok.ensures.layout c.rows-rows.ensures.files
               (ap (λ a. a.fixed) c.rows-rows.ensures.start);
           is_file = sym (file_is start c.run_to_file.new.rows h c.args.number l) ∙ sym c.in-Some.ensures.file;
         };

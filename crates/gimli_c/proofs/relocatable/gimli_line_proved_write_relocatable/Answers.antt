@@ -6,7 +6,7 @@ use Rattle.gimli_c.specs.Written.{slots_with}
 use Rattle.gimli_c.proofs.relocatable.gimli_line_proved_write_relocatable.Goals as goal
 
 pub relocatable_of-requires : goal.relocatable_of-requires
-relocatable_of-requires c = (c.in-Ok.ensures.ok c.args.big).built.can
+relocatable_of-requires c = (c.in-Ok.ensures.ok c.args.is_big).built.can
 
 pub returns-then-passes-clause-room : goal.returns-then-passes-clause-room
 returns-then-passes-clause-room c = λ _.
@@ -15,7 +15,7 @@ returns-then-passes-clause-room c = λ _.
     let more = c.passes.ensures.more c.if-passes.true in
     record {
       program = c.in-Ok.made.0;
-      built = (c.in-Ok.ensures.ok c.args.big).built;
+      built = (c.in-Ok.ensures.ok c.args.is_big).built;
       section = c.in-Ok-relocatable_of.section;
       order = c.in-Ok-relocatable_of.ensures.order;
       is_unit = c.in-Ok-relocatable_of.ensures.unit;
@@ -40,7 +40,7 @@ returns-clause-ok c = λ _.
     let fits = c.passes.ensures.fits c.if-passes.false in
     record {
       program = c.in-Ok.made.0;
-      built = (c.in-Ok.ensures.ok c.args.big).built;
+      built = (c.in-Ok.ensures.ok c.args.is_big).built;
       section = c.in-Ok-relocatable_of.section;
       order = c.in-Ok-relocatable_of.ensures.order;
       is_unit = c.in-Ok-relocatable_of.ensures.unit;
@@ -57,17 +57,17 @@ returns-clause-ok c = λ _.
       numbers_are =
           c.copy_numbers.ensures
           ∙ ap (λ (xs : List ℕ). slots_with (numbers_of c.args.encoding.now.version xs) c.args.numbers.now)
-          (c.as_slice.ensures.value ∙ sym (c.in-Ok.ensures.ok c.args.big).ids_are);
+          (c.as_slice.ensures.value ∙ sym (c.in-Ok.ensures.ok c.args.is_big).ids_are);
     }
 
 pub returns-in-Err-clause-cause : goal.returns-in-Err-clause-cause
-returns-in-Err-clause-cause c = λ _ _ s. inl (c.in-Err.ensures.cause c.args.big s)
+returns-in-Err-clause-cause c = λ _ _ s. inl (c.in-Err.ensures.cause c.args.is_big s)
 
 pub returns-in-Err-relocatable_of-clause-cause : goal.returns-in-Err-relocatable_of-clause-cause
 returns-in-Err-relocatable_of-clause-cause c = λ _ _ _. inr (c.in-Err-relocatable_of.e, c.write_status.ensures.number)
 
 pub returns-then-passes-clause-refused : goal.returns-then-passes-clause-refused
-returns-then-passes-clause-refused c = λ s fault. absurd (c.in-Ok.ensures.well c.args.big s fault)
+returns-then-passes-clause-refused c = λ s fault. absurd (c.in-Ok.ensures.well c.args.is_big s fault)
 
 pub returns-clause-refused : goal.returns-clause-refused
-returns-clause-refused c = λ s fault. absurd (c.in-Ok.ensures.well c.args.big s fault)
+returns-clause-refused c = λ s fault. absurd (c.in-Ok.ensures.well c.args.is_big s fault)

@@ -9,7 +9,7 @@ returns g c = λ events given.
     omega (
       arith,
       few_rows events,
-      c.rows_are_bounded.ensures.files program.notation true program.meaning program.meaning.program events given,
+      c.rows_are_bounded.ensures.files program.layout true program.meaning program.meaning.program events given,
       ap (λ (xs : List ℕ). length xs) bytes,
       c.len.ensures,
       c.into_u64-bytes.ensures,

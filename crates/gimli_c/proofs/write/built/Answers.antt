@@ -20,7 +20,7 @@ add_directories-requires c =
     rw c.with_details-program.ensures (can_with c.args.details c.in_ok-start.start c.in_ok-start.ensures.can)
 
 pub returns-clause-ok : goal.returns-clause-ok
-returns-clause-ok c = λ big.
+returns-clause-ok c = λ is_big.
     let between = c.add_directories.new.program in
     let after = c.add_files.new.program in
     let encoding = ap (λ (q : Built). q.encoding) c.in_ok-start.ensures.start ∙ c.in_ok-units.ensures.encoding in
@@ -65,7 +65,7 @@ returns-clause-ok c = λ big.
     }
 
 pub returns-in_err-ids-clause-cause : goal.returns-in_err-ids-clause-cause
-returns-in_err-ids-clause-cause c = λ big.
+returns-in_err-ids-clause-cause c = λ is_big.
     let p = err_from_is_err_and c.from_residual-in_err-ids.result c.from_residual-in_err-ids.ensures.1 in
     let encoding =
     ap (λ (q : Built). q.encoding) c.with_details-program.ensures
@@ -74,7 +74,7 @@ returns-in_err-ids-clause-cause c = λ big.
     rw (p.1, p.2) (λ s. names_refused _ _ _ (ap (λ e. e.version) encoding) (c.in_err-ids.ensures.cause s))
 
 pub returns-in_err-file_ids-clause-cause : goal.returns-in_err-file_ids-clause-cause
-returns-in_err-file_ids-clause-cause c = λ big.
+returns-in_err-file_ids-clause-cause c = λ is_big.
     let p = err_from_is_err_and c.from_residual-in_err-file_ids.result c.from_residual-in_err-file_ids.ensures.1 in
     let started =
     ap (λ (q : Built). q.encoding) c.with_details-program.ensures
@@ -87,7 +87,7 @@ returns-in_err-file_ids-clause-cause c = λ big.
     rw (p.1, p.2) (λ s. files_refused _ _ _ _ (ap (λ e. e.version) encoding) ids (c.in_err-file_ids.ensures.cause s))
 
 pub returns-in_err-add_rows-clause-cause : goal.returns-in_err-add_rows-clause-cause
-returns-in_err-add_rows-clause-cause c = λ big.
+returns-in_err-add_rows-clause-cause c = λ is_big.
     let p = err_from_is_err_and c.from_residual-in_err-add_rows.result c.from_residual-in_err-add_rows.ensures.1 in
     let directories = c.in_ok-ids.ensures.ok.others in
     let files = c.in_ok-file_ids.ensures.ok.others in
@@ -110,9 +110,9 @@ returns-in_err-add_rows-clause-cause c = λ big.
     (c.in_err-add_rows.ensures.cause (ap previous_position none) s))
 
 pub returns-clause-well : goal.returns-clause-well
-returns-clause-well c = λ big.
+returns-clause-well c = λ is_big.
     let h =
-    handed_of c.args.encoding.now big c.args.details c.args.texts.now c.args.directories.now c.args.files.now
+    handed_of c.args.encoding.now is_big c.args.details c.args.texts.now c.args.directories.now c.args.files.now
     c.args.rows.now c.args.symbols.now in
     let given = c.in_ok-units.ensures in
     let directories = c.in_ok-ids.ensures.ok.others in

@@ -7,17 +7,17 @@ use Rattle.gimli_c.proofs.Handings.{appended, built_source}
 use Rattle.gimli_c.proofs.write.gimli_line_proved_write.Goals as goal
 
 pub section_of-requires-clause-can : goal.section_of-requires-clause-can
-section_of-requires-clause-can c = (c.in-Ok.ensures.ok c.args.big).built.can
+section_of-requires-clause-can c = (c.in-Ok.ensures.ok c.args.is_big).built.can
 
 pub section_of-requires-clause-source : goal.section_of-requires-clause-source
-section_of-requires-clause-source c = built_source _ c.in-Ok.made.0 (c.in-Ok.ensures.ok c.args.big).built
+section_of-requires-clause-source c = built_source _ c.in-Ok.made.0 (c.in-Ok.ensures.ok c.args.is_big).built
 
 pub returns-then-bytes-unit-clause-room : goal.returns-then-bytes-unit-clause-room
 returns-then-bytes-unit-clause-room c = λ _.
     let same = ap (λ (xs : List ℕ). length xs) c.slice-bytes.ensures in
     record {
       program = c.in-Ok.made.0;
-      built = (c.in-Ok.ensures.ok c.args.big).built;
+      built = (c.in-Ok.ensures.ok c.args.is_big).built;
       bytes = c.in-Ok-section_of.section.bytes;
       is_unit = record {
         unit = appended _ _ c.in-Ok-section_of.ensures.unit;
@@ -32,7 +32,7 @@ returns-clause-ok c = λ _.
     let same = ap (λ (xs : List ℕ). length xs) c.slice-bytes.ensures in
     record {
       program = c.in-Ok.made.0;
-      built = (c.in-Ok.ensures.ok c.args.big).built;
+      built = (c.in-Ok.ensures.ok c.args.is_big).built;
       bytes = c.in-Ok-section_of.section.bytes;
       is_unit = record {
         unit = appended _ _ c.in-Ok-section_of.ensures.unit;
@@ -44,11 +44,11 @@ returns-clause-ok c = λ _.
       numbers_are =
           c.copy_numbers.ensures
           ∙ ap (λ (xs : List ℕ). slots_with (numbers_of c.args.encoding.now.version xs) c.args.numbers.now)
-          (c.as_slice.ensures.value ∙ sym (c.in-Ok.ensures.ok c.args.big).ids_are);
+          (c.as_slice.ensures.value ∙ sym (c.in-Ok.ensures.ok c.args.is_big).ids_are);
     }
 
 pub returns-in-Err-clause-cause : goal.returns-in-Err-clause-cause
-returns-in-Err-clause-cause c = λ _ _ s. of_handed (c.in-Err.ensures.cause c.args.big s)
+returns-in-Err-clause-cause c = λ _ _ s. of_handed (c.in-Err.ensures.cause c.args.is_big s)
 
 pub returns-in-Err-section_of-clause-cause : goal.returns-in-Err-section_of-clause-cause
 returns-in-Err-section_of-clause-cause c = λ _ _ s.
@@ -57,7 +57,7 @@ returns-in-Err-section_of-clause-cause c = λ _ _ s.
       | inl memory ↦ absurd (s (number ∙ ap write_status memory))
       | inr first ↦ of_unit (record {
         program = c.in-Ok.made.0;
-        built = (c.in-Ok.ensures.ok c.args.big).built;
+        built = (c.in-Ok.ensures.ok c.args.is_big).built;
         cause = c.in-Err-section_of.e;
         first = first;
         status_is = number;
@@ -66,10 +66,10 @@ returns-in-Err-section_of-clause-cause c = λ _ _ s.
 
 pub returns-then-bytes-unit-clause-refused : goal.returns-then-bytes-unit-clause-refused
 returns-then-bytes-unit-clause-refused c = λ s cause.
-    absurd (no_cause _ c.in-Ok.made.0 s (c.in-Ok.ensures.well c.args.big) (c.in-Ok.ensures.ok c.args.big).built
+    absurd (no_cause _ c.in-Ok.made.0 s (c.in-Ok.ensures.well c.args.is_big) (c.in-Ok.ensures.ok c.args.is_big).built
     c.in-Ok-section_of.ensures.no_cause cause)
 
 pub returns-clause-refused : goal.returns-clause-refused
 returns-clause-refused c = λ s cause.
-    absurd (no_cause _ c.in-Ok.made.0 s (c.in-Ok.ensures.well c.args.big) (c.in-Ok.ensures.ok c.args.big).built
+    absurd (no_cause _ c.in-Ok.made.0 s (c.in-Ok.ensures.well c.args.is_big) (c.in-Ok.ensures.ok c.args.is_big).built
     c.in-Ok-section_of.ensures.no_cause cause)

@@ -1,6 +1,6 @@
 use Rattle.std.proofs.Common.{◌≡◌, refl, ap, ◌∙◌}
 use Rattle.std.proofs.lemmas.Result.{err_from_is_err_and}
-use Rattle.gimli_core.specs.Order.{is_big}
+use Rattle.gimli_core.specs.Order.{is_big_endian}
 use Rattle.gimli_bytes.specs.Hand.{plain}
 use Rattle.gimli_bytes.specs.Texts.{texts_in}
 use Rattle.gimli_build.specs.Unit.{unit_bytes}
@@ -13,19 +13,19 @@ returns-clause-reads_back c =
     let p = c.args.program.now in
     let empty = c.from-section.ensures ∙ c.new.ensures in
     let gained = rw (c.default-strings.ensures, c.default-line_strings.ensures) at c.in_ok-write.ensures.tables in
-    read_back (is_big c.from-section.result.0.endian) c.args.big p
+    read_back (is_big_endian c.from-section.result.0.endian) c.args.is_big p
     (texts_in c.write.new.strings c.write.new.line_strings) c.from-section.result.0.bytes
     c.write.new.w.0.bytes
-    (ap (λ s. is_big s.endian) empty ∙ c.order.ensures) (ap (λ s. s.bytes) empty) c.requires.source gained
+    (ap (λ s. is_big_endian s.endian) empty ∙ c.order.ensures) (ap (λ s. s.bytes) empty) c.requires.source gained
     (c.in_ok-write.ensures.reads_back refl)
 
 pub returns-clause-no_cause : goal.returns-clause-no_cause
 returns-clause-no_cause c =
-    let big = is_big c.from-section.result.0.endian in
-    let order : big ≡ c.args.big = ap (λ s. is_big s.endian) (c.from-section.ensures ∙ c.new.ensures)
+    let is_big = is_big_endian c.from-section.result.0.endian in
+    let order : is_big ≡ c.args.is_big = ap (λ s. is_big_endian s.endian) (c.from-section.ensures ∙ c.new.ensures)
     ∙ c.order.ensures in
     let unit =
-    unit_bytes plain big c.encoding.result c.args.program.now
+    unit_bytes plain is_big c.encoding.result c.args.program.now
     (texts_in c.default-strings.result c.default-line_strings.result) in
     let none = no-cause _ unit _ _ c.in_ok-write.ensures.cause (c.in_ok-write.ensures.writes.ok refl) in
     rw (order, c.encoding.ensures.encoding, c.default-strings.ensures, c.default-line_strings.ensures) at none
@@ -33,11 +33,11 @@ returns-clause-no_cause c =
 pub returns-in_err-write-clause-err : goal.returns-in_err-write-clause-err
 returns-in_err-write-clause-err c =
     let q = err_from_is_err_and c.from_residual.result c.from_residual.ensures.1 in
-    let big = is_big c.from-section.result.0.endian in
-    let order : big ≡ c.args.big = ap (λ s. is_big s.endian) (c.from-section.ensures ∙ c.new.ensures)
+    let is_big = is_big_endian c.from-section.result.0.endian in
+    let order : is_big ≡ c.args.is_big = ap (λ s. is_big_endian s.endian) (c.from-section.ensures ∙ c.new.ensures)
     ∙ c.order.ensures in
     let unit =
-    unit_bytes plain big c.encoding.result c.args.program.now
+    unit_bytes plain is_big c.encoding.result c.args.program.now
     (texts_in c.default-strings.result c.default-line_strings.result) in
     let why =
     refused-for _ unit c.in_err-write.field-0.0 c.in_err-write.ensures.cause

@@ -1,5 +1,5 @@
 use Rattle.std.proofs.Common.{◌≡◌, length}
-use Rattle.gimli_core.specs.Notation.{Notation}
+use Rattle.gimli_core.specs.Layout.{layout_of}
 use Rattle.gimli_compilation.specs.Value.{no_attributes}
 use Rattle.gimli_compilation.specs.inside.Value.{attributes_seen}
 use Rattle.gimli_compilation.specs.inside.AbbreviationReading.{listed, IsListed}
@@ -8,15 +8,15 @@ use Rattle.gimli_compilation.proofs.attributes.parse_attributes.Given as goal
 
 abbrev pub invariant-loop-specification : goal.invariant-loop-specification
 invariant-loop-specification g l =
-    let notation : Notation = record { big = g.R.Reader.big l.initial.input; limit = g.R.Offset.ReaderOffset.limit } in
+    let layout = layout_of (g.R.Reader.is_big l.initial.input) g.R.Offset.ReaderOffset.limit in
     record {
-      so_far : attributes_at notation l.encoding (attributes_seen g.R.Reader.bytes l.attributes)
+      so_far : attributes_at layout l.encoding (attributes_seen g.R.Reader.bytes l.attributes)
           (listed (g.R.Reader.bytes l.specifications))
           (g.R.Reader.bytes l.input)
-          ≡ attributes_at notation l.encoding no_attributes (listed (g.R.Reader.bytes l.initial.specifications))
+          ≡ attributes_at layout l.encoding no_attributes (listed (g.R.Reader.bytes l.initial.specifications))
           (g.R.Reader.bytes l.initial.input);
       closed : IsListed (g.R.Reader.bytes l.specifications);
-      order : g.R.Reader.big l.input ≡ g.R.Reader.big l.initial.input;
+      order : g.R.Reader.is_big l.input ≡ g.R.Reader.is_big l.initial.input;
     }
 
 abbrev pub decreases-loop-specification : goal.decreases-loop-specification

@@ -26,9 +26,9 @@ same : (p q : Value × Option Bool) → p ≡ q → (a b : ℕ) → a ≡ b → 
     → (m n : List ℕ) → m ≡ n → (s t : Option (Value × Option Bool)) → s ≡ t → seen_of p a c e m s ≡ seen_of q b d f n t
 same p q e1 a b e2 c d e3 e f e4 m n e5 s t e6 = rw (e1, e2, e3, e4, e5, e6) refl
 
-module _ {R Offset Endian : Type 0} (bytes : R → List ℕ) (big : R → Bool) (number : Offset → ℕ) where
+module _ {R Offset Endian : Type 0} (bytes : R → List ℕ) (is_big : R → Bool) (number : Offset → ℕ) where
   abbrev by : AttributeValue R Offset Endian → Value × Option Bool
-  by = value_by bytes big number
+  by = value_by bytes is_big number
 
   abbrev SameParts : (x y : FileEntry R Offset Endian) → Type 0
   SameParts x y =
@@ -39,11 +39,11 @@ module _ {R Offset Endian : Type 0} (bytes : R → List ℕ) (big : R → Bool) 
 
   rebuilt : (f : FileEntry R Offset Endian) (s : Option (AttributeValue R Offset Endian)) → f.source ≡ s
       → seen_of (by f.path_name) f.directory_index f.timestamp f.size f.md5 (option_map by s)
-      ≡ file_by bytes big number f
+      ≡ file_by bytes is_big number f
   rebuilt f (Some v) e = rw e refl
   rebuilt f None e = rw e refl
 
-  joined : (x y : FileEntry R Offset Endian) → SameParts x y → file_by bytes big number x ≡ file_by bytes big number y
+  joined : (x y : FileEntry R Offset Endian) → SameParts x y → file_by bytes is_big number x ≡ file_by bytes is_big number y
   joined x y p = rw (← rebuilt x x.source refl, ← rebuilt y y.source refl)
       (same (by x.path_name) (by y.path_name) p.0 x.directory_index y.directory_index p.1.0 x.timestamp y.timestamp
       p.1.1.0 x.size y.size p.1.1.1.0 x.md5 y.md5
@@ -54,10 +54,10 @@ module _ {R Offset Endian : Type 0} (bytes : R → List ℕ) (big : R → Bool) 
   sources (Some v) = refl
   sources None = refl
 
-  parted : (x y : FileEntry R Offset Endian) → file_by bytes big number x ≡ file_by bytes big number y → SameParts x y
+  parted : (x y : FileEntry R Offset Endian) → file_by bytes is_big number x ≡ file_by bytes is_big number y → SameParts x y
   parted x y e =
-      let source : zipped (file_by bytes big number x).0.source (file_by bytes big number x).1.1
-      ≡ zipped (file_by bytes big number y).0.source (file_by bytes big number y).1.1 = ap
+      let source : zipped (file_by bytes is_big number x).0.source (file_by bytes is_big number x).1.1
+      ≡ zipped (file_by bytes is_big number y).0.source (file_by bytes is_big number y).1.1 = ap
       (λ (z : File × FileOrders). zipped z.0.source z.1.1) e in (
         ap (λ (z : File × FileOrders). (z.0.path_name, z.1.0)) e,
         (

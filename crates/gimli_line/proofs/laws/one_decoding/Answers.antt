@@ -8,10 +8,10 @@ use Rattle.gimli_line.proofs.laws.one_decoding.Goals as goal
 pub returns : goal.returns
 returns c = record {
   some =
-      λ notation h bytes.
-      ((decoded_at notation h bytes).0, (decoded_at notation h bytes).1, is_decoded notation h bytes);
-  one = λ notation h bytes list other end finish first second.
+      λ layout h bytes.
+      ((decoded_at layout h bytes).0, (decoded_at layout h bytes).1, is_decoded layout h bytes);
+  one = λ layout h bytes list other end finish first second.
       let same =
-      one_decoding notation h bytes list end first ∙ sym (one_decoding notation h bytes other finish second) in
+      one_decoding layout h bytes list end first ∙ sym (one_decoding layout h bytes other finish second) in
       (ap (λ (p : List Ins × Option Error). p.0) same, ap (λ (p : List Ins × Option Error). p.1) same);
 }

@@ -3,7 +3,7 @@ use Rattle.gimli_line.proofs.laws.rows_are_bounded.Goals as goal
 
 pub returns : goal.returns
 returns c = record {
-  events = λ notation h bytes events given. events_bounded notation h bytes events given;
-  files = λ notation appends h bytes events given. with_files_bounded notation h appends bytes events given;
+  events = λ layout h bytes events given. events_bounded layout h bytes events given;
+  files = λ layout appends h bytes events given. with_files_bounded layout h appends bytes events given;
   left = left_bounded;
 }

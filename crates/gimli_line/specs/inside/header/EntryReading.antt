@@ -1,13 +1,13 @@
 -- What is taken of an entry of version 5, value by value.
 use Rattle.std.specs.Prelude.{ℕ, nat_eq, if◌then◌else◌, List, [], ◌∷◌, Option, Some, None, Ok}
-use Rattle.gimli_core.specs.Notation.{Notation}
+use Rattle.gimli_core.specs.Layout.{OrderAndLimit}
 use Rattle.gimli_core.specs.Values.{Value, udata_value}
 use Rattle.gimli_core.specs.Reading.{Read, ◌>>=◌}
 use Rattle.gimli_core.specs.declared.common.Format.{Format}
 use Rattle.gimli_line.specs.LineNumbers.{DW_LNCT_path, DW_LNCT_directory_index, DW_LNCT_timestamp}
 use Rattle.gimli_line.specs.LineNumbers.{DW_LNCT_size, DW_LNCT_MD5, DW_LNCT_LLVM_source}
 use Rattle.gimli_line.specs.header.File.{File}
-use Rattle.gimli_line.specs.header.HeaderGrammar.{Entry, digest}
+use Rattle.gimli_line.specs.header.HeaderGrammar.{TableEntry, digest}
 use Rattle.gimli_line.specs.inside.header.FormReading.{form_at}
 use Rattle.gimli_line.specs.declared.header.file_entry.FileEntryFormat.{FileEntryFormat}
 
@@ -29,15 +29,15 @@ file_with file content value = record {
 }
 
 -- the values of an entry one by one, from what stands at first
-abbrev pub fold_of : {A : Type 0} → (A → ℕ → Value → A) → A → Entry → A
+abbrev pub fold_of : {A : Type 0} → (A → ℕ → Value → A) → A → TableEntry → A
 fold_of step first [] = first
 fold_of step first (v ∷ entry) = fold_of step (step first v.0 v.1) entry
 
-module _ (notation : Notation) (format : Format) where
+module _ (layout : OrderAndLimit) (format : Format) where
   -- the same as they are read
   abbrev pub folded_at : {A : Type 0} → (A → ℕ → Value → A) → A → List FileEntryFormat → List ℕ
       → Read A
   folded_at step first [] bytes = (Ok first, bytes)
   folded_at step first (f ∷ formats) bytes =
-      form_at notation format f.form.0 bytes >>= λ value rest.
+      form_at layout format f.form.0 bytes >>= λ value rest.
       folded_at step (step first f.content_type.0 value) formats rest

@@ -1,6 +1,6 @@
 -- What is taken of the values of tables of version 5, and what is left.
 use Rattle.std.specs.Prelude.{ℕ, List, drop, Some, None, Ok, Err}
-use Rattle.gimli_core.specs.Notation.{Notation}
+use Rattle.gimli_core.specs.Layout.{OrderAndLimit}
 use Rattle.gimli_core.specs.Values.{Value}
 use Rattle.gimli_core.specs.Reading.{Read, ◌>>=◌, split_at, text_at, number_at, unsigned_at}
 use Rattle.gimli_core.specs.Reading.{signed_at, word_at}
@@ -16,21 +16,21 @@ use Rattle.gimli_line.specs.header.FormReading.{offset_at}
 abbrev pub block_at : ℕ → List ℕ → Read Value
 block_at n bytes = split_at n bytes >>= λ xs rest. (Ok (Block xs), rest)
 
-module _ (notation : Notation) (format : Format) where
+module _ (layout : OrderAndLimit) (format : Format) where
   abbrev pub shape_at : Shape → List ℕ → Read Value
   shape_at (fixed size make) bytes =
-      number_at notation.big size bytes >>= λ n rest. (Ok (make n), rest)
+      number_at layout.is_big size bytes >>= λ n rest. (Ok (make n), rest)
   shape_at (three_bytes make) bytes =
-      offset_at notation.limit (number_at notation.big 3) bytes >>= λ n rest. (Ok (make n), rest)
+      offset_at layout.limit (number_at layout.is_big 3) bytes >>= λ n rest. (Ok (make n), rest)
   shape_at (word_offset make) bytes =
-      word_at notation.big notation.limit format bytes >>= λ n rest. (Ok (make n), rest)
+      word_at layout.is_big layout.limit format bytes >>= λ n rest. (Ok (make n), rest)
   shape_at (leb make) bytes = unsigned_at bytes >>= λ n rest. (Ok (make n), rest)
   shape_at (signed_leb make) bytes = signed_at bytes >>= λ z rest. (Ok (make z), rest)
   shape_at (leb_offset make) bytes =
-      offset_at notation.limit unsigned_at bytes >>= λ n rest. (Ok (make n), rest)
+      offset_at layout.limit unsigned_at bytes >>= λ n rest. (Ok (make n), rest)
   shape_at (block size) bytes = block_at size bytes
-  shape_at (counted size) bytes = number_at notation.big size bytes >>= block_at
-  shape_at leb_counted bytes = offset_at notation.limit unsigned_at bytes >>= block_at
+  shape_at (counted size) bytes = number_at layout.is_big size bytes >>= block_at
+  shape_at leb_counted bytes = offset_at layout.limit unsigned_at bytes >>= block_at
   shape_at string bytes = text_at bytes >>= λ name rest. (Ok (String name), rest)
 
   -- a value in a form

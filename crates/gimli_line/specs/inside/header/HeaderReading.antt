@@ -2,7 +2,7 @@
 use Rattle.std.specs.Prelude.{ℕ, ◌-◌, List, [], ◌∷◌, map, min, count_by, Bool, not, ◌&&◌, nat_eq}
 use Rattle.std.specs.Prelude.{nat_le, if◌then◌else◌, option_map, Ok, Err}
 use Rattle.std.specs.Int.{w8, cast_signed}
-use Rattle.gimli_core.specs.Notation.{Notation}
+use Rattle.gimli_core.specs.Layout.{OrderAndLimit}
 use Rattle.gimli_core.specs.Values.{Value}
 use Rattle.gimli_core.specs.Reading.{Read, ◌>>=◌, byte_at, split_at, text_at, number_at}
 use Rattle.gimli_core.specs.Reading.{unsigned_at, unsigned_16_at, word_at, initial_length_at}
@@ -28,8 +28,8 @@ use Rattle.gimli_line.specs.inside.header.Outcome.{read_map}
 use Rattle.gimli_line.specs.inside.header.TableReading.{list_to_zero_at}
 use Rattle.gimli_line.specs.inside.header.FormReading.{form_at}
 use Rattle.gimli_line.specs.LineNumbers.{DW_LNCT_path}
-use Rattle.gimli_line.specs.header.HeaderGrammar.{Entry, is_content, path_of, file_of_entry}
-use Rattle.gimli_line.specs.header.HeaderGrammar.{Opening, handed_value}
+use Rattle.gimli_line.specs.header.HeaderGrammar.{TableEntry, is_content, path_of, file_of_entry}
+use Rattle.gimli_line.specs.header.HeaderGrammar.{HeaderOpening, handed_value}
 use Rattle.gimli_line.specs.declared.header.file_entry.FileEntryFormat.{FileEntryFormat}
 use Rattle.gimli_line.specs.header.HeaderReading.{plain_file_at}
 
@@ -60,15 +60,15 @@ formats_at bytes =
     if nat_eq (count_by (is_content DW_LNCT_path) formats) 1 then (Ok formats, rest)
     else (Err MissingFileEntryFormatPath, rest)
 
-module _ (notation : Notation) (format : Format) where
+module _ (layout : OrderAndLimit) (format : Format) where
   -- a value for each format
-  abbrev pub entry_at : List FileEntryFormat → List ℕ → Read Entry
+  abbrev pub entry_at : List FileEntryFormat → List ℕ → Read TableEntry
   entry_at [] bytes = (Ok [], bytes)
   entry_at (f ∷ formats) bytes =
-      form_at notation format f.form.0 bytes >>= λ value rest.
+      form_at layout format f.form.0 bytes >>= λ value rest.
       entry_at formats rest >>= λ values rest. (Ok ((f.content_type.0, value) ∷ values), rest)
 
-  unfoldable pub entries_at : List FileEntryFormat → List ℕ → Read (List Entry)
+  unfoldable pub entries_at : List FileEntryFormat → List ℕ → Read (List TableEntry)
   entries_at formats bytes =
       unsigned_at bytes >>= λ count rest. times_at count (entry_at formats) rest
 
@@ -85,14 +85,14 @@ module _ (notation : Notation) (format : Format) where
   abbrev pub file_entries_at : List FileEntryFormat → List ℕ → Read (List File)
   file_entries_at formats bytes = read_map (map file_of_entry) (entries_at formats bytes)
 
-  unfoldable pub table_at : List ℕ → Read (List FileEntryFormat × List Entry)
+  unfoldable pub table_at : List ℕ → Read (List FileEntryFormat × List TableEntry)
   table_at bytes =
       formats_at bytes >>= λ formats rest. entries_at formats rest >>= λ entries rest.
       (Ok (formats, entries), rest)
 
 unfoldable pub version_at : Bool → List ℕ → Read ℕ
-version_at big bytes =
-    number_at big 2 bytes >>= λ version rest.
+version_at is_big bytes =
+    number_at is_big 2 bytes >>= λ version rest.
     if nat_le 2 version && nat_le version 5 then (Ok version, rest)
     else (Err (UnknownVersion version), rest)
 
@@ -107,11 +107,11 @@ abbrev pub size_at : ℕ → ℕ → List ℕ → Read ℕ
 size_at version handed bytes =
     if nat_le version 4 then (Ok handed, bytes) else own_address_size_at bytes
 
-unfoldable pub opening_at : Notation → ℕ → Format → List ℕ → Read Opening
-opening_at notation handed format bytes =
-    version_at notation.big bytes >>= λ version rest.
+unfoldable pub opening_at : OrderAndLimit → ℕ → Format → List ℕ → Read HeaderOpening
+opening_at layout handed format bytes =
+    version_at layout.is_big bytes >>= λ version rest.
     size_at version handed rest >>= λ address_size rest.
-    word_at notation.big notation.limit format rest >>= λ header_length rest.
+    word_at layout.is_big layout.limit format rest >>= λ header_length rest.
     split_at header_length rest >>= λ fields rest. (
       Ok (record {
         encoding = record { address_size = address_size; format = format; version = version };
@@ -152,27 +152,27 @@ parameters_at encoding bytes =
     )
 
 -- the items of a table of a version: plain ones up to version 4, else seen of its entries
-unfoldable pub table_of : {B : Type 0} → (List ℕ → Read (List B)) → (Entry → B) → Notation
+unfoldable pub table_of : {B : Type 0} → (List ℕ → Read (List B)) → (TableEntry → B) → OrderAndLimit
     → Encoding
     → List ℕ → Read (List FileEntryFormat × List B)
-table_of plain view notation encoding bytes =
+table_of plain view layout encoding bytes =
     if nat_le encoding.version 4 then (plain bytes >>= λ items rest. (Ok ([], items), rest))
     else (formats_at bytes >>= λ formats rest.
-    read_map (map view) (entries_at notation encoding.format formats rest) >>= λ items rest.
+    read_map (map view) (entries_at layout encoding.format formats rest) >>= λ items rest.
     (Ok (formats, items), rest))
 
-abbrev pub directories_at : Notation → Encoding → List ℕ → Read (List FileEntryFormat × List Value)
+abbrev pub directories_at : OrderAndLimit → Encoding → List ℕ → Read (List FileEntryFormat × List Value)
 directories_at = table_of (λ bytes. read_map (map String) (paths_at bytes)) path_of
 
-abbrev pub file_names_at : Notation → Encoding → List ℕ → Read (List FileEntryFormat × List File)
+abbrev pub file_names_at : OrderAndLimit → Encoding → List ℕ → Read (List FileEntryFormat × List File)
 file_names_at = table_of files_at file_of_entry
 
-unfoldable pub fields_at : Notation → UnitEntry → ℕ → Opening → List ℕ → List ℕ → Read Header
-fields_at notation unit_entry unit opening program bytes =
+unfoldable pub fields_at : OrderAndLimit → UnitEntry → ℕ → HeaderOpening → List ℕ → List ℕ → Read Header
+fields_at layout unit_entry unit opening program bytes =
     parameters_at opening.encoding bytes >>= λ parameters rest.
     split_at (parameters.opcode_base - 1) rest >>= λ counts rest.
-    directories_at notation opening.encoding rest >>= λ directories rest.
-    file_names_at notation opening.encoding rest >>= λ files rest. (
+    directories_at layout opening.encoding rest >>= λ directories rest.
+    file_names_at layout opening.encoding rest >>= λ files rest. (
       Ok (record {
         parameters = parameters;
         unit_length = unit;
@@ -191,11 +191,11 @@ fields_at notation unit_entry unit opening program bytes =
       rest,
     )
 
-unfoldable pub header_at : Notation → UnitEntry → List ℕ → Read Header
-header_at notation unit_entry bytes =
-    initial_length_at notation.big notation.limit bytes >>= λ unit rest.
+unfoldable pub header_at : OrderAndLimit → UnitEntry → List ℕ → Read Header
+header_at layout unit_entry bytes =
+    initial_length_at layout.is_big layout.limit bytes >>= λ unit rest.
     split_at unit.0 rest >>= λ inside rest.
-    within_at inside (opening_at notation unit_entry.address_size unit.1) rest >>= λ opened rest.
-    within_at opened.0.fields (fields_at notation unit_entry unit.0 opened.0 opened.1) rest
+    within_at inside (opening_at layout unit_entry.address_size unit.1) rest >>= λ opened rest.
+    within_at opened.0.fields (fields_at layout unit_entry unit.0 opened.0 opened.1) rest
     >>= λ fields rest.
     (Ok fields.0, rest)

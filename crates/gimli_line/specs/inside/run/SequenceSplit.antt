@@ -4,12 +4,12 @@ use Rattle.std.specs.Option.{unwrap_or}
 use Rattle.gimli_line.specs.declared.run.row.LineRow.{LineRow}
 use Rattle.gimli_line.specs.run.Unread.{Unread}
 use Rattle.gimli_line.specs.inside.run.Unread.{front_of}
-use Rattle.gimli_line.specs.run.Sequences.{Part}
+use Rattle.gimli_line.specs.run.Sequences.{Sequence}
 
 -- the sequences so far; and of the one that is open, the instructions from its start on and the
 -- address of its first row
 pub record SequenceSplit : Type 0 where
-  pub parts : List Part
+  pub parts : List Sequence
   pub unread : Unread
   pub start : Option ℕ
 

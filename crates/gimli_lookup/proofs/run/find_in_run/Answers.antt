@@ -26,12 +26,12 @@ returns-in_err-row-clause-err g c =
     rw (p.1, p.2) (elim fault [
       | inl memory ↦ inr (
         memory.0,
-        defines program.meaning (source_of g.R.Reader.big g.R.Offset.ReaderOffset.number program) first c.rows.rows new
+        defines program.meaning (source_of g.R.Reader.is_big g.R.Offset.ReaderOffset.number program) first c.rows.rows new
             c.rows-rows.ensures.start
             i.at_end i.files c.next_row.follows.holds-at-none.0.run.appends memory.1,
       )
       | inr next ↦
-          inl (first_fault program.notation program.meaning (events_left first) (events_left c.rows.rows) i.passed.0
+          inl (first_fault program.layout program.meaning (events_left first) (events_left c.rows.rows) i.passed.0
           c.rows-rows.ensures.events i.passed.1
           new.files (events_left new) c.in_err-row.field-0.0 next.0)
     ])
@@ -46,7 +46,7 @@ returns-in-None-clause-ok g c =
       are = record {
         rows = i.0;
         given =
-            run_ended program.notation program.meaning (events_left c.rows-rows.result) (events_left c.rows.rows) i.0
+            run_ended program.layout program.meaning (events_left c.rows-rows.result) (events_left c.rows.rows) i.0
             c.rows-rows.ensures.events i.1 next.0;
         cut = i.2.cut;
       };
@@ -63,7 +63,7 @@ rows-preserved g c =
     record {
       passed = (
         i.passed.0 ++ c.in-Some.row.now ∷ [],
-        run_goes program.notation program.meaning (events_left c.rows-rows.result) (events_left c.rows.rows) i.passed.0
+        run_goes program.layout program.meaning (events_left c.rows-rows.result) (events_left c.rows.rows) i.passed.0
             c.rows-rows.ensures.events i.passed.1
             c.in-Some.row.now _ (events_left new) next.0,
         c.after-search.ensures i.passed.0 i.passed.2,

@@ -22,7 +22,7 @@ units-preserved g c =
       same_entry = c.in_ok-next.ensures.entry;
       unit = rw c.in-Some.is at c.in_ok-next.ensures.unit;
       refusal = rw c.in-Some.is at c.in_ok-next.ensures.refusal;
-      notation = rw c.in-Some.is at c.in_ok-next.ensures.notation;
+      layout = rw c.in-Some.is at c.in_ok-next.ensures.layout;
     } in
     let unit = c.in_ok-unit.unit in
     let size : c.len.result ≡ length c.units.units.items = search rules in
@@ -41,7 +41,7 @@ returns-clause-ok g c =
     let none = rw c.in_default.is at c.in_ok-next.ensures.next in
     let walk = c.units-walk in
     let offsets =
-    subst (λ (s : Unread). AreUnits s.notation 0 s.bytes walk.result.offsets) (sym walk.ensures.section)
+    subst (λ (s : Unread). AreUnits s.layout 0 s.bytes walk.result.offsets) (sym walk.ensures.section)
     walk.ensures.offsets in
     let rows =
     subst

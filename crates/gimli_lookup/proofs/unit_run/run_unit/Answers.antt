@@ -19,10 +19,10 @@ returns-clause-kept g c =
     subst (λ (from : SequenceCut). AreTaken old new fault from c.take_rows.new.cut) c.new-cut.ensures
     c.in_ok-fault.ensures.ok in
     subst (λ (kept : List (List LineRow)).
-    IsKept c.args.program.notation c.args.lowest c.args.program.meaning (header_of new) fault kept)
+    IsKept c.args.program.layout c.args.lowest c.args.program.meaning (header_of new) fault kept)
     (sym c.into_parts.ensures)
     (is_kept c.args.lowest c.args.program.meaning
-    (source_of g.R.Reader.big g.R.Offset.ReaderOffset.number c.args.program)
+    (source_of g.R.Reader.is_big g.R.Offset.ReaderOffset.number c.args.program)
     old new fault c.take_rows.new.cut c.rows-run.ensures.start c.rows-run.ensures.made c.rows-run.ensures.files taken)
 
 pub returns-clause-run : goal.returns-clause-run

@@ -11,7 +11,7 @@ returns-in-Ok-None-clause-ok g c =
 pub returns-in-Err-clause-err : goal.returns-in-Err-clause-err
 returns-in-Err-clause-err g c =
     let fault = rw c.in-Err.is at c.next_row.follows.holds-at-none.1 in
-    run_refused c.args.program.notation c.args.program.meaning (events_left c.rows-rows.result) c.rows.rows
+    run_refused c.args.program.layout c.args.program.meaning (events_left c.rows-rows.result) c.rows.rows
     c.next_row.follows.lender-at-none
     c.rows.answers.items c.in-Err.e c.from_read.result
     c.rows-rows.ensures.events c.rows.invariant fault c.from_read.ensures.memory c.from_read.ensures.other

@@ -8,7 +8,7 @@ pub returns-in_err-sections-clause-err : goal.returns-in_err-sections-clause-err
 returns-in_err-sections-clause-err g c =
     let p = err_from_is_err_and c.from_residual.result c.from_residual.ensures.1 in
     let lt = subst (λ (xs : List ℕ). length xs < 2 ^ 64) c.slice-bytes.ensures c.slice-bytes.type_inv.0 in
-    rw p.1 (unread_refused (g.E.Endianity.big c.args.section.now.endian) c.args.program.now
+    rw p.1 (unread_refused (g.E.Endianity.is_big c.args.section.now.endian) c.args.program.now
     (texts_in c.args.strings.now c.args.line_strings.now)
     c.args.section.now.bytes
     c.args.offset.0 c.requires.unit lt c.in_err-sections.ensures.held p.0 (p.2 ∙ c.in_err-sections.ensures.err))
@@ -16,21 +16,21 @@ returns-in_err-sections-clause-err g c =
 pub read_section-requires-clause-unit : goal.read_section-requires-clause-unit
 read_section-requires-clause-unit g c =
     let lt = subst (λ xs. length xs < 2 ^ 64) c.slice-bytes.ensures c.slice-bytes.type_inv.0 in
-    can_read (g.E.Endianity.big c.args.section.now.endian) (g.E.Endianity.big c.endian-endian.result) c.args.program.now
+    can_read (g.E.Endianity.is_big c.args.section.now.endian) (g.E.Endianity.is_big c.endian-endian.result) c.args.program.now
     (texts_in c.args.strings.now c.args.line_strings.now) c.args.section.now.bytes c.slice-bytes.result.now
     c.args.offset.0 c.encoding.result.address_size c.working_directory.result.now c.in_ok-sections.sections
-    (ap g.E.Endianity.big c.endian-endian.ensures) c.slice-bytes.ensures
+    (ap g.E.Endianity.is_big c.endian-endian.ensures) c.slice-bytes.ensures
     (ap (λ e. e.address_size) c.encoding.ensures.encoding) c.working_directory.ensures
     c.in_ok-sections.ensures.ok c.requires.unit lt c.in_ok-sections.ensures.held
 
 pub returns-clause-ok : goal.returns-clause-ok
 returns-clause-ok g c =
     let lt = subst (λ xs. length xs < 2 ^ 64) c.slice-bytes.ensures c.slice-bytes.type_inv.0 in
-    program_answered (g.E.Endianity.big c.args.section.now.endian) (g.E.Endianity.big c.endian-endian.result)
+    program_answered (g.E.Endianity.is_big c.args.section.now.endian) (g.E.Endianity.is_big c.endian-endian.result)
     c.args.program.now
     (texts_in c.args.strings.now c.args.line_strings.now) c.args.section.now.bytes c.slice-bytes.result.now
     c.args.offset.0 c.encoding.result.address_size c.working_directory.result.now c.in_ok-sections.sections
-    (ap g.E.Endianity.big c.endian-endian.ensures) c.slice-bytes.ensures
+    (ap g.E.Endianity.is_big c.endian-endian.ensures) c.slice-bytes.ensures
     (ap (λ e. e.address_size) c.encoding.ensures.encoding) c.working_directory.ensures
     c.in_ok-sections.ensures.ok c.requires.unit lt c.in_ok-sections.ensures.held
     _ c.read_section.ensures.ok
@@ -38,11 +38,11 @@ returns-clause-ok g c =
 pub returns-clause-err : goal.returns-clause-err
 returns-clause-err g c =
     let lt = subst (λ xs. length xs < 2 ^ 64) c.slice-bytes.ensures c.slice-bytes.type_inv.0 in
-    program_refused (g.E.Endianity.big c.args.section.now.endian) (g.E.Endianity.big c.endian-endian.result)
+    program_refused (g.E.Endianity.is_big c.args.section.now.endian) (g.E.Endianity.is_big c.endian-endian.result)
     c.args.program.now
     (texts_in c.args.strings.now c.args.line_strings.now) c.args.section.now.bytes c.slice-bytes.result.now
     c.args.offset.0 c.encoding.result.address_size c.working_directory.result.now c.in_ok-sections.sections
-    (ap g.E.Endianity.big c.endian-endian.ensures) c.slice-bytes.ensures
+    (ap g.E.Endianity.is_big c.endian-endian.ensures) c.slice-bytes.ensures
     (ap (λ e. e.address_size) c.encoding.ensures.encoding) c.working_directory.ensures
     c.in_ok-sections.ensures.ok c.requires.unit lt c.in_ok-sections.ensures.held
     _ c.read_section.ensures.err
@@ -50,7 +50,7 @@ returns-clause-err g c =
 pub returns-clause-directories : goal.returns-clause-directories
 returns-clause-directories g c =
     let lt = subst (λ xs. length xs < 2 ^ 64) c.slice-bytes.ensures c.slice-bytes.type_inv.0 in
-    built_directories (g.E.Endianity.big c.args.section.now.endian) c.args.program.now
+    built_directories (g.E.Endianity.is_big c.args.section.now.endian) c.args.program.now
     (texts_in c.args.strings.now c.args.line_strings.now)
     c.args.section.now.bytes c.args.offset.0 c.requires.unit lt c.in_ok-sections.ensures.held
     _ (returns-clause-ok g c)
@@ -58,7 +58,7 @@ returns-clause-directories g c =
 pub returns-clause-files : goal.returns-clause-files
 returns-clause-files g c =
     let lt = subst (λ xs. length xs < 2 ^ 64) c.slice-bytes.ensures c.slice-bytes.type_inv.0 in
-    built_files (g.E.Endianity.big c.args.section.now.endian) c.args.program.now
+    built_files (g.E.Endianity.is_big c.args.section.now.endian) c.args.program.now
     (texts_in c.args.strings.now c.args.line_strings.now) c.args.section.now.bytes
     c.args.offset.0 c.requires.unit lt c.in_ok-sections.ensures.held
     _ (returns-clause-ok g c)
@@ -66,7 +66,7 @@ returns-clause-files g c =
 pub returns-clause-built : goal.returns-clause-built
 returns-clause-built g c =
     let lt = subst (λ xs. length xs < 2 ^ 64) c.slice-bytes.ensures c.slice-bytes.type_inv.0 in
-    built_rows (g.E.Endianity.big c.args.section.now.endian) c.args.program.now
+    built_rows (g.E.Endianity.is_big c.args.section.now.endian) c.args.program.now
     (texts_in c.args.strings.now c.args.line_strings.now) c.args.section.now.bytes
     c.args.offset.0 c.requires.unit lt c.in_ok-sections.ensures.held
     _ (returns-clause-ok g c)
@@ -74,7 +74,7 @@ returns-clause-built g c =
 pub returns-clause-never_read : goal.returns-clause-never_read
 returns-clause-never_read g c held =
     let lt = subst (λ xs. length xs < 2 ^ 64) c.slice-bytes.ensures c.slice-bytes.type_inv.0 in
-    never_read (g.E.Endianity.big c.args.section.now.endian) c.args.program.now
+    never_read (g.E.Endianity.is_big c.args.section.now.endian) c.args.program.now
     (texts_in c.args.strings.now c.args.line_strings.now) c.args.section.now.bytes
     c.args.offset.0 c.requires.unit lt c.in_ok-sections.ensures.held
     _ (returns-clause-err g c) held

@@ -1,5 +1,5 @@
 use Rattle.gimli_write.proofs.Common
-use Common.{drop, refl, subst, Result, Ok, Err, OnOk, IfErr, texts_in, RefusesUnit, slice_notation, unit_entry_of}
+use Common.{drop, refl, subst, Result, Ok, Err, OnOk, IfErr, texts_in, RefusesUnit, slice_layout, unit_entry_of}
 use Rattle.gimli_build.specs.Version5Tables.{texts_after}
 use Rattle.gimli_bytes.specs.Hand.{plain}
 use Rattle.gimli_build.specs.Unit.{unit_bytes}
@@ -10,19 +10,19 @@ use Rattle.gimli_write.proofs.read_back.round_trip.Goals as goal
 
 pub returns-in-Ok-clause-refusal : goal.returns-in-Ok-clause-refusal
 returns-in-Ok-clause-refusal g c =
-    let big = g.E.Endianity.big c.args.w.now.0.endian in
-    let other = g.E.Endianity.big c.write.new.w.0.endian in
+    let is_big = g.E.Endianity.is_big c.args.w.now.0.endian in
+    let other = g.E.Endianity.is_big c.write.new.w.0.endian in
     let program = c.args.program.now in
     let texts = texts_after program (texts_in c.args.strings.now c.args.line_strings.now) in
     let later = drop c.in-Ok.offset.0 c.write.new.w.0.bytes in
     let read =
     subst
     (λ strings. IfErr c.read_unit.result
-    (RefusesUnit (slice_notation other) (unit_entry_of program (texts_in strings texts.line_strings)) later))
+    (RefusesUnit (slice_layout other) (unit_entry_of program (texts_in strings texts.line_strings)) later))
     c.in-Ok.ensures.tables.strings
     (subst
     (λ line_strings. IfErr c.read_unit.result
-    (RefusesUnit (slice_notation other) (unit_entry_of program (texts_in c.write.new.strings line_strings)) later))
+    (RefusesUnit (slice_layout other) (unit_entry_of program (texts_in c.write.new.strings line_strings)) later))
     c.in-Ok.ensures.tables.line_strings c.read_unit.ensures.err) in
     unit_not_answered _ _ _ _
     _ _ _ _ c.in-Ok.ensures.writes.ordered
@@ -36,15 +36,15 @@ always (Err e) p = tt
 
 pub returns-in-Ok-clause-no_cause : goal.returns-in-Ok-clause-no_cause
 returns-in-Ok-clause-no_cause g c =
-    let unit = unit_bytes plain (g.E.Endianity.big c.args.w.now.0.endian) c.args.encoding c.args.program.now
+    let unit = unit_bytes plain (g.E.Endianity.is_big c.args.w.now.0.endian) c.args.encoding c.args.program.now
     (texts_in c.args.strings.now c.args.line_strings.now) in
     always _ (no-cause _ _ _ _ c.in-Ok.ensures.cause (c.in-Ok.ensures.writes.ok refl))
 
 pub returns-in-Err-clause-refusal : goal.returns-in-Err-clause-refusal
 returns-in-Err-clause-refusal g c =
-    let big = g.E.Endianity.big c.args.w.now.0.endian in
+    let is_big = g.E.Endianity.is_big c.args.w.now.0.endian in
     let program = c.args.program.now in
-    let unit = unit_bytes plain big c.args.encoding program (texts_in c.args.strings.now c.args.line_strings.now) in
+    let unit = unit_bytes plain is_big c.args.encoding program (texts_in c.args.strings.now c.args.line_strings.now) in
     let why = refused-for _ _ _ c.in-Err.ensures.cause (c.in-Err.ensures.writes.err refl refl) in
     write_refused _ _
     _

@@ -58,4 +58,4 @@ module _ {R Offset Endian : Type 0} (bytes : R → List ℕ) (number : Offset �
         → tables_at_end sections old tables ≡ tables)
     pub shorter : IfOk answer (λ step. Shortens step old new)
     pub header : new.header ≡ old.header
-    pub notation : new.unread.notation ≡ old.unread.notation
+    pub layout : new.unread.layout ≡ old.unread.layout

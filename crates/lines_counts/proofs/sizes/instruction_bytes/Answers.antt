@@ -7,13 +7,13 @@ use Rattle.lines_counts.proofs.Passing.{size_is}
 use Rattle.lines_counts.proofs.sizes.instruction_bytes.Goals as goal
 
 pub returns-clause-sizes : goal.returns-clause-sizes
-returns-clause-sizes g c notation h front after is spells =
+returns-clause-sizes g c layout h front after is spells =
     let i : Ins = ins_seen g.R.Reader.bytes g.R.Offset.ReaderOffset.number c.args.instruction.now in
     ap (λ (r : Read InstructionBytes). r.0)
-    (c.count_bytes.ensures.read ∙ ap (size_at i) is ∙ size_is notation h front after i spells)
+    (c.count_bytes.ensures.read ∙ ap (size_at i) is ∙ size_is layout h front after i spells)
 
 pub returns-clause-left : goal.returns-clause-left
-returns-clause-left g c notation h front after is spells =
+returns-clause-left g c layout h front after is spells =
     let i : Ins = ins_seen g.R.Reader.bytes g.R.Offset.ReaderOffset.number c.args.instruction.now in
     ap (λ (r : Read InstructionBytes). r.1)
-    (c.count_bytes.ensures.read ∙ ap (size_at i) is ∙ size_is notation h front after i spells)
+    (c.count_bytes.ensures.read ∙ ap (size_at i) is ∙ size_is layout h front after i spells)

@@ -7,5 +7,5 @@ abbrev pub invariant-loop : goal.invariant-loop
 invariant-loop g l = record {
   so_far : passed (times_at (l.count - l.counter) byte_at (g.R.Reader.bytes l.rest))
       ≡ passed (times_at l.count byte_at (g.R.Reader.bytes l.initial.rest));
-  order : g.R.Reader.big l.rest ≡ g.R.Reader.big l.initial.rest;
+  order : g.R.Reader.is_big l.rest ≡ g.R.Reader.is_big l.initial.rest;
 }

@@ -1,7 +1,7 @@
 use Rattle.std.proofs.Common.{ℕ, ◌+◌, ◌%◌, ◌^◌, ◌≤◌, ◌<◌, List, ◌++◌, length, take, drop, sym, ap, subst, ◌∙◌, arith}
 use Rattle.std.proofs.Math.Nat.{mod-eq_of_lt}
 use Rattle.gimli_core.specs.Numbers.{number_bytes}
-use Rattle.gimli_core.specs.Order.{is_big}
+use Rattle.gimli_core.specs.Order.{is_big_endian}
 use Rattle.elf_sections.specs.Layout.{with_number}
 use Rattle.elf_sections.specs.Machine.{size_of}
 use Rattle.elf_sections.specs.declared.machine.Width.{Width}
@@ -15,14 +15,14 @@ returns-in-One c =
     byte_set c.args.offset (c.args.number % 256) c.args.bytes.now (omega arith)
     ∙ ap (λ (number : List ℕ).
     take c.args.offset c.args.bytes.now ++ number ++ drop (c.args.offset + 1) c.args.bytes.now)
-    (sym (one_byte (is_big c.args.self.order) c.args.number))
+    (sym (one_byte (is_big_endian c.args.self.order) c.args.number))
     ∙ ap (λ (width : Width). with_number c.args.self (size_of width) c.args.offset c.args.number c.args.bytes.now)
     (sym c.in-One.is)
 
 pub returns-in-Two : goal.returns-in-Two
 returns-in-Two c =
     number_put c.args.offset 2 c.args.bytes.now c.write_u16.new.buf
-    (number_bytes (is_big c.args.self.order) 2 (c.args.number % 65536))
+    (number_bytes (is_big_endian c.args.self.order) 2 (c.args.number % 65536))
     (subst (λ (width : Width). c.args.offset + size_of width ≤ length c.args.bytes.now) c.in-Two.is c.requires)
     c.write_u16.ensures
     ∙ ap (λ (width : Width). with_number c.args.self (size_of width) c.args.offset c.args.number c.args.bytes.now)
@@ -31,7 +31,7 @@ returns-in-Two c =
 pub returns-in-Four : goal.returns-in-Four
 returns-in-Four c =
     number_put c.args.offset 4 c.args.bytes.now c.write_u32.new.buf
-    (number_bytes (is_big c.args.self.order) 4 (c.args.number % 4294967296))
+    (number_bytes (is_big_endian c.args.self.order) 4 (c.args.number % 4294967296))
     (subst (λ (width : Width). c.args.offset + size_of width ≤ length c.args.bytes.now) c.in-Four.is c.requires)
     c.write_u32.ensures
     ∙ ap (λ (width : Width). with_number c.args.self (size_of width) c.args.offset c.args.number c.args.bytes.now)
@@ -41,11 +41,11 @@ pub returns-in-Eight : goal.returns-in-Eight
 returns-in-Eight c =
     let fits : c.args.number < 2 ^ 64 = omega arith in
     number_put c.args.offset 8 c.args.bytes.now c.write_u64.new.buf
-    (number_bytes (is_big c.args.self.order) 8 c.args.number)
+    (number_bytes (is_big_endian c.args.self.order) 8 c.args.number)
     (subst (λ (width : Width). c.args.offset + size_of width ≤ length c.args.bytes.now) c.in-Eight.is c.requires)
     c.write_u64.ensures
     ∙ ap (λ (number : ℕ).
-    take c.args.offset c.args.bytes.now ++ number_bytes (is_big c.args.self.order) 8 number
+    take c.args.offset c.args.bytes.now ++ number_bytes (is_big_endian c.args.self.order) 8 number
     ++ drop (c.args.offset + 8) c.args.bytes.now)
     (sym (mod-eq_of_lt fits))
     ∙ ap (λ (width : Width). with_number c.args.self (size_of width) c.args.offset c.args.number c.args.bytes.now)

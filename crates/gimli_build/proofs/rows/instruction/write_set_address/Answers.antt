@@ -5,7 +5,7 @@ use Rattle.gimli_build.proofs.rows.instruction.write_set_address.Goals as goal
 
 pub returns : goal.returns
 returns g c =
-    let big = g.W.Sink.big in
+    let is_big = g.W.Sink.is_big in
     let size = c.args.size in
     let first = c.in_ok-write_byte.ensures in
     let put = c.in_ok-write_uleb128.ensures.appends in

@@ -10,19 +10,19 @@ use Rattle.gimli_build.proofs.unit.header.write_header.Goals as goal
 
 pub returns-clause-writes : goal.returns-clause-writes
 returns-clause-writes g c =
-    let big = g.W.Sink.big c.args.w.now in
+    let is_big = g.W.Sink.is_big c.args.w.now in
     let format = c.args.input.now.program.encoding.format in
     let n = c.len.result - c.len-start.result in
     let small : n < 2 ^ 64 = omega arith in
-    let zero = rw (c.word_size-size.ensures, c.format.ensures, zero_word big format) at c.in_ok-write_udata.ensures in
+    let zero = rw (c.word_size-size.ensures, c.format.ensures, zero_word is_big format) at c.in_ok-write_udata.ensures in
     let fields = rw zero.ordered at c.in_ok-write_fields.ensures.writes in
     let call =
-    rw (fields.ordered ∙ zero.ordered, c.word_size-size.ensures, c.format.ensures, word_is big format n small) at
+    rw (fields.ordered ∙ zero.ordered, c.word_size-size.ensures, c.format.ensures, word_is is_big format n small) at
     c.write_udata_at.ensures in
-    let word = λ (k : ℕ). format_word big format k in
-    let blank = λ (old new : List ℕ) (is : new ≡ old ++ open_word big format).
-    is ∙ ap (λ (l : List ℕ). l ++ open_word big format) (sym (append-nil old)) in
-    counted_written word word (λ k. no_escape (word k)) (header_word_long big format n) (record {
+    let word = λ (k : ℕ). format_word is_big format k in
+    let blank = λ (old new : List ℕ) (is : new ≡ old ++ open_word is_big format).
+    is ∙ ap (λ (l : List ℕ). l ++ open_word is_big format) (sym (append-nil old)) in
+    counted_written word word (λ k. no_escape (word k)) (header_word_long is_big format n) (record {
       keeps = zero.keeps;
       ordered = zero.ordered;
       stays = zero.stays;
@@ -40,7 +40,7 @@ pub returns-in_err-write_fields-clause-writes : goal.returns-in_err-write_fields
 returns-in_err-write_fields-clause-writes g c =
     let zero = c.in_ok-write_udata.ensures in
     let word : ℕ → Result (List ℕ) Error = λ k.
-    format_word (g.W.Sink.big c.args.w.now) c.args.input.now.program.encoding.format k in
+    format_word (g.W.Sink.is_big c.args.w.now) c.args.input.now.program.encoding.format k in
     let refused = rw zero.ordered at c.in_err-write_fields.ensures.writes in
     passed_on c.from_residual-in_err-write_fields.ensures.1
     (counted_unwritten word zero.keeps zero.ordered zero.stays refused)

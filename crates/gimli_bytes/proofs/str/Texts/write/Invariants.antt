@@ -10,7 +10,7 @@ invariant-loop-text g l =
     let contents = g.W.Sink.contents in
     record {
       keeps : Begins (contents l.fn.w) (contents l.w);
-      ordered : g.W.Sink.big l.w ≡ g.W.Sink.big l.fn.w;
+      ordered : g.W.Sink.is_big l.w ≡ g.W.Sink.is_big l.fn.w;
       stays : IsTrue (g.W.Sink.completes l.fn.w) → IsTrue (g.W.Sink.completes l.w);
       completed : (at : Placement) → IsTrue (g.W.Sink.completes l.fn.w)
           → g.W.Sink.completed at l.w

@@ -1,7 +1,7 @@
 use Rattle.std.proofs.Common.{◌^◌, refl, rules}
 use Rattle.std.proofs.lemmas.Result.{err_from_is_err_and}
 use Rattle.std.specs.Option.{option_map}
-use Rattle.gimli_core.specs.Order.{is_big}
+use Rattle.gimli_core.specs.Order.{is_big_endian}
 use Rattle.gimli_compilation.specs.Directories.{directory_for}
 use Rattle.gimli_compilation.specs.Sections.{sections_of}
 use Rattle.gimli_index.specs.declared.error.MakeError.TheVariants.{OutOfMemory}
@@ -15,9 +15,9 @@ returns-in-Ok-write_index-clause-ok c =
     let options = c.args.options.now in
     let source =
     index_source
-    (program c.args.section.now options.big options.address_size options.lowest texts.debug_line_str.slice.now
+    (program c.args.section.now options.is_big options.address_size options.lowest texts.debug_line_str.slice.now
     texts.debug_str.slice.now)
-    (sections_of (λ s. s.slice.now) (λ s. is_big s.endian) (2 ^ 64) c.args.sections.now) c.args.identity.now in
+    (sections_of (λ s. s.slice.now) (λ s. is_big_endian s.endian) (2 ^ 64) c.args.sections.now) c.args.identity.now in
     record {
       units = c.in_ok-units.units;
       are_units = c.in_ok-units.ensures.ok texts.debug_line_str.slice.now texts.debug_str.slice.now;

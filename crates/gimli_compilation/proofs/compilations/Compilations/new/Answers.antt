@@ -12,7 +12,7 @@ loop-units-init g c = record {
 pub loop-units-preserved : goal.loop-units-preserved
 loop-units-preserved g c =
     let sections : Sections =
-    sections_of g.R.Reader.bytes g.R.Reader.big g.R.Offset.ReaderOffset.limit c.args.sections.now in
+    sections_of g.R.Reader.bytes g.R.Reader.is_big g.R.Offset.ReaderOffset.limit c.args.sections.now in
     let next = rw c.in-Some.is at c.in_ok-unit.ensures in
     let says = rw (next.offset, c.loop-units.invariant.walks) at next.compilation in
     let refused = rw (next.offset, c.loop-units.invariant.walks) at next.refusal in

@@ -7,6 +7,6 @@ abbrev pub invariant-loop-group : goal.invariant-loop-group
 invariant-loop-group g l = record {
   so_far : grown_z (2 ^ (7 * l.group)) l.value (sleb_at (9 - l.group) (g.Self.Reader.bytes l.self))
       ≡ signed_at (g.Self.Reader.bytes l.initial.self);
-  order : g.Self.Reader.big l.self ≡ g.Self.Reader.big l.initial.self;
+  order : g.Self.Reader.is_big l.self ≡ g.Self.Reader.is_big l.initial.self;
   low : l.value < 2 ^ (7 * l.group);
 }

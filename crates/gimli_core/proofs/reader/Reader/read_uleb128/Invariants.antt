@@ -7,6 +7,6 @@ abbrev pub invariant-loop-group : goal.invariant-loop-group
 invariant-loop-group g l = record {
   so_far : grown (2 ^ (7 * l.group)) l.value (uleb_at (9 - l.group) 1 (g.Self.Reader.bytes l.self))
       ≡ uleb_at 9 1 (g.Self.Reader.bytes l.initial.self);
-  order : g.Self.Reader.big l.self ≡ g.Self.Reader.big l.initial.self;
+  order : g.Self.Reader.is_big l.self ≡ g.Self.Reader.is_big l.initial.self;
   low : l.value < 2 ^ (7 * l.group);
 }

@@ -8,5 +8,5 @@ abbrev pub invariant-loop : goal.invariant-loop
 invariant-loop g l = record {
   so_far : collected l.formats.items (λ x. x) (times_at (l.count - l.counter) format_at (g.R.Reader.bytes l.input))
       ≡ times_at l.count format_at (g.R.Reader.bytes l.initial.input);
-  order : g.R.Reader.big l.input ≡ g.R.Reader.big l.initial.input;
+  order : g.R.Reader.is_big l.input ≡ g.R.Reader.is_big l.initial.input;
 }

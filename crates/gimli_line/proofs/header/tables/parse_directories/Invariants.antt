@@ -12,8 +12,8 @@ invariant-loop-directories g l = record {
   so_far : collected (map (value_seen g.R.Reader.bytes g.R.Offset.ReaderOffset.number) l.directories.items) String
       (paths_at (g.R.Reader.bytes l.input))
       ≡ read_map (map String) (paths_at (g.R.Reader.bytes l.initial.input));
-  order : g.R.Reader.big l.input ≡ g.R.Reader.big l.initial.input;
-  parts : All (ValueHasOrder g.R.Reader.big (g.R.Reader.big l.initial.input)) l.directories.items;
+  order : g.R.Reader.is_big l.input ≡ g.R.Reader.is_big l.initial.input;
+  parts : All (ValueHasOrder g.R.Reader.is_big (g.R.Reader.is_big l.initial.input)) l.directories.items;
 }
 
 abbrev pub decreases-loop-directories : goal.decreases-loop-directories

@@ -1,7 +1,7 @@
 use Rattle.std.specs.List.{All}
 use Rattle.gimli_core.specs.Reading.{times_at}
 use Rattle.std.proofs.Common.{◌≡◌, ◌-◌, map}
-use Rattle.gimli_core.specs.Notation.{Notation}
+use Rattle.gimli_core.specs.Layout.{layout_of}
 use Rattle.gimli_core.specs.Values.{value_seen, ValueHasOrder}
 use Rattle.gimli_line.specs.inside.header.Outcome.{read_map}
 use Rattle.gimli_line.specs.header.HeaderGrammar.{path_of}
@@ -11,11 +11,11 @@ use Rattle.gimli_line.proofs.header.tables.parse_directories_v5.Given as goal
 
 abbrev pub invariant-loop : goal.invariant-loop
 invariant-loop g l =
-    let notation : Notation = record { big = g.R.Reader.big l.fn.input; limit = g.R.Offset.ReaderOffset.limit } in
+    let layout = layout_of (g.R.Reader.is_big l.fn.input) g.R.Offset.ReaderOffset.limit in
     record {
       so_far : collected (map (value_seen g.R.Reader.bytes g.R.Offset.ReaderOffset.number) l.directories.items) path_of
-          (times_at (l.count - l.counter) (entry_at notation l.format l.formats) (g.R.Reader.bytes l.input))
-          ≡ read_map (map path_of) (entries_at notation l.format l.formats (g.R.Reader.bytes l.fn.input));
-      order : g.R.Reader.big l.input ≡ g.R.Reader.big l.fn.input;
-      parts : All (ValueHasOrder g.R.Reader.big (g.R.Reader.big l.fn.input)) l.directories.items;
+          (times_at (l.count - l.counter) (entry_at layout l.format l.formats) (g.R.Reader.bytes l.input))
+          ≡ read_map (map path_of) (entries_at layout l.format l.formats (g.R.Reader.bytes l.fn.input));
+      order : g.R.Reader.is_big l.input ≡ g.R.Reader.is_big l.fn.input;
+      parts : All (ValueHasOrder g.R.Reader.is_big (g.R.Reader.is_big l.fn.input)) l.directories.items;
     }

@@ -1,5 +1,5 @@
 use Rattle.std.proofs.Common.{◌≡◌, drop}
-use Rattle.gimli_core.specs.Notation.{Notation}
+use Rattle.gimli_core.specs.Layout.{layout_of}
 use Rattle.gimli_line.specs.header.File.{file_seen, FileHasOrder}
 use Rattle.gimli_line.specs.header.HeaderGrammar.{file_of_entry}
 use Rattle.gimli_line.specs.inside.header.HeaderReading.{entry_at}
@@ -9,12 +9,12 @@ use Rattle.gimli_line.proofs.header.tables.parse_file_v5.Given as goal
 
 abbrev pub invariant-loop-entry_format : goal.invariant-loop-entry_format
 invariant-loop-entry_format g l =
-    let notation : Notation = record { big = g.R.Reader.big l.initial.input; limit = g.R.Offset.ReaderOffset.limit } in
+    let layout = layout_of (g.R.Reader.is_big l.initial.input) g.R.Offset.ReaderOffset.limit in
     record {
-      so_far : folded_at notation l.format file_with (file_seen g.R.Reader.bytes g.R.Offset.ReaderOffset.number l.file)
+      so_far : folded_at layout l.format file_with (file_seen g.R.Reader.bytes g.R.Offset.ReaderOffset.number l.file)
           (drop l.entry_format-index l.formats)
           (g.R.Reader.bytes l.input)
-          ≡ read_map file_of_entry (entry_at notation l.format l.formats (g.R.Reader.bytes l.initial.input));
-      order : g.R.Reader.big l.input ≡ g.R.Reader.big l.initial.input;
-      part : FileHasOrder g.R.Reader.big (g.R.Reader.big l.initial.input) l.file;
+          ≡ read_map file_of_entry (entry_at layout l.format l.formats (g.R.Reader.bytes l.initial.input));
+      order : g.R.Reader.is_big l.input ≡ g.R.Reader.is_big l.initial.input;
+      part : FileHasOrder g.R.Reader.is_big (g.R.Reader.is_big l.initial.input) l.file;
     }

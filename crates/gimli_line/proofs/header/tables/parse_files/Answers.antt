@@ -48,7 +48,7 @@ loop-files-preserved g c = record {
       c.loop-files.invariant.so_far);
   order = c.parse.ensures.order ∙ c.read_null_terminated_slice.ensures.order ∙ c.loop-files.invariant.order;
   parts =
-      files_pushed g.R.Reader.big _ _ _ _ _ c.in_ok-push.ensures.ok
+      files_pushed g.R.Reader.is_big _ _ _ _ _ c.in_ok-push.ensures.ok
       (c.in_ok-path_name.ensures.part ∙ c.loop-files.invariant.order) c.loop-files.invariant.parts
       c.in_ok-file.ensures.file;
 }

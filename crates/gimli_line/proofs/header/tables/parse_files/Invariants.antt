@@ -10,8 +10,8 @@ invariant-loop-files g l = record {
   so_far : collected (map (file_seen g.R.Reader.bytes g.R.Offset.ReaderOffset.number) l.files.items) (λ x. x)
       (files_at (g.R.Reader.bytes l.input))
       ≡ files_at (g.R.Reader.bytes l.initial.input);
-  order : g.R.Reader.big l.input ≡ g.R.Reader.big l.initial.input;
-  parts : All (FileHasOrder g.R.Reader.big (g.R.Reader.big l.initial.input)) l.files.items;
+  order : g.R.Reader.is_big l.input ≡ g.R.Reader.is_big l.initial.input;
+  parts : All (FileHasOrder g.R.Reader.is_big (g.R.Reader.is_big l.initial.input)) l.files.items;
 }
 
 abbrev pub decreases-loop-files : goal.decreases-loop-files

@@ -1,7 +1,7 @@
 use Rattle.std.specs.List.{All}
 use Rattle.gimli_core.specs.Reading.{times_at}
 use Rattle.std.proofs.Common.{◌≡◌, ◌-◌, map}
-use Rattle.gimli_core.specs.Notation.{Notation}
+use Rattle.gimli_core.specs.Layout.{layout_of}
 use Rattle.gimli_line.specs.header.File.{file_seen, FileHasOrder}
 use Rattle.gimli_line.specs.inside.header.Outcome.{read_map}
 use Rattle.gimli_line.specs.header.HeaderGrammar.{file_of_entry}
@@ -11,11 +11,11 @@ use Rattle.gimli_line.proofs.header.tables.parse_files_v5.Given as goal
 
 abbrev pub invariant-loop : goal.invariant-loop
 invariant-loop g l =
-    let notation : Notation = record { big = g.R.Reader.big l.fn.input; limit = g.R.Offset.ReaderOffset.limit } in
+    let layout = layout_of (g.R.Reader.is_big l.fn.input) g.R.Offset.ReaderOffset.limit in
     record {
       so_far : collected (map (file_seen g.R.Reader.bytes g.R.Offset.ReaderOffset.number) l.files.items) file_of_entry
-          (times_at (l.count - l.counter) (entry_at notation l.format l.formats) (g.R.Reader.bytes l.input))
-          ≡ read_map (map file_of_entry) (entries_at notation l.format l.formats (g.R.Reader.bytes l.fn.input));
-      order : g.R.Reader.big l.input ≡ g.R.Reader.big l.fn.input;
-      parts : All (FileHasOrder g.R.Reader.big (g.R.Reader.big l.fn.input)) l.files.items;
+          (times_at (l.count - l.counter) (entry_at layout l.format l.formats) (g.R.Reader.bytes l.input))
+          ≡ read_map (map file_of_entry) (entries_at layout l.format l.formats (g.R.Reader.bytes l.fn.input));
+      order : g.R.Reader.is_big l.input ≡ g.R.Reader.is_big l.fn.input;
+      parts : All (FileHasOrder g.R.Reader.is_big (g.R.Reader.is_big l.fn.input)) l.files.items;
     }

@@ -1,6 +1,6 @@
 use Rattle.std.proofs.Common.{rules, ap, sym, ◌∙◌}
 use Rattle.std.specs.Prelude.{nat_le}
-use Rattle.gimli_core.specs.Notation.{notation_of}
+use Rattle.gimli_core.specs.Layout.{layout_of}
 use Rattle.gimli_line.specs.header.Header.{Header}
 use Rattle.gimli_line.specs.header.Parameters.{Parameters}
 use Rattle.gimli_line.proofs.OtherExecutions.{opened, defines}
@@ -8,7 +8,7 @@ use Rattle.gimli_line.proofs.run.from_bytes.read_defined_file.Goals as goal
 
 pub returns-in-Ok-parse-clause-read : goal.returns-in-Ok-parse-clause-read
 returns-in-Ok-parse-clause-read g c =
-    let n = notation_of (g.R.Reader.big c.args.input.now) g.R.Offset.ReaderOffset.limit in
+    let n = layout_of (g.R.Reader.is_big c.args.input.now) g.R.Offset.ReaderOffset.limit in
     let h = c.args.header.now.meaning in
     let whole = opened n h _ _ _ _ _ c.in-Some.ensures.read c.in-Ok.ensures.read in
     let same = ap (λ (m : Header). m.parameters) (ap (λ v. v.meaning) c.header.view_is) in

@@ -7,5 +7,5 @@ abbrev pub invariant-loop : goal.invariant-loop
 invariant-loop g l = record {
   so_far : without_value (times_at (l.count - l.counter) unsigned_at (g.R.Reader.bytes l.input))
       ≡ without_value (times_at l.count unsigned_at (g.R.Reader.bytes l.initial.input));
-  order : g.R.Reader.big l.input ≡ g.R.Reader.big l.initial.input;
+  order : g.R.Reader.is_big l.input ≡ g.R.Reader.is_big l.initial.input;
 }

@@ -1,6 +1,6 @@
 use Rattle.std.proofs.Common.{map}
 use Rattle.std.proofs.lemmas.Result.{err_from_is_err_and}
-use Rattle.gimli_line.specs.run.Sequences.{part_of}
+use Rattle.gimli_line.specs.run.Sequences.{sequence_of}
 use Rattle.gimli_lookup.proofs.KeptCut.{are_cut}
 use Rattle.gimli_lookup.proofs.KeptRows.{are_joined}
 use Rattle.gimli_lookup.proofs.lookup.Lookup.new.Goals as goal
@@ -18,13 +18,13 @@ returns-clause-each g c = rw c.in_ok-rows.ensures.ok c.in_ok-program.ensures.eac
 
 pub returns-clause-joined : goal.returns-clause-joined
 returns-clause-joined g c =
-    are_joined c.args.program.notation c.args.program.meaning c.in_ok-program.program.meaning
-    (map part_of c.in_ok-program.sequences.items)
+    are_joined c.args.program.layout c.args.program.meaning c.in_ok-program.program.meaning
+    (map sequence_of c.in_ok-program.sequences.items)
     c.in_ok-rows.rows.items
     c.in_ok-program.ensures.ok (returns-clause-each g c)
 
 pub returns-clause-cut : goal.returns-clause-cut
 returns-clause-cut g c =
-    are_cut c.args.program.notation c.args.program.meaning c.in_ok-program.program.meaning
-    (map part_of c.in_ok-program.sequences.items) c.in_ok-rows.rows.items
+    are_cut c.args.program.layout c.args.program.meaning c.in_ok-program.program.meaning
+    (map sequence_of c.in_ok-program.sequences.items) c.in_ok-rows.rows.items
     c.in_ok-program.ensures.ok (returns-clause-each g c)

@@ -1,5 +1,5 @@
 use Rattle.std.proofs.Common.{ℕ, List, ◌++◌, map, ap, subst, ◌∙◌}
-use Rattle.gimli_core.specs.Notation.{notation_of}
+use Rattle.gimli_core.specs.Layout.{layout_of}
 use Rattle.gimli_line.specs.Units.{AreUnits}
 use Rattle.gimli_lookup.specs.Section.{ListedUnit}
 use Rattle.gimli_lookup.proofs.SectionUnits.{none_kept, one_kept, all_kept, IsGiven}
@@ -18,7 +18,7 @@ units-preserved g c =
       same_entry = c.in_ok-next.ensures.entry;
       unit = rw c.in-Some.is at c.in_ok-next.ensures.unit;
       refusal = rw c.in-Some.is at c.in_ok-next.ensures.refusal;
-      notation = rw c.in-Some.is at c.in_ok-next.ensures.notation;
+      layout = rw c.in-Some.is at c.in_ok-next.ensures.layout;
     } in
     let unit = c.in_ok-unit.unit in
     rw c.in_ok-push.ensures.ok
@@ -33,7 +33,7 @@ returns-clause-offsets g c =
     let units = c.units.units.items in
     let none = rw c.in_default.is at c.in_ok-next.ensures.next in
     let are = c.units.invariant.to_come ∙ ap (λ (os : List ℕ). map (λ (u : ListedUnit). u.offset) units ++ os) none.0 in
-    subst (AreUnits (notation_of (g.R.Reader.big c.args.section.now) g.R.Offset.ReaderOffset.limit) 0
+    subst (AreUnits (layout_of (g.R.Reader.is_big c.args.section.now) g.R.Offset.ReaderOffset.limit) 0
     (g.R.Reader.bytes c.args.section.now))
     (all_kept c.units.sequences.items units c.units-walk.result.offsets are) c.units-walk.ensures.offsets
 

@@ -29,7 +29,7 @@ returns-then-is_none-clause-searched g c =
     rw c.in-Ok.is
     (searched c.args.lowest c.args.index c.args.addresses.now c.in-Ok.program found.run offset found.fault
     c.bare-then-is_none.result old found.pairs.items new
-    parts.0 parts.1 c.in_ok-found-in-Ok.ensures.run.source.notation parts.2 kept
+    parts.0 parts.1 c.in_ok-found-in-Ok.ensures.run.source.layout parts.2 kept
     (inr (omega (arith, before, after, c.if-len-before.true), none, bare)))
 
 pub invariant_of-result : goal.invariant_of-result
@@ -54,4 +54,4 @@ returns-clause-searched g c =
     (searched c.args.lowest c.args.index c.args.addresses.now c.in-Ok.program found.run
     (g.R.Offset.ReaderOffset.number c.args.offset.0) found.fault _ old
     found.pairs.items new
-    parts.0 parts.1 c.in_ok-found-in-Ok.ensures.run.source.notation parts.2 kept (inl refl))
+    parts.0 parts.1 c.in_ok-found-in-Ok.ensures.run.source.layout parts.2 kept (inl refl))

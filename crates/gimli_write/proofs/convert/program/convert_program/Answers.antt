@@ -1,5 +1,5 @@
 use Rattle.gimli_write.proofs.Common
-use Common.{err_from_is_err_and, IfOk-weaker, IfErr-weaker, tables_with, Source, source_of, still_to_read}
+use Common.{err_from_is_err_and, IfOk-weaker, IfErr-weaker, tables_with, ToConvert, to_convert, still_to_read}
 use Rattle.gimli_write.proofs.ConvertSteps.{kept_then}
 use Rattle.gimli_write.proofs.Outcomes.{all_converted, all_comes, header_refused, rows_refused}
 use Rattle.gimli_write.proofs.MappedLaws.{conversion_faithful}
@@ -7,8 +7,8 @@ use Rattle.gimli_write.proofs.convert.program.convert_program.Goals as goal
 
 pub returns-in_err-header-clause-refusal : goal.returns-in_err-header-clause-refusal
 returns-in_err-header-clause-refusal g c =
-    let source : Source =
-    source_of g.R.Reader.bytes c.args.debug_str c.args.debug_line_str c.args.from_program c.args.from_comp_name
+    let source : ToConvert =
+    to_convert g.R.Reader.bytes c.args.debug_str c.args.debug_line_str c.args.from_program c.args.from_comp_name
     c.args.encoding c.args.line_encoding in
     let p = err_from_is_err_and c.from_residual.result c.from_residual.ensures.1 in
     rw (p.1, p.2)
@@ -17,8 +17,8 @@ returns-in_err-header-clause-refusal g c =
 
 pub returns-clause-outcome : goal.returns-clause-outcome
 returns-clause-outcome g c =
-    let source : Source =
-    source_of g.R.Reader.bytes c.args.debug_str c.args.debug_line_str c.args.from_program c.args.from_comp_name
+    let source : ToConvert =
+    to_convert g.R.Reader.bytes c.args.debug_str c.args.debug_line_str c.args.from_program c.args.from_comp_name
     c.args.encoding c.args.line_encoding in
     let before = c.args.line_strings.now in
     let first = tables_with c.new.new.line_strings c.in_ok-header.header.tables in
@@ -39,8 +39,8 @@ returns-clause-outcome g c =
 
 pub returns-clause-refusal : goal.returns-clause-refusal
 returns-clause-refusal g c =
-    let source : Source =
-    source_of g.R.Reader.bytes c.args.debug_str c.args.debug_line_str c.args.from_program c.args.from_comp_name
+    let source : ToConvert =
+    to_convert g.R.Reader.bytes c.args.debug_str c.args.debug_line_str c.args.from_program c.args.from_comp_name
     c.args.encoding c.args.line_encoding in
     IfErr-weaker _ _ _
     (λ e refused.

@@ -1,6 +1,6 @@
 use Rattle.std.proofs.Common.{◌≡◌, List, ℕ, sym, ap, subst, ◌∙◌}
 use Rattle.std.specs.Prelude.{option_map}
-use Rattle.gimli_core.specs.Notation.{Notation}
+use Rattle.gimli_core.specs.Layout.{OrderAndLimit}
 use Rattle.gimli_line.specs.header.Header.{Header}
 use Rattle.gimli_line.specs.run.Instruction.{ins_seen}
 use Rattle.gimli_line.specs.run.Unread.{Unread}
@@ -11,14 +11,14 @@ use Rattle.lines_counts.proofs.tally.Tally.add_instructions.Goals as goal
 pub instructions-init : goal.instructions-init
 instructions-init g c =
     let h : Header = c.args.header.now.meaning in
-    let notation : Notation = c.args.header.now.notation in
+    let layout : OrderAndLimit = c.args.header.now.layout in
     record {
       counted =
-          subst (λ (xs : List ℕ). AreCounted notation h h.program c.args.self.now xs c.args.self.now)
+          subst (λ (xs : List ℕ). AreCounted layout h h.program c.args.self.now xs c.args.self.now)
           (sym c.requires.bytes)
-          (counted_none notation h h.program c.args.self.now);
+          (counted_none layout h h.program c.args.self.now);
       same = c.requires.bytes ∙ sym (ap (λ (u : Unread). u.bytes) c.instructions-instructions.ensures);
-      notation = ap (λ (u : Unread). u.notation) c.instructions-instructions.ensures;
+      layout = ap (λ (u : Unread). u.layout) c.instructions-instructions.ensures;
     }
 
 pub returns-in_err-bytes-clause-counted : goal.returns-in_err-bytes-clause-counted
@@ -48,20 +48,20 @@ returns-in_err-bytes-clause-some g c =
 pub instructions-preserved : goal.instructions-preserved
 instructions-preserved g c =
     let h : Header = c.args.header.now.meaning in
-    let notation : Notation = c.args.header.now.notation in
+    let layout : OrderAndLimit = c.args.header.now.layout in
     let seen = ins_seen g.R.Reader.bytes g.R.Offset.ReaderOffset.number in
     let done =
-    next_counted notation h h.program (g.R.Reader.bytes c.instructions.rest)
+    next_counted layout h h.program (g.R.Reader.bytes c.instructions.rest)
     (g.R.Reader.bytes c.instruction_bytes.new.rest) c.args.self.now
     c.instructions.self c.add.new.self c.instructions.instructions c.next_instruction.new.self
     (option_map seen c.in_ok-instruction.field-0)
     (seen c.in-Some.instruction) c.on.result c.in_ok-bytes.bytes (ap (option_map seen) c.in-Some.is)
     c.in_ok-instruction.ensures.next
-    c.instructions.invariant.same c.instructions.invariant.notation c.instructions.invariant.counted
+    c.instructions.invariant.same c.instructions.invariant.layout c.instructions.invariant.counted
     c.in_ok-bytes.ensures.sizes
     c.in_ok-bytes.ensures.left c.on.ensures c.add.ensures in
     record {
       counted = done.0;
       same = done.1;
-      notation = c.next_instruction.ensures.notation ∙ c.instructions.invariant.notation;
+      layout = c.next_instruction.ensures.layout ∙ c.instructions.invariant.layout;
     }

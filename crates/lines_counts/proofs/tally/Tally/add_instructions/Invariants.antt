@@ -4,10 +4,10 @@ use Rattle.lines_counts.proofs.tally.Tally.add_instructions.Given as goal
 
 abbrev pub invariant-instructions : goal.invariant-instructions
 invariant-instructions g l = record {
-  counted : AreCounted l.header.notation l.header.meaning l.header.meaning.program l.initial.self
+  counted : AreCounted l.header.layout l.header.meaning l.header.meaning.program l.initial.self
       (g.R.Reader.bytes l.rest) l.self;
   same : g.R.Reader.bytes l.rest ≡ l.instructions.bytes;
-  notation : l.instructions.notation ≡ l.header.notation;
+  layout : l.instructions.layout ≡ l.header.layout;
 }
 
 abbrev pub decreases-instructions : goal.decreases-instructions

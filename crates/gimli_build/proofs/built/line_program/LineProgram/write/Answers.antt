@@ -23,7 +23,7 @@ new-input-requires-clause-can g c =
 pub returns-clause-reads_back : goal.returns-clause-reads_back
 returns-clause-reads_back g c = λ keeps_bytes.
     let contents = g.W.Sink.contents in
-    let big = g.W.Sink.big c.args.w.now.0 in
+    let is_big = g.W.Sink.is_big c.args.w.now.0 in
     let p = c.args.self.now in
     let texts = texts_in c.args.strings.now c.args.line_strings.now in
     let empty = c.in_ok-empty.ensures in
@@ -33,17 +33,17 @@ returns-clause-reads_back g c = λ keeps_bytes.
     let compatible : is_incompatible c.args.encoding p.encoding ≡ false = search rules in
     let written =
     rw (c.new-input.ensures.program, c.new-input.ensures.texts, same, line_same) at (whole.writes.ok keeps_bytes) in
-    let appended : Appends (unit_bytes plain big c.args.encoding p texts) (contents c.args.w.now.0)
+    let appended : Appends (unit_bytes plain is_big c.args.encoding p texts) (contents c.args.w.now.0)
     (contents c.write_whole.new.w) =
     rw compatible written in
-    rw (same, line_same) (appended-back unplaced big c.args.encoding p texts _ _ whole.short
+    rw (same, line_same) (appended-back unplaced is_big c.args.encoding p texts _ _ whole.short
     (rw c.new-input.ensures.program at whole.built) c.requires (rw same at empty.texts)
     (rw line_same at empty.line_texts)
     (λ new i d lt. written-held _ (rw same at empty.short) (rw line_same at empty.line_short) _) appended)
 
 pub returns-clause-linked : goal.returns-clause-linked
 returns-clause-linked g c = λ at completes is_placed fit.
-    let big = g.W.Sink.big c.args.w.now.0 in
+    let is_big = g.W.Sink.is_big c.args.w.now.0 in
     let p = c.args.self.now in
     let texts = texts_in c.args.strings.now c.args.line_strings.now in
     let old = g.W.Sink.completed at c.args.w.now.0 in
@@ -57,13 +57,13 @@ returns-clause-linked g c = λ at completes is_placed fit.
     let written =
     rw (c.new-input.ensures.program, c.new-input.ensures.texts, same, line_same, is_placed) at
     (whole.writes.completed at completes) in
-    let by_hand : Appends (unit_bytes (placed at) big c.args.encoding p texts) old new = rw compatible written in
-    let appended : Appends (unit_bytes (counted at) big c.args.encoding (placed_program at p) texts) old new =
-    subst (λ r. Appends r old new) (placed-counted at big c.args.encoding p texts sums) by_hand in
+    let by_hand : Appends (unit_bytes (placed at) is_big c.args.encoding p texts) old new = rw compatible written in
+    let appended : Appends (unit_bytes (counted at) is_big c.args.encoding (placed_program at p) texts) old new =
+    subst (λ r. Appends r old new) (placed-counted at is_big c.args.encoding p texts sums) by_hand in
     rw (same, line_same)
-    (appended-back at big c.args.encoding (placed_program at p) texts old new (whole.completed_short at completes)
+    (appended-back at is_big c.args.encoding (placed_program at p) texts old new (whole.completed_short at completes)
     (is-built at p (rw c.new-input.ensures.program at whole.built)) (can-write at p texts c.requires)
-    (rw same at empty.texts) (rw line_same at empty.line_texts) (placed-short at big c.args.encoding p texts sums)
+    (rw same at empty.texts) (rw line_same at empty.line_texts) (placed-short at is_big c.args.encoding p texts sums)
     appended)
 
 pub returns-in_err-write_whole-clause-writes : goal.returns-in_err-write_whole-clause-writes

@@ -5,14 +5,14 @@ use Rattle.gimli_line.proofs.header.program_header.LineProgramHeader.add_file.Go
 pub returns-clause-source : goal.returns-clause-source
 returns-clause-source g c =
     rw (← c.self.view_is) (record {
-      notation = refl;
+      layout = refl;
       offset = refl;
       handed = refl;
       order = λ order has are. record {
         operand_counts = are.operand_counts;
         directories = are.directories;
         files =
-            files_after g.R.Reader.big order c.push.result c.self.inside.file_names.items _ c.args.file
+            files_after g.R.Reader.is_big order c.push.result c.self.inside.file_names.items _ c.args.file
             c.push.ensures.ok c.push.ensures.kept has are.files;
       };
     })

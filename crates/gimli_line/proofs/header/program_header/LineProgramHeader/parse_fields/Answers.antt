@@ -10,9 +10,9 @@ returns-clause-order g c =
     record {
       operand_counts = c.in_ok-standard_opcode_lengths.ensures.part ∙ counts;
       directories =
-          values_mapped g.R.Reader.big _ _
-          (values_kept g.R.Reader.big _ _ _ directories c.in_ok-directory_entry_format.ensures.parts);
+          values_mapped g.R.Reader.is_big _ _
+          (values_kept g.R.Reader.is_big _ _ _ directories c.in_ok-directory_entry_format.ensures.parts);
       files =
-          files_mapped g.R.Reader.big _ _
-          (files_kept g.R.Reader.big _ _ _ files c.in_ok-file_name_entry_format.ensures.parts);
+          files_mapped g.R.Reader.is_big _ _
+          (files_kept g.R.Reader.is_big _ _ _ files c.in_ok-file_name_entry_format.ensures.parts);
     }

@@ -1,5 +1,5 @@
 use Rattle.std.proofs.Common.{rules, ◌≡◌, ◌∙◌, refl, sym, ap, arith}
-use Rattle.gimli_core.specs.Notation.{notation_of}
+use Rattle.gimli_core.specs.Layout.{layout_of}
 use Rattle.gimli_line.specs.declared.run.instruction.LineInstruction.TheVariants.{AdvancePc, ConstAddPc}
 use Rattle.gimli_line.specs.header.Header.{Header}
 use Rattle.gimli_line.proofs.Executions.{executes_it}
@@ -8,7 +8,7 @@ use Rattle.gimli_line.proofs.run.instruction.LineInstructions.execute_other.Goal
 
 pub returns-then-is_executed-clause-ok : goal.returns-then-is_executed-clause-ok
 returns-then-is_executed-clause-ok g c =
-    let n = notation_of (g.R.Reader.big c.self.inside.input) g.R.Offset.ReaderOffset.limit in
+    let n = layout_of (g.R.Reader.is_big c.self.inside.input) g.R.Offset.ReaderOffset.limit in
     let first =
     extended_first n c.args.header.now.meaning _ _ c.in-Ok.opcode c.if-opcode-eq0.true c.in-Ok.ensures.read in
     let is = sym c.is_executed.ensures ∙ c.if-is_executed.true in

@@ -1,5 +1,5 @@
 use Rattle.std.proofs.Common.{rules, Bool, ap, ◌∙◌}
-use Rattle.gimli_core.specs.Notation.{notation_of}
+use Rattle.gimli_core.specs.Layout.{layout_of}
 use Rattle.gimli_core.specs.Reading.{number_at}
 use Rattle.gimli_line.specs.header.Header.{Header}
 use Rattle.gimli_line.specs.header.Parameters.{Parameters}
@@ -8,7 +8,7 @@ use Rattle.gimli_line.proofs.run.row.LineRow.exec_extended_opcode.Goals as goal
 
 pub returns-in-DW_LNE_end_sequence-clause-executed : goal.returns-in-DW_LNE_end_sequence-clause-executed
 returns-in-DW_LNE_end_sequence-clause-executed g c =
-    let n = notation_of (g.R.Reader.big c.args.input.now) g.R.Offset.ReaderOffset.limit in
+    let n = layout_of (g.R.Reader.is_big c.args.input.now) g.R.Offset.ReaderOffset.limit in
     let h = c.args.header.now.meaning in
     let whole = opened n h _ _ _ _ _ c.in-Some.ensures.read c.in-Ok.ensures.read in
     rw (whole, c.set_register.ensures) (λ is.
@@ -16,7 +16,7 @@ returns-in-DW_LNE_end_sequence-clause-executed g c =
 
 pub returns-in-Ok-read_set_address-clause-executed : goal.returns-in-Ok-read_set_address-clause-executed
 returns-in-Ok-read_set_address-clause-executed g c =
-    let n = notation_of (g.R.Reader.big c.args.input.now) g.R.Offset.ReaderOffset.limit in
+    let n = layout_of (g.R.Reader.is_big c.args.input.now) g.R.Offset.ReaderOffset.limit in
     let h = c.args.header.now.meaning in
     let whole = opened n h _ _ _ _ _ c.in-Some.ensures.read c.in-Ok.ensures.read in
     let same = ap (λ (m : Header). m.parameters) (ap (λ v. v.meaning) c.header.view_is) in
@@ -24,15 +24,15 @@ returns-in-Ok-read_set_address-clause-executed g c =
     let operands = g.R.Reader.bytes c.read_u8.new.self in
     let operand =
     c.in-Ok-read_set_address.ensures.read
-    ∙ ap (λ (big : Bool). number_at big c.header.inside.parameters.encoding.address_size operands) order
-    ∙ ap (λ (k : Parameters). number_at n.big k.encoding.address_size operands) same in
+    ∙ ap (λ (is_big : Bool). number_at is_big c.header.inside.parameters.encoding.address_size operands) order
+    ∙ ap (λ (k : Parameters). number_at n.is_big k.encoding.address_size operands) same in
     rw whole (λ is.
     sets_address n h _ _ _ c.in-Ok-read_u8.opcode c.in-Ok-read_u8.ensures.read c.args.self.now (search rules) _ _
     operand _ same _ c.exec_set_address.ensures)
 
 pub returns-in-Some-read_short_uleb128-clause-executed : goal.returns-in-Some-read_short_uleb128-clause-executed
 returns-in-Some-read_short_uleb128-clause-executed g c =
-    let n = notation_of (g.R.Reader.big c.args.input.now) g.R.Offset.ReaderOffset.limit in
+    let n = layout_of (g.R.Reader.is_big c.args.input.now) g.R.Offset.ReaderOffset.limit in
     let h = c.args.header.now.meaning in
     let whole = opened n h _ _ _ _ _ c.in-Some.ensures.read c.in-Ok.ensures.read in
     rw (whole, c.set_register-in-DW_LNE_set_discriminator.ensures) (λ is.

@@ -2,7 +2,7 @@ use Rattle.std.proofs.Common.{List, [], ◌∷◌, ◌≡◌, refl, sym, ap, sub
 use Rattle.gimli_line.specs.declared.run.row.LineRow.{LineRow}
 use Rattle.gimli_line.specs.run.Events.{Event, row}
 use Rattle.gimli_line.specs.inside.run.Rows.{given_row}
-use Rattle.gimli_line.specs.run.Progress.{with_reset_row, Progress}
+use Rattle.gimli_line.specs.run.Passing.{with_reset_row, PassesOver}
 use Rattle.gimli_line.specs.run.Rows.{live_events}
 use Rattle.gimli_line.proofs.GivenRows.{fault_given, hidden, none_given, seen}
 use Rattle.gimli_line.proofs.Runs.{passes_both, refused_after, same_end}
@@ -42,7 +42,7 @@ returns-then-not-is_under_tombstone g c =
       keeps = keeps_both _ c.rows.self _ i.keeps c.in-Ok-true.ensures.keeps;
       passes =
           subst
-          (λ (es : List Event). Progress (with_reset_row c.args.self.now) (with_reset_row c.advance_any.new.self) es)
+          (λ (es : List Event). PassesOver (with_reset_row c.args.self.now) (with_reset_row c.advance_any.new.self) es)
           given
           (passes_both (with_reset_row c.args.self.now) (with_reset_row c.rows.self)
           (with_reset_row c.advance_any.new.self) []
@@ -62,7 +62,7 @@ rows-preserved g c =
       events = i.events ∙ hidden c.rows.self c.advance_any.new.self _ _ next under;
       passes =
           subst
-          (λ (es : List Event). Progress (with_reset_row c.args.self.now) (with_reset_row c.advance_any.new.self) es)
+          (λ (es : List Event). PassesOver (with_reset_row c.args.self.now) (with_reset_row c.advance_any.new.self) es)
           given
           (passes_both (with_reset_row c.args.self.now) (with_reset_row c.rows.self)
           (with_reset_row c.advance_any.new.self) []

@@ -1,12 +1,12 @@
 use Rattle.std.proofs.Common.{◌≡◌, [], length}
 use Rattle.gimli_line.specs.run.Rows.{live_made, made_left, KeepsRun}
-use Rattle.gimli_line.specs.run.Progress.{Progress, with_reset_row}
+use Rattle.gimli_line.specs.run.Passing.{PassesOver, with_reset_row}
 use Rattle.gimli_line.proofs.run.rows.LineRows.advance_any.Given as goal
 
 abbrev pub invariant-instructions : goal.invariant-instructions
 invariant-instructions g l = record {
   made : made_left l.fn.self ≡ live_made l.self;
-  passes : Progress (with_reset_row l.fn.self) l.self [];
+  passes : PassesOver (with_reset_row l.fn.self) l.self [];
   keeps : KeepsRun l.fn.self l.self;
 }
 

@@ -10,11 +10,11 @@ pub returns-in-Ok : goal.returns-in-Ok
 returns-in-Ok g c =
     let n = (reads_instruction _ c.header-header.result.now.meaning).found _ _ _ c.in-Some.ensures.read in
     rw (← c.self.view_is) (step_goes _ _ _ c.header-header.ensures.meaning _ _ (refl, refl, refl) _ n
-    c.in-Some.ensures.notation _ c.in-Ok.ensures.ok refl false
+    c.in-Some.ensures.layout _ c.in-Ok.ensures.ok refl false
     refl refl (refl, refl, refl)
     (keeps_run _ _ _ _ _ (refl, refl, refl) (refl, refl, refl) (ap without_files c.in-Ok.ensures.ok)
-    c.in-Some.ensures.notation
-    (λ big. FileHasOrder g.R.Reader.big big c.in-Some.file) c.in-Ok.ensures.source c.in-Some.ensures.order))
+    c.in-Some.ensures.layout
+    (λ is_big. FileHasOrder g.R.Reader.is_big is_big c.in-Some.file) c.in-Ok.ensures.source c.in-Some.ensures.order))
 
 pub returns-in-Err : goal.returns-in-Err
 returns-in-Err g c =
@@ -25,5 +25,5 @@ returns-in-Err g c =
     c.in-Err.ensures.err m.1
     (ap (λ (s : Unread). s.bytes) c.clear.ensures) (refl, refl, refl)
     (keeps_run _ _ _ _ _ (refl, refl, refl) (refl, refl, refl) (ap without_files c.in-Err.ensures.err)
-    (ap (λ (u : Unread). u.notation) c.clear.ensures ∙ c.in-Some.ensures.notation)
-    (λ big. FileHasOrder g.R.Reader.big big c.in-Some.file) c.in-Err.ensures.source c.in-Some.ensures.order))
+    (ap (λ (u : Unread). u.layout) c.clear.ensures ∙ c.in-Some.ensures.layout)
+    (λ is_big. FileHasOrder g.R.Reader.is_big is_big c.in-Some.file) c.in-Err.ensures.source c.in-Some.ensures.order))

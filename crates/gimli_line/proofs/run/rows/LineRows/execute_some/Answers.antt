@@ -16,7 +16,7 @@ common-smaller g c =
     let has : Has g.P.LineProgram.appends (g.P.LineProgram.meaning c.self.inside.program) c.args.self.now =
     rw (← c.self.view_is) (refl, refl, refl) in
     let lent = c.header-header.ensures.meaning ∙ ap g.P.LineProgram.meaning c.common.invariant.program in
-    (executed_more _ _ _ lent before _ _ has c.in-Ok.ensures.notation _ c.in-Ok.ensures.ok c.in_default.not-No
+    (executed_more _ _ _ lent before _ _ has c.in-Ok.ensures.layout _ c.in-Ok.ensures.ok c.in_default.not-No
     c.in_default.not-Row).ok.1
 
 pub common-preserved : goal.common-preserved
@@ -26,7 +26,7 @@ common-preserved g c =
     rw (← c.self.view_is) (refl, refl, refl) in
     let lent = c.header-header.ensures.meaning ∙ ap g.P.LineProgram.meaning c.common.invariant.program in
     let more =
-    executed_more _ _ _ lent before _ _ has c.in-Ok.ensures.notation _ c.in-Ok.ensures.ok c.in_default.not-No
+    executed_more _ _ _ lent before _ _ has c.in-Ok.ensures.layout _ c.in-Ok.ensures.ok c.in_default.not-No
     c.in_default.not-Row in
     record {
       program = c.common.invariant.program;
@@ -39,7 +39,7 @@ returns-in-Err g c =
     let has : Has g.P.LineProgram.appends (g.P.LineProgram.meaning c.self.inside.program) c.args.self.now =
     rw (← c.self.view_is) (refl, refl, refl) in
     let lent = c.header-header.ensures.meaning ∙ ap g.P.LineProgram.meaning c.common.invariant.program in
-    let refused = executed_refused _ _ _ lent before _ _ has c.in-Err.ensures.notation _ c.in-Err.ensures.err in
+    let refused = executed_refused _ _ _ lent before _ _ has c.in-Err.ensures.layout _ c.in-Err.ensures.err in
     rw (c.common.invariant.program, ← c.self.view_is)
     (rw (← c.self.view_is) at (steps_after _ before _ c.common.invariant.reads _ refused))
 
@@ -49,7 +49,7 @@ returns-in-Row g c =
     let has : Has g.P.LineProgram.appends (g.P.LineProgram.meaning c.self.inside.program) c.args.self.now =
     rw (← c.self.view_is) (refl, refl, refl) in
     let lent = c.header-header.ensures.meaning ∙ ap g.P.LineProgram.meaning c.common.invariant.program in
-    let made = executed_row _ _ _ lent before _ _ has c.in-Ok.ensures.notation (rw c.in-Row.is at c.in-Ok.ensures.ok) in
+    let made = executed_row _ _ _ lent before _ _ has c.in-Ok.ensures.layout (rw c.in-Row.is at c.in-Ok.ensures.ok) in
     rw (c.common.invariant.program, ← c.self.view_is)
     (rw (← c.self.view_is) at (steps_after _ before _ c.common.invariant.reads _ made))
 

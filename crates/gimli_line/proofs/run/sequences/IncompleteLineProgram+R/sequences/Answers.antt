@@ -4,8 +4,8 @@ use Rattle.gimli_line.specs.header.Header.{without_files}
 use Rattle.gimli_line.specs.run.Events.{row}
 use Rattle.gimli_line.specs.header.Orders.{source_of}
 use Rattle.gimli_line.specs.run.Unread.{Unread}
-use Rattle.gimli_line.specs.run.Progress.{with_reset_row}
-use Rattle.gimli_line.specs.run.Sequences.{part_of}
+use Rattle.gimli_line.specs.run.Passing.{with_reset_row}
+use Rattle.gimli_line.specs.run.Sequences.{sequence_of}
 use Rattle.gimli_line.proofs.ResumedRuns.{resume_to_rows}
 use Rattle.gimli_line.proofs.SequenceLaws.{split_starts, split_goes, split_faults, split_source, split_ends, has_front}
 use Rattle.gimli_line.proofs.SequenceLaws.{row_takes}
@@ -15,8 +15,8 @@ use Rattle.gimli_line.proofs.run.sequences.IncompleteLineProgram+R.sequences.Goa
 pub rows-init : goal.rows-init
 rows-init g c =
     let h = c.args.self.meaning in
-    let source = source_of g.R.Reader.big g.R.Offset.ReaderOffset.number c.args.self in
-    let unread : Unread = record { bytes = h.program; notation = c.args.self.notation } in
+    let source = source_of g.R.Reader.is_big g.R.Offset.ReaderOffset.number c.args.self in
+    let unread : Unread = record { bytes = h.program; layout = c.args.self.layout } in
     split_starts h source _ c.rows-rows.result c.rows-rows.ensures.start
     (rw (
       c.new-split.ensures,
@@ -64,9 +64,9 @@ returns-clause-ok g c =
 pub returns-clause-source : goal.returns-clause-source
 returns-clause-source g c =
     split_source _ _ _ c.rows.rows c.advance.new.self c.rows.invariant c.in_ok-advance.ensures.keeps _
-    (ap (source_of g.R.Reader.big g.R.Offset.ReaderOffset.number) c.header.view_is ∙ c.into_program.ensures.source)
+    (ap (source_of g.R.Reader.is_big g.R.Offset.ReaderOffset.number) c.header.view_is ∙ c.into_program.ensures.source)
 
 pub returns-clause-unrefused : goal.returns-clause-unrefused
 returns-clause-unrefused g c =
     let are = returns-clause-ok g c in
-    resume_to_rows c.header.inside.header.meaning (map part_of c.into_sequences.result.items) are.runs are.each
+    resume_to_rows c.header.inside.header.meaning (map sequence_of c.into_sequences.result.items) are.runs are.each

@@ -6,7 +6,7 @@ use Rattle.gimli_line.proofs.run.sequences.IncompleteLineProgram+R.sequences.Giv
 abbrev pub invariant-rows : goal.invariant-rows
 invariant-rows g l =
     IsSplit (Splitting l.fn.self.meaning l.split) l.fn.self.meaning
-    (source_of g.R.Reader.big g.R.Offset.ReaderOffset.number l.fn.self) l.rows
+    (source_of g.R.Reader.is_big g.R.Offset.ReaderOffset.number l.fn.self) l.rows
 
 abbrev pub decreases-rows : goal.decreases-rows
 decreases-rows g l = length l.rows.unread.bytes

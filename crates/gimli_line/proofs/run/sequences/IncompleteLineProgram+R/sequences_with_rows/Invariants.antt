@@ -6,7 +6,7 @@ use Rattle.gimli_line.proofs.run.sequences.IncompleteLineProgram+R.sequences_wit
 abbrev pub invariant-run : goal.invariant-run
 invariant-run g l =
     IsSplit (Keeping l.fn.self.meaning l.split l.kept) l.fn.self.meaning
-    (source_of g.R.Reader.big g.R.Offset.ReaderOffset.number l.fn.self) l.run
+    (source_of g.R.Reader.is_big g.R.Offset.ReaderOffset.number l.fn.self) l.run
 
 abbrev pub decreases-run : goal.decreases-run
 decreases-run g l = length l.run.unread.bytes

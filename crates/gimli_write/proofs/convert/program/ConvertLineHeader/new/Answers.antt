@@ -19,7 +19,7 @@ returns-clause-ok g c =
       line_strings = g.R.Reader.bytes c.args.debug_line_str;
     } in
     let h = c.args.from_program.meaning in
-    let notation = c.args.from_program.notation in
+    let layout = c.args.from_program.layout in
     let tables = tables_with c.prepare.new.line_strings c.in_ok-tables.tables in
     let given = handed_of c.args.encoding c.args.line_encoding (option_map g.R.Reader.bytes c.args.from_comp_name) in
     let is = rw c.header.ensures at c.in_ok-tables.ensures.ok in
@@ -28,9 +28,9 @@ returns-clause-ok g c =
       prepared = is;
       reads =
           subst (λ (x : TablesAndTexts).
-          ReadsItems notation sections h tables h.program
-          (reading_left sections (start_of_source h (record { bytes = h.program; notation = notation })) x))
-          (sym same) (start_reads notation sections h tables h.program);
+          ReadsItems layout sections h tables h.program
+          (reading_left sections (start_of_source h (record { bytes = h.program; layout = layout })) x))
+          (sym same) (start_reads layout sections h tables h.program);
       unread = refl;
     })
 

@@ -11,7 +11,7 @@ returns-in-Err g c =
     let lent : c.header-header.result.now.meaning ≡ c.self.inside.program.meaning = rw c.header-header.ensures refl in
     let x =
     refused_steps {Endian = Unit {0}} g.R.Reader.bytes g.R.Offset.ReaderOffset.number s _ lent _ _
-    c.in-Err.ensures.notation _ c.in-Err.ensures.err in
+    c.in-Err.ensures.layout _ c.in-Err.ensures.err in
     rw (← c.self.view_is) (record {
       reading = x.reading;
       refusal = x.refusal;
@@ -19,7 +19,7 @@ returns-in-Err g c =
       stopped = x.stopped;
       shorter = x.shorter;
       header = x.header;
-      notation = x.notation;
+      layout = x.layout;
     })
 
 pub returns-in-Quiet : goal.returns-in-Quiet
@@ -31,7 +31,7 @@ returns-in-Quiet g c =
     let q = rw c.in-Quiet.is at c.in-Ok.ensures.ok in
     let x =
     quiet_steps {Endian = Unit {0}} g.R.Reader.bytes g.R.Offset.ReaderOffset.number s _ lent _ _
-    c.in-Ok.ensures.notation q.0 q.1 in
+    c.in-Ok.ensures.layout q.0 q.1 in
     rw (← c.self.view_is) (record {
       reading = x.reading;
       refusal = x.refusal;
@@ -39,7 +39,7 @@ returns-in-Quiet g c =
       stopped = x.stopped;
       shorter = x.shorter;
       header = x.header;
-      notation = x.notation;
+      layout = x.layout;
     })
 
 pub returns-in-Address : goal.returns-in-Address
@@ -51,7 +51,7 @@ returns-in-Address g c =
     let q = rw c.in-Address.is at c.in-Ok.ensures.ok in
     let x =
     address_steps {Endian = Unit {0}} g.R.Reader.bytes g.R.Offset.ReaderOffset.number s _ lent _ _
-    c.in-Ok.ensures.notation q.0 _ q.1 in
+    c.in-Ok.ensures.layout q.0 _ q.1 in
     rw (← c.self.view_is) (record {
       reading = x.reading;
       refusal = x.refusal;
@@ -59,7 +59,7 @@ returns-in-Address g c =
       stopped = x.stopped;
       shorter = x.shorter;
       header = x.header;
-      notation = x.notation;
+      layout = x.layout;
     })
 
 pub returns-in-Row : goal.returns-in-Row
@@ -70,7 +70,7 @@ returns-in-Row g c =
     let lent : c.header-header.result.now.meaning ≡ c.self.inside.program.meaning = rw c.header-header.ensures refl in
     let q = rw c.in-Row.is at c.in-Ok.ensures.ok in
     let x =
-    row_steps g.R.Reader.bytes g.R.Offset.ReaderOffset.number s _ lent _ _ c.in-Ok.ensures.notation q.0 c.self.invariant
+    row_steps g.R.Reader.bytes g.R.Offset.ReaderOffset.number s _ lent _ _ c.in-Ok.ensures.layout q.0 c.self.invariant
     q.1 c.header.result.now.meaning
     (rw c.header.ensures refl) _ c.reset.ensures _ _ c.made.ensures.step c.made.ensures.new in
     rw (← c.self.view_is) (record {
@@ -80,7 +80,7 @@ returns-in-Row g c =
       stopped = x.stopped;
       shorter = x.shorter;
       header = x.header;
-      notation = x.notation;
+      layout = x.layout;
     })
 
 pub invariant_of-self : goal.invariant_of-self

@@ -18,7 +18,7 @@ returns-in-Err g c =
       stopped = λ sections tables. fault_last sections tables s _ e.0 e.2;
       shorter = tt;
       header = refl;
-      notation = c.in-Err.ensures.notation;
+      layout = c.in-Err.ensures.layout;
     })
 
 pub returns-in-Ok-None : goal.returns-in-Ok-None
@@ -34,7 +34,7 @@ returns-in-Ok-None g c =
       stopped = tt;
       shorter = n.1;
       header = refl;
-      notation = c.in-Ok-None.ensures.notation;
+      layout = c.in-Ok-None.ensures.layout;
     })
 
 pub returns-in-DefineFile : goal.returns-in-DefineFile
@@ -44,20 +44,20 @@ returns-in-DefineFile g c =
     state c.self.inside.program.meaning c.self.inside.row c.self.inside.base c.self.inside.pending
     c.self.inside.instructions in
     let u = c.next_instruction.new.self in
-    let notation = c.in-Ok-Some.ensures.notation in
+    let layout = c.in-Ok-Some.ensures.layout in
     let lent : c.header.result.now.meaning ≡ c.self.inside.program.meaning = rw c.header.ensures refl in
     let f = file_seen g.R.Reader.bytes g.R.Offset.ReaderOffset.number c.in-DefineFile.file in
     let is : ins_seen g.R.Reader.bytes g.R.Offset.ReaderOffset.number c.in-Ok-Some.instruction
     ≡ DefineFile f = rw c.in-DefineFile.is refl in
     let spelled = spelled_as _ _ _ _ _ _ lent is n.2 in
     rw (← c.self.view_is) (record {
-      reading = λ sections tables. after_file sections tables s u notation f _ n.1 spelled;
+      reading = λ sections tables. after_file sections tables s u layout f _ n.1 spelled;
       refusal = tt;
-      tables = λ sections tables. file_last sections tables s u notation f _ n.1 spelled;
+      tables = λ sections tables. file_last sections tables s u layout f _ n.1 spelled;
       stopped = tt;
-      shorter = is_shorter s.unread.notation s.header s.unread.bytes _ _ _ n.1 spelled;
+      shorter = is_shorter s.unread.layout s.header s.unread.bytes _ _ _ n.1 spelled;
       header = refl;
-      notation = notation;
+      layout = layout;
     })
 
 pub returns-in-SetAddress : goal.returns-in-SetAddress
@@ -71,7 +71,7 @@ returns-in-SetAddress g c =
     let is : ins_seen g.R.Reader.bytes g.R.Offset.ReaderOffset.number c.in-Ok-Some.instruction
     ≡ SetAddress c.in-SetAddress.address = rw c.in-SetAddress.is refl in
     let spelled = spelled_as _ _ _ _ _ _ lent is n.2 in
-    rw (← c.self.view_is) (steps_source _ _ s c.set_address.new.self u c.in-Ok-Some.ensures.notation
+    rw (← c.self.view_is) (steps_source _ _ s c.set_address.new.self u c.in-Ok-Some.ensures.layout
     (SetAddress c.in-SetAddress.address) (n.0, n.1, spelled) _
     (ap (λ q. q.header) c.set_address.ensures) (ap (λ q. q.unread) c.set_address.ensures) refl refl
     c.set_address.ensures refl tt)
@@ -89,6 +89,6 @@ returns-in_default g c =
     let file : defines_file i
     ≡ false = other_kind _ _ _ (λ f is. c.in_default.not-DefineFile f is) in
     rw (← c.self.view_is)
-    (steps_source _ _ s c.execute.new.self u c.in-Ok-Some.ensures.notation i (n.0, n.1, spelled) _
+    (steps_source _ _ s c.execute.new.self u c.in-Ok-Some.ensures.layout i (n.0, n.1, spelled) _
     c.execute.ensures.header c.execute.ensures.unread file
     c.execute.ensures.fits c.execute.ensures.step c.execute.ensures.made c.execute.ensures.overflow)

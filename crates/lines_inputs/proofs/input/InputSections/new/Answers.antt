@@ -1,6 +1,6 @@
 use Rattle.std.proofs.Common.{sym}
 use Rattle.elf_sections.specs.Elf.{file_of}
-use Rattle.lines_inputs.proofs.input.Program.new.Goals as goal
+use Rattle.lines_inputs.proofs.input.InputSections.new.Goals as goal
 
 pub returns-in_ok-program-in-Elf : goal.returns-in_ok-program-in-Elf
 returns-in_ok-program-in-Elf c = record {

@@ -26,12 +26,12 @@ abbrev pub with_reset_row : RunState → RunState
 with_reset_row a = record a { row = reset_row a.fixed.parameters a.row }
 
 -- from one state to another an iterator passes over instructions that give these events
-pub record Progress (old new : RunState) (events : List Event) : Type 0 where
+pub record PassesOver (old new : RunState) (events : List Event) : Type 0 where
   pub list : List Ins
   pub front : List ℕ
   pub parts : old.unread.bytes ≡ front ++ new.unread.bytes
-  pub spelled : Each (SpellsInstruction old.unread.notation old.fixed) front list
-  pub notation : new.unread.notation ≡ old.unread.notation
+  pub spelled : Each (SpellsInstruction old.unread.layout old.fixed) front list
+  pub layout : new.unread.layout ≡ old.unread.layout
   pub fixed : new.fixed ≡ old.fixed
   pub appends : new.appends ≡ old.appends
   pub given : run old.fixed.parameters old.row list ≡ events
