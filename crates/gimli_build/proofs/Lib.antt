@@ -1,3 +1,4 @@
+pub mod Common
 pub mod writing
 pub mod sizes
 pub mod refusals

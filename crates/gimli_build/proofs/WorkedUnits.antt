@@ -1,28 +1,14 @@
 -- Units that are built, and the bytes that they are written as, worked out by hand.
-use Rattle.std.proofs.Common.{◌≡◌, ℕ, ◌-◌, ◌^◌, Bool, true, false, List, [], ◌∷◌, ◌++◌, Some, None, Ok, refl, negsuc}
-use Rattle.std.proofs.Common.{pos, ℤ}
-use Rattle.gimli_core.specs.declared.common.Encoding.{Encoding}
-use Rattle.gimli_core.specs.declared.common.LineEncoding.{LineEncoding}
-use Rattle.gimli_core.specs.declared.common.Format.{Format}
-use Rattle.gimli_core.specs.declared.common.Format.TheVariants.{Dwarf32, Dwarf64}
+use Rattle.std.specs.Prelude.{◌≡◌, ◌-◌, ◌^◌, ◌∷◌, ◌++◌}
+use Rattle.gimli_build.proofs.Common
+use Common.{ℕ, Bool, true, false, List, [], Some, None, Ok, refl, negsuc, pos, ℤ, Encoding, LineEncoding, Format}
+use Common.{Dwarf32, Dwarf64, Placement, plain, placed, Constant, Symbol, IncompatibleLineProgramEncoding}
+use Common.{UnsupportedVersion, NeedVersion, LineStringFormMismatch, ValueTooLarge, InvalidAddress, texts_in, no_texts}
+use Common.{LineText, Inline, InLineStrings, File, no_details, Built, empty_built, initial_row, texts_after, unit_bytes}
+use Common.{first_cause, BuiltItem, SetAddress, Row, End}
 use Rattle.gimli_bytes.specs.Number.{uleb}
-use Rattle.gimli_bytes.specs.Hand.{Placement, plain}
-use Rattle.gimli_bytes.specs.Relocations.{placed}
-use Rattle.gimli_bytes.specs.declared.address.Address.TheVariants.{Constant, Symbol}
-use Rattle.gimli_bytes.specs.declared.error.Error.TheVariants.{IncompatibleLineProgramEncoding, UnsupportedVersion}
-use Rattle.gimli_bytes.specs.declared.error.Error.TheVariants.{NeedVersion, LineStringFormMismatch}
-use Rattle.gimli_bytes.specs.declared.error.Error.TheVariants.{ValueTooLarge, InvalidAddress}
-use Rattle.gimli_bytes.specs.Texts.{texts_in, no_texts}
-use Rattle.gimli_build.specs.LineText.{LineText, Inline, InLineStrings}
-use Rattle.gimli_build.specs.Tables.{File, no_details}
-use Rattle.gimli_build.specs.Built.{Built, empty_built}
-use Rattle.gimli_build.specs.Rows.{initial_row}
-use Rattle.gimli_build.specs.Version5Tables.{texts_after}
-use Rattle.gimli_build.specs.Unit.{base_byte, unit_bytes}
+use Rattle.gimli_build.specs.Unit.{base_byte}
 use Rattle.gimli_build.specs.Linked.{placed_item, placed_program}
-use Rattle.gimli_build.specs.Cause.{first_cause}
-use Rattle.gimli_build.specs.declared.built.items.BuiltItem.{BuiltItem}
-use Rattle.gimli_build.specs.declared.built.items.BuiltItem.TheVariants.{SetAddress, Row, End}
 
 -- ---- what is built
 

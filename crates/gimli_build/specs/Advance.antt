@@ -1,7 +1,7 @@
 -- Positions of rows, and how far one is past another (DWARF 5, sections 6.2.2 and 6.2.5.1). A
 -- position is an offset in bytes, and which operation of the machine instruction there.
-use Rattle.std.specs.Prelude.{◌≡◌, ℕ, ◌+◌, ◌-◌, ◌*◌, ◌/◌, ◌%◌, ◌^◌, ◌<◌, ◌≤◌, pos, ◌+ℤ◌, ◌≤ℤ◌, ◌<ℤ◌}
-use Rattle.gimli_core.specs.declared.common.LineEncoding.{LineEncoding}
+use Rattle.std.specs.Prelude.{◌≡◌, ◌+◌, ◌-◌, ◌*◌, ◌/◌, ◌%◌, ◌^◌, ◌<◌, ◌≤◌, ◌+ℤ◌, ◌≤ℤ◌, ◌<ℤ◌}
+use Rattle.gimli_build.specs.Prelude.{ℕ, pos, LineEncoding}
 
 -- rows can be written by this encoding: there is a special opcode that advances no line, a byte
 -- holds it, and nothing that is divided by is 0

@@ -1,11 +1,8 @@
 -- A line program as it was built.
-use Rattle.std.specs.Prelude.{ℕ, ◌-◌, Bool, false, true, List, [], ◌∷◌, length, slice_get, negsuc}
-use Rattle.std.specs.Option.{option_map_or}
-use Rattle.gimli_core.specs.declared.common.Encoding.{Encoding}
-use Rattle.gimli_core.specs.declared.common.Format.TheVariants.{Dwarf32}
-use Rattle.gimli_core.specs.declared.common.LineEncoding.{LineEncoding}
-use Rattle.gimli_bytes.specs.declared.address.Address.{Address}
-use Rattle.gimli_bytes.specs.declared.address.Address.TheVariants.{Constant, Symbol}
+use Rattle.std.specs.Prelude.{◌-◌, ◌∷◌}
+use Rattle.gimli_build.specs.Prelude
+use Prelude.{ℕ, Bool, false, true, List, [], length, slice_get, negsuc, option_map_or, Encoding, Dwarf32, LineEncoding}
+use Prelude.{Address, Constant, Symbol}
 use Rattle.gimli_build.specs.LineText.{LineText}
 use Rattle.gimli_build.specs.Tables.{File}
 use Rattle.gimli_build.specs.Rows.{initial_row}

@@ -1,9 +1,7 @@
 -- A program after a call of the builder that returns Ok.
-use Rattle.std.specs.Prelude.{ℕ, true, false, [], ◌∷◌, ◌++◌, Option, option_map}
-use Rattle.std.specs.Option.{option_to_list}
-use Rattle.gimli_core.specs.declared.common.Encoding.{Encoding}
-use Rattle.gimli_core.specs.declared.common.LineEncoding.{LineEncoding}
-use Rattle.gimli_bytes.specs.declared.address.Address.{Address}
+use Rattle.std.specs.Prelude.{◌∷◌, ◌++◌}
+use Rattle.gimli_build.specs.Prelude
+use Prelude.{ℕ, true, false, [], Option, option_map, option_to_list, Encoding, LineEncoding, Address}
 use Rattle.gimli_build.specs.LineText.{LineText}
 use Rattle.gimli_build.specs.Tables.{FileKey, Details, Tables, with_directory, with_file}
 use Rattle.gimli_build.specs.Rows.{initial_row, without_marks, row_after_address}

@@ -1,25 +1,10 @@
 -- Why a unit can't be written: the first cause, in the order of what is written.
-use Rattle.std.specs.Prelude.{ℕ, ◌+◌, ◌^◌, List, [], ◌∷◌, ◌++◌, length, map, flat_map}
-use Rattle.std.specs.Prelude.{drop, sum_by, unwrap_or, Bool, not, ◌&&◌, nat_eq, nat_le, nat_lt}
-use Rattle.std.specs.Prelude.{if◌then◌else◌, Option, Some, None, Result, Ok, Err}
-use Rattle.gimli_core.specs.Numbers.{word_size}
-use Rattle.gimli_core.specs.declared.common.Encoding.{Encoding}
-use Rattle.gimli_core.specs.declared.common.Format.{Format}
-use Rattle.gimli_core.specs.declared.common.Format.TheVariants.{Dwarf32, Dwarf64}
-use Rattle.gimli_bytes.specs.Hand.{plain}
-use Rattle.gimli_bytes.specs.Number.{uleb}
-use Rattle.gimli_bytes.specs.declared.address.Address.TheVariants.{Constant, Symbol}
-use Rattle.gimli_bytes.specs.declared.error.Error.{Error}
-use Rattle.gimli_bytes.specs.declared.error.Error.TheVariants.{
-  IncompatibleLineProgramEncoding,
-  UnsupportedVersion,
-  NeedVersion,
-  LineStringFormMismatch,
-  ValueTooLarge,
-  InvalidAddress,
-  InitialLengthOverflow,
-}
-use Rattle.gimli_bytes.specs.Texts.{offset_of, StringTables}
+use Rattle.std.specs.Prelude.{◌+◌, ◌^◌, ◌∷◌, ◌++◌, ◌&&◌, if◌then◌else◌}
+use Rattle.gimli_build.specs.Prelude
+use Prelude.{ℕ, List, [], length, map, flat_map, drop, sum_by, unwrap_or, Bool, not, nat_eq, nat_le, nat_lt, Option}
+use Prelude.{Some, None, Result, Ok, Err, word_size, Encoding, Format, Dwarf32, Dwarf64, plain, uleb, Constant, Symbol}
+use Prelude.{Error, IncompatibleLineProgramEncoding, UnsupportedVersion, NeedVersion, LineStringFormMismatch}
+use Prelude.{ValueTooLarge, InvalidAddress, InitialLengthOverflow, offset_of, StringTables}
 use Rattle.gimli_core.specs.FormNumbers.{DW_FORM_string}
 use Rattle.gimli_build.specs.LineText.{LineText, Inline, InStrings, InLineStrings}
 use Rattle.gimli_build.specs.Tables.{File}

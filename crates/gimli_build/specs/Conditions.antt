@@ -1,10 +1,8 @@
 -- What the calls of a builder ask.
-use Rattle.std.specs.Prelude.{◌≡◌, ℕ, ◌<◌, ◌≤◌, ◌^◌, Bool, true, false, List, [], ◌∷◌, length, drop}
-use Rattle.std.specs.Prelude.{IsTrue, IfSome, All}
-use Rattle.gimli_core.specs.Numbers.{is_address_size}
-use Rattle.gimli_core.specs.declared.common.Encoding.{Encoding}
-use Rattle.gimli_core.specs.declared.common.LineEncoding.{LineEncoding}
-use Rattle.gimli_bytes.specs.Texts.{StringTables}
+use Rattle.std.specs.Prelude.{◌≡◌, ◌<◌, ◌≤◌, ◌^◌, ◌∷◌}
+use Rattle.gimli_build.specs.Prelude
+use Prelude.{ℕ, Bool, true, false, List, [], length, drop, IsTrue, IfSome, All, is_address_size, Encoding, LineEncoding}
+use Prelude.{StringTables}
 use Rattle.gimli_build.specs.LineText.{LineText, IsWithin, HasNoZero, IsNotEmpty}
 use Rattle.gimli_build.specs.Tables.{FileKey}
 use Rattle.gimli_build.specs.Advance.{CanEncode, CanFollow}

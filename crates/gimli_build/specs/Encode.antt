@@ -1,26 +1,14 @@
 -- The instructions that a built row or end is written as, from the row before it (DWARF 5, section
 -- 6.2.5).
-use Rattle.std.specs.Prelude.{ℕ, ◌+◌, ◌-◌, ◌*◌, ◌/◌, Bool, true, false, not, ◌&&◌, nat_eq, nat_le}
-use Rattle.std.specs.Prelude.{if◌then◌else◌, List, [], ◌∷◌, ◌++◌, ℤ, pos, ◌+ℤ◌, ◌-ℤ◌, unsigned_abs}
-use Rattle.std.specs.Prelude.{int_le, int_lt}
-use Rattle.gimli_core.specs.declared.common.LineEncoding.{LineEncoding}
-use Rattle.gimli_line.specs.declared.run.instruction.LineInstruction.TheVariants.{
-  Special,
-  Copy,
-  AdvancePc,
-  AdvanceLine,
-  SetFile,
-  SetColumn,
-  NegateStatement,
-  SetBasicBlock,
-  ConstAddPc,
-  SetPrologueEnd,
-  SetEpilogueBegin,
-  SetIsa,
-  EndSequence,
-  SetDiscriminator,
-}
-use Rattle.gimli_line.specs.run.Instruction.{Ins}
+use Rattle.std.specs.Prelude.{◌+◌, ◌-◌, ◌*◌, ◌/◌, ◌&&◌, if◌then◌else◌, ◌∷◌, ◌++◌, ◌+ℤ◌, ◌-ℤ◌}
+use Rattle.gimli_build.specs.Prelude
+use Prelude.{ℕ, Bool, true, false, not, nat_eq, nat_le, List, [], ℤ, pos, unsigned_abs, int_le, int_lt, LineEncoding}
+use Prelude.{Ins}
+use Rattle.gimli_line.specs.declared.run.instruction.LineInstruction.TheVariants.{Special, Copy, AdvancePc, AdvanceLine}
+use Rattle.gimli_line.specs.declared.run.instruction.LineInstruction.TheVariants.{SetFile, SetColumn, NegateStatement}
+use Rattle.gimli_line.specs.declared.run.instruction.LineInstruction.TheVariants.{SetBasicBlock, ConstAddPc}
+use Rattle.gimli_line.specs.declared.run.instruction.LineInstruction.TheVariants.{SetPrologueEnd, SetEpilogueBegin}
+use Rattle.gimli_line.specs.declared.run.instruction.LineInstruction.TheVariants.{SetIsa, EndSequence, SetDiscriminator}
 use Rattle.gimli_build.specs.declared.built.row.LineRow.{LineRow}
 use Rattle.gimli_build.specs.Due.{when}
 use Rattle.gimli_build.specs.FileNumber.{file_number}

@@ -1,5 +1,6 @@
 -- How the rows of a program number the files (DWARF 5, section 6.2.2).
-use Rattle.std.specs.Prelude.{ℕ, ◌+◌, nat_eq, nat_le, if◌then◌else◌}
+use Rattle.std.specs.Prelude.{◌+◌, if◌then◌else◌}
+use Rattle.gimli_build.specs.Prelude.{ℕ, nat_eq, nat_le}
 
 -- the number of the file with this index: they count from 1 on up to version 4, and from 0 on in
 -- the later ones

@@ -1,7 +1,7 @@
 -- Bytes that are written one part after the other, where each part may be refused: the first
 -- refusal counts.
-use Rattle.std.specs.Prelude.{ℕ, List, [], ◌∷◌, ◌++◌, length, Result, Ok, Err}
-use Rattle.gimli_bytes.specs.declared.error.Error.{Error}
+use Rattle.std.specs.Prelude.{◌∷◌, ◌++◌}
+use Rattle.gimli_build.specs.Prelude.{ℕ, List, [], length, Result, Ok, Err, Error}
 
 -- one after the other, or the first refusal
 abbrev pub result_append : Result (List ℕ) Error → Result (List ℕ) Error → Result (List ℕ) Error

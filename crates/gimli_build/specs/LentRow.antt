@@ -1,6 +1,5 @@
 -- What a program ends as, once a `&mut` to a part of it has ended.
-use Rattle.std.specs.Prelude.{ℕ}
-use Rattle.std.specs.Borrow.{Lends, MutBor, Fml}
+use Rattle.gimli_build.specs.Prelude.{ℕ, Lends, MutBor, Fml}
 use Rattle.gimli_build.specs.Built.{Built}
 use Rattle.gimli_build.specs.Tables.{with_details}
 use Rattle.gimli_build.specs.TableFields.{details}

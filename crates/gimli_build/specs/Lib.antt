@@ -1,3 +1,4 @@
+pub mod Prelude
 pub mod Due
 pub mod FileNumber
 pub mod Rows

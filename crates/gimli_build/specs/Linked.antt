@@ -1,11 +1,9 @@
 -- A unit whose addresses, and offsets of texts, a linker fills in: the program that it is then.
-use Rattle.std.specs.Prelude.{◌≡◌, ℕ, ◌+◌, ◌≤◌, ◌^◌, List, ◌++◌, length, map, All}
-use Rattle.gimli_core.specs.Numbers.{word_size}
-use Rattle.gimli_core.specs.declared.common.Format.{Format}
-use Rattle.gimli_core.specs.declared.common.SectionId.TheVariants.{DebugStr, DebugLineStr}
-use Rattle.gimli_bytes.specs.Hand.{Placement, unplaced}
+use Rattle.std.specs.Prelude.{◌≡◌, ◌+◌, ◌≤◌, ◌^◌, ◌++◌}
+use Rattle.gimli_build.specs.Prelude
+use Prelude.{ℕ, List, length, map, All, word_size, Format, DebugStr, DebugLineStr, Placement, unplaced, table_bytes}
+use Prelude.{StringTables}
 use Rattle.gimli_bytes.specs.Relocations.{AddressOf, CallFits, address_placed}
-use Rattle.gimli_bytes.specs.Texts.{table_bytes, StringTables}
 use Rattle.gimli_build.specs.LineText.{LineText}
 use Rattle.gimli_build.specs.ReadsBack.{IsOffsetHeld}
 use Rattle.gimli_build.specs.Built.{Built}

@@ -1,22 +1,13 @@
 -- What is read of a unit that was built.
-use Rattle.std.specs.Prelude.{◌≡◌, ℕ, ◌-◌, ◌<◌, ◌≤◌, All, List, [], ◌++◌, length, map, slice_get}
-use Rattle.std.specs.Prelude.{Bool, false, None, option_map, nat_le, if◌then◌else◌, IfSome}
-use Rattle.std.specs.Option.{option_to_list}
-use Rattle.gimli_core.specs.Layout.{OrderAndLimit}
-use Rattle.gimli_core.specs.Values.{Value}
-use Rattle.gimli_core.specs.declared.common.Format.TheVariants.{Dwarf64}
-use Rattle.gimli_core.specs.declared.common.SectionId.TheVariants.{DebugStr, DebugLineStr}
-use Rattle.gimli_core.specs.declared.attribute_value.AttributeValue.TheVariants.{String}
+use Rattle.std.specs.Prelude.{◌≡◌, ◌-◌, ◌<◌, ◌≤◌, ◌++◌, if◌then◌else◌}
+use Rattle.gimli_build.specs.Prelude
+use Prelude.{ℕ, All, List, [], length, map, slice_get, Bool, false, None, option_map, nat_le, IfSome, option_to_list}
+use Prelude.{OrderAndLimit, Value, Dwarf64, DebugStr, DebugLineStr, String, Header, UnitEntry, Decodes, Events, row}
+use Prelude.{ReadRow, Placement, unplaced, offset_of, StringTables}
 use Rattle.gimli_line.specs.declared.header.file_entry.FileEntryFormat.{FileEntryFormat}
 use Rattle.gimli_build.specs.Version5Tables.{directory_formats, file_formats}
-use Rattle.gimli_line.specs.header.Header.{Header, UnitEntry}
 use Rattle.gimli_line.specs.header.HeaderGrammar.{HeaderOpening, header_production, fields_production}
 use Rattle.gimli_line.specs.header.File.{File as ReadFile}
-use Rattle.gimli_line.specs.run.InstructionGrammar.{Decodes}
-use Rattle.gimli_line.specs.run.Events.{Events, row}
-use Rattle.gimli_line.specs.declared.run.row.LineRow.{LineRow as ReadRow}
-use Rattle.gimli_bytes.specs.Hand.{Placement, unplaced}
-use Rattle.gimli_bytes.specs.Texts.{offset_of, StringTables}
 use Rattle.gimli_build.specs.LineText.{LineText, Inline, InStrings, InLineStrings, bytes_in}
 use Rattle.gimli_build.specs.Tables.{File}
 use Rattle.gimli_build.specs.Texts.{Sections, StandsAt, IsText, IsOptionalText, OneByOne}

@@ -1,10 +1,9 @@
 -- Where `write` refuses a program: which of its directories, files and items have a cause.
-use Rattle.std.specs.Prelude.{◌≡◌, ℕ, ◌<◌, Bool, ◌&&◌, nat_eq, nat_le, if◌then◌else◌, [], ◌∷◌}
-use Rattle.std.specs.Prelude.{Option, Some, None, slice_get}
-use Rattle.std.specs.Option.{option_map_or, option_and_then}
+use Rattle.std.specs.Prelude.{◌≡◌, ◌<◌, ◌&&◌, if◌then◌else◌, ◌∷◌}
+use Rattle.gimli_build.specs.Prelude
+use Prelude.{ℕ, Bool, nat_eq, nat_le, [], Option, Some, None, slice_get, option_map_or, option_and_then, Error}
+use Prelude.{StringTables}
 use Rattle.gimli_core.specs.FormNumbers.{DW_FORM_string}
-use Rattle.gimli_bytes.specs.declared.error.Error.{Error}
-use Rattle.gimli_bytes.specs.Texts.{StringTables}
 use Rattle.gimli_build.specs.LineText.{LineText}
 use Rattle.gimli_build.specs.Tables.{File}
 use Rattle.gimli_build.specs.Built.{Built}

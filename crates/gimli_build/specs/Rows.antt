@@ -1,5 +1,6 @@
 -- Rows as they are built.
-use Rattle.std.specs.Prelude.{ℕ, Bool, false, if◌then◌else◌}
+use Rattle.std.specs.Prelude.{if◌then◌else◌}
+use Rattle.gimli_build.specs.Prelude.{ℕ, Bool, false}
 use Rattle.gimli_build.specs.FileNumber.{initial_file}
 use Rattle.gimli_build.specs.declared.built.row.LineRow.{LineRow}
 

@@ -1,6 +1,5 @@
 -- The fields of the tables of a line program, as lists.
-use Rattle.std.specs.Prelude.{ℕ, option_map}
-use Rattle.std.specs.Borrow.{Bor}
+use Rattle.gimli_build.specs.Prelude.{ℕ, option_map, Bor}
 use Rattle.gimli_build.specs.LineText.{LineText, line_text}
 use Rattle.gimli_build.specs.Tables.{Details}
 use Rattle.gimli_build.specs.declared.built.line_string.LineString.{LineString}

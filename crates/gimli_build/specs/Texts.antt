@@ -1,11 +1,7 @@
 -- The texts that values of a header stand for (DWARF 5, section 6.2.4.1).
-use Rattle.std.specs.Prelude.{◌≡◌, ◌≢◌, ℕ, List, [], ◌∷◌, ◌++◌, drop, All, Option, Some, None}
-use Rattle.gimli_core.specs.Values.{Value}
-use Rattle.gimli_core.specs.declared.attribute_value.AttributeValue.TheVariants.{
-  String,
-  DebugStrRef,
-  DebugLineStrRef,
-}
+use Rattle.std.specs.Prelude.{◌≡◌, ◌≢◌, ◌∷◌, ◌++◌}
+use Rattle.gimli_build.specs.Prelude
+use Prelude.{ℕ, List, [], drop, All, Option, Some, None, Value, String, DebugStrRef, DebugLineStrRef}
 
 -- the two sections of texts
 pub record Sections : Type 0 where

@@ -1,22 +1,11 @@
 -- The bytes of a unit as it is written, or the first cause why it can't be (DWARF 5, section 6.2.4;
 -- DWARF 4, section 6.2.4).
-use Rattle.std.specs.Prelude.{ℕ, List, [], ◌∷◌, Bool, not, ◌&&◌, ◌||◌, nat_eq, nat_le, nat_lt}
-use Rattle.std.specs.Prelude.{if◌then◌else◌, Result, Ok, Err, ℤ}
+use Rattle.std.specs.Prelude.{◌∷◌, ◌&&◌, ◌||◌, if◌then◌else◌}
+use Rattle.gimli_build.specs.Prelude
+use Prelude.{ℕ, List, [], Bool, not, nat_eq, nat_le, nat_lt, Result, Ok, Err, ℤ, number_bytes, Encoding, LineEncoding}
+use Prelude.{Format, Dwarf32, Dwarf64, length_word, Hand, Error, IncompatibleLineProgramEncoding, UnsupportedVersion}
+use Prelude.{NeedVersion, StringTables}
 use Rattle.std.specs.Int.{w8, cast_unsigned}
-use Rattle.gimli_core.specs.Numbers.{number_bytes}
-use Rattle.gimli_core.specs.declared.common.Encoding.{Encoding}
-use Rattle.gimli_core.specs.declared.common.LineEncoding.{LineEncoding}
-use Rattle.gimli_core.specs.declared.common.Format.{Format}
-use Rattle.gimli_core.specs.declared.common.Format.TheVariants.{Dwarf32, Dwarf64}
-use Rattle.gimli_bytes.specs.Number.{length_word}
-use Rattle.gimli_bytes.specs.Hand.{Hand}
-use Rattle.gimli_bytes.specs.declared.error.Error.{Error}
-use Rattle.gimli_bytes.specs.declared.error.Error.TheVariants.{
-  IncompatibleLineProgramEncoding,
-  UnsupportedVersion,
-  NeedVersion,
-}
-use Rattle.gimli_bytes.specs.Texts.{StringTables}
 use Rattle.gimli_build.specs.FormatWord.{format_word}
 use Rattle.gimli_build.specs.Joined.{result_append, after_length}
 use Rattle.gimli_build.specs.Version4Tables.{directories_bytes, files_bytes}

@@ -1,13 +1,8 @@
 -- How the instructions of a built program are spelled in a unit.
-use Rattle.std.specs.Prelude.{◌≡◌, ℕ, ◌<◌, ◌^◌, List, Result}
-use Rattle.gimli_core.specs.Layout.{OrderAndLimit}
+use Rattle.std.specs.Prelude.{◌≡◌, ◌<◌, ◌^◌}
+use Rattle.gimli_build.specs.Prelude
+use Prelude.{ℕ, List, Result, OrderAndLimit, plain, Constant, Error, Header, Ins, SpellsInstruction}
 use Rattle.gimli_core.specs.Production.{Each}
-use Rattle.gimli_bytes.specs.Hand.{plain}
-use Rattle.gimli_bytes.specs.declared.address.Address.TheVariants.{Constant}
-use Rattle.gimli_bytes.specs.declared.error.Error.{Error}
-use Rattle.gimli_line.specs.header.Header.{Header}
-use Rattle.gimli_line.specs.run.Instruction.{Ins}
-use Rattle.gimli_line.specs.run.InstructionGrammar.{SpellsInstruction}
 use Rattle.gimli_build.specs.declared.built.row.LineRow.{LineRow}
 use Rattle.gimli_build.specs.declared.built.items.BuiltItem.{BuiltItem}
 use Rattle.gimli_build.specs.Advance.{CanEncode}

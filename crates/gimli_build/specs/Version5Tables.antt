@@ -1,16 +1,10 @@
 -- The tables of a unit of version 5 as they are written (DWARF 5, section 6.2.4, parts 13 to 20).
-use Rattle.std.specs.Prelude.{ℕ, ◌++◌, List, [], ◌∷◌, length, map, Bool, ◌&&◌, nat_eq, nat_le}
-use Rattle.std.specs.Prelude.{if◌then◌else◌, Some, None, unwrap_or, Result, Ok, Err}
-use Rattle.std.specs.Option.{is_none}
-use Rattle.std.specs.List.{flat_map, list_any}
-use Rattle.gimli_core.specs.Numbers.{word_size}
-use Rattle.gimli_core.specs.declared.common.Format.{Format}
-use Rattle.gimli_core.specs.declared.common.SectionId.TheVariants.{DebugStr, DebugLineStr}
-use Rattle.gimli_bytes.specs.Number.{uleb}
-use Rattle.gimli_bytes.specs.Hand.{Hand}
-use Rattle.gimli_bytes.specs.Texts.{with_text, index_of_text, offset_of, StringTables}
-use Rattle.gimli_bytes.specs.declared.error.Error.{Error}
-use Rattle.gimli_bytes.specs.declared.error.Error.TheVariants.{LineStringFormMismatch}
+use Rattle.std.specs.Prelude.{◌++◌, ◌∷◌, ◌&&◌, if◌then◌else◌}
+use Rattle.gimli_build.specs.Prelude
+use Prelude.{ℕ, List, [], length, map, Bool, nat_eq, nat_le, Some, None, unwrap_or, Result, Ok, Err, is_none, flat_map}
+use Prelude.{word_size, Format, DebugStr, DebugLineStr, uleb, Hand, with_text, index_of_text, offset_of, StringTables}
+use Prelude.{Error, LineStringFormMismatch}
+use Rattle.std.specs.List.{list_any}
 use Rattle.gimli_core.specs.FormNumbers.{DW_FORM_data16, DW_FORM_line_strp, DW_FORM_string}
 use Rattle.gimli_core.specs.FormNumbers.{DW_FORM_strp, DW_FORM_udata}
 use Rattle.gimli_line.specs.LineNumbers.{DW_LNCT_LLVM_source, DW_LNCT_MD5, DW_LNCT_directory_index}

@@ -1,10 +1,8 @@
 -- What a call leaves that appends wanted bytes to a writer.
-use Rattle.std.specs.Prelude.{◌≡◌, ◌⊎◌, ℕ, List, Result, Err, IsTrue, OnOk, IfErr}
-use Rattle.gimli_bytes.specs.Hand.{Hand, Placement, plain}
-use Rattle.gimli_bytes.specs.Written.{Begins, Appends}
-use Rattle.gimli_bytes.specs.declared.error.Error.{Error}
-use Rattle.gimli_bytes.specs.declared.error.Error.TheVariants.{OutOfMemory}
-use Rattle.gimli_bytes.specs.declared.sink.Sink.{Ghosts}
+use Rattle.std.specs.Prelude.{◌≡◌, ◌⊎◌}
+use Rattle.gimli_build.specs.Prelude
+use Prelude.{ℕ, List, Result, Err, IsTrue, OnOk, IfErr, Hand, Placement, plain, Begins, Appends, Error, OutOfMemory}
+use Prelude.{Ghosts}
 
 -- as `IsAppend`, with refusals of its own, and but for those: a part that is wanted late may be
 -- refused, and memory before it

@@ -1,7 +1,6 @@
 -- What `write` leaves of the two tables of texts that it is handed.
-use Rattle.std.specs.Prelude.{◌≡◌, ◌⊎◌, ◌≤◌, IsTrue}
-use Rattle.gimli_core.specs.declared.common.Encoding.{Encoding}
-use Rattle.gimli_bytes.specs.Texts.{StringTables}
+use Rattle.std.specs.Prelude.{◌≡◌, ◌⊎◌, ◌≤◌}
+use Rattle.gimli_build.specs.Prelude.{IsTrue, Encoding, StringTables}
 use Rattle.gimli_build.specs.Built.{Built}
 use Rattle.gimli_build.specs.Unit.{is_incompatible}
 use Rattle.gimli_build.specs.Version5Tables.{texts_after}

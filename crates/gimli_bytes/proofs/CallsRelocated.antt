@@ -1,23 +1,12 @@
 -- What calls leave, once the relocations are applied.
-use Rattle.std.proofs.Common.{arith, ◌≡◌, ◌≢◌, ◌⊎◌, inl, inr, ℕ, ◌+◌, ◌*◌, ◌%◌, ◌^◌, ◌<◌, ◌≤◌, ℤ, pos, negsuc, Bool}
-use Rattle.std.proofs.Common.{true, false, if◌then◌else◌, List, [], ◌∷◌}
-use Rattle.std.proofs.Common.{◌++◌}
-use Rattle.std.proofs.Common.{length, refl, ap, sym, ◌∙◌, subst, Ok, Err, length-append, w64}
-use Rattle.std.specs.Prelude.{All, Result, nat_eq, ◌||◌, ◌+ℤ◌, FitsSigned}
-use Rattle.std.specs.Int.{cast_unsigned, cast_signed}
-use Rattle.std.proofs.Math.Nat.{mod-eq_of_lt}
-use Rattle.std.proofs.lemmas.Int.{ints, of_z-to_z}
-use Rattle.std.proofs.lemmas.Bool.{cases_lt}
-use Rattle.std.specs.List.{list_any}
-use Rattle.std.proofs.lemmas.List.Elements.{All-head, All-tail}
-use Rattle.gimli_core.specs.Numbers.{number_bytes, value_of}
-use Rattle.gimli_core.specs.Reading.{result_map}
-use Rattle.gimli_core.specs.declared.common.SectionId.{SectionId}
-use Rattle.gimli_bytes.specs.inside.Pieces.{put_over}
-use Rattle.gimli_bytes.specs.Number.{udata}
-use Rattle.gimli_bytes.specs.Written.{overwrite_of, patch}
-use Rattle.gimli_bytes.specs.Relocatable.{Relocatable}
-use Rattle.gimli_bytes.specs.Hand.{Placement}
+use Rattle.std.specs.Prelude.{◌≡◌, ◌≢◌, ◌⊎◌, ◌+◌, ◌*◌, ◌%◌, ◌^◌, ◌<◌, ◌≤◌, if◌then◌else◌, ◌∷◌, ◌++◌, ◌||◌, ◌+ℤ◌}
+use Rattle.gimli_bytes.proofs.Common
+use Common.{arith, inl, inr, ℕ, ℤ, pos, negsuc, Bool, true, false, List, [], length, refl, ap, sym, ◌∙◌, subst, Ok, Err}
+use Common.{length-append, w64, All, Result, nat_eq, FitsSigned, cast_unsigned, cast_signed, mod-eq_of_lt, ints}
+use Common.{of_z-to_z, cases_lt, list_any, All-head, All-tail, number_bytes, value_of, result_map, SectionId, put_over}
+use Common.{udata, overwrite_of, patch, Relocatable, Placement, Constant, Symbol, Error, InvalidRange, ValueTooLarge}
+use Common.{UnsupportedWordSize, OffsetOutOfBounds, LengthOutOfBounds, Relocation, RelocationTarget, OfSymbol}
+use Common.{OfSection}
 use Rattle.gimli_bytes.specs.Relocations.{Call, Bytes, AddressOf, OffsetInto, ReferenceTo, BytesAt, OffsetAt, place_of}
 use Rattle.gimli_bytes.specs.Relocations.{relocated, all_relocated}
 use Rattle.gimli_bytes.specs.Relocations.{applied, touches, number_in_place, addend_in_list, with_place, with_place_at}
@@ -25,18 +14,6 @@ use Rattle.gimli_bytes.specs.Relocations.{relocation_at, with_relocation}
 use Rattle.gimli_bytes.specs.Relocations.{result_then}
 use Rattle.gimli_bytes.specs.Relocations.{after_call, after_calls, plainly_after, plainly_after_calls, CallFits}
 use Rattle.gimli_bytes.specs.Relocations.{CallsFit}
-use Rattle.gimli_bytes.specs.declared.address.Address.TheVariants.{Constant, Symbol}
-use Rattle.gimli_bytes.specs.declared.error.Error.{Error}
-use Rattle.gimli_bytes.specs.declared.error.Error.TheVariants.{
-  InvalidRange,
-  ValueTooLarge,
-  UnsupportedWordSize,
-  OffsetOutOfBounds,
-  LengthOutOfBounds,
-}
-use Rattle.gimli_bytes.specs.declared.relocation.Relocation.{Relocation}
-use Rattle.gimli_bytes.specs.declared.relocation.RelocationTarget.{RelocationTarget}
-use Rattle.gimli_bytes.specs.declared.relocation.RelocationTarget.TheVariants.{OfSymbol, OfSection}
 use Rattle.gimli_bytes.proofs.PieceLemmas.{patched-inside, length-put_over}
 use Rattle.gimli_bytes.proofs.RelocationLemmas.{length-number, number-mod}
 use Rattle.gimli_bytes.proofs.Relocating.{

@@ -1,31 +1,16 @@
 -- What calls of a section with relocations leave, once a linker has completed it.
-use Rattle.std.proofs.Common.{arith, ◌≡◌, ℕ, ◌+◌, ◌%◌, ◌<◌, ◌≤◌, ◌^◌, ℤ, pos, Bool, true, false, List, ◌++◌, length}
-use Rattle.std.proofs.Common.{take, refl, ap, sym, ◌∙◌}
-use Rattle.std.proofs.Common.{Ok, Err, OnOk, OnErr, w64, subst}
-use Rattle.std.specs.Prelude.{Result, nat_lt, if◌then◌else◌}
-use Rattle.std.specs.Int.{cast_unsigned, cast_signed}
-use Rattle.std.specs.List.{list_any}
-use Rattle.std.proofs.Math.Nat.{mod-lt}
-use Rattle.std.proofs.lemmas.Int.{of_z-to_z}
-use Rattle.std.proofs.lemmas.List.{take_at}
-use Rattle.gimli_core.specs.Reading.{result_map}
-use Rattle.gimli_core.specs.declared.common.SectionId.{SectionId}
-use Rattle.gimli_bytes.specs.inside.Pieces.{put_over}
-use Rattle.gimli_bytes.specs.Number.{udata}
-use Rattle.gimli_bytes.specs.Hand.{Placement, unplaced}
-use Rattle.gimli_bytes.specs.Written.{Begins, Appends, Overwrites, overwrite_of, patch}
-use Rattle.gimli_bytes.specs.Relocatable.{Relocatable}
+use Rattle.std.specs.Prelude.{◌≡◌, ◌+◌, ◌%◌, ◌<◌, ◌≤◌, ◌^◌, ◌++◌, if◌then◌else◌}
+use Rattle.gimli_bytes.proofs.Common
+use Common.{arith, ℕ, ℤ, pos, Bool, true, false, List, length, take, refl, ap, sym, ◌∙◌, Ok, Err, OnOk, OnErr, w64}
+use Common.{subst, Result, nat_lt, cast_unsigned, cast_signed, list_any, mod-lt, of_z-to_z, take_at, result_map}
+use Common.{SectionId, put_over, udata, Placement, unplaced, Begins, Appends, Overwrites, overwrite_of, patch}
+use Common.{Relocatable, Address, Constant, Symbol, Error, InvalidRange, OffsetOutOfBounds, LengthOutOfBounds}
+use Common.{RelocationTarget, OfSymbol, OfSection}
 use Rattle.gimli_bytes.specs.Relocations.{Bytes, AddressOf, OffsetInto, ReferenceTo, BytesAt, OffsetAt, place_of}
 use Rattle.gimli_bytes.specs.Relocations.{applied, after_call}
 use Rattle.gimli_bytes.specs.Relocations.{are_inside, with_place, with_relocation, relocation_at, number_in_place}
 use Rattle.gimli_bytes.specs.Relocations.{placed_address, placed_offset}
 use Rattle.gimli_bytes.specs.Relocations.{placed_reference, touches}
-use Rattle.gimli_bytes.specs.declared.address.Address.{Address}
-use Rattle.gimli_bytes.specs.declared.address.Address.TheVariants.{Constant, Symbol}
-use Rattle.gimli_bytes.specs.declared.error.Error.{Error}
-use Rattle.gimli_bytes.specs.declared.error.Error.TheVariants.{InvalidRange, OffsetOutOfBounds, LengthOutOfBounds}
-use Rattle.gimli_bytes.specs.declared.relocation.RelocationTarget.{RelocationTarget}
-use Rattle.gimli_bytes.specs.declared.relocation.RelocationTarget.TheVariants.{OfSymbol, OfSection}
 use Rattle.gimli_bytes.proofs.PieceLemmas.{length-put_over, take-before}
 use Rattle.gimli_bytes.proofs.RelocationLemmas.{pow_positive}
 use Rattle.gimli_bytes.proofs.Relocating.{AreInside, inside-from, inside-to, low_sum}

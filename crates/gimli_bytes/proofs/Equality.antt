@@ -1,9 +1,8 @@
 -- Addresses and ids are equal by `==` exactly where all their parts agree.
-use Rattle.std.proofs.Common.{◌≡◌, ap, true≢false, sym}
+use Rattle.std.specs.Prelude.{◌≡◌}
+use Rattle.gimli_bytes.proofs.Common.{ap, true≢false, sym, Address, Constant, Symbol}
 use Rattle.std.specs.Bool.{Decides}
 use Rattle.std.proofs.lemmas.Bool.Decides.{Decides-eqb, Decides-int_eq, Decides-like, Decides-and}
-use Rattle.gimli_bytes.specs.declared.address.Address.{Address}
-use Rattle.gimli_bytes.specs.declared.address.Address.TheVariants.{Constant, Symbol}
 use Rattle.gimli_bytes.specs.contracts.address.AddressPartialEq.TheImpl.{ghosts as addresses}
 
 pub address-Decides : (a b : Address) → Decides (addresses.eq a b) (a ≡ b)

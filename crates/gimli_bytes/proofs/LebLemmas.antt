@@ -1,10 +1,9 @@
 -- The groups of a number, one at a time.
-use Rattle.std.proofs.Common.{◌≡◌, ℕ, zero, suc, ◌+◌, ◌-◌, ◌/◌, ◌%◌, ◌<◌, ◌≤◌, true, false, List, [], ◌∷◌, ◌++◌, length}
-use Rattle.std.proofs.Common.{take, set, refl, sym, ap, ◌∙◌, arith}
-use Rattle.std.proofs.Common.{if◌then◌else◌, append_assoc, ℤ, pos, negsuc}
-use Rattle.std.proofs.lemmas.List.{take_more_set}
-use Rattle.std.specs.Int.{int_div_euclid}
-use Rattle.gimli_bytes.specs.Number.{uleb, uleb_within, sleb, sleb_within, low_bits, high_bits, has_seven_bits}
+use Rattle.std.specs.Prelude.{◌≡◌, ◌+◌, ◌-◌, ◌/◌, ◌%◌, ◌<◌, ◌≤◌, ◌∷◌, ◌++◌, if◌then◌else◌}
+use Rattle.gimli_bytes.proofs.Common
+use Common.{ℕ, zero, suc, true, false, List, [], length, take, set, refl, sym, ap, ◌∙◌, arith, append_assoc, ℤ, pos}
+use Common.{negsuc, take_more_set, int_div_euclid, uleb_within, low_bits, high_bits, has_seven_bits}
+use Rattle.gimli_bytes.specs.Number.{uleb, sleb, sleb_within}
 
 -- the last group
 pub uleb_last : (k v : ℕ) → v < 128 → uleb_within k v ≡ v ∷ []

@@ -1,3 +1,4 @@
+pub mod Common
 pub mod LebLemmas
 pub mod ShortestUleb
 pub mod ShortestSleb

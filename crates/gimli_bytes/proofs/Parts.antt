@@ -1,7 +1,5 @@
 -- Appends one after the other.
-use Rattle.std.proofs.Common.{ℕ, List, length, arith}
-use Rattle.std.proofs.lemmas.List.{take_all}
-use Rattle.gimli_bytes.specs.Written.{Begins}
+use Rattle.gimli_bytes.proofs.Common.{ℕ, List, length, arith, take_all, Begins}
 
 -- where nothing is written
 pub begins_self : (old : List ℕ) → Begins old old

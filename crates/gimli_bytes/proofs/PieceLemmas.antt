@@ -1,21 +1,15 @@
 -- Lemmas on pieces.
-use Rattle.std.proofs.Common.{arith, ◌≡◌, ℕ, zero, suc, ◌+◌, ◌-◌, ◌*◌, ◌/◌, ◌%◌, ◌<◌, ◌≤◌, List, [], ◌∷◌, ◌++◌, length}
-use Rattle.std.proofs.Common.{take, drop, set, get_or, refl, ap, sym}
-use Rattle.std.proofs.Common.{◌∙◌, append_assoc, length-append, length-take}
-use Rattle.std.specs.Prelude.{All, Ok, Err}
-use Rattle.std.specs.List.{concat}
-use Rattle.std.specs.Int.{div_ceil}
+use Rattle.std.specs.Prelude.{◌≡◌, ◌+◌, ◌-◌, ◌*◌, ◌/◌, ◌%◌, ◌<◌, ◌≤◌, ◌∷◌, ◌++◌}
+use Rattle.gimli_bytes.proofs.Common
+use Common.{arith, ℕ, zero, suc, List, [], length, take, drop, set, get_or, refl, ap, sym, ◌∙◌, append_assoc}
+use Common.{length-append, length-take, All, Ok, Err, concat, div_ceil, take_at, drop_at, drop-drop, take-append-le}
+use Common.{take-append-drop, All-head, All-tail, All-append, div-add-mod', div_below, overwrite_of, LengthOutOfBounds}
+use Common.{put_over}
 use Rattle.std.proofs.Math.Seq.{take-append-add, drop-append-add}
 use Rattle.std.proofs.lemmas.Grind.{common_steps, div_ceil_times}
-use Rattle.std.proofs.lemmas.List.{take_at, drop_at, drop-drop, take-append-le, take-append-drop}
-use Rattle.std.proofs.lemmas.List.Elements.{All-head, All-tail, All-append}
 use Rattle.std.proofs.lemmas.List.Folds.{concat-append}
-use Rattle.std.proofs.lemmas.Nat.{div-add-mod', div_below}
 use native.Mathlib.Nat.{lt_of_mul-lt-mul_right}
-use Rattle.gimli_bytes.specs.Written.{overwrite_of}
-use Rattle.gimli_bytes.specs.declared.error.Error.TheVariants.{LengthOutOfBounds}
 use Rattle.gimli_bytes.specs.Pieces.{HaveSizes, NeedsNoPiece, ArePieces, in_use, HoldPieces}
-use Rattle.gimli_bytes.specs.inside.Pieces.{put_over}
 
 abbrev pub Sized : ℕ → List (List ℕ) → Type 0
 Sized n pieces = All (λ piece. length piece ≡ n) pieces

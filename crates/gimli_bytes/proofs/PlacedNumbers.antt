@@ -1,13 +1,9 @@
 -- What a linker puts at a place, where it fits: the number itself.
-use Rattle.std.proofs.Common.{◌≡◌, ℕ, ◌+◌, ◌*◌, ◌^◌, ◌<◌, Bool, true, false, nat_eq, refl, ap, sym, ◌∙◌, w64}
-use Rattle.std.proofs.Math.Nat.{mod-eq_of_lt}
-use Rattle.std.proofs.lemmas.Bool.{eqb-true}
-use Rattle.std.specs.Int.{cast_unsigned}
-use Rattle.gimli_bytes.specs.Number.{udata, address_bytes}
-use Rattle.gimli_bytes.specs.Hand.{Placement, section_word}
+use Rattle.std.specs.Prelude.{◌≡◌, ◌+◌, ◌*◌, ◌^◌, ◌<◌}
+use Rattle.gimli_bytes.proofs.Common
+use Common.{ℕ, Bool, true, false, nat_eq, refl, ap, sym, ◌∙◌, w64, mod-eq_of_lt, eqb-true, cast_unsigned, udata}
+use Common.{address_bytes, Placement, section_word, Address, Constant, Symbol}
 use Rattle.gimli_bytes.specs.Relocations.{AddressOf, CallFits, lowest_bytes, placed_address, address_placed}
-use Rattle.gimli_bytes.specs.declared.address.Address.{Address}
-use Rattle.gimli_bytes.specs.declared.address.Address.TheVariants.{Constant, Symbol}
 use Rattle.gimli_bytes.proofs.SectionWords.{word-is}
 use Rattle.gimli_bytes.proofs.Relocating.{sum_low}
 use Rattle.gimli_bytes.proofs.CallsRelocated.{is_size, size_short, wraps}

@@ -1,34 +1,13 @@
 -- What calls of a section with relocations are refused with.
-use Rattle.std.proofs.Common.{◌≡◌, ◌⊎◌, inl, inr, ℕ, ◌+◌, ◌^◌, ◌<◌, ℤ, Bool, true, false, List, length, refl, sym}
-use Rattle.std.proofs.Common.{subst, Ok, Err, IfErr}
-use Rattle.std.specs.Prelude.{Result, nat_lt, if◌then◌else◌}
-use Rattle.std.specs.List.{list_any}
-use Rattle.std.proofs.Math.Nat.{mod-lt}
-use Rattle.std.proofs.lemmas.Bool.{lt-ltb}
-use Rattle.gimli_core.specs.Numbers.{number_bytes}
-use Rattle.gimli_core.specs.Reading.{result_map}
-use Rattle.gimli_bytes.specs.inside.Pieces.{put_over}
-use Rattle.gimli_bytes.specs.Number.{udata, address_bytes}
-use Rattle.gimli_bytes.specs.Hand.{Placement}
-use Rattle.gimli_bytes.specs.Written.{overwrite_of, patch}
-use Rattle.gimli_bytes.specs.Relocatable.{Relocatable}
+use Rattle.std.specs.Prelude.{◌≡◌, ◌⊎◌, ◌+◌, ◌^◌, ◌<◌, if◌then◌else◌}
+use Rattle.gimli_bytes.proofs.Common
+use Common.{inl, inr, ℕ, ℤ, Bool, true, false, List, length, refl, sym, subst, Ok, Err, IfErr, Result, nat_lt, list_any}
+use Common.{mod-lt, lt-ltb, number_bytes, result_map, put_over, udata, address_bytes, Placement, overwrite_of, patch}
+use Common.{Relocatable, Address, Constant, Symbol, Error, InvalidRange, LengthOutOfBounds, OffsetOutOfBounds}
+use Common.{OutOfMemory, UnsupportedWordSize, ValueTooLarge, RelocationTarget, Addends, Listed, InPlace}
 use Rattle.gimli_bytes.specs.Relocations.{Bytes, AddressOf, BytesAt, IsRefusal, IsRelocatableRefusal, number_in_place}
 use Rattle.gimli_bytes.specs.Relocations.{touches}
 use Rattle.gimli_bytes.specs.Relocations.{with_place, with_place_at, placed_address}
-use Rattle.gimli_bytes.specs.declared.address.Address.{Address}
-use Rattle.gimli_bytes.specs.declared.address.Address.TheVariants.{Constant, Symbol}
-use Rattle.gimli_bytes.specs.declared.error.Error.{Error}
-use Rattle.gimli_bytes.specs.declared.error.Error.TheVariants.{
-  InvalidRange,
-  LengthOutOfBounds,
-  OffsetOutOfBounds,
-  OutOfMemory,
-  UnsupportedWordSize,
-  ValueTooLarge,
-}
-use Rattle.gimli_bytes.specs.declared.relocation.RelocationTarget.{RelocationTarget}
-use Rattle.gimli_bytes.specs.declared.relocation.Addends.{Addends}
-use Rattle.gimli_bytes.specs.declared.relocation.Addends.TheVariants.{Listed, InPlace}
 use Rattle.gimli_bytes.proofs.RelocationLemmas.{pow_positive}
 use Rattle.gimli_bytes.proofs.CallsRelocated.{is_size}
 

@@ -1,25 +1,13 @@
 -- Relocations that are applied, call by call.
-use Rattle.std.proofs.Common.{arith, ◌≡◌, inl, inr, ℕ, ◌+◌, ◌-◌, ◌*◌, ◌/◌, ◌%◌, ◌^◌, ◌<◌, ◌≤◌, ℤ, Bool, List, [], ◌∷◌}
-use Rattle.std.proofs.Common.{◌++◌, length, take, drop, refl, ap, sym}
-use Rattle.std.proofs.Common.{◌∙◌, subst, w64}
-use Rattle.std.specs.Prelude.{All, ◌⊎◌, ◌&&◌, ◌||◌, true, false, nat_le}
-use Rattle.std.specs.List.{list_any}
-use Rattle.std.proofs.lemmas.Bool.{and_parts, leb-true, le-leb}
-use Rattle.std.specs.Int.{cast_unsigned}
-use Rattle.std.proofs.Math.Nat.{add-mul-mod_self_right, mod-eq_of_lt}
-use Rattle.std.proofs.lemmas.Nat.{pow-add}
-use Rattle.std.proofs.lemmas.List.{drop_at, drop_all, take_all, append-nil}
-use Rattle.std.proofs.lemmas.List.Elements.{All-head, All-tail, All-append, All-cons}
-use Rattle.gimli_core.specs.Numbers.{number_bytes, value_of}
+use Rattle.std.specs.Prelude.{◌≡◌, ◌+◌, ◌-◌, ◌*◌, ◌/◌, ◌%◌, ◌^◌, ◌<◌, ◌≤◌, ◌∷◌, ◌++◌, ◌⊎◌, ◌&&◌, ◌||◌}
+use Rattle.gimli_bytes.proofs.Common
+use Common.{arith, inl, inr, ℕ, ℤ, Bool, List, [], length, take, drop, refl, ap, sym, ◌∙◌, subst, w64, All, true, false}
+use Common.{nat_le, list_any, and_parts, leb-true, le-leb, cast_unsigned, add-mul-mod_self_right, mod-eq_of_lt, pow-add}
+use Common.{drop_at, drop_all, take_all, append-nil, All-head, All-tail, All-append, All-cons, number_bytes, value_of}
+use Common.{put_over, Placement, Relocatable, Relocation, Addends, Listed, InPlace}
 use Rattle.gimli_core.proofs.Written.{number_spelled}
-use Rattle.gimli_bytes.specs.inside.Pieces.{put_over}
-use Rattle.gimli_bytes.specs.Hand.{Placement}
-use Rattle.gimli_bytes.specs.Relocatable.{Relocatable}
 use Rattle.gimli_bytes.specs.Relocations.{place_of, relocated, all_relocated, are_within, touches, number_in_place}
 use Rattle.gimli_bytes.specs.Relocations.{addend_in_list}
-use Rattle.gimli_bytes.specs.declared.relocation.Relocation.{Relocation}
-use Rattle.gimli_bytes.specs.declared.relocation.Addends.{Addends}
-use Rattle.gimli_bytes.specs.declared.relocation.Addends.TheVariants.{Listed, InPlace}
 use Rattle.gimli_bytes.proofs.PieceLemmas.{length-put_over, put_over-front, put_over-after}
 use Rattle.gimli_bytes.proofs.RelocationLemmas.{
   length-number,

@@ -1,14 +1,11 @@
 -- Relocations that are applied.
-use Rattle.std.proofs.Common.{arith, ◌≡◌, ℕ, zero, suc, ◌+◌, ◌-◌, ◌*◌, ◌/◌, ◌%◌, ◌^◌, ◌<◌, ◌≤◌, Bool, true, false, List}
-use Rattle.std.proofs.Common.{◌++◌, length, take, drop, refl, ap}
-use Rattle.std.proofs.Common.{sym, ◌∙◌, append_assoc, length-append, length-take, length-drop, pow-suc}
-use Rattle.std.specs.Int.{byte_at, bytes_low_first, bytes_high_first}
+use Rattle.std.specs.Prelude.{◌≡◌, ◌+◌, ◌-◌, ◌*◌, ◌/◌, ◌%◌, ◌^◌, ◌<◌, ◌≤◌, ◌++◌}
+use Rattle.gimli_bytes.proofs.Common
+use Common.{arith, ℕ, zero, suc, Bool, true, false, List, length, take, drop, refl, ap, sym, ◌∙◌, append_assoc}
+use Common.{length-append, length-take, length-drop, pow-suc, byte_at, bytes_low_first, bytes_high_first, div-one}
+use Common.{add-mul-div_right, add-mul-mod_self_right, pow-add, take_at, drop_at, drop-drop, take-append-le}
+use Common.{drop-append-le, take-append-drop, number_bytes, put_over}
 use Rattle.std.proofs.Math.Seq.{drop-append-add}
-use Rattle.std.proofs.Math.Nat.{div-one, add-mul-div_right, add-mul-mod_self_right}
-use Rattle.std.proofs.lemmas.Nat.{pow-add}
-use Rattle.std.proofs.lemmas.List.{take_at, drop_at, drop-drop, take-append-le, drop-append-le, take-append-drop}
-use Rattle.gimli_core.specs.Numbers.{number_bytes}
-use Rattle.gimli_bytes.specs.inside.Pieces.{put_over}
 use Rattle.gimli_bytes.proofs.PieceLemmas.{length-put_over, put_over-front, put_over-after}
 
 -- ---- how many bytes a number has

@@ -1,8 +1,6 @@
 -- The word of an offset as a number.
-use Rattle.std.proofs.Common.{◌≡◌, ℕ, ◌<◌, ◌^◌, Bool, true, false, nat_eq, refl}
-use Rattle.std.proofs.lemmas.Bool.{lt-ltb, eqb-true}
-use Rattle.gimli_bytes.specs.Number.{udata}
-use Rattle.gimli_bytes.specs.Hand.{section_word}
+use Rattle.std.specs.Prelude.{◌≡◌, ◌<◌, ◌^◌}
+use Rattle.gimli_bytes.proofs.Common.{ℕ, Bool, true, false, nat_eq, refl, lt-ltb, eqb-true, udata, section_word}
 
 -- of 64 bits
 pub word-is : (is_big : Bool) (n size : ℕ) → n < 2 ^ 64 → section_word is_big n size ≡ udata is_big n size

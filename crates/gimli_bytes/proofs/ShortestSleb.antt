@@ -1,15 +1,11 @@
 -- The written spelling of a signed number is the shortest.
-use Rattle.std.proofs.Common.{◌≡◌, ℕ, zero, suc, ◌+◌, ◌-◌, ◌*◌, ◌/◌, ◌%◌, ◌^◌, ◌<◌, ◌≤◌, Bool, true, false, List, []}
-use Rattle.std.proofs.Common.{◌∷◌, length, refl, sym, ap, ◌∙◌, arith}
-use Rattle.std.proofs.Common.{inl, inr, ℤ, pos, negsuc, ◌-ℤ◌, if◌then◌else◌, w64}
-use Rattle.std.specs.Prelude.{FitsSigned}
-use Rattle.std.proofs.Math.Nat.{pow-succ'}
-use Rattle.std.proofs.lemmas.Nat.{pow-add}
-use Rattle.std.proofs.lemmas.Int.{ints}
-use Rattle.std.proofs.lemmas.Bool.{cases_lt, lt-ltb, le-ltb, leb-true, leb-false}
+use Rattle.std.specs.Prelude.{◌≡◌, ◌+◌, ◌-◌, ◌*◌, ◌/◌, ◌%◌, ◌^◌, ◌<◌, ◌≤◌, ◌∷◌, ◌-ℤ◌, if◌then◌else◌}
+use Rattle.gimli_bytes.proofs.Common
+use Common.{ℕ, zero, suc, Bool, true, false, List, [], length, refl, sym, ap, ◌∙◌, arith, inl, inr, ℤ, pos, negsuc, w64}
+use Common.{FitsSigned, pow-succ', pow-add, ints, cases_lt, lt-ltb, le-ltb, leb-true, leb-false, IsLeb128, is_negative}
+use Common.{signed_value, SpellsSleb128, IsShortest, high_bits, has_seven_bits}
 use lib.Signed.{mag}
-use Rattle.gimli_core.specs.Numbers.{IsLeb128, is_negative, signed_value, SpellsSleb128, IsShortest}
-use Rattle.gimli_bytes.specs.Number.{sleb, sleb_within, high_bits, has_seven_bits}
+use Rattle.gimli_bytes.specs.Number.{sleb, sleb_within}
 use Rattle.gimli_bytes.proofs.LebLemmas.{sleb_last, sleb_more}
 use Rattle.gimli_bytes.proofs.ShortestUleb.{IsLeb128-below, IsLeb128-cons}
 

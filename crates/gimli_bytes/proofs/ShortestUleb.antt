@@ -1,10 +1,9 @@
 -- The written spelling of an unsigned number is the shortest.
-use Rattle.std.proofs.Common.{◌≡◌, ℕ, zero, suc, ◌+◌, ◌*◌, ◌/◌, ◌%◌, ◌^◌, ◌<◌, ◌≤◌, List, [], ◌∷◌, length, refl}
-use Rattle.std.proofs.Common.{ap, arith, inl, inr}
-use Rattle.std.proofs.Math.Nat.{pow-succ'}
-use Rattle.std.proofs.lemmas.Bool.{cases_lt}
-use Rattle.gimli_core.specs.Numbers.{IsLeb128, SpellsUleb128, IsShortest}
-use Rattle.gimli_bytes.specs.Number.{uleb, uleb_within}
+use Rattle.std.specs.Prelude.{◌≡◌, ◌+◌, ◌*◌, ◌/◌, ◌%◌, ◌^◌, ◌<◌, ◌≤◌, ◌∷◌}
+use Rattle.gimli_bytes.proofs.Common
+use Common.{ℕ, zero, suc, List, [], length, refl, ap, arith, inl, inr, pow-succ', cases_lt, IsLeb128, SpellsUleb128}
+use Common.{IsShortest, uleb_within}
+use Rattle.gimli_bytes.specs.Number.{uleb}
 use Rattle.gimli_bytes.proofs.LebLemmas.{uleb_last, uleb_more}
 
 -- so many groups hold numbers below a power of 128

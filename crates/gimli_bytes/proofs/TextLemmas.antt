@@ -1,20 +1,16 @@
 -- The keys of a table, seen as texts.
-use Rattle.std.proofs.Common.{◌≡◌, ◌≢◌, ℕ, zero, suc, ◌+◌, Bool, true, false, cond, not, ◌||◌, List, [], ◌∷◌, ◌++◌, map}
-use Rattle.std.proofs.Common.{length, take, drop, get_or, Some, None}
-use Rattle.std.proofs.Common.{refl, sym, ap, ◌∙◌, arith, true≢false, position, if◌then◌else◌, ◌<◌, ◌≤◌}
-use Rattle.std.proofs.Common.{append_assoc, length-append}
-use Rattle.std.specs.Prelude.{bytes_eq, All, Contains, slice_get}
-use Rattle.std.specs.List.{list_any, position_or_len, prefix_len}
+use Rattle.std.specs.Prelude.{◌≡◌, ◌≢◌, ◌+◌, ◌||◌, ◌∷◌, ◌++◌, if◌then◌else◌, ◌<◌, ◌≤◌}
+use Rattle.gimli_bytes.proofs.Common
+use Common.{ℕ, zero, suc, Bool, true, false, cond, not, List, [], map, length, take, drop, get_or, Some, None, refl}
+use Common.{sym, ap, ◌∙◌, arith, true≢false, position, append_assoc, length-append, bytes_eq, All, Contains, slice_get}
+use Common.{list_any, position_or_len, prefix_len, map-append, take_more, take-map, take-append-le, drop-drop, drop_at}
+use Common.{All-push, AreTexts, KeepsTexts, with_text, index_of_text, byte_count, offset_of, table_bytes, texts_of}
 use Rattle.std.specs.declared.vec.Vec.{Vec}
 use Rattle.std.specs.declared.alloc.Global.{Global}
-use Rattle.std.proofs.lemmas.List.{map-append, take_more, take-map, take-append-le, drop-drop, drop_at}
-use Rattle.std.proofs.lemmas.List.Elements.{All-push}
 use Rattle.std.proofs.lemmas.List.Folds.{list_any_at}
 use Rattle.std.proofs.lemmas.List.Quantifiers.{all_pairs_push}
 use Rattle.std.proofs.lemmas.List.Sums.{sum_by-append, sum_by-cons, sum_by-take-le}
 use Rattle.std.proofs.lemmas.Slice.Eq.{bytes_eq-Decides}
-use Rattle.gimli_bytes.specs.Texts.{AreTexts, KeepsTexts, with_text, index_of_text, byte_count, offset_of, table_bytes}
-use Rattle.gimli_bytes.specs.inside.TextFields.{texts_of}
 
 -- ---- from keys to texts
 

@@ -1,28 +1,18 @@
 -- Worked calls of writers: the bytes of each, or its refusal, by hand, computed from the definitions.
-use Rattle.std.proofs.Common.{◌≡◌, ℕ, ◌-◌, true, false, List, [], ◌∷◌, ◌++◌, Result, Ok, Err, arith, refl}
-use Rattle.std.specs.Prelude.{pos, negsuc, map, replicate, codes}
+use Rattle.std.specs.Prelude.{◌≡◌, ◌-◌, ◌∷◌, ◌++◌}
+use Rattle.gimli_bytes.proofs.Common
+use Common.{ℕ, true, false, List, [], Result, Ok, Err, arith, refl, pos, negsuc, map, replicate, codes, DwEhPe}
+use Common.{result_map, Placement, section_word, plain_reference, udata, sdata, address_bytes, escape_size, open_length}
+use Common.{length_word, pointer_data, pointer_at_end, Relocatable, with_text, index_of_text, table_bytes, byte_count}
+use Common.{offset_of, overwrite_of, patch, Constant, Symbol, Error, ValueTooLarge, UnsupportedWordSize}
+use Common.{InitialLengthOverflow, InvalidAddress, InvalidReference, UnsupportedPointerEncoding, OffsetOutOfBounds}
+use Common.{LengthOutOfBounds, InvalidRange, Addends, Listed, InPlace, OfSymbol, OfSection}
 use Rattle.gimli_core.specs.declared.common.Format.TheVariants.{Dwarf32, Dwarf64}
 use Rattle.gimli_core.specs.declared.common.SectionId.TheVariants.{DebugStr}
-use Rattle.gimli_core.specs.declared.constants.DwEhPe.{DwEhPe}
-use Rattle.gimli_core.specs.Reading.{result_map}
-use Rattle.gimli_bytes.specs.Hand.{Placement, section_word, plain_reference}
-use Rattle.gimli_bytes.specs.Number.{udata, sdata, uleb, sleb_within, sleb, address_bytes, escape_size, open_length}
-use Rattle.gimli_bytes.specs.Number.{length_word, pointer_data, pointer_at_end}
+use Rattle.gimli_bytes.specs.Number.{uleb, sleb_within, sleb}
 use Rattle.gimli_bytes.specs.Pieces.{ArePieces, in_use, NeedsNoPiece}
-use Rattle.gimli_bytes.specs.Relocatable.{Relocatable}
 use Rattle.gimli_bytes.specs.Relocations.{Call, AddressOf, OffsetInto, ReferenceTo, BytesAt, OffsetAt, after_calls}
 use Rattle.gimli_bytes.specs.Relocations.{applied, placed_address}
-use Rattle.gimli_bytes.specs.Texts.{with_text, index_of_text, table_bytes, byte_count, offset_of}
-use Rattle.gimli_bytes.specs.Written.{overwrite_of, patch}
-use Rattle.gimli_bytes.specs.declared.address.Address.TheVariants.{Constant, Symbol}
-use Rattle.gimli_bytes.specs.declared.error.Error.{Error}
-use Rattle.gimli_bytes.specs.declared.error.Error.TheVariants.{ValueTooLarge, UnsupportedWordSize}
-use Rattle.gimli_bytes.specs.declared.error.Error.TheVariants.{InitialLengthOverflow, InvalidAddress, InvalidReference}
-use Rattle.gimli_bytes.specs.declared.error.Error.TheVariants.{UnsupportedPointerEncoding, OffsetOutOfBounds}
-use Rattle.gimli_bytes.specs.declared.error.Error.TheVariants.{LengthOutOfBounds, InvalidRange}
-use Rattle.gimli_bytes.specs.declared.relocation.Addends.{Addends}
-use Rattle.gimli_bytes.specs.declared.relocation.Addends.TheVariants.{Listed, InPlace}
-use Rattle.gimli_bytes.specs.declared.relocation.RelocationTarget.TheVariants.{OfSymbol, OfSection}
 
 -- what a call writes
 abbrev Written : Type 0

@@ -1,14 +1,8 @@
 -- A call that passes its numbers on to another: what is wanted of it is what is wanted of that other.
-use Rattle.std.proofs.Common.{◌≡◌, ◌≢◌, ℕ, List, Err, refl, ap, sym, inr, length}
-use Rattle.std.proofs.lemmas.Bool.{ne_eqb}
-use Rattle.std.specs.Prelude.{IsTrue, Bool, false, Result, ◌+◌, ◌-◌, ◌^◌, ◌%◌, bit_and}
-use Rattle.gimli_core.specs.declared.constants.DwEhPe.{DwEhPe}
-use Rattle.gimli_bytes.specs.Written.{IsAppend}
-use Rattle.gimli_bytes.specs.Number.{pointer_data, pointer_at_end, format_of}
-use Rattle.gimli_bytes.specs.declared.address.Address.{Address}
-use Rattle.gimli_bytes.specs.declared.address.Address.TheVariants.{Constant}
-use Rattle.gimli_bytes.specs.declared.error.Error.{Error}
-use Rattle.gimli_bytes.specs.declared.error.Error.TheVariants.{UnsupportedPointerEncoding}
+use Rattle.std.specs.Prelude.{◌≡◌, ◌≢◌, ◌+◌, ◌-◌, ◌^◌, ◌%◌}
+use Rattle.gimli_bytes.proofs.Common
+use Common.{ℕ, List, Err, refl, ap, sym, inr, length, ne_eqb, IsTrue, Bool, false, Result, bit_and, DwEhPe, IsAppend}
+use Common.{pointer_data, pointer_at_end, format_of, Address, Constant, Error, UnsupportedPointerEncoding}
 use Rattle.gimli_bytes.specs.declared.sink.Sink.{Ghosts}
 use Rattle.gimli_bytes.proofs.Parts.{begins_self}
 

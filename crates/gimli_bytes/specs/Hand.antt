@@ -1,8 +1,8 @@
 -- How a writer writes what it may leave to a linker: addresses, offsets into sections, and
 -- references to symbols.
-use Rattle.std.specs.Prelude.{ℕ, Bool, List, Result, Ok, Err, nat_eq, if◌then◌else◌}
-use Rattle.gimli_core.specs.Numbers.{number_bytes}
-use Rattle.gimli_core.specs.declared.common.SectionId.{SectionId}
+use Rattle.std.specs.Prelude.{if◌then◌else◌}
+use Rattle.gimli_bytes.specs.Prelude.{number_bytes, SectionId}
+use Rattle.std.specs.Prelude.{ℕ, Bool, List, Result, Ok, Err, nat_eq}
 use Rattle.gimli_bytes.specs.Number.{udata, address_bytes}
 use Rattle.gimli_bytes.specs.declared.address.Address.{Address}
 use Rattle.gimli_bytes.specs.declared.error.Error.{Error}

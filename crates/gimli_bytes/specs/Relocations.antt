@@ -1,42 +1,12 @@
 -- What is written where addresses aren't known yet: bytes, and the places that a linker fills in
 -- (System V ABI,
 -- chapter 4, "Relocation").
-use Rattle.std.specs.Prelude.{
-  ◌≡◌,
-  ◌⊎◌,
-  ℕ,
-  ◌+◌,
-  ◌%◌,
-  ◌<◌,
-  ◌^◌,
-  ℤ,
-  pos,
-  negsuc,
-  ◌+ℤ◌,
-  FitsSigned,
-  unsigned_abs,
-  Bool,
-  ◌&&◌,
-  nat_le,
-  nat_lt,
-  if◌then◌else◌,
-  List,
-  [],
-  ◌∷◌,
-  ◌++◌,
-  length,
-  take,
-  drop,
-  All,
-  Result,
-  Ok,
-  Err,
-}
+use Rattle.std.specs.Prelude.{◌≡◌, ◌⊎◌, ◌+◌, ◌%◌, ◌<◌, ◌^◌, ◌+ℤ◌, ◌&&◌, if◌then◌else◌, ◌∷◌, ◌++◌}
+use Rattle.gimli_bytes.specs.Prelude.{number_bytes, value_of, result_map, SectionId}
+use Rattle.std.specs.Prelude.{ℕ, ℤ, pos, negsuc, FitsSigned, unsigned_abs, Bool, nat_le, nat_lt, List, [], length, take}
+use Rattle.std.specs.Prelude.{drop, All, Result, Ok, Err}
 use Rattle.std.specs.List.{list_all, list_any}
 use Rattle.std.specs.Int.{w64, cast_signed, cast_unsigned}
-use Rattle.gimli_core.specs.Numbers.{number_bytes, value_of}
-use Rattle.gimli_core.specs.Reading.{result_map}
-use Rattle.gimli_core.specs.declared.common.SectionId.{SectionId}
 use Rattle.gimli_bytes.specs.Number.{udata, address_bytes}
 use Rattle.gimli_bytes.specs.Hand.{Hand, Placement, section_word, plain_reference}
 use Rattle.gimli_bytes.specs.Written.{overwrite_of, patch}

@@ -1,7 +1,8 @@
 -- What a call of a writer leaves. The bytes that a call is to write are "wanted": the bytes, or the
 -- refusal of the value or the size.
-use Rattle.std.specs.Prelude.{◌≡◌, ◌⊎◌, ℕ, List, ◌++◌, length, Result, Ok, Err, ◌+◌, nat_lt, take}
-use Rattle.std.specs.Prelude.{drop, if◌then◌else◌, IsTrue, OnOk, OnErr, IfErr}
+use Rattle.std.specs.Prelude.{◌≡◌, ◌⊎◌, ◌++◌, ◌+◌, if◌then◌else◌}
+use Rattle.std.specs.Prelude.{ℕ, List, length, Result, Ok, Err, nat_lt, take}
+use Rattle.std.specs.Prelude.{drop, IsTrue, OnOk, OnErr, IfErr}
 use Rattle.gimli_bytes.specs.Hand.{Hand, Placement, plain}
 use Rattle.gimli_bytes.specs.declared.error.Error.{Error}
 use Rattle.gimli_bytes.specs.declared.error.Error.TheVariants.{

@@ -1,35 +1,16 @@
 -- The machine makes what is found by looking back.
-use Rattle.std.proofs.Common.{◌≡◌, Bool, true, false, not, ◌||◌, if◌then◌else◌, List, [], ◌∷◌, ◌++◌, Option, None, refl}
-use Rattle.std.proofs.Common.{ap, ◌∙◌}
-use Rattle.std.specs.List.{list_any}
-use Rattle.gimli_core.specs.declared.error.Error.{Error}
-use Rattle.gimli_line.specs.declared.run.row.LineRow.{LineRow}
-use Rattle.gimli_line.specs.declared.run.instruction.LineInstruction.TheVariants.{Special, Copy, AdvancePc, AdvanceLine}
-use Rattle.gimli_line.specs.declared.run.instruction.LineInstruction.TheVariants.{SetFile, SetColumn, NegateStatement}
-use Rattle.gimli_line.specs.declared.run.instruction.LineInstruction.TheVariants.{SetBasicBlock, ConstAddPc, FixedAddPc}
-use Rattle.gimli_line.specs.declared.run.instruction.LineInstruction.TheVariants.{SetPrologueEnd, SetEpilogueBegin}
-use Rattle.gimli_line.specs.declared.run.instruction.LineInstruction.TheVariants.{
-  SetIsa,
-  UnknownStandard0,
-  UnknownStandard1,
-  UnknownStandardN,
-  EndSequence,
-}
-use Rattle.gimli_line.specs.declared.run.instruction.LineInstruction.TheVariants.{SetAddress, DefineFile}
-use Rattle.gimli_line.specs.declared.run.instruction.LineInstruction.TheVariants.{SetDiscriminator, UnknownExtended}
-use Rattle.gimli_line.specs.header.Parameters.{Parameters}
-use Rattle.gimli_line.specs.header.File.{File}
-use Rattle.gimli_line.specs.run.Instruction.{Ins, makes_row, files_after}
+use Rattle.std.specs.Prelude.{◌≡◌, ◌||◌, if◌then◌else◌, ◌∷◌, ◌++◌}
+use Rattle.gimli_line.proofs.Common
+use Common.{Bool, true, false, not, List, [], Option, None, refl, ap, ◌∙◌, list_any, Error, LineRow, Special, Copy}
+use Common.{AdvancePc, AdvanceLine, SetFile, SetColumn, NegateStatement, SetBasicBlock, ConstAddPc, FixedAddPc}
+use Common.{SetPrologueEnd, SetEpilogueBegin, SetIsa, UnknownStandard0, UnknownStandard1, UnknownStandardN, EndSequence}
+use Common.{SetAddress, DefineFile, SetDiscriminator, UnknownExtended, Parameters, File, Ins, makes_row, files_after}
+use Common.{pointer_at, is_under_tombstone, overflows, since_last_row, row, row_at, made_at, EventWithFiles, with_files}
+use Common.{made_after, given_of, events_of, events_after, files_at, past_at_end, initial, reset_row, step_of}
+use Common.{is_refused, made_step, next_registers, registers_after, made_from, run, files_from}
 use Rattle.gimli_line.specs.run.Registers.{sequence, nearest, is_odd, negates_statement, sets_basic_block}
 use Rattle.gimli_line.specs.run.Registers.{sets_prologue_end, sets_epilogue_begin}
 use Rattle.gimli_line.specs.run.Registers.{discriminator_operand, file_at, column_at, isa_at, is_stmt_at, line_after}
-use Rattle.gimli_line.specs.run.OperationPointer.{pointer_at, is_under_tombstone, overflows, since_last_row}
-use Rattle.gimli_line.specs.run.Events.{row, row_at, made_at, EventWithFiles, with_files, made_after, given_of}
-use Rattle.gimli_line.specs.run.Events.{events_of, events_after, files_at}
-use Rattle.gimli_line.specs.run.Events.{past_at_end}
-use Rattle.gimli_line.specs.run.Machine.{initial, reset_row, step_of, is_refused, made_step, next_registers}
-use Rattle.gimli_line.specs.run.Machine.{registers_after, made_from, run}
-use Rattle.gimli_line.specs.run.Passing.{files_from}
 
 -- the registers before a point
 abbrev pub registers : Parameters → List Ins → LineRow

@@ -1,31 +1,16 @@
 -- A table of version 5 has no more entries than bytes stand after their count, and the tables of a header have no more
 -- than it has bytes.
-use Rattle.std.proofs.Common.{◌≡◌, ◌≢◌, ℕ, zero, suc, ◌+◌, ◌<◌, ◌≤◌, Bool, true, false, List, [], ◌∷◌, length, Option}
-use Rattle.std.proofs.Common.{Some, None, refl, ap, ◌∙◌}
-use Rattle.std.proofs.Common.{arith, IsTrue}
-use Rattle.std.specs.List.{AllByRecursion}
-use Rattle.std.specs.Prelude.{nat_le}
-use Rattle.std.proofs.lemmas.List.{length-append, length-map}
-use Rattle.gimli_core.specs.Layout.{OrderAndLimit}
-use Rattle.gimli_core.specs.Numbers.{IsLeb128}
-use Rattle.gimli_core.specs.declared.error.Error.TheVariants.{UnknownForm}
-use Rattle.gimli_core.specs.Values.{Value}
-use Rattle.gimli_core.specs.Production.{Production, Each, times, refuse, choose}
+use Rattle.std.specs.Prelude.{◌≡◌, ◌≢◌, ◌+◌, ◌<◌, ◌≤◌, ◌∷◌}
+use Rattle.gimli_line.proofs.Common
+use Common.{ℕ, zero, suc, Bool, true, false, List, [], length, Option, Some, None, refl, ap, ◌∙◌, arith, IsTrue}
+use Common.{AllByRecursion, nat_le, length-append, length-map, OrderAndLimit, IsLeb128, UnknownForm, Value, Production}
+use Common.{Each, times, refuse, choose, String, Format, Dwarf32, Dwarf64, Encoding, File, Header, UnitEntry}
+use Common.{TableEntry, path_of, file_of_entry, paths_production, files_production, formats_production}
+use Common.{entry_production, entries_production, table_production, directory_table, file_table, opening_production}
+use Common.{fields_production, HeaderOpening, SpellsUnit, HoldsCount, FileEntryFormat}
 use Rattle.gimli_core.specs.Form.{Shape, fixed, three_bytes, word_offset, leb, signed_leb, leb_offset, block, counted}
 use Rattle.gimli_core.specs.Form.{leb_counted, string, shape_among, shapes}
 use Rattle.gimli_core.specs.Form.{shape_production, form_production}
-use Rattle.gimli_core.specs.declared.attribute_value.AttributeValue.TheVariants.{String}
-use Rattle.gimli_core.specs.declared.common.Format.{Format}
-use Rattle.gimli_core.specs.declared.common.Format.TheVariants.{Dwarf32, Dwarf64}
-use Rattle.gimli_core.specs.declared.common.Encoding.{Encoding}
-use Rattle.gimli_line.specs.header.File.{File}
-use Rattle.gimli_line.specs.header.Header.{Header, UnitEntry}
-use Rattle.gimli_line.specs.header.HeaderGrammar.{TableEntry, path_of, file_of_entry, paths_production}
-use Rattle.gimli_line.specs.header.HeaderGrammar.{files_production, formats_production}
-use Rattle.gimli_line.specs.header.HeaderGrammar.{entry_production, entries_production, table_production}
-use Rattle.gimli_line.specs.header.HeaderGrammar.{directory_table, file_table, opening_production}
-use Rattle.gimli_line.specs.header.HeaderGrammar.{fields_production, HeaderOpening, SpellsUnit, HoldsCount}
-use Rattle.gimli_line.specs.declared.header.file_entry.FileEntryFormat.{FileEntryFormat}
 
 -- ---- a value in a form has bytes
 

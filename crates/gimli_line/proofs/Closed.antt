@@ -1,17 +1,11 @@
 -- Reading a table that a zero byte closes.
-use Rattle.std.proofs.Common.{◌≡◌, ◌≢◌, ℕ, zero, suc, ◌<◌, false, List, [], ◌∷◌, ◌++◌, length, Ok, Err, refl, sym, ap}
-use Rattle.std.proofs.Common.{subst, ◌∙◌, append_assoc, inl, inr}
-use Rattle.std.proofs.Common.{arith}
-use Rattle.std.proofs.lemmas.Bool.{ne_eqb}
+use Rattle.std.specs.Prelude.{◌≡◌, ◌≢◌, ◌<◌, ◌∷◌, ◌++◌}
+use Rattle.gimli_line.proofs.Common
+use Common.{ℕ, zero, suc, false, List, [], length, Ok, Err, refl, sym, ap, subst, ◌∙◌, append_assoc, inl, inr, arith}
+use Common.{ne_eqb, length-append, Error, Read, ◌>>=◌, text_at, Production, ◌>>>◌, text, Each, IsOpen, list_to_zero}
+use Common.{Reads, bind_ok, bind_fault, bind_refused, ok_parts, reads_text, path_text, is_closed, list_to_zero_at}
 use Rattle.std.proofs.lemmas.Bool.Decides.{eqb_tells}
-use Rattle.std.proofs.lemmas.List.{length-append}
-use Rattle.gimli_core.specs.declared.error.Error.{Error}
-use Rattle.gimli_core.specs.Reading.{Read, ◌>>=◌, text_at}
-use Rattle.gimli_core.specs.Production.{Production, ◌>>=◌ as ◌>>>◌, text, Each, IsOpen, list_to_zero, Reads}
-use Rattle.gimli_core.proofs.Productions.{bind_ok, bind_fault, bind_refused, ok_parts}
-use Rattle.gimli_core.proofs.ProductionLaws.{reads_text}
-use Rattle.gimli_line.specs.header.Productions.{path_text}
-use Rattle.gimli_line.specs.inside.header.TableReading.{is_closed, closed_below, list_to_zero_at}
+use Rattle.gimli_line.specs.inside.header.TableReading.{closed_below}
 
 -- bytes that begin with one that isn't zero
 pub record Opens (bytes : List ℕ) : Type 0 where

@@ -1,19 +1,10 @@
 -- Taking in the values of an entry one by one gives the entry's parts.
-use Rattle.std.proofs.Common.{◌≡◌, ℕ, if◌then◌else◌, List, [], ◌∷◌, Option, Some}
-use Rattle.std.proofs.Common.{None, Ok, Err, refl, sym, ap, ◌∙◌}
-use Rattle.std.specs.Prelude.{nat_eq}
-use Rattle.gimli_core.specs.Layout.{OrderAndLimit}
-use Rattle.gimli_core.specs.Values.{Value, udata_value}
-use Rattle.gimli_core.specs.Reading.{Read, ◌>>=◌}
-use Rattle.gimli_core.specs.declared.common.Format.{Format}
-use Rattle.gimli_line.specs.inside.header.Outcome.{read_map}
-use Rattle.gimli_line.specs.header.File.{File}
-use Rattle.gimli_line.specs.header.Header.{plain_file}
-use Rattle.gimli_line.specs.header.HeaderGrammar.{TableEntry, last_value, digest, file_of_entry}
-use Rattle.gimli_line.specs.inside.header.FormReading.{form_at}
-use Rattle.gimli_line.specs.inside.header.HeaderReading.{entry_at}
+use Rattle.std.specs.Prelude.{◌≡◌, if◌then◌else◌, ◌∷◌}
+use Rattle.gimli_line.proofs.Common
+use Common.{ℕ, List, [], Option, Some, None, Ok, Err, refl, sym, ap, ◌∙◌, nat_eq, OrderAndLimit, Value, udata_value}
+use Common.{Read, ◌>>=◌, Format, read_map, File, plain_file, TableEntry, last_value, digest, file_of_entry, form_at}
+use Common.{entry_at, FileEntryFormat}
 use Rattle.gimli_line.specs.inside.header.EntryReading.{value_after, file_with, fold_of, folded_at}
-use Rattle.gimli_line.specs.declared.header.file_entry.FileEntryFormat.{FileEntryFormat}
 
 -- the last value of an entry, from its first value on
 last_of : {A : Type 0} (wanted : ℕ) (pick : Value → Option A) (first : A) (content : ℕ) (value : Value) (entry : TableEntry)

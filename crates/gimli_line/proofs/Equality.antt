@@ -1,6 +1,7 @@
 -- Two of a type are equal exactly where all their parts are.
-use Rattle.std.proofs.Common.{◌≡◌, Bool, true, false, List, [], ◌∷◌, Option, Some, None, refl, ap}
-use Rattle.std.specs.Prelude.{◌&&◌, Decides, map, option_map}
+use Rattle.std.specs.Prelude.{◌≡◌, ◌∷◌, ◌&&◌}
+use Rattle.gimli_line.proofs.Common
+use Common.{Bool, true, false, List, [], Option, Some, None, refl, ap, Decides, map, option_map}
 use Rattle.std.specs.Option.{option_eq}
 use Rattle.std.specs.Cmp.Lexicographic.{pointwise}
 use Rattle.gimli_core.specs.Equality.{IsExact, ComparesBy}

@@ -1,15 +1,8 @@
 -- What rows at the start of a sequence make and give.
-use Rattle.std.proofs.Common.{Bool, List, Option, ap}
-use Rattle.gimli_core.specs.declared.error.Error.{Error}
-use Rattle.gimli_line.specs.header.Orders.{HeaderSource}
-use Rattle.gimli_line.specs.header.Header.{Header, without_files}
-use Rattle.gimli_line.specs.run.Instruction.{Ins}
-use Rattle.gimli_line.specs.run.Events.{given_of}
-use Rattle.gimli_line.specs.run.EventsWithFiles.{Makes, EventsWithFiles, FilesAtEnd}
+use Rattle.gimli_line.proofs.Common
+use Common.{Bool, List, Option, ap, Error, HeaderSource, Header, without_files, Ins, given_of, Makes, EventsWithFiles}
+use Common.{FilesAtEnd, decoded_at, events_left, made_left, files_at_end, start_of_run, Unread}
 use Rattle.gimli_line.specs.run.InstructionGrammar.{Decodes}
-use Rattle.gimli_line.specs.run.InstructionReading.{decoded_at}
-use Rattle.gimli_line.specs.run.Rows.{events_left, made_left, files_at_end, start_of_run}
-use Rattle.gimli_line.specs.run.Unread.{Unread}
 use Rattle.gimli_line.proofs.Backwards.{made_start, files_from_start}
 use Rattle.gimli_line.proofs.InstructionLaws.{is_decoded}
 use Rattle.gimli_line.proofs.Runs.{bare_decoding}

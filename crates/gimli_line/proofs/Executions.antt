@@ -1,26 +1,14 @@
 -- Instructions that are executed from their bytes do what they do when they are taken and executed.
-use Rattle.std.proofs.Common.{◌≡◌, ◌<◌, ◌≤◌, ℕ, zero, suc, arith, Bool, true, false, not, List, refl, sym, ap, subst}
-use Rattle.std.proofs.Common.{Ok, ℤ}
+use Rattle.std.specs.Prelude.{◌≡◌, ◌<◌, ◌≤◌}
+use Rattle.gimli_line.proofs.Common
+use Common.{ℕ, zero, suc, arith, Bool, true, false, not, List, refl, sym, ap, subst, Ok, ℤ, le-leb, lt-leb, nat_le}
+use Common.{OrderAndLimit, byte_at, unsigned_at, signed_at, Executed, No, Quiet, Address, Row, LineRow, Special, Copy}
+use Common.{AdvanceLine, SetFile, SetColumn, NegateStatement, EndSequence, SetAddress, Header, Parameters, Ins}
+use Common.{makes_row, step_of, is_refused, Unread}
 use Rattle.std.proofs.Math.Dec.{eqb-suc-zero}
-use Rattle.std.proofs.lemmas.Bool.{le-leb, lt-leb}
-use Rattle.std.specs.Prelude.{nat_le}
-use Rattle.gimli_core.specs.Layout.{OrderAndLimit}
-use Rattle.gimli_core.specs.Reading.{byte_at, unsigned_at, signed_at}
-use Rattle.gimli_line.specs.declared.run.from_bytes.Executed.{Executed}
-use Rattle.gimli_line.specs.declared.run.from_bytes.Executed.TheVariants.{No, Quiet, Address, Row}
-use Rattle.gimli_line.specs.declared.run.row.LineRow.{LineRow}
-use Rattle.gimli_line.specs.declared.run.instruction.LineInstruction.TheVariants.{Special, Copy, AdvanceLine, SetFile}
-use Rattle.gimli_line.specs.declared.run.instruction.LineInstruction.TheVariants.{SetColumn, NegateStatement}
-use Rattle.gimli_line.specs.declared.run.instruction.LineInstruction.TheVariants.{EndSequence}
-use Rattle.gimli_line.specs.declared.run.instruction.LineInstruction.TheVariants.{SetAddress}
-use Rattle.gimli_line.specs.header.Header.{Header}
-use Rattle.gimli_line.specs.header.Parameters.{Parameters}
-use Rattle.gimli_line.specs.run.Instruction.{Ins, makes_row}
 use Rattle.gimli_line.specs.run.InstructionReading.{standard_at, ins_at}
-use Rattle.gimli_line.specs.run.Machine.{step_of, is_refused}
 use Rattle.gimli_line.specs.run.Registers.{advanced_line}
 use Rattle.gimli_line.specs.run.Execution.{told_of, is_executed, IsExecuted, IsExecutedAs, ExecutesNext}
-use Rattle.gimli_line.specs.run.Unread.{Unread}
 
 -- ---- the standard opcodes that are executed so, from the bytes after them
 

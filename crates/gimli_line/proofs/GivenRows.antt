@@ -1,14 +1,9 @@
 -- What a row that was the next to be made, and a refusal, mean for what is given.
-use Rattle.std.proofs.Common.{◌≡◌, Bool, true, false, not, if◌then◌else◌, List, [], ◌∷◌, refl, ap, subst}
-use Rattle.std.proofs.Common.{◌∙◌, inl, inr}
-use Rattle.std.specs.List.{All}
-use Rattle.gimli_core.specs.declared.error.Error.{Error}
-use Rattle.gimli_line.specs.declared.run.row.LineRow.{LineRow}
-use Rattle.gimli_line.specs.header.File.{File}
-use Rattle.gimli_line.specs.run.Events.{row, EventWithFiles, given_of}
-use Rattle.gimli_line.specs.run.RunState.{RunState}
-use Rattle.gimli_line.specs.run.Rows.{live_made, live_events, made_left, events_left, GivesRowsAlone, IsRow, RowIs}
-use Rattle.gimli_line.specs.run.Rows.{FaultIs}
+use Rattle.std.specs.Prelude.{◌≡◌, if◌then◌else◌, ◌∷◌}
+use Rattle.gimli_line.proofs.Common
+use Common.{Bool, true, false, not, List, [], refl, ap, subst, ◌∙◌, inl, inr, All, Error, LineRow, File, row}
+use Common.{EventWithFiles, given_of, RunState, live_made, live_events, made_left, events_left, GivesRowsAlone, IsRow}
+use Common.{RowIs, FaultIs}
 use Rattle.gimli_line.proofs.RowsAlone.{rest_alone}
 
 pub none_given : (a : RunState) → made_left a ≡ [] → events_left a ≡ []

@@ -1,55 +1,32 @@
 -- Reading a header, production by production.
-use Rattle.std.proofs.Common.{◌≡◌, ℕ, ◌-◌, Bool, true, false, not, if◌then◌else◌, List, [], ◌∷◌, map, Option, Some}
-use Rattle.std.proofs.Common.{None, Ok, Err, refl, sym, ap, ◌∙◌, ◌⊎◌, inl, inr}
-use Rattle.std.specs.Prelude.{nat_eq, nat_le, count_by, ◌&&◌}
-use Rattle.gimli_core.specs.Layout.{OrderAndLimit}
-use Rattle.gimli_core.specs.Numbers.{is_address_size}
-use Rattle.gimli_core.specs.Reading.{Read, ◌>>=◌, byte_at, address_size_at}
-use Rattle.gimli_core.specs.Production.{Production, ◌>>=◌ as ◌>>>◌, done, refuse, check, choose, times, byte, number}
-use Rattle.gimli_core.specs.Production.{some_bytes, text, unsigned, unsigned_16}
-use Rattle.gimli_core.specs.Production.{signed, offset_word, unit_length, within, Reads}
+use Rattle.std.specs.Prelude.{◌≡◌, ◌-◌, if◌then◌else◌, ◌∷◌, ◌⊎◌, ◌&&◌}
+use Rattle.gimli_line.proofs.Common
+use Common.{ℕ, Bool, true, false, not, List, [], map, Option, Some, None, Ok, Err, refl, sym, ap, ◌∙◌, inl, inr, nat_eq}
+use Common.{nat_le, count_by, OrderAndLimit, is_address_size, Read, ◌>>=◌, byte_at, Production, ◌>>>◌, done, refuse}
+use Common.{check, choose, times, byte, number, some_bytes, text, unsigned, unsigned_16, signed, offset_word}
+use Common.{unit_length, within, Reads, Encoding, Format, Block, String, Error, UnknownForm, UnknownVersion}
+use Common.{UnsupportedAddressSize, UnsupportedSegmentSize, MinimumInstructionLengthZero}
+use Common.{MaximumOperationsPerInstructionZero, LineRangeZero, OpcodeBaseZero, MissingFileEntryFormatPath, reads_both}
+use Common.{reads_done, reads_refuse, reads_check, reads_if, reads_times, reads_within, reads_same, reads_byte}
+use Common.{reads_some_bytes, reads_number, reads_text, reads_below_limit, reads_offset_word, reads_unit_length}
+use Common.{reads_unsigned, reads_unsigned_16, reads_signed, File, Header, UnitEntry, plain_file, path_text, positive}
+use Common.{block_at, shape_at, is_content, TableEntry, path_of, file_of_entry, HeaderOpening, paths_production}
+use Common.{file_production, files_production, format_production, formats_production, entry_production}
+use Common.{entries_production, table_production, version_production, address_size_production, opening_production}
+use Common.{line_encoding_production, parameters_production, directory_table, file_table, fields_production}
+use Common.{header_production, SpellsUnit, HasUnitFault, paths_at, named_file_at, entry_at, size_at, operations_at}
+use Common.{directories_at, file_names_at, read_map, FileEntryFormat}
+use Rattle.gimli_core.specs.Reading.{address_size_at}
 use Rattle.gimli_core.specs.Form.{Shape, fixed, three_bytes, word_offset, leb, signed_leb, leb_offset, block, counted}
 use Rattle.gimli_core.specs.Form.{leb_counted, string, shape_among, shapes}
 use Rattle.gimli_core.specs.Form.{block_production, shape_production, form_production}
-use Rattle.gimli_core.specs.declared.common.Encoding.{Encoding}
-use Rattle.gimli_core.specs.declared.common.Format.{Format}
-use Rattle.gimli_core.specs.declared.attribute_value.AttributeValue.TheVariants.{Block, String}
-use Rattle.gimli_core.specs.declared.error.Error.{Error}
-use Rattle.gimli_core.specs.declared.error.Error.TheVariants.{UnknownForm, UnknownVersion, UnsupportedAddressSize}
-use Rattle.gimli_core.specs.declared.error.Error.TheVariants.{UnsupportedSegmentSize}
-use Rattle.gimli_core.specs.declared.error.Error.TheVariants.{
-  MinimumInstructionLengthZero,
-  MaximumOperationsPerInstructionZero,
-  LineRangeZero,
-  OpcodeBaseZero,
-}
-use Rattle.gimli_core.specs.declared.error.Error.TheVariants.{MissingFileEntryFormatPath}
-use Rattle.gimli_core.proofs.Productions.{reads_both, reads_done, reads_refuse, reads_check, reads_if, reads_times}
-use Rattle.gimli_core.proofs.Productions.{reads_within, reads_same}
-use Rattle.gimli_core.proofs.ProductionLaws.{reads_byte, reads_some_bytes, reads_number, reads_text, reads_below_limit}
-use Rattle.gimli_core.proofs.ProductionLaws.{reads_offset_word, reads_unit_length}
-use Rattle.gimli_core.proofs.UnsignedLeb.{reads_unsigned, reads_unsigned_16}
-use Rattle.gimli_core.proofs.SignedLaws.{reads_signed}
-use Rattle.gimli_line.specs.header.File.{File}
-use Rattle.gimli_line.specs.header.Header.{Header, UnitEntry, plain_file}
-use Rattle.gimli_line.specs.header.Productions.{path_text, positive}
-use Rattle.gimli_line.specs.inside.header.FormReading.{block_at, shape_at, form_at}
-use Rattle.gimli_line.specs.header.HeaderGrammar.{is_content, TableEntry, path_of, file_of_entry, HeaderOpening, paths_production}
-use Rattle.gimli_line.specs.header.HeaderGrammar.{file_production, files_production, format_production}
-use Rattle.gimli_line.specs.header.HeaderGrammar.{formats_production, entry_production, entries_production}
-use Rattle.gimli_line.specs.header.HeaderGrammar.{table_production, version_production}
-use Rattle.gimli_line.specs.header.HeaderGrammar.{address_size_production, opening_production, line_encoding_production}
-use Rattle.gimli_line.specs.header.HeaderGrammar.{parameters_production, directory_table}
-use Rattle.gimli_line.specs.header.HeaderGrammar.{file_table, fields_production, header_production, SpellsUnit}
-use Rattle.gimli_line.specs.header.HeaderGrammar.{HasUnitFault}
+use Rattle.gimli_line.specs.inside.header.FormReading.{form_at}
 use Rattle.gimli_line.specs.header.HeaderReading.{plain_file_at}
-use Rattle.gimli_line.specs.inside.header.HeaderReading.{positive_at, paths_at, named_file_at, files_at, format_at}
-use Rattle.gimli_line.specs.inside.header.HeaderReading.{formats_at, entry_at, entries_at, table_at}
-use Rattle.gimli_line.specs.inside.header.HeaderReading.{version_at, own_address_size_at, size_at, opening_at}
-use Rattle.gimli_line.specs.inside.header.HeaderReading.{operations_at, line_encoding_at, parameters_at}
-use Rattle.gimli_line.specs.inside.header.HeaderReading.{table_of, directories_at, file_names_at, fields_at, header_at}
-use Rattle.gimli_line.specs.inside.header.Outcome.{read_map}
-use Rattle.gimli_line.specs.declared.header.file_entry.FileEntryFormat.{FileEntryFormat}
+use Rattle.gimli_line.specs.inside.header.HeaderReading.{positive_at, files_at, format_at}
+use Rattle.gimli_line.specs.inside.header.HeaderReading.{formats_at, entries_at, table_at}
+use Rattle.gimli_line.specs.inside.header.HeaderReading.{version_at, own_address_size_at, opening_at}
+use Rattle.gimli_line.specs.inside.header.HeaderReading.{line_encoding_at, parameters_at}
+use Rattle.gimli_line.specs.inside.header.HeaderReading.{table_of, fields_at, header_at}
 use Rattle.gimli_line.proofs.Closed.{ReadsOpen, reads_name, reads_open_both, reads_closed}
 
 -- ---- a test, and after it a production

@@ -1,7 +1,6 @@
 -- The parts of a header are the same where each of them is.
-use Rattle.std.proofs.Common.{◌≡◌, refl}
-use Rattle.gimli_core.specs.declared.common.DebugLineOffset.{DebugLineOffset}
-use Rattle.gimli_line.specs.header.Parameters.{Parameters}
+use Rattle.std.specs.Prelude.{◌≡◌}
+use Rattle.gimli_line.proofs.Common.{refl, DebugLineOffset, Parameters}
 use Rattle.gimli_line.specs.header.HeaderParts.{HeaderParts}
 
 -- parameters of these parts

@@ -1,34 +1,21 @@
 -- Reading instructions, and decoding a program into them.
-use Rattle.std.proofs.Common.{◌≡◌, ◌≢◌, ℕ, zero, suc, ◌-◌, ◌<◌, ◌≤◌, List, [], ◌∷◌, ◌++◌, length, take, Option, Some}
-use Rattle.std.proofs.Common.{None, Ok, Err, refl, sym, ap, subst, ◌∙◌}
-use Rattle.std.proofs.Common.{append_assoc, arith}
-use Rattle.std.specs.Prelude.{nat_eq, nat_le, slice_index}
-use Rattle.std.proofs.lemmas.List.{length-append, take_at}
-use Rattle.gimli_core.specs.Layout.{OrderAndLimit}
-use Rattle.gimli_core.specs.Reading.{Read, ◌>>=◌, within_at}
-use Rattle.gimli_core.specs.Production.{Production, ◌>>=◌ as ◌>>>◌, done, times, byte, number, some_bytes, text}
-use Rattle.gimli_core.specs.Production.{unsigned, signed, below_limit, within, Reads}
-use Rattle.gimli_core.specs.declared.error.Error.{Error}
-use Rattle.gimli_core.proofs.Productions.{reads_both, reads_done, reads_if, reads_times, reads_within, bind_ok}
-use Rattle.gimli_core.proofs.Productions.{bind_refused, ok_parts}
-use Rattle.gimli_core.proofs.ProductionLaws.{reads_byte, reads_some_bytes, reads_number, reads_text, reads_below_limit}
-use Rattle.gimli_core.proofs.UnsignedLeb.{reads_unsigned}
-use Rattle.gimli_core.proofs.SignedLaws.{reads_signed}
-use Rattle.gimli_line.specs.declared.run.instruction.LineInstruction.TheVariants.{Special, UnknownStandard0}
-use Rattle.gimli_line.specs.declared.run.instruction.LineInstruction.TheVariants.{UnknownStandard1, UnknownStandardN}
-use Rattle.gimli_line.specs.declared.run.instruction.LineInstruction.TheVariants.{UnknownExtended}
-use Rattle.gimli_line.specs.run.Instruction.{Ins}
-use Rattle.gimli_line.specs.header.Header.{Header}
-use Rattle.gimli_line.specs.header.Productions.{bytes_of, operand_of}
-use Rattle.gimli_line.specs.header.HeaderGrammar.{file_production}
+use Rattle.std.specs.Prelude.{◌≡◌, ◌≢◌, ◌-◌, ◌<◌, ◌≤◌, ◌∷◌, ◌++◌}
+use Rattle.gimli_line.proofs.Common
+use Common.{ℕ, zero, suc, List, [], length, take, Option, Some, None, Ok, Err, refl, sym, ap, subst, ◌∙◌, append_assoc}
+use Common.{arith, nat_eq, nat_le, slice_index, length-append, take_at, OrderAndLimit, Read, ◌>>=◌, within_at}
+use Common.{Production, ◌>>>◌, done, times, byte, number, some_bytes, text, unsigned, signed, below_limit, within}
+use Common.{Reads, Error, reads_both, reads_done, reads_if, reads_times, reads_within, bind_ok, bind_refused, ok_parts}
+use Common.{reads_byte, reads_some_bytes, reads_number, reads_text, reads_below_limit, reads_unsigned, reads_signed}
+use Common.{Special, UnknownStandard0, UnknownStandard1, UnknownStandardN, UnknownExtended, Ins, Header, bytes_of}
+use Common.{operand_of, file_production, bytes_at, operand_at, decoded_after, decoded_at}
 use Rattle.gimli_line.specs.run.InstructionGrammar.{Operand, none, uleb, sleb, uhalf, address, file, standard_opcodes}
 use Rattle.gimli_line.specs.run.InstructionGrammar.{extended_opcodes, operand_production}
 use Rattle.gimli_line.specs.run.InstructionGrammar.{unknown_production, standard_production, extended_operands}
 use Rattle.gimli_line.specs.run.InstructionGrammar.{extended_production, instruction_production}
 use Rattle.gimli_line.specs.run.InstructionGrammar.{SpellsInstruction, Decodes}
-use Rattle.gimli_line.specs.run.InstructionReading.{bytes_at, operand_at, unknown_at, standard_at, extended_operands_at}
-use Rattle.gimli_line.specs.run.InstructionReading.{extended_at, ins_at, decoded_after}
-use Rattle.gimli_line.specs.run.InstructionReading.{decoded_upto, decoded_at}
+use Rattle.gimli_line.specs.run.InstructionReading.{unknown_at, standard_at, extended_operands_at}
+use Rattle.gimli_line.specs.run.InstructionReading.{extended_at, ins_at}
+use Rattle.gimli_line.specs.run.InstructionReading.{decoded_upto}
 use Rattle.gimli_line.proofs.HeaderLaws.{reads_file, given_ok, given_err, answer_of}
 
 -- ---- the bytes of a production

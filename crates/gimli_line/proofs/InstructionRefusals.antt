@@ -1,21 +1,12 @@
 -- Which refusals an instruction may have.
-use Rattle.std.proofs.Common.{ℕ, zero, suc, ◌-◌, Bool, true, false, List, [], ◌∷◌, Option, Some, None, inl, inr, arith}
-use Rattle.std.proofs.lemmas.Bool.{ltb-false}
-use Rattle.std.specs.Prelude.{nat_eq, nat_le, nat_lt, slice_index}
-use Rattle.gimli_core.specs.Layout.{OrderAndLimit}
-use Rattle.gimli_core.specs.Numbers.{SpellsUleb128}
-use Rattle.gimli_core.specs.Production.{Production, ◌>>=◌, done, check, choose, times, within, byte, number, some_bytes}
-use Rattle.gimli_core.specs.Production.{text, unsigned, signed, below_limit}
-use Rattle.gimli_core.specs.Production.{IsWanting}
-use Rattle.gimli_core.specs.declared.error.Error.{Error}
-use Rattle.gimli_core.specs.declared.error.Error.TheVariants.{UnsupportedOffset}
-use Rattle.gimli_line.specs.declared.run.instruction.LineInstruction.TheVariants.{Special, UnknownStandard0}
-use Rattle.gimli_line.specs.declared.run.instruction.LineInstruction.TheVariants.{UnknownStandard1, UnknownStandardN}
-use Rattle.gimli_line.specs.declared.run.instruction.LineInstruction.TheVariants.{UnknownExtended}
-use Rattle.gimli_line.specs.header.Header.{Header}
-use Rattle.gimli_line.specs.header.HeaderGrammar.{file_production}
-use Rattle.gimli_line.specs.header.Productions.{operand_of, bytes_of}
-use Rattle.gimli_line.specs.run.Instruction.{Ins}
+use Rattle.std.specs.Prelude.{◌-◌, ◌∷◌}
+use Rattle.gimli_line.proofs.Common
+use Common.{ℕ, zero, suc, Bool, true, false, List, [], Option, Some, None, inl, inr, arith, ltb-false, nat_eq, nat_le}
+use Common.{nat_lt, slice_index, OrderAndLimit, SpellsUleb128, Production, done, check, choose, times, within, byte}
+use Common.{number, some_bytes, text, unsigned, signed, below_limit, IsWanting, Error, UnsupportedOffset, Special}
+use Common.{UnknownStandard0, UnknownStandard1, UnknownStandardN, UnknownExtended, Header, file_production, operand_of}
+use Common.{bytes_of, Ins}
+use Rattle.gimli_core.specs.Production.{◌>>=◌}
 use Rattle.gimli_line.specs.run.InstructionGrammar.{Operand, none, uleb, sleb, uhalf, address, file, standard_opcodes}
 use Rattle.gimli_line.specs.run.InstructionGrammar.{extended_opcodes, operand_production}
 use Rattle.gimli_line.specs.run.InstructionGrammar.{unknown_production, standard_production, extended_operands}

@@ -1,3 +1,4 @@
+pub mod Common
 pub mod AddressSizes
 pub mod OtherExecutions
 pub mod Backwards

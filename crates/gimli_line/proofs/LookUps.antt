@@ -1,10 +1,10 @@
 -- Looking up the entry of an index in a table that begins at 1.
-use Rattle.std.proofs.Common.{◌≡◌, ℕ, ◌-◌, ◌<◌, ◌≤◌, List, Option, ◌∙◌, arith}
-use Rattle.std.specs.Prelude.{map, slice_get, Some, None, option_map}
+use Rattle.std.specs.Prelude.{◌≡◌, ◌-◌, ◌<◌, ◌≤◌}
+use Rattle.gimli_line.proofs.Common
+use Common.{ℕ, List, Option, ◌∙◌, arith, map, slice_get, Some, None, option_map, Bor, Header, entry_of, directory_of}
+use Common.{file_of}
 use Rattle.std.specs.Option.{option_copied}
-use Rattle.std.proofs.Common.{Bor}
 use Rattle.std.proofs.lemmas.Option.{slice_get-map}
-use Rattle.gimli_line.specs.header.Header.{Header, entry_of, directory_of, file_of}
 
 pub entry_above : {A : Type 0} (version : ℕ) (handed : Option A) (entries : List A) (i : ℕ) → version ≤ 4 → 0 < i
     → entry_of version handed entries i ≡ slice_get entries (i - 1)

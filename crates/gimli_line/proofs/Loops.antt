@@ -1,24 +1,12 @@
 -- Reading the items of a table one after the other, as loops do.
-use Rattle.std.proofs.Common.{◌≡◌, ◌≢◌, ℕ, zero, suc, ◌+◌, ◌-◌, ◌<◌, ◌≤◌, Bool, true, false, List, [], ◌∷◌, ◌++◌}
-use Rattle.std.proofs.Common.{length, map, Ok, Err, refl, sym, ap, ◌∙◌}
-use Rattle.std.proofs.Common.{append_assoc, arith}
-use Rattle.std.specs.Prelude.{nat_eq, IsTrue, ◌↔◌}
-use Rattle.std.specs.List.{AllByRecursion}
-use Rattle.std.proofs.lemmas.List.{append-nil, length-append}
-use Rattle.gimli_core.specs.declared.error.Error.{Error}
-use Rattle.gimli_core.specs.Layout.{OrderAndLimit, layout_of}
-use Rattle.gimli_core.specs.Reading.{Read, ◌>>=◌, text_at, unsigned_at, times_at}
-use Rattle.gimli_core.specs.declared.common.Format.{Format}
-use Rattle.gimli_core.specs.Production.{Production, IsOpen}
-use Rattle.gimli_core.proofs.Productions.{bind_refused}
-use Rattle.gimli_core.proofs.ProductionLaws.{reads_text}
-use Rattle.gimli_line.specs.inside.header.Outcome.{read_map}
-use Rattle.gimli_line.specs.inside.header.TableReading.{is_closed, closed_below, list_to_zero_at}
-use Rattle.gimli_line.specs.header.File.{File}
-use Rattle.gimli_line.specs.header.HeaderGrammar.{TableEntry}
-use Rattle.gimli_line.specs.header.HeaderReading.{plain_file_at}
-use Rattle.gimli_line.specs.inside.header.HeaderReading.{named_file_at, entry_at, entries_at}
-use Rattle.gimli_line.specs.declared.header.file_entry.FileEntryFormat.{FileEntryFormat}
+use Rattle.std.specs.Prelude.{◌≡◌, ◌≢◌, ◌+◌, ◌-◌, ◌<◌, ◌≤◌, ◌∷◌, ◌++◌, ◌↔◌}
+use Rattle.gimli_line.proofs.Common
+use Common.{ℕ, zero, suc, Bool, true, false, List, [], length, map, Ok, Err, refl, sym, ap, ◌∙◌, append_assoc, arith}
+use Common.{nat_eq, IsTrue, AllByRecursion, append-nil, length-append, Error, OrderAndLimit, layout_of, Read, ◌>>=◌}
+use Common.{text_at, unsigned_at, times_at, Format, Production, IsOpen, bind_refused, reads_text, read_map, is_closed}
+use Common.{list_to_zero_at, File, TableEntry, plain_file_at, named_file_at, entry_at, FileEntryFormat}
+use Rattle.gimli_line.specs.inside.header.TableReading.{closed_below}
+use Rattle.gimli_line.specs.inside.header.HeaderReading.{entries_at}
 use Rattle.gimli_line.proofs.Closed.{ReadsOpen}
 
 -- ---- items before, and those that are read after them

@@ -1,16 +1,9 @@
 -- Row addresses never go down between two ends.
-use Rattle.std.proofs.Common.{◌≡◌, ℕ, ◌+◌, ◌*◌, ◌/◌, ◌%◌, ◌^◌, ◌≤◌, Bool, true, false, ◌||◌, if◌then◌else◌, List, []}
-use Rattle.std.proofs.Common.{◌∷◌, ◌++◌, None, not, arith}
-use Rattle.std.specs.List.{filter}
-use Rattle.gimli_core.specs.declared.error.Error.TheVariants.{AddressOverflow}
-use Rattle.gimli_line.specs.declared.run.instruction.LineInstruction.TheVariants.{Special, AdvancePc, ConstAddPc}
-use Rattle.gimli_line.specs.declared.run.instruction.LineInstruction.TheVariants.{FixedAddPc, EndSequence, SetAddress}
-use Rattle.gimli_line.specs.header.Parameters.{Parameters}
-use Rattle.gimli_line.specs.run.Instruction.{Ins, is_end, makes_row}
-use Rattle.gimli_line.specs.run.OperationPointer.{OperationPointer}
-use Rattle.gimli_line.specs.run.OperationPointer.{next_pointer, pointer_at}
-use Rattle.gimli_line.specs.run.OperationPointer.{is_under_tombstone, overflows}
-use Rattle.gimli_line.specs.run.Events.{Event, row, fault, row_at, is_given, events_after}
+use Rattle.std.specs.Prelude.{◌≡◌, ◌+◌, ◌*◌, ◌/◌, ◌%◌, ◌^◌, ◌≤◌, ◌||◌, if◌then◌else◌, ◌∷◌, ◌++◌}
+use Rattle.gimli_line.proofs.Common
+use Common.{ℕ, Bool, true, false, List, [], None, not, arith, filter, AddressOverflow, Special, AdvancePc, ConstAddPc}
+use Common.{FixedAddPc, EndSequence, SetAddress, Parameters, Ins, is_end, makes_row, OperationPointer, next_pointer}
+use Common.{pointer_at, is_under_tombstone, overflows, Event, row, fault, row_at, is_given, events_after}
 use Rattle.gimli_line.specs.run.NonDecreasing.{NeverBelow, AreOneSequence}
 use Rattle.gimli_line.proofs.RunLists.{after_here}
 

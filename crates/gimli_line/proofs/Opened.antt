@@ -1,13 +1,10 @@
 -- The header of a unit from its parts.
-use Rattle.std.proofs.Common.{◌≡◌, ℕ, Bool, List, [], Result, Ok, Err, refl, sym, ap, subst, ◌∙◌}
-use Rattle.gimli_core.specs.Layout.{OrderAndLimit, layout_of}
-use Rattle.gimli_core.specs.Reading.{Read, ◌>>=◌, split_at, initial_length_at, within_at}
-use Rattle.gimli_core.specs.declared.common.Format.{Format}
-use Rattle.gimli_core.specs.declared.error.Error.{Error}
-use Rattle.gimli_line.specs.inside.header.Outcome.{IsAnswer}
-use Rattle.gimli_line.specs.header.Header.{Header, UnitEntry}
-use Rattle.gimli_line.specs.header.HeaderGrammar.{HeaderOpening}
-use Rattle.gimli_line.specs.inside.header.HeaderReading.{opening_at, fields_at, header_at}
+use Rattle.std.specs.Prelude.{◌≡◌}
+use Rattle.gimli_line.proofs.Common
+use Common.{ℕ, Bool, List, [], Result, Ok, Err, refl, sym, ap, subst, ◌∙◌, OrderAndLimit, layout_of, Read, ◌>>=◌}
+use Common.{split_at, initial_length_at, within_at, Format, Error, IsAnswer, Header, UnitEntry, HeaderOpening}
+use Common.{opening_at}
+use Rattle.gimli_line.specs.inside.header.HeaderReading.{fields_at, header_at}
 
 -- the answer of the last part is that of all
 last_answer : (r : Read Header) (rest : List ℕ)

@@ -1,11 +1,8 @@
 -- Passing over the operands of an opcode, as a loop does.
-use Rattle.std.proofs.Common.{◌≡◌, ℕ, suc, ◌+◌, ◌-◌, ◌<◌, List, ◌∷◌, ◌++◌, Ok, Err, refl, sym, ap, ◌∙◌, arith}
-use Rattle.gimli_core.specs.declared.error.Error.{Error}
-use Rattle.gimli_core.specs.Reading.{Read, ◌>>=◌, times_at, unsigned_at}
-use Rattle.gimli_core.specs.Production.{unsigned}
-use Rattle.gimli_core.proofs.Productions.{bind_ok, ok_parts, reads_times}
-use Rattle.gimli_core.proofs.UnsignedLeb.{reads_unsigned}
-use Rattle.gimli_line.specs.inside.run.InstructionReading.{without_value}
+use Rattle.std.specs.Prelude.{◌≡◌, ◌+◌, ◌-◌, ◌<◌, ◌∷◌, ◌++◌}
+use Rattle.gimli_line.proofs.Common
+use Common.{ℕ, suc, List, Ok, Err, refl, sym, ap, ◌∙◌, arith, Error, Read, ◌>>=◌, times_at, unsigned_at, unsigned}
+use Common.{bind_ok, ok_parts, reads_times, reads_unsigned, without_value}
 
 module _ {A : Type 0} (read : List ℕ → Read A) where
   after_item : (x : A) (r : Read (List A))

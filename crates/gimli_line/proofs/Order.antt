@@ -1,13 +1,9 @@
 -- The order of bytes of readers that are handed on, through loops and from one part of a table to the next.
-use Rattle.std.proofs.Common.{◌≡◌, Bool, List, [], ◌∷◌, ◌++◌, map, sym, subst}
-use Rattle.std.specs.Prelude.{Result, Ok, Err, OnOk, OnErr}
-use Rattle.std.specs.List.{All}
-use Rattle.std.proofs.lemmas.List.{map-append}
+use Rattle.std.specs.Prelude.{◌≡◌, ◌∷◌, ◌++◌}
+use Rattle.gimli_line.proofs.Common
+use Common.{Bool, List, [], map, sym, subst, Result, Ok, Err, OnOk, OnErr, All, map-append, ValueHasOrder, IsOrder}
+use Common.{value_order, AttributeValue, FileHasOrder, AreFileOrders, file_orders, FileEntry}
 use Rattle.std.proofs.lemmas.List.Elements.{All-push, All-map}
-use Rattle.gimli_core.specs.Values.{ValueHasOrder, IsOrder, value_order}
-use Rattle.gimli_core.specs.declared.attribute_value.AttributeValue.{AttributeValue}
-use Rattle.gimli_line.specs.header.File.{FileHasOrder, AreFileOrders, file_orders}
-use Rattle.gimli_line.specs.declared.header.file_entry.FileEntry.{FileEntry}
 
 -- a list that was made longer, all of whose items have the order that the new one has
 pushed : {X : Type 0} (Has : Bool → X → Type 0) (first now : Bool) (xs longer : List X) (x : X) → longer ≡ xs ++ x ∷ []

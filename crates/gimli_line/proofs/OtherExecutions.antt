@@ -1,24 +1,13 @@
 -- Advances, definitions of files and extended instructions, executed from their bytes.
-use Rattle.std.proofs.Common.{◌≡◌, ◌<◌, ℕ, arith, Bool, false, true, List, Some, refl, subst, ◌∙◌, Ok}
-use Rattle.std.proofs.lemmas.Bool.{lt-leb}
-use Rattle.std.specs.Prelude.{nat_le}
-use Rattle.gimli_core.specs.Layout.{OrderAndLimit}
-use Rattle.gimli_core.specs.Reading.{◌>>=◌, byte_at, number_at, split_at, text_at, unsigned_at, within_at}
-use Rattle.gimli_line.specs.declared.run.from_bytes.Executed.TheVariants.{Quiet, Address, Row}
-use Rattle.gimli_line.specs.declared.run.row.LineRow.{LineRow}
-use Rattle.gimli_line.specs.declared.run.instruction.LineInstruction.TheVariants.{AdvancePc, ConstAddPc, DefineFile}
-use Rattle.gimli_line.specs.declared.run.instruction.LineInstruction.TheVariants.{EndSequence, SetAddress}
-use Rattle.gimli_line.specs.declared.run.instruction.LineInstruction.TheVariants.{SetDiscriminator}
-use Rattle.gimli_line.specs.header.File.{File}
+use Rattle.std.specs.Prelude.{◌≡◌, ◌<◌}
+use Rattle.gimli_line.proofs.Common
+use Common.{ℕ, arith, Bool, false, true, List, Some, refl, subst, ◌∙◌, Ok, lt-leb, nat_le, OrderAndLimit, ◌>>=◌}
+use Common.{byte_at, number_at, split_at, text_at, unsigned_at, within_at, Quiet, Address, Row, LineRow, AdvancePc}
+use Common.{ConstAddPc, DefineFile, EndSequence, SetAddress, SetDiscriminator, File, Header, plain_file_at, Parameters}
+use Common.{operand_of, Ins, defines_file, step_of, is_refused}
 use Rattle.gimli_line.specs.header.FormReading.{offset_at}
-use Rattle.gimli_line.specs.header.Header.{Header}
-use Rattle.gimli_line.specs.header.HeaderReading.{plain_file_at}
-use Rattle.gimli_line.specs.header.Parameters.{Parameters}
-use Rattle.gimli_line.specs.header.Productions.{operand_of}
-use Rattle.gimli_line.specs.run.Instruction.{Ins, defines_file}
 use Rattle.gimli_line.specs.run.InstructionGrammar.{file, extended_opcodes}
 use Rattle.gimli_line.specs.run.InstructionReading.{standard_at, extended_at, extended_operands_at, ins_at}
-use Rattle.gimli_line.specs.run.Machine.{step_of, is_refused}
 use Rattle.gimli_line.specs.run.Execution.{IsExecuted, IsExecutedAs}
 use Rattle.gimli_line.proofs.Executions.{standard_first}
 

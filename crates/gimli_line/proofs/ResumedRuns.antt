@@ -1,20 +1,12 @@
 -- A sequence that is resumed gives what its bytes give by looking back, as a program of their own.
-use Rattle.std.proofs.Common.{◌≡◌, ℕ, false, List, [], ◌∷◌, ◌++◌, map, Option, refl, sym, ap, subst, ◌∙◌}
-use Rattle.std.specs.List.{All}
-use Rattle.std.proofs.lemmas.List.{map-append}
+use Rattle.std.specs.Prelude.{◌≡◌, ◌∷◌, ◌++◌}
+use Rattle.gimli_line.proofs.Common
+use Common.{ℕ, false, List, [], map, Option, refl, sym, ap, subst, ◌∙◌, All, map-append, Error, OrderAndLimit, LineRow}
+use Common.{Header, without_files, HeaderSource, Ins, decoded_at, Event, row, EventWithFiles, Events, events_of}
+use Common.{program_events, events_left, start_of_run, GivesRowsAlone, IsRow, Unread}
 use Rattle.std.proofs.lemmas.List.Elements.{All-nil, All-cons}
-use Rattle.gimli_core.specs.declared.error.Error.{Error}
-use Rattle.gimli_core.specs.Layout.{OrderAndLimit}
-use Rattle.gimli_line.specs.declared.run.row.LineRow.{LineRow}
-use Rattle.gimli_line.specs.header.Header.{Header, without_files}
-use Rattle.gimli_line.specs.header.Orders.{HeaderSource}
-use Rattle.gimli_line.specs.run.Instruction.{Ins}
 use Rattle.gimli_line.specs.run.InstructionGrammar.{Decodes}
-use Rattle.gimli_line.specs.run.InstructionReading.{decoded_at}
-use Rattle.gimli_line.specs.run.Events.{Event, row, EventWithFiles, Events, events_of, program_events}
-use Rattle.gimli_line.specs.run.Rows.{events_left, start_of_run, GivesRowsAlone, IsRow}
 use Rattle.gimli_line.specs.run.Sequences.{Sequence, HasRun, HaveRuns, ResumesToRows}
-use Rattle.gimli_line.specs.run.Unread.{Unread}
 use Rattle.gimli_line.proofs.InstructionLaws.{is_decoded, one_decoding}
 use Rattle.gimli_line.proofs.Runs.{bare_decoding}
 use Rattle.gimli_line.proofs.RunLists.{given_from_start}

@@ -1,26 +1,13 @@
 -- A run gives no more rows and refusals than its program has bytes.
-use Rattle.std.proofs.Common.{◌≡◌, ℕ, zero, suc, ◌+◌, ◌≤◌, Bool, true, false, if◌then◌else◌, List, [], ◌∷◌, length}
-use Rattle.std.proofs.Common.{Option, Ok, Err, ap, refl, arith}
-use Rattle.std.proofs.lemmas.List.{length-append, length-map}
-use Rattle.gimli_core.specs.Layout.{OrderAndLimit}
-use Rattle.gimli_core.specs.Reading.{Read}
-use Rattle.gimli_core.specs.declared.error.Error.{Error}
-use Rattle.gimli_core.specs.declared.error.Error.TheVariants.{AddressOverflow}
-use Rattle.gimli_line.specs.declared.run.row.LineRow.{LineRow}
-use Rattle.gimli_line.specs.header.File.{File}
-use Rattle.gimli_line.specs.header.Header.{Header}
-use Rattle.gimli_line.specs.header.Parameters.{Parameters}
-use Rattle.gimli_line.specs.run.Instruction.{Ins, makes_row, files_after}
+use Rattle.std.specs.Prelude.{◌≡◌, ◌+◌, ◌≤◌, if◌then◌else◌, ◌∷◌}
+use Rattle.gimli_line.proofs.Common
+use Common.{ℕ, zero, suc, Bool, true, false, List, [], length, Option, Ok, Err, ap, refl, arith, length-append}
+use Common.{length-map, OrderAndLimit, Read, Error, AddressOverflow, LineRow, File, Header, Parameters, Ins, makes_row}
+use Common.{files_after, ins_at, decoded_at, decoded_after, overflows, is_refused, step_of, made_step, next_registers}
+use Common.{made_from, Event, Events, row, fault, row_at, made_at, end_events, EventWithFiles, with_files, made_after}
+use Common.{is_given, given_of, files_at, program_made, Makes, EventsWithFiles, RunState, made_left, events_left}
 use Rattle.gimli_line.specs.run.InstructionGrammar.{Decodes}
-use Rattle.gimli_line.specs.run.InstructionReading.{ins_at, decoded_at, decoded_after, decoded_upto}
-use Rattle.gimli_line.specs.run.OperationPointer.{overflows}
-use Rattle.gimli_line.specs.run.Machine.{is_refused, step_of, made_step, next_registers, made_from}
-use Rattle.gimli_line.specs.run.Events.{Event, Events, row, fault, row_at, made_at, end_events, EventWithFiles}
-use Rattle.gimli_line.specs.run.Events.{with_files, made_after, is_given, given_of}
-use Rattle.gimli_line.specs.run.Events.{files_at}
-use Rattle.gimli_line.specs.run.EventsWithFiles.{program_made, Makes, EventsWithFiles}
-use Rattle.gimli_line.specs.run.RunState.{RunState}
-use Rattle.gimli_line.specs.run.Rows.{made_left, events_left}
+use Rattle.gimli_line.specs.run.InstructionReading.{decoded_upto}
 use Rattle.gimli_line.proofs.InstructionLaws.{one_decoding}
 
 -- ---- no more events than instructions, and one more at a refused end

@@ -1,14 +1,9 @@
 -- Runs that give rows alone, and are refused for nothing.
-use Rattle.std.proofs.Common.{◌≡◌, true, false, ◌∷◌, sym, subst, ◌∙◌, inl, inr}
-use Rattle.std.specs.List.{All}
+use Rattle.std.specs.Prelude.{◌≡◌, ◌∷◌}
+use Rattle.gimli_line.proofs.Common
+use Common.{true, false, sym, subst, ◌∙◌, inl, inr, All, Error, LineRow, row, fault, EventWithFiles, with_reset_row}
+use Common.{RunState, live_events, events_left, FaultIs, GivesRowsAlone, IsRow}
 use Rattle.std.proofs.lemmas.List.Elements.{All-head, All-tail}
-use Rattle.gimli_core.specs.declared.error.Error.{Error}
-use Rattle.gimli_line.specs.declared.run.row.LineRow.{LineRow}
-use Rattle.gimli_line.specs.run.Events.{row, fault}
-use Rattle.gimli_line.specs.run.Events.{EventWithFiles}
-use Rattle.gimli_line.specs.run.Passing.{with_reset_row}
-use Rattle.gimli_line.specs.run.RunState.{RunState}
-use Rattle.gimli_line.specs.run.Rows.{live_events, events_left, FaultIs, GivesRowsAlone, IsRow}
 
 -- a fault is no row
 no_row : (e : Error) (r : LineRow) → fault e ≡ row r → ⊥

@@ -1,20 +1,10 @@
 -- What instructions give, one list of them after another; the files mean nothing to it.
-use Rattle.std.proofs.Common.{◌≡◌, Bool, true, false, not, if◌then◌else◌, List, [], ◌∷◌, ◌++◌, Option, Some, None, refl}
-use Rattle.std.proofs.Common.{sym, ap, ◌∙◌, append_assoc}
-use Rattle.std.specs.List.{filter}
-use Rattle.std.proofs.lemmas.List.{append-nil}
-use Rattle.gimli_core.specs.declared.error.Error.{Error}
-use Rattle.gimli_line.specs.declared.run.row.LineRow.{LineRow}
-use Rattle.gimli_line.specs.header.File.{File}
-use Rattle.gimli_line.specs.header.Header.{Header}
-use Rattle.gimli_line.specs.header.Parameters.{Parameters}
-use Rattle.gimli_line.specs.run.Instruction.{Ins, files_after}
-use Rattle.gimli_line.specs.run.Events.{Event, row, fault, made_at, EventWithFiles, with_files, made_after, is_given}
-use Rattle.gimli_line.specs.run.Events.{given_of, events_of, events_after}
-use Rattle.gimli_line.specs.run.Events.{program_events}
-use Rattle.gimli_line.specs.run.EventsWithFiles.{program_made}
-use Rattle.gimli_line.specs.run.Machine.{initial, made_step, next_registers, made_from, run}
-use Rattle.gimli_line.specs.run.Passing.{registers_from, files_from}
+use Rattle.std.specs.Prelude.{◌≡◌, if◌then◌else◌, ◌∷◌, ◌++◌}
+use Rattle.gimli_line.proofs.Common
+use Common.{Bool, true, false, not, List, [], Option, Some, None, refl, sym, ap, ◌∙◌, append_assoc, filter, append-nil}
+use Common.{Error, LineRow, File, Header, Parameters, Ins, files_after, Event, row, fault, made_at, EventWithFiles}
+use Common.{with_files, made_after, is_given, given_of, events_of, events_after, program_events, program_made, initial}
+use Common.{made_step, next_registers, made_from, run, registers_from, files_from}
 use Rattle.gimli_line.proofs.Backwards.{made_start}
 
 -- what a point gives, and then the rest

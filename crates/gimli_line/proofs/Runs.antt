@@ -1,31 +1,14 @@
 -- What one instruction does to the events that are still to come.
-use Rattle.std.proofs.Common.{◌≡◌, ◌≢◌, ℕ, ◌<◌, Bool, true, false, List, [], ◌∷◌, ◌++◌, length, Option, Some, None}
-use Rattle.std.proofs.Common.{refl, sym, ap, ◌∙◌}
-use Rattle.std.proofs.Common.{append_assoc, arith, ◌⊎◌, inl, inr}
-use Rattle.std.specs.List.{filter}
-use Rattle.std.proofs.lemmas.List.{length-append, append-nil}
-use Rattle.gimli_core.specs.Layout.{OrderAndLimit}
-use Rattle.gimli_core.specs.Production.{Each}
-use Rattle.gimli_core.specs.declared.error.Error.{Error}
-use Rattle.gimli_core.specs.declared.error.Error.TheVariants.{AddressOverflow, OutOfMemory}
-use Rattle.gimli_line.specs.declared.run.row.LineRow.{LineRow}
-use Rattle.gimli_line.specs.declared.run.instruction.LineInstruction.TheVariants.{DefineFile}
-use Rattle.gimli_line.specs.header.Parameters.{Parameters}
-use Rattle.gimli_line.specs.header.Orders.{HeaderSource}
-use Rattle.gimli_line.specs.header.Header.{Header, without_files}
-use Rattle.gimli_line.specs.run.Instruction.{files_after}
-use Rattle.gimli_line.specs.run.Instruction.{Ins, makes_row, defines_file}
-use Rattle.gimli_line.specs.header.File.{File}
+use Rattle.std.specs.Prelude.{◌≡◌, ◌≢◌, ◌<◌, ◌∷◌, ◌++◌, ◌⊎◌}
+use Rattle.gimli_line.proofs.Common
+use Common.{ℕ, Bool, true, false, List, [], length, Option, Some, None, refl, sym, ap, ◌∙◌, append_assoc, arith, inl}
+use Common.{inr, filter, length-append, append-nil, OrderAndLimit, Each, Error, AddressOverflow, OutOfMemory, LineRow}
+use Common.{DefineFile, Parameters, HeaderSource, Header, without_files, files_after, Ins, makes_row, defines_file}
+use Common.{File, decoded_at, Event, row, EventWithFiles, is_given, step_of, reset_row, is_refused, made_step}
+use Common.{next_registers, Unread, RunState, PassesOver, with_reset_row, registers_from, files_from, live_made}
+use Common.{live_events, made_left, events_left, files_at_end, WantsMemory, FaultComes, FaultIs, given_row}
 use Rattle.gimli_line.specs.run.InstructionGrammar.{SpellsInstruction, instruction_production, IsEnd, Decodes}
-use Rattle.gimli_line.specs.run.InstructionReading.{decoded_upto, decoded_at}
-use Rattle.gimli_line.specs.run.Events.{Event, row, EventWithFiles, is_given}
-use Rattle.gimli_line.specs.run.Machine.{step_of, reset_row, is_refused, made_step, next_registers}
-use Rattle.gimli_line.specs.run.Unread.{Unread}
-use Rattle.gimli_line.specs.run.RunState.{RunState}
-use Rattle.gimli_line.specs.run.Passing.{PassesOver, with_reset_row, registers_from, files_from}
-use Rattle.gimli_line.specs.run.Rows.{live_made, live_events, made_left, events_left, files_at_end, WantsMemory}
-use Rattle.gimli_line.specs.run.Rows.{FaultComes, FaultIs}
-use Rattle.gimli_line.specs.inside.run.Rows.{given_row}
+use Rattle.gimli_line.specs.run.InstructionReading.{decoded_upto}
 use Rattle.gimli_line.proofs.RunLists.{run_of_one, runs_joined}
 use Rattle.gimli_line.proofs.InstructionLaws.{is_decoded, one_decoding, takes_bytes}
 

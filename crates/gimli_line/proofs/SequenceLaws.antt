@@ -1,31 +1,16 @@
 -- Splitting a program into sequences gives its rows through the last end.
-use Rattle.std.proofs.Common.{◌<◌, ◌≡◌, ℕ, ◌-◌, Bool, true, false, if◌then◌else◌, ◌||◌, List, [], ◌∷◌, ◌++◌, length}
-use Rattle.std.proofs.Common.{take, map, Option, Some, None, refl, sym}
-use Rattle.std.proofs.Common.{ap, ◌∙◌, subst, append_assoc, arith, ◌≢◌, inl, inr}
-use Rattle.std.specs.List.{AllByRecursion, list_any, flat_map}
+use Rattle.std.specs.Prelude.{◌<◌, ◌≡◌, ◌-◌, if◌then◌else◌, ◌||◌, ◌∷◌, ◌++◌, ◌≢◌}
+use Rattle.gimli_line.proofs.Common
+use Common.{ℕ, Bool, true, false, List, [], length, take, map, Option, Some, None, refl, sym, ap, ◌∙◌, subst}
+use Common.{append_assoc, arith, inl, inr, AllByRecursion, list_any, flat_map, length-append, append-nil, map-append}
+use Common.{OrderAndLimit, Each, Error, OutOfMemory, LineRow, Parameters, HeaderSource, KeepsSource, Header}
+use Common.{without_files, Ins, File, decoded_at, Event, row, EventWithFiles, given_of, events_of, program_events}
+use Common.{defined_files, past_at_end, ends_sequence, through_last_end, initial, made_from, run, Unread, RunState}
+use Common.{PassesOver, with_reset_row, registers_from, files_from, live_events, start_of_run, whole_run, FaultComes}
+use Common.{FaultIs, KeepsRun}
 use Rattle.std.specs.Option.{unwrap_or}
-use Rattle.std.proofs.lemmas.List.{length-append, append-nil, map-append}
-use Rattle.gimli_core.specs.Layout.{OrderAndLimit}
-use Rattle.gimli_core.specs.Production.{Each}
-use Rattle.gimli_core.specs.declared.error.Error.{Error}
-use Rattle.gimli_core.specs.declared.error.Error.TheVariants.{OutOfMemory}
-use Rattle.gimli_line.specs.declared.run.row.LineRow.{LineRow}
-use Rattle.gimli_line.specs.header.Parameters.{Parameters}
-use Rattle.gimli_line.specs.header.Orders.{HeaderSource, KeepsSource}
-use Rattle.gimli_line.specs.header.Header.{Header, without_files}
-use Rattle.gimli_line.specs.run.Instruction.{Ins}
-use Rattle.gimli_line.specs.header.File.{File}
 use Rattle.gimli_line.specs.run.InstructionGrammar.{SpellsInstruction}
-use Rattle.gimli_line.specs.run.InstructionReading.{decoded_at}
-use Rattle.gimli_line.specs.run.Events.{Event, row, EventWithFiles, given_of, events_of, program_events, defined_files}
-use Rattle.gimli_line.specs.run.Events.{past_at_end, ends_sequence}
-use Rattle.gimli_line.specs.run.Events.{through_last_end}
-use Rattle.gimli_line.specs.run.Machine.{initial, made_from, run}
-use Rattle.gimli_line.specs.run.Unread.{Unread}
 use Rattle.gimli_line.specs.inside.run.Unread.{front_of}
-use Rattle.gimli_line.specs.run.RunState.{RunState}
-use Rattle.gimli_line.specs.run.Passing.{PassesOver, with_reset_row, registers_from, files_from}
-use Rattle.gimli_line.specs.run.Rows.{live_events, start_of_run, whole_run, FaultComes, FaultIs, KeepsRun}
 use Rattle.gimli_line.specs.run.Sequences.{Sequence, IsSequence, HasRun, HaveRuns, AreSequences}
 use Rattle.gimli_line.specs.run.Sequences.{HasFirstFault}
 use Rattle.gimli_line.specs.inside.run.SequenceSplit.{SequenceSplit, with_row, RowSplit, with_kept_row}

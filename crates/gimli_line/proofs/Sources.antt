@@ -1,9 +1,8 @@
 -- A header, and a run, that still come from the same source.
-use Rattle.std.proofs.Common.{◌≡◌, Bool, refl, sym, ap, subst, ◌∙◌}
-use Rattle.gimli_line.specs.header.Header.{SeenHeader}
-use Rattle.gimli_line.specs.header.Orders.{HeaderSource, source_of, KeepsSource}
-use Rattle.gimli_line.specs.run.RunState.{RunState}
-use Rattle.gimli_line.specs.run.Rows.{AddsInOrder, IsOfOneOrder, KeepsRun, SeesHeader}
+use Rattle.std.specs.Prelude.{◌≡◌}
+use Rattle.gimli_line.proofs.Common
+use Common.{Bool, refl, sym, ap, subst, ◌∙◌, SeenHeader, HeaderSource, source_of, KeepsSource, RunState, AddsInOrder}
+use Common.{IsOfOneOrder, KeepsRun, SeesHeader}
 
 pub source_kept : (Fits : Bool → Type 0) (source : HeaderSource) → KeepsSource Fits source source
 source_kept Fits source = record { layout = refl; offset = refl; handed = refl; order = λ order fits are. are }

@@ -1,27 +1,15 @@
 -- A step of a run: what an instruction does to its state, and steps after one another.
-use Rattle.std.proofs.Common.{◌≡◌, ◌≢◌, ◌∙◌, Bool, true, false, [], ap, arith, inl, inr, length, refl, sym, subst}
-use Rattle.std.proofs.Common.{Result, Some, Ok, Err, if◌then◌else◌}
-use Rattle.std.proofs.lemmas.List.{length-append}
-use Rattle.gimli_core.specs.declared.error.Error.{Error}
-use Rattle.gimli_core.specs.declared.error.Error.TheVariants.{AddressOverflow, OutOfMemory}
-use Rattle.gimli_line.specs.declared.run.from_bytes.Executed.{Executed}
-use Rattle.gimli_line.specs.declared.run.from_bytes.Executed.TheVariants.{No, Quiet, Address, Row}
-use Rattle.gimli_line.specs.declared.run.instruction.LineInstruction.TheVariants.{DefineFile}
-use Rattle.gimli_line.specs.declared.run.row.LineRow.{LineRow}
+use Rattle.std.specs.Prelude.{◌≡◌, ◌≢◌, if◌then◌else◌}
+use Rattle.gimli_line.proofs.Common
+use Common.{◌∙◌, Bool, true, false, [], ap, arith, inl, inr, length, refl, sym, subst, Result, Some, Ok, Err}
+use Common.{length-append, Error, AddressOverflow, OutOfMemory, Executed, No, Quiet, Address, Row, DefineFile, LineRow}
+use Common.{Header, without_files, KeepsSource, given_row, ReadsOn, StepIs, StepsTo, Ins, makes_row, defines_file}
+use Common.{header_after, ins_at, step_of, is_refused, with_reset_row, RunState, live_made, FaultComes, AddsInOrder}
+use Common.{KeepsRun, WantsMemory, Unread}
 use Rattle.gimli_line.specs.declared.run.rows.RowStep.{RowStep}
 use Rattle.gimli_line.specs.declared.run.rows.RowStep.TheVariants.{Done, Made, More}
-use Rattle.gimli_line.specs.header.Header.{Header, without_files}
-use Rattle.gimli_line.specs.header.Orders.{KeepsSource}
-use Rattle.gimli_line.specs.inside.run.Rows.{given_row, ReadsOn, StepIs, StepsTo}
 use Rattle.gimli_line.specs.run.Execution.{ExecutesNext, IsExecuted, RefusesNext}
-use Rattle.gimli_line.specs.run.Instruction.{Ins, makes_row, defines_file, header_after}
-use Rattle.gimli_line.specs.run.InstructionReading.{ins_at}
-use Rattle.gimli_line.specs.run.Machine.{step_of, is_refused}
 use Rattle.gimli_line.specs.run.NextInstruction.{TakesNext, EndsByFault}
-use Rattle.gimli_line.specs.run.Passing.{with_reset_row}
-use Rattle.gimli_line.specs.run.RunState.{RunState}
-use Rattle.gimli_line.specs.run.Rows.{live_made, FaultComes, AddsInOrder, KeepsRun, WantsMemory}
-use Rattle.gimli_line.specs.run.Unread.{Unread}
 use Rattle.gimli_line.proofs.Executions.{told_row, told_quiet, told_address}
 use Rattle.gimli_line.proofs.InstructionLaws.{reads_instruction}
 use Rattle.gimli_line.proofs.Sources.{fits_less, keeps_both}

@@ -1,18 +1,9 @@
 -- The loops that read tables, where they begin and where they end.
-use Rattle.std.proofs.Common.{◌≡◌, ℕ, ◌<◌, ◌≤◌, Bool, List, [], map}
-use Rattle.std.proofs.Common.{Ok, Err, refl}
-use Rattle.std.proofs.Common.{arith}
-use Rattle.std.specs.List.{All}
-use Rattle.std.proofs.lemmas.Bool.{le-leb, lt-leb}
-use Rattle.gimli_core.specs.Layout.{OrderAndLimit, layout_of}
-use Rattle.gimli_core.specs.Reading.{Read}
-use Rattle.gimli_core.specs.declared.common.Encoding.{Encoding}
-use Rattle.gimli_core.specs.declared.error.Error.{Error}
-use Rattle.gimli_core.proofs.Productions.{bind_refused}
-use Rattle.gimli_line.specs.inside.header.Outcome.{read_map}
-use Rattle.gimli_line.specs.header.HeaderGrammar.{TableEntry}
-use Rattle.gimli_line.specs.inside.header.HeaderReading.{formats_at, entries_at, table_of}
-use Rattle.gimli_line.specs.declared.header.file_entry.FileEntryFormat.{FileEntryFormat}
+use Rattle.std.specs.Prelude.{◌≡◌, ◌<◌, ◌≤◌}
+use Rattle.gimli_line.proofs.Common
+use Common.{ℕ, Bool, List, [], map, Ok, Err, refl, arith, All, le-leb, lt-leb, OrderAndLimit, layout_of, Read, Encoding}
+use Common.{Error, bind_refused, read_map, TableEntry, formats_at, entries_at, FileEntryFormat}
+use Rattle.gimli_line.specs.inside.header.HeaderReading.{table_of}
 
 -- a table without entries
 pub none_yet : {A : Type 0} (P : A → Type 0) (xs : List A) → xs ≡ [] → All P xs

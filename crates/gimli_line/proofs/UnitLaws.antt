@@ -1,21 +1,11 @@
 -- The units of a section: each is read, they have one list of offsets, and a walk gives it.
-use Rattle.std.proofs.Common.{◌≡◌, ◌≢◌, ℕ, zero, suc, ◌+◌, ◌-◌, ◌<◌, ◌≤◌, Bool, List, [], ◌∷◌, ◌++◌, length, take, drop}
-use Rattle.std.proofs.Common.{Ok, Err, refl, sym, ap, subst, ◌∙◌}
-use Rattle.std.proofs.Common.{arith, append_assoc, inl, inr, ◌⊎◌}
-use Rattle.std.proofs.lemmas.Bool.{cases_lt}
-use Rattle.std.proofs.lemmas.List.{append-nil, drop_all, drop_at, take-append-drop, length-append, length-drop}
-use Rattle.gimli_core.specs.Layout.{OrderAndLimit}
-use Rattle.gimli_core.specs.Numbers.{SpellsInitialLength, initial_length_size}
-use Rattle.gimli_core.specs.Production.{unit_length, Reads}
-use Rattle.gimli_core.specs.Reading.{Read}
-use Rattle.gimli_core.specs.declared.common.Format.{Format}
-use Rattle.gimli_core.specs.declared.common.Format.TheVariants.{Dwarf32, Dwarf64}
-use Rattle.gimli_core.specs.declared.error.Error.{Error}
-use Rattle.gimli_core.proofs.Productions.{reads_both}
-use Rattle.gimli_core.proofs.ProductionLaws.{reads_some_bytes, reads_unit_length}
-use Rattle.gimli_line.specs.header.Header.{Header, UnitEntry}
-use Rattle.gimli_line.specs.header.HeaderGrammar.{HeaderOpening, header_production}
-use Rattle.gimli_line.specs.header.HeaderGrammar.{SpellsUnit}
+use Rattle.std.specs.Prelude.{◌≡◌, ◌≢◌, ◌+◌, ◌-◌, ◌<◌, ◌≤◌, ◌∷◌, ◌++◌, ◌⊎◌}
+use Rattle.gimli_line.proofs.Common
+use Common.{ℕ, zero, suc, Bool, List, [], length, take, drop, Ok, Err, refl, sym, ap, subst, ◌∙◌, arith, append_assoc}
+use Common.{inl, inr, cases_lt, append-nil, drop_all, drop_at, take-append-drop, length-append, length-drop}
+use Common.{OrderAndLimit, SpellsInitialLength, initial_length_size, unit_length, Reads, Read, Format, Dwarf32, Dwarf64}
+use Common.{Error, reads_both, reads_some_bytes, reads_unit_length, Header, UnitEntry, HeaderOpening, header_production}
+use Common.{SpellsUnit}
 use Rattle.gimli_line.specs.Units.{offset_after, any_unit, BeginsWithUnit, BeginsWithNoUnit, AreUnits}
 use Rattle.gimli_line.specs.UnitReading.{any_unit_at, after_unit, offsets_upto, offsets_at}
 

@@ -1,24 +1,10 @@
 -- Worked programs: the events of each, computed from the definitions.
-use Rattle.std.proofs.Common.{◌≡◌, ℕ, Bool, true, false, [], ◌∷◌, None, refl}
-use Rattle.std.specs.Prelude.{pos, negsuc}
-use Rattle.gimli_core.specs.declared.common.Format.TheVariants.{Dwarf32}
-use Rattle.gimli_core.specs.declared.error.Error.TheVariants.{AddressOverflow}
-use Rattle.gimli_line.specs.declared.run.instruction.LineInstruction.TheVariants.{Copy, AdvancePc, AdvanceLine, SetFile}
-use Rattle.gimli_line.specs.declared.run.instruction.LineInstruction.TheVariants.{SetColumn, NegateStatement}
-use Rattle.gimli_line.specs.declared.run.instruction.LineInstruction.TheVariants.{
-  SetBasicBlock,
-  EndSequence,
-  SetAddress,
-  DefineFile,
-  SetDiscriminator,
-}
-use Rattle.gimli_line.specs.declared.run.instruction.LineInstruction.TheVariants.{FixedAddPc, ConstAddPc}
-use Rattle.gimli_line.specs.declared.run.instruction.LineInstruction.TheVariants.{SetPrologueEnd, SetEpilogueBegin}
-use Rattle.gimli_line.specs.header.Parameters.{Parameters}
-use Rattle.gimli_line.specs.declared.run.row.LineRow.{LineRow}
-use Rattle.gimli_line.specs.header.File.{File}
-use Rattle.gimli_line.specs.header.Header.{plain_file}
-use Rattle.gimli_line.specs.run.Events.{Event, row, fault, program_events, through_last_end, defined_files}
+use Rattle.std.specs.Prelude.{◌≡◌, ◌∷◌}
+use Rattle.gimli_line.proofs.Common
+use Common.{ℕ, Bool, true, false, [], None, refl, pos, negsuc, Dwarf32, AddressOverflow, Copy, AdvancePc, AdvanceLine}
+use Common.{SetFile, SetColumn, NegateStatement, SetBasicBlock, EndSequence, SetAddress, DefineFile, SetDiscriminator}
+use Common.{FixedAddPc, ConstAddPc, SetPrologueEnd, SetEpilogueBegin, Parameters, LineRow, File, plain_file, Event, row}
+use Common.{fault, program_events, through_last_end, defined_files}
 
 -- opcode base 13, with the default line encoding but for the operations
 abbrev rules_13 : ℕ → ℕ → Parameters

@@ -1,3 +1,4 @@
+pub mod Prelude
 pub mod LineNumbers
 pub mod header
 pub mod run

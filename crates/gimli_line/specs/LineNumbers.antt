@@ -1,5 +1,5 @@
 -- The numbers of opcodes and of content types, by the names that DWARF gives them.
-use Rattle.std.specs.Prelude.{ℕ}
+use Rattle.gimli_line.specs.Prelude.{ℕ}
 
 -- the standard opcodes (DWARF 5, section 7.22, table 7.25)
 abbrev pub DW_LNS_copy : ℕ

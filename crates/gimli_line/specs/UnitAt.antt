@@ -1,6 +1,5 @@
 -- Which unit a section has at an offset, and why it has none (DWARF 5, section 6.2.4).
-use Rattle.std.specs.Prelude.{ℕ, drop}
-use Rattle.gimli_core.specs.declared.error.Error.{Error}
+use Rattle.gimli_line.specs.Prelude.{ℕ, drop, Error}
 use Rattle.gimli_line.specs.header.Header.{UnitEntry, SeenHeader}
 use Rattle.gimli_line.specs.header.HeaderGrammar.{SpellsUnit, HasUnitFault}
 use Rattle.gimli_line.specs.run.Unread.{Unread}

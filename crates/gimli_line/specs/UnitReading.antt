@@ -1,7 +1,7 @@
 -- What is taken of a section, unit by unit.
-use Rattle.std.specs.Prelude.{ℕ, zero, suc, ◌-◌, List, [], ◌∷◌, length, Ok, Err}
-use Rattle.gimli_core.specs.Layout.{OrderAndLimit}
-use Rattle.gimli_core.specs.Reading.{Read, ◌>>=◌, split_at, initial_length_at}
+use Rattle.std.specs.Prelude.{◌-◌, ◌∷◌}
+use Rattle.gimli_line.specs.Prelude
+use Prelude.{ℕ, zero, suc, List, [], length, Ok, Err, OrderAndLimit, Read, ◌>>=◌, split_at, initial_length_at}
 
 -- a length, and as many bytes as it says
 unfoldable pub any_unit_at : OrderAndLimit → List ℕ → Read (List ℕ)

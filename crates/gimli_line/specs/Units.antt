@@ -1,9 +1,8 @@
 -- The units of a section, one after the other (DWARF 5, sections 6.2.4 and 7.4).
-use Rattle.std.specs.Prelude.{◌≡◌, ◌≢◌, ◌⊎◌, ℕ, ◌+◌, List, [], ◌∷◌, ◌++◌, length}
-use Rattle.gimli_core.specs.Layout.{OrderAndLimit}
+use Rattle.std.specs.Prelude.{◌≡◌, ◌≢◌, ◌⊎◌, ◌+◌, ◌∷◌, ◌++◌}
+use Rattle.gimli_line.specs.Prelude.{ℕ, List, [], length, OrderAndLimit, Error}
 use Rattle.gimli_core.specs.Numbers.{initial_length_size}
 use Rattle.gimli_core.specs.Production.{Production, ◌>>=◌, some_bytes, unit_length}
-use Rattle.gimli_core.specs.declared.error.Error.{Error}
 use Rattle.gimli_line.specs.header.Header.{Header, UnitEntry}
 use Rattle.gimli_line.specs.run.Unread.{Unread}
 

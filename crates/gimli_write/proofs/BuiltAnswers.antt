@@ -1,6 +1,7 @@
 -- What is answered of a unit is what was built.
+use Rattle.std.specs.Prelude.{◌≡◌, ◌<◌, ◌^◌, ◌∷◌, ◌++◌}
 use Rattle.gimli_write.proofs.Common
-use Common.{◌≡◌, ℕ, ◌<◌, ◌^◌, Bool, List, [], ◌∷◌, ◌++◌, length, drop, map, refl, sym, ap, ◌∙◌, subst, Result, Option}
+use Common.{ℕ, Bool, List, [], length, drop, map, refl, sym, ap, ◌∙◌, subst, Result, Option}
 use Common.{Some, None, IfOk, IfErr, append-nil, IfOk-weaker, MatchResult-weaker, OrderAndLimit, Value, Error, StringTables}
 use Common.{Header, UnitEntry, SpellsUnit, ReadFile, Event, row, fault, Events, program_events, ReadRow, one_header}
 use Common.{one_decoding, bytes_in, Built, AddressesFit, RowsMatch, Sections, IsText, IsOptionalText, OneByOne}

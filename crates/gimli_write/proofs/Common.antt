@@ -92,8 +92,7 @@ pub use Prelude.{InvalidDirectoryIndex, InvalidFileIndex, IsOptionalText, IsText
 pub use Prelude.{LineText, List, Made, MatchResult, MissingCompilationDirectory, MissingLineEndSequence, More, None}
 pub use Prelude.{OrderAndLimit, Ok, OnErr, OnOk, OneByOne, Option, Parameters, Read, ReadFile, ReadRow, Result, RowsMatch}
 pub use Prelude.{Sections, Some, SourceRow, SourceStep, StringTables, UnitEntry, UnsupportedLineInstruction, Value}
-pub use Prelude.{Write, [], bytes_in, decoded_at, directory_of, empty_built, false, file_seen, if◌then◌else◌, is_end}
+pub use Prelude.{Write, [], bytes_in, decoded_at, directory_of, empty_built, false, file_seen, is_end}
 pub use Prelude.{is_err, is_some, is_under_tombstone, length, made_table, made_text, makes_row, map, nat_eq, nat_le}
 pub use Prelude.{nat_lt, not, ok_or, option_map, option_map_or, overflows, pos, previous_position, read_row, row}
-pub use Prelude.{row_at, slice_get, texts_in, true, unwrap_or, ℕ, ◌&&◌, ◌*◌, ◌++◌, ◌+◌, ◌-◌, ◌<◌, ◌^◌, ◌||◌, ◌∷◌, ◌≡◌}
-pub use Prelude.{◌≢◌, ◌≤◌, ◌⊎◌}
+pub use Prelude.{row_at, slice_get, texts_in, true, unwrap_or, ℕ}

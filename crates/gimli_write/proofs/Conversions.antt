@@ -1,6 +1,7 @@
 -- A conversion, one read after the other.
+use Rattle.std.specs.Prelude.{◌≡◌, ◌&&◌, if◌then◌else◌, ◌∷◌}
 use Rattle.gimli_write.proofs.Common
-use Common.{◌≡◌, ℕ, true, false, not, ◌&&◌, if◌then◌else◌, List, [], ◌∷◌, refl, sym, ap, ◌∙◌, subst, inl, inr, Option}
+use Common.{ℕ, true, false, not, List, [], refl, sym, ap, ◌∙◌, subst, inl, inr, Option}
 use Common.{Some, None, Result, Ok, Err, is_err, is_some, Error, File, Header, Ins, Sections, ConvertError, ◌>>=◌}
 use Common.{IsRefusedBy, SourceTables, TablesAndTexts, tables_with, with_path, directory_added, FileParts, with_parts}
 use Common.{file_added, Handed, tables_of_header, start_of_tables, first_texts, encoding_of, Reading, stops, defines}

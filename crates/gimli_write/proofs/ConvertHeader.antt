@@ -1,6 +1,7 @@
 -- The steps that a header is prepared by, one after the other.
+use Rattle.std.specs.Prelude.{◌≡◌}
 use Rattle.gimli_write.proofs.Common
-use Common.{◌≡◌, ℕ, List, sym, ap, ◌∙◌, Result, Ok, Encoding, Header, Sections, ConvertError, ◌>>=◌, IsRefusedBy}
+use Common.{ℕ, List, sym, ap, ◌∙◌, Result, Ok, Encoding, Header, Sections, ConvertError, ◌>>=◌, IsRefusedBy}
 use Common.{TablesAndTexts, Handed, encoding_of, tables_at_start, lists_added, tables_of_header}
 use Rattle.gimli_write.proofs.ConvertSteps.{done_first, refused_first, refused_same}
 

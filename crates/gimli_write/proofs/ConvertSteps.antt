@@ -1,6 +1,7 @@
 -- Steps of a conversion, one after the other.
+use Rattle.std.specs.Prelude.{◌≡◌, ◌+◌, ◌<◌, ◌∷◌, ◌++◌}
 use Rattle.gimli_write.proofs.Common
-use Common.{◌≡◌, ℕ, ◌+◌, ◌<◌, List, [], ◌∷◌, ◌++◌, length, map, drop, get_or, refl, sym, ap, ◌∙◌, inl, inr, Result, Ok}
+use Common.{ℕ, List, [], length, map, drop, get_or, refl, sym, ap, ◌∙◌, inl, inr, Result, Ok}
 use Common.{Option, Some, option_map, option_map_or, at_drop_more, slice_get_within, slice_get-get_or, Value, File}
 use Common.{KeepsTexts, LineText, made_text, made_table, with_directory, index_of_directory, with_file, index_of_file}
 use Common.{Sections, ConvertError, ◌>>=◌, IsRefusedBy, source_path, TablesAndTexts, version_of, directory_added}

@@ -1,6 +1,7 @@
 -- Sequences that are read, row by row.
+use Rattle.std.specs.Prelude.{◌≡◌, ◌∷◌, ◌++◌}
 use Rattle.gimli_write.proofs.Common
-use Common.{◌≡◌, ℕ, false, nat_eq, List, [], ◌∷◌, ◌++◌, length, refl, sym, ap, ◌∙◌, inl, inr, Option, Some, None, Ok}
+use Common.{ℕ, false, nat_eq, List, [], length, refl, sym, ap, ◌∙◌, inl, inr, Option, Some, None, Ok}
 use Common.{Err, Built, LineRow, Row, TablesAndTexts, Reading, ends, stops, defines, offers, address_offered}
 use Common.{after_definitions, sequence_from, sequence_with, IsRefusedBy, Conversion, tables_of, version_of_source}
 use Common.{after_held, unless_failed, source_left, still_to_read, IsReadRefusal, AddsFiles, ConvertError}

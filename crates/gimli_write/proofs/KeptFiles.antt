@@ -1,6 +1,7 @@
 -- Files that were there keep their ids and their numbers.
+use Rattle.std.specs.Prelude.{◌++◌, ◌∷◌}
 use Rattle.gimli_write.proofs.Common
-use Common.{◌++◌, List, [], ◌∷◌, refl, sym, ap, ◌∙◌, arith, Some, length-append, get_or_append_left, slice_get-get_or}
+use Common.{List, [], refl, sym, ap, ◌∙◌, arith, Some, length-append, get_or_append_left, slice_get-get_or}
 use Common.{Keeps, SourceTables, KeepsFiles}
 
 module _ {A : Type 0} where

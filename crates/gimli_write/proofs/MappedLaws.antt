@@ -1,6 +1,7 @@
 -- What comes of a conversion that was done, and what the laws of conversions say of it.
+use Rattle.std.specs.Prelude.{◌≡◌, ◌&&◌, if◌then◌else◌, ◌∷◌, ◌++◌}
 use Rattle.gimli_write.proofs.Common
-use Common.{◌≡◌, ℕ, Bool, true, false, not, ◌&&◌, if◌then◌else◌, List, [], ◌∷◌, refl, sym, ap, subst, ◌∙◌, Option, Some}
+use Common.{ℕ, Bool, true, false, not, List, [], refl, sym, ap, subst, ◌∙◌, Option, Some}
 use Common.{None, ok_or, Result, Ok, Err, append-nil, Value, Error, AddressOverflow, Address, texts_in, Parameters}
 use Common.{defined_files, past_at_end, Ins, makes_row, is_under_tombstone, overflows, after_address, after_row}
 use Common.{after_end, Built, previous_position, CanWrite, Sections, LineRow, ConvertError, Read, InvalidAddress}
@@ -9,7 +10,7 @@ use Common.{TablesAndTexts, version_of, with_path, directory_added, file_added, 
 use Common.{tables_of_header, Reading, stops, offers, source_row, built_row, address_offered, row_offered}
 use Common.{row_or_end_offered, source_row_offered, reading_at, end_reading, reading_with, tables_at, with_definition}
 use Common.{reading_after, ReadsItems, Outcome, outcome_of, with_tables, can_build, ToConvert, IsConverted, MatchResult}
-use Common.{◌++◌, arith, AllByRecursion, All-from_recursion, true≢false, Encoding, ReadRow, Decodes, one_decoding}
+use Common.{arith, AllByRecursion, All-from_recursion, true≢false, Encoding, ReadRow, Decodes, one_decoding}
 use Common.{base_of, AddressesFit, RowsMatch, read_row, OneByOne, BuiltItem, map, nat_eq, slice_get, unwrap_or}
 use Common.{option_map, All, slice_get-map, slice_get_within, get_or_from_slice_get, KeepsTexts, with_text}
 use Common.{StringTables, with_text-KeepsTexts, row, Events, File, LineText, Inline, InStrings, InLineStrings, IsWithin}

@@ -1,11 +1,12 @@
 -- The rows and ends that a conversion builds are those of its source.
+use Rattle.std.specs.Prelude.{◌≡◌, ◌+◌, ◌-◌, ◌*◌, ◌<◌, ◌≤◌, ◌||◌, ◌&&◌, if◌then◌else◌, ◌∷◌, ◌^◌, ◌++◌}
 use Rattle.gimli_write.proofs.Common
-use Common.{◌≡◌, ℕ, ◌+◌, ◌-◌, ◌*◌, ◌<◌, ◌≤◌, Bool, true, false, not, ◌||◌, ◌&&◌, if◌then◌else◌, List, [], ◌∷◌, refl}
+use Common.{ℕ, Bool, true, false, not, List, [], refl}
 use Common.{sym, ap, ◌∙◌, arith, nat_lt, nat_le, Some, None, ltb-false, leb-false, or_parts, or_left, not_from_false}
 use Common.{Special, Copy, AdvancePc, ConstAddPc, FixedAddPc, EndSequence, SetAddress, Parameters, Ins, is_end}
 use Common.{makes_row, row_at, OperationPointer, address_limit, is_tombstone, is_too_large, advanced_by}
-use Common.{pointer_at_overflow, next_pointer, pointer_at, is_under_tombstone, base_at, pending_address, zero, suc, ◌^◌}
-use Common.{◌++◌, map, slice_get, subst, append_assoc, nat_eq, Option, ok_or, Result, Ok, Err, AllByRecursion}
+use Common.{pointer_at_overflow, next_pointer, pointer_at, is_under_tombstone, base_at, pending_address, zero, suc}
+use Common.{map, slice_get, subst, append_assoc, nat_eq, Option, ok_or, Result, Ok, Err, AllByRecursion}
 use Common.{true≢false, and_from, le-leb, eq-eqb, append-nil, Error, AddressOverflow, Address, Constant, ReadRow}
 use Common.{DefineFile, Event, row, fault, events_after, overflows, after_address, after_row, after_end, Built}
 use Common.{previous_position, AddressesFit, Sections, LineRow, BuiltItem, ConvertError, Read, InvalidFileIndex}

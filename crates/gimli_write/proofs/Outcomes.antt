@@ -1,6 +1,7 @@
 -- What a conversion reads, handed to the builder.
+use Rattle.std.specs.Prelude.{◌≡◌, ◌⊎◌, ◌<◌, if◌then◌else◌}
 use Rattle.gimli_write.proofs.Common
-use Common.{◌≡◌, ◌⊎◌, ℕ, suc, ◌<◌, arith, false, true, Bool, if◌then◌else◌, List, refl, sym, ap, ◌∙◌, subst, inl, inr}
+use Common.{ℕ, suc, arith, false, true, Bool, List, refl, sym, ap, ◌∙◌, subst, inl, inr}
 use Common.{Option, Result, Ok, Err, MatchResult, AddressOverflow, Address, Parameters, DefineFile, Ins, overflows}
 use Common.{Built, ConvertError, MissingLineEndSequence, Read, ConvertLineRow, Row, ◌>>=◌, IsRefusedBy, TablesAndTexts}
 use Common.{Reading, ends, stops, defines, offers, address_offered, reading_at, with_definition, after_definitions}

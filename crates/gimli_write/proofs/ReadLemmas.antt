@@ -1,6 +1,7 @@
 -- Reads of a conversion, one after the other.
+use Rattle.std.specs.Prelude.{◌≡◌}
 use Rattle.gimli_write.proofs.Common
-use Common.{◌≡◌, refl, Progress, built_so_far, ReadsOn}
+use Common.{refl, Progress, built_so_far, ReadsOn}
 use Rattle.gimli_write.proofs.ConvertSteps.{kept_self, kept_then}
 use Rattle.gimli_write.proofs.Gathers.{added_then}
 use Rattle.gimli_write.proofs.KeptFiles.{files_self, files_then}

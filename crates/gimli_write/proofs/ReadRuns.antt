@@ -1,6 +1,7 @@
 -- Rows that are read: they are what the program gives, or a fault comes after them.
+use Rattle.std.specs.Prelude.{◌≡◌, ◌≢◌, ◌⊎◌, ◌∷◌, ◌++◌}
 use Rattle.gimli_write.proofs.Common
-use Common.{◌≡◌, ◌≢◌, ◌⊎◌, true, List, [], ◌∷◌, ◌++◌, map, refl, sym, ap, ◌∙◌, inl, inr, append-nil, OrderAndLimit, Error}
+use Common.{true, List, [], map, refl, sym, ap, ◌∙◌, inl, inr, append-nil, OrderAndLimit, Error}
 use Common.{OutOfMemory, Header, File, row, fault, Events, live_events, FaultIs, events_left, events_of, HasFirstFault}
 use Common.{ConvertError, Read, NoMemory, IsRunRefusal}
 use Rattle.gimli_line.specs.declared.run.row.LineRow.{LineRow}

@@ -1,6 +1,7 @@
 -- Texts that are read: each is the text that its value stands for.
+use Rattle.std.specs.Prelude.{◌≡◌, ◌≢◌, ◌+◌, ◌<◌, ◌∷◌, ◌++◌, ◌≤◌}
 use Rattle.gimli_write.proofs.Common
-use Common.{◌≡◌, ◌≢◌, ℕ, ◌+◌, ◌<◌, List, [], ◌∷◌, ◌++◌, length, map, take, get_or, ◌≤◌, Ok, Err, refl, sym, ap, ◌∙◌}
+use Common.{ℕ, List, [], length, map, take, get_or, Ok, Err, refl, sym, ap, ◌∙◌}
 use Common.{subst, append_assoc, add-one, arith, inl, inr, All, cases_lt, le-ltb, lt-ltb, map-append, length-append}
 use Common.{length-drop, length-map, get_or-map, All-get_or, All-from_recursion, recursion_from_All, Value, Error}
 use Common.{Sections, IsTextAt, IsText, OneByOne, text_from, text_of, HasText}

@@ -1,6 +1,7 @@
 -- A unit that is read: it has one header, and no fault.
+use Rattle.std.specs.Prelude.{◌≡◌, ◌≢◌, ◌<◌, ◌^◌, ◌∷◌}
 use Rattle.gimli_write.proofs.Common
-use Common.{◌≡◌, ◌≢◌, ℕ, ◌<◌, ◌^◌, Bool, List, [], ◌∷◌, length, drop, refl, sym, ap, ◌∙◌, subst, inl, inr, arith}
+use Common.{ℕ, Bool, List, [], length, drop, refl, sym, ap, ◌∙◌, subst, inl, inr, arith}
 use Common.{All, Result, Option, Some, None, IfOk, IfErr, length-drop, append-nil, All-nil, All-cons, IfOk-weaker}
 use Common.{MatchResult-weaker, OrderAndLimit, Value, Error, OutOfMemory, Header, UnitEntry, SpellsUnit, HasUnitFault}
 use Common.{ReadFile, one_header, no_fault, byte_count, StringTables, Sections, IsOptionalText, OneByOne}

@@ -1,6 +1,7 @@
 -- A unit that is written and read again: why it is refused, and where it stands.
+use Rattle.std.specs.Prelude.{◌≡◌, ◌≢◌, ◌⊎◌, ◌++◌}
 use Rattle.gimli_write.proofs.Common
-use Common.{◌≡◌, ◌≢◌, ◌⊎◌, ℕ, Bool, List, ◌++◌, length, drop, refl, ap, ◌∙◌, subst, inl, inr, Some, None, Result, Ok}
+use Common.{ℕ, Bool, List, length, drop, refl, ap, ◌∙◌, subst, inl, inr, Some, None, Result, Ok}
 use Common.{Err, IfErr, MatchResult-weaker, UnitEntry, ConvertError, Read, Write, NoMemory, RoundTrip, RefusesUnit}
 use Common.{ToWrite, WasWritten, IsRefusal, slice_layout}
 use Rattle.std.proofs.Math.Seq.{drop-append_seam}

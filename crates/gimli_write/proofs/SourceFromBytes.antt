@@ -1,6 +1,7 @@
 -- A step of a source: an instruction that was executed from its bytes does what it does when it is parsed.
+use Rattle.std.specs.Prelude.{◌≡◌, ◌≢◌, ◌<◌, if◌then◌else◌}
 use Rattle.gimli_write.proofs.Common
-use Common.{◌≡◌, ◌≢◌, ◌∙◌, ℕ, ◌<◌, Bool, true, false, if◌then◌else◌, List, length, refl, sym, ap, subst, Some, None}
+use Common.{◌∙◌, ℕ, Bool, true, false, List, length, refl, sym, ap, subst, Some, None}
 use Common.{Result, Ok, Err, OnOk, IfErr, IfOk, Error, AddressOverflow, SetAddress, DefineFile, Header, Ins}
 use Common.{defines_file, files_after, ins_at, is_refused, reset_row, step_of, Unread, reads_instruction, ConvertError}
 use Common.{Read, SourceStep, More, Made, address_operand, SourceRun, state_after, step_made, StepsSource}

@@ -1,6 +1,7 @@
 -- What the machine reads of a source is what looking back says.
+use Rattle.std.specs.Prelude.{◌≡◌, ◌-◌, ◌&&◌, if◌then◌else◌, ◌∷◌}
 use Rattle.gimli_write.proofs.Common
-use Common.{◌≡◌, ℕ, ◌-◌, Bool, true, false, not, ◌&&◌, if◌then◌else◌, List, [], ◌∷◌, refl, sym, ap, ◌∙◌, Option, Result}
+use Common.{ℕ, Bool, true, false, not, List, [], refl, sym, ap, ◌∙◌, Option, Result}
 use Common.{Ok, Err, OrderAndLimit, Error, AddressOverflow, Header, EndSequence, SetAddress, Ins, makes_row, decoded_at}
 use Common.{is_refused, is_under_tombstone, overflows, registers_after, Unread, is_decoded, Sections, ConvertError}
 use Common.{Read, SourceRow, ◌>>=◌, TablesAndTexts, Reading, stops, reading_with, base_at, pending_address, source_row}

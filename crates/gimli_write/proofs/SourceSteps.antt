@@ -1,6 +1,7 @@
 -- What one instruction of a source does to what is still to be read.
+use Rattle.std.specs.Prelude.{◌≡◌, ◌≢◌, ◌<◌, ◌≤◌, ◌-◌, ◌&&◌, ◌||◌, if◌then◌else◌, ◌∷◌, ◌++◌}
 use Rattle.gimli_write.proofs.Common
-use Common.{◌≡◌, ◌≢◌, ℕ, ◌<◌, ◌≤◌, ◌-◌, Bool, true, false, not, ◌&&◌, ◌||◌, if◌then◌else◌, List, [], ◌∷◌, ◌++◌, length}
+use Common.{ℕ, Bool, true, false, not, List, [], length}
 use Common.{refl, sym, ap, ◌∙◌, subst, append_assoc, arith, Option, Some, None, unwrap_or, Result, Ok, Err, OnOk, OnErr}
 use Common.{IfOk, IfErr, length-append, append-nil, false≢true, OrderAndLimit, Error, AddressOverflow, OutOfMemory, Header}
 use Common.{File, Parameters, Special, Copy, EndSequence, DefineFile, SetAddress, Ins, ins_seen, is_end, makes_row}

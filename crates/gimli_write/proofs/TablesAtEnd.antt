@@ -1,6 +1,7 @@
 -- What one instruction of a source does to the tables that the source leaves.
+use Rattle.std.specs.Prelude.{◌≡◌, ◌≢◌, ◌&&◌, ◌||◌, if◌then◌else◌, ◌∷◌, ◌++◌}
 use Rattle.gimli_write.proofs.Common
-use Common.{◌≡◌, ◌≢◌, ℕ, Bool, true, false, not, ◌&&◌, ◌||◌, if◌then◌else◌, List, [], ◌∷◌, ◌++◌, refl, sym, ap, ◌∙◌}
+use Common.{ℕ, Bool, true, false, not, List, [], refl, sym, ap, ◌∙◌}
 use Common.{Option, Some, Result, Ok, Err, OnOk, IfOk, IfErr, OrderAndLimit, Error, AddressOverflow, File, DefineFile, Ins}
 use Common.{makes_row, defines_file, SpellsInstruction, instruction_production, decoded_at, is_refused, Unread}
 use Common.{Sections, ConvertError, Read, SourceStep, More, Made, TablesAndTexts, file_added, tables_after_definition}

@@ -1,6 +1,7 @@
 -- Conversions of a few programs, worked out by hand (DWARF 4, section 6.2.5): what is read, and what is built of it.
+use Rattle.std.specs.Prelude.{◌≡◌, ◌∷◌}
 use Rattle.gimli_write.proofs.Common
-use Common.{◌≡◌, ℕ, true, false, List, [], ◌∷◌, negsuc, refl, pos, Option, Some, None, Result, Ok, Err, Address}
+use Common.{ℕ, true, false, List, [], negsuc, refl, pos, Option, Some, None, Result, Ok, Err, Address}
 use Common.{Constant, Copy, AdvancePc, AdvanceLine, SetFile, FixedAddPc, EndSequence, SetAddress, Parameters, Ins}
 use Common.{empty_built, Inline, no_details, LineRow, BuiltItem, ConvertError, InvalidFileIndex, InvalidAddress}
 use Common.{MissingLineEndSequence, UnsupportedLineInstruction, TablesAndTexts, Reading, reading_after, outcome_of}

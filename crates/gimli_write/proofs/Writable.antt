@@ -1,8 +1,9 @@
 -- A program can be written still, with longer tables and with more files.
+use Rattle.std.specs.Prelude.{◌≡◌, ◌≤◌, ◌∷◌, ◌++◌, if◌then◌else◌}
 use Rattle.gimli_write.proofs.Common
-use Common.{◌≡◌, ℕ, ◌≤◌, true, false, List, sym, subst, Option, Some, None, IfSome, All, option_map, All-weaker}
+use Common.{ℕ, true, false, List, sym, subst, Option, Some, None, IfSome, All, option_map, All-weaker}
 use Common.{KeepsTexts, StringTables, texts_in, Built, after_file, CanWrite, LineText, IsWithin, HasNoZero, Details}
-use Common.{BuiltFile, SourceTables, without_items, StaysWritable, Bool, zero, suc, [], ◌∷◌, ◌++◌, if◌then◌else◌}
+use Common.{BuiltFile, SourceTables, without_items, StaysWritable, Bool, zero, suc, []}
 use Common.{Inline, InStrings, InLineStrings, FileKey, with_details, with_file, has_file, index_of_file, All-cons}
 use Common.{All-head, All-tail, All-push}
 use Rattle.gimli_write.proofs.ConvertSteps.{kept_then, still_there}

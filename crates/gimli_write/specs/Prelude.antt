@@ -1,11 +1,10 @@
 -- What these definitions name of other crates, and the types of this one.
 pub use Rattle.std.specs.Option.{option_map_or}
 pub use Rattle.std.specs.Prelude.{All, Bool, Err, IfErr, IfOk, IfSome, List, MatchResult, None, Ok}
-pub use Rattle.std.specs.Prelude.{OnErr, OnOk, Option, Result, Some, [], false, if◌then◌else◌}
+pub use Rattle.std.specs.Prelude.{OnErr, OnOk, Option, Result, Some, [], false}
 pub use Rattle.std.specs.Prelude.{int_le, int_lt, is_err, is_some, length, map, nat_eq, nat_le}
 pub use Rattle.std.specs.Prelude.{nat_lt, not, ok_or, option_map, pos, slice_get, true, unwrap_or}
-pub use Rattle.std.specs.Prelude.{ℕ, ◌%◌, ◌&&◌, ◌*◌, ◌++◌, ◌+ℤ◌, ◌+◌, ◌-◌, ◌/◌, ◌<◌, ◌^◌, ◌||◌, ◌∷◌}
-pub use Rattle.std.specs.Prelude.{◌≡◌, ◌≢◌, ◌≤◌, ◌⊎◌}
+pub use Rattle.std.specs.Prelude.{ℕ}
 pub use Rattle.std.specs.declared.alloc.Global.{Global}
 pub use Rattle.std.specs.declared.vec.Vec.{Vec}
 pub use Rattle.gimli_core.specs.Layout.{OrderAndLimit}

@@ -1,6 +1,7 @@
 -- What is answered of a unit that was written and read again.
+use Rattle.std.specs.Prelude.{◌≡◌, ◌^◌, ◌++◌}
 use Rattle.gimli_write.specs.Prelude
-use Prelude.{◌≡◌, ℕ, ◌^◌, List, [], ◌++◌, map, slice_get, Option, Some, None, option_map, Result}
+use Prelude.{ℕ, List, [], map, slice_get, Option, Some, None, option_map, Result}
 use Prelude.{Ok, Bool, OrderAndLimit, Encoding, Header, UnitEntry, ReadFile, Events, row, ReadRow}
 use Prelude.{table_bytes, StringTables, bytes_in, Sections, IsText, IsOptionalText, OneByOne}
 use Prelude.{IsUnit, directories_from_zero, Built, texts_after, RowsMatch, ConvertError, Read}

@@ -1,19 +1,10 @@
 -- What builder calls keep true of a program.
-use Rattle.std.proofs.Common.{◌≡◌, ℕ, zero, suc, ◌-◌, ◌<◌, ◌≤◌, Bool, true, false, List, [], ◌∷◌, ◌++◌, length, drop}
-use Rattle.std.proofs.Common.{refl, sym, subst, if◌then◌else◌}
-use Rattle.std.proofs.Common.{slice_get, Option, arith, length-append}
-use Rattle.std.specs.Prelude.{All}
-use Rattle.std.specs.Option.{option_map_or}
-use Rattle.std.proofs.lemmas.List.Elements.{All-push}
-use Rattle.gimli_core.specs.declared.common.Encoding.{Encoding}
-use Rattle.gimli_core.specs.declared.common.LineEncoding.{LineEncoding}
-use Rattle.gimli_build.specs.LineText.{LineText, IsNotEmpty}
-use Rattle.gimli_build.specs.Tables.{Details, File, FileKey, with_directory, with_file, with_details, keys_of}
-use Rattle.gimli_build.specs.Advance.{CanEncode, IsPosition}
-use Rattle.gimli_build.specs.Built.{position_after, previous_position}
-use Rattle.gimli_build.specs.Conditions.{CanBuild, AreBuilt, IsProgram}
-use Rattle.gimli_build.specs.declared.built.items.BuiltItem.{BuiltItem}
-use Rattle.gimli_build.specs.declared.built.items.BuiltItem.TheVariants.{SetAddress, Row, End}
+use Rattle.std.specs.Prelude.{◌≡◌, ◌-◌, ◌<◌, ◌≤◌, ◌∷◌, ◌++◌, if◌then◌else◌}
+use Rattle.gimli_build.proofs.Common
+use Common.{ℕ, zero, suc, Bool, true, false, List, [], length, drop, refl, sym, subst, slice_get, Option, arith}
+use Common.{length-append, All, option_map_or, All-push, Encoding, LineEncoding, LineText, IsNotEmpty, Details, File}
+use Common.{FileKey, with_directory, with_file, with_details, keys_of, CanEncode, IsPosition, position_after}
+use Common.{previous_position, CanBuild, AreBuilt, IsProgram, BuiltItem, SetAddress, Row, End}
 use Rattle.gimli_build.proofs.reading.ItemRuns.{start_position}
 use Rattle.gimli_build.proofs.building.TableLemmas.{keys-with_file, keys-with_details}
 

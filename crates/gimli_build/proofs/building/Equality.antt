@@ -1,12 +1,10 @@
 -- Texts, ids, files, rows and items are equal by `==` exactly where all their parts agree; and equal texts hash alike.
-use Rattle.std.proofs.Common.{◌≡◌, Bool, ◌&&◌, sym, ap, true≢false}
+use Rattle.std.specs.Prelude.{◌≡◌, ◌&&◌}
+use Rattle.gimli_build.proofs.Common
+use Common.{Bool, sym, ap, true≢false, Decides-eqb, Decides-like, Decides-and, LineRow, BuiltItem, SetAddress, Row, End}
 use Rattle.std.specs.Bool.{Decides}
 use Rattle.std.specs.Cmp.{booleans_Decides}
-use Rattle.std.proofs.lemmas.Bool.Decides.{Decides-eqb, Decides-like, Decides-and}
 use Rattle.gimli_bytes.proofs.Equality.{address-Decides}
-use Rattle.gimli_build.specs.declared.built.row.LineRow.{LineRow}
-use Rattle.gimli_build.specs.declared.built.items.BuiltItem.{BuiltItem}
-use Rattle.gimli_build.specs.declared.built.items.BuiltItem.TheVariants.{SetAddress, Row, End}
 use Rattle.gimli_build.specs.contracts.built.row.LineRowPartialEq.TheImpl.{ghosts as rows}
 use Rattle.gimli_build.specs.contracts.built.items.BuiltItemPartialEq.TheImpl.{ghosts as items}
 

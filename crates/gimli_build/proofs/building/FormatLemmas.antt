@@ -1,15 +1,10 @@
 -- The formats that are due, one after the other.
-use Rattle.std.proofs.Common.{◌≡◌, ◌<◌, ◌+◌, ℕ, Bool, true, false, List, [], ◌∷◌, ◌++◌, length, take, get_or}
-use Rattle.std.proofs.Common.{if◌then◌else◌, refl, sym, ap, ◌∙◌, append_assoc}
-use Rattle.std.proofs.Common.{add-one}
-use Rattle.std.specs.List.{flat_map}
-use Rattle.std.proofs.Math.Seq.{take-suc}
-use Rattle.std.proofs.lemmas.List.{append-nil}
-use Rattle.std.proofs.lemmas.List.Concat.{flat_map-append}
+use Rattle.std.specs.Prelude.{◌≡◌, ◌<◌, ◌+◌, ◌∷◌, ◌++◌, if◌then◌else◌}
+use Rattle.gimli_build.proofs.Common
+use Common.{ℕ, Bool, true, false, List, [], length, take, get_or, refl, sym, ap, ◌∙◌, append_assoc, add-one, flat_map}
+use Common.{take-suc, append-nil, flat_map-append, uleb, when}
 use Rattle.gimli_core.specs.declared.constants.DwForm.{DwForm}
 use Rattle.gimli_core.specs.declared.constants.DwLnct.{DwLnct}
-use Rattle.gimli_bytes.specs.Number.{uleb}
-use Rattle.gimli_build.specs.Due.{when}
 use Rattle.gimli_build.specs.inside.DueFormats.{due_formats}
 
 -- a content type and a form

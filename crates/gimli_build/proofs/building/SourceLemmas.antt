@@ -1,18 +1,11 @@
 -- The first source of files, and whether one has none, looked for from the first file on.
-use Rattle.std.proofs.Common.{◌≡◌, ℕ, ◌+◌, Bool, true, false, ◌||◌, List, [], ◌∷◌, drop, slice_get, refl, sym, ap, ◌∙◌}
-use Rattle.std.proofs.Common.{Option, Some, None, option_map, zero, suc, ◌≤◌, ◌<◌, ◌&&◌, length, arith}
-use Rattle.std.specs.Option.{is_none}
-use Rattle.std.specs.List.{list_any}
-use Rattle.gimli_build.specs.LineText.{LineText, IsWithin}
-use Rattle.gimli_build.specs.Tables.{File}
-use Rattle.gimli_build.specs.Version5Tables.{text_form, first_form, path_texts, sources, needs_empty, texts_after}
+use Rattle.std.specs.Prelude.{◌≡◌, ◌+◌, ◌||◌, ◌∷◌, ◌≤◌, ◌<◌, ◌&&◌}
+use Rattle.gimli_build.proofs.Common
+use Common.{ℕ, Bool, true, false, List, [], drop, slice_get, refl, sym, ap, ◌∙◌, Option, Some, None, option_map, zero}
+use Common.{suc, length, arith, is_none, list_any, LineText, IsWithin, File, text_form, first_form, path_texts, sources}
+use Common.{needs_empty, texts_after, IfSome, Contains, slice_index_or, le-leb, All-weaker, StringTables, Built}
+use Common.{CanWrite}
 use Rattle.gimli_build.proofs.writing.Joined.{next_at}
-use Rattle.std.specs.Prelude.{IfSome, Contains, slice_index_or}
-use Rattle.std.proofs.lemmas.Bool.{le-leb}
-use Rattle.std.proofs.lemmas.List.Elements.{All-weaker}
-use Rattle.gimli_bytes.specs.Texts.{StringTables}
-use Rattle.gimli_build.specs.Built.{Built}
-use Rattle.gimli_build.specs.Conditions.{CanWrite}
 use Rattle.gimli_build.proofs.reading.ReadyTexts.{within_after}
 
 module _ {A : Type 0} (test : A → Bool) (xs : List A) (i : ℕ) where

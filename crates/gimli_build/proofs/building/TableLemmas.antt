@@ -1,15 +1,14 @@
 -- The tables of directories and files, seen as lists.
-use Rattle.std.proofs.Common.{◌≡◌, ◌≢◌, ℕ, zero, suc, ◌+◌, ◌<◌, Bool, true, false, cond, not, ◌||◌, ◌&&◌, List, [], ◌∷◌}
-use Rattle.std.proofs.Common.{◌++◌, map, length, refl, sym, ap}
-use Rattle.std.proofs.Common.{◌∙◌, if◌then◌else◌, slice_get, drop, Option, Some, None, option_map}
-use Rattle.std.proofs.Common.{true≢false, arith}
-use Rattle.std.proofs.Common.{length-append}
+use Rattle.std.specs.Prelude.{◌≡◌, ◌≢◌, ◌+◌, ◌<◌, ◌||◌, ◌&&◌, ◌∷◌, ◌++◌, if◌then◌else◌}
+use Rattle.gimli_build.proofs.Common
+use Common.{ℕ, zero, suc, Bool, true, false, cond, not, List, [], map, length, refl, sym, ap, ◌∙◌, slice_get, drop}
+use Common.{Option, Some, None, option_map, true≢false, arith, length-append, nat_eq, is_some, unwrap_or, list_any}
+use Common.{position_or_len, AllZip, map-append, All-push, LineText, Inline, InStrings, InLineStrings, line_text}
+use Common.{line_text_eq, HasNoZero, with_directory, index_of_directory, FileKey, Details, no_details, File, key_eq}
+use Common.{has_file, index_of_file, with_details, with_file, keys_of, Keeps, AreTables, with_indexes, details, key}
+use Common.{directories_of, files_of}
 use native.Mathlib.Nat.{suc-add as suc_add}
-use Rattle.std.specs.Prelude.{nat_eq, is_some, unwrap_or}
-use Rattle.std.specs.List.{list_any, position_or_len, AllZip}
 use Rattle.std.proofs.lemmas.Cmp.{nat_eq_equiv}
-use Rattle.std.proofs.lemmas.List.{map-append}
-use Rattle.std.proofs.lemmas.List.Elements.{All-push}
 use Rattle.std.proofs.lemmas.List.Folds.{list_any_at}
 use Rattle.std.proofs.lemmas.List.Quantifiers.{all_pairs_push}
 use Rattle.std.proofs.lemmas.Map.Made.{is_some-lookup}
@@ -22,12 +21,6 @@ use Rattle.gimli_build.specs.declared.built.line_string.LineString.{LineString}
 use Rattle.gimli_build.specs.declared.built.line_string.LineString.TheVariants.{String, StringRef, LineStringRef}
 use Rattle.gimli_build.specs.declared.built.files.FileInfo.{FileInfo}
 use Rattle.gimli_build.specs.contracts.built.line_string.LineStringPartialEq.TheImpl.{ghosts}
-use Rattle.gimli_build.specs.LineText.{LineText, Inline, InStrings, InLineStrings, line_text, line_text_eq, HasNoZero}
-use Rattle.gimli_build.specs.Tables.{with_directory, index_of_directory, FileKey, Details, no_details, File, key_eq}
-use Rattle.gimli_build.specs.Tables.{has_file, index_of_file, with_details}
-use Rattle.gimli_build.specs.Tables.{with_file, keys_of, Keeps, AreTables, with_indexes}
-use Rattle.gimli_build.specs.TableFields.{details}
-use Rattle.gimli_build.specs.inside.TableFields.{key, directories_of, files_of}
 
 -- ---- texts
 

@@ -1,17 +1,12 @@
 -- Texts that are found: in sections that hold the bytes of their tables.
-use Rattle.std.proofs.Common.{◌≡◌, ℕ, ◌+◌, ◌<◌, ◌≤◌, ◌^◌, List, [], ◌∷◌, ◌++◌, length, drop, Option, Some, None, refl}
-use Rattle.std.proofs.Common.{sym}
-use Rattle.std.proofs.Common.{ap, ◌∙◌, arith, append_assoc}
-use Rattle.std.specs.Prelude.{slice_get, IfSome}
-use Rattle.std.proofs.lemmas.List.{append-nil, drop-append-le, drop-drop, drop_at}
+use Rattle.std.specs.Prelude.{◌≡◌, ◌+◌, ◌<◌, ◌≤◌, ◌^◌, ◌∷◌, ◌++◌}
+use Rattle.gimli_build.proofs.Common
+use Common.{ℕ, List, [], length, drop, Option, Some, None, refl, sym, ap, ◌∙◌, arith, append_assoc, slice_get, IfSome}
+use Common.{append-nil, drop-append-le, drop-drop, drop_at, DebugStr, DebugLineStr, Placement, unplaced, table_bytes}
+use Common.{byte_count, offset_of, StringTables, LineText, Inline, InStrings, InLineStrings, Sections, StandsAt}
+use Common.{IsOffsetHeld, IsTextFound, IsFound}
 use Rattle.std.proofs.lemmas.List.Sums.{sum_by-take-le}
-use Rattle.gimli_core.specs.declared.common.SectionId.TheVariants.{DebugStr, DebugLineStr}
-use Rattle.gimli_bytes.specs.Hand.{Placement, unplaced}
-use Rattle.gimli_bytes.specs.Texts.{table_bytes, byte_count, offset_of, StringTables}
 use Rattle.gimli_bytes.proofs.TextLemmas.{length-table_bytes, table_bytes-at}
-use Rattle.gimli_build.specs.LineText.{LineText, Inline, InStrings, InLineStrings}
-use Rattle.gimli_build.specs.Texts.{Sections, StandsAt}
-use Rattle.gimli_build.specs.ReadsBack.{IsOffsetHeld, IsTextFound, IsFound}
 use Rattle.gimli_build.specs.Linked.{HasTable}
 
 offset_within : (texts : List (List ℕ)) (i : ℕ) → offset_of texts i ≤ byte_count texts

@@ -1,8 +1,6 @@
 -- Bytes that are written over others change no length.
-use Rattle.std.proofs.Common.{◌≡◌, ℕ, List, length, Ok, Err, ap, ◌∙◌}
-use Rattle.std.specs.Prelude.{Result}
-use Rattle.gimli_bytes.specs.Written.{patch}
-use Rattle.gimli_bytes.specs.declared.error.Error.{Error}
+use Rattle.std.specs.Prelude.{◌≡◌}
+use Rattle.gimli_build.proofs.Common.{ℕ, List, length, Ok, Err, ap, ◌∙◌, Result, patch, Error}
 use Rattle.gimli_bytes.proofs.PieceLemmas.{length-put_over}
 use Rattle.gimli_bytes.proofs.CallsRelocated.{overwrite_parts}
 

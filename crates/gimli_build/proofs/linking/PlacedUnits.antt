@@ -1,42 +1,18 @@
 -- A unit once a linker has placed its symbols and sections.
-use Rattle.std.proofs.Common.{arith, ◌≡◌, ℕ, ◌+◌, ◌<◌, ◌≤◌, ◌^◌, Bool, List, [], ◌∷◌, ◌++◌, map, if◌then◌else◌, Ok, Err}
-use Rattle.std.proofs.Common.{refl}
-use Rattle.std.proofs.Common.{sym, ap, ◌∙◌}
-use Rattle.std.specs.Prelude.{Result, All}
+use Rattle.std.specs.Prelude.{◌≡◌, ◌+◌, ◌<◌, ◌≤◌, ◌^◌, ◌∷◌, ◌++◌, if◌then◌else◌}
+use Rattle.gimli_build.proofs.Common
+use Common.{arith, ℕ, Bool, List, [], map, Ok, Err, refl, sym, ap, ◌∙◌, Result, All, All-head, All-tail, All-weaker}
+use Common.{word_size, result_map, Encoding, LineEncoding, Format, Dwarf32, Dwarf64, Hand, Placement, plain}
+use Common.{section_word, uleb, placed, placed_offset, lowest_bytes, counted, address_placed, StringTables, Error}
+use Common.{IncompatibleLineProgramEncoding, result_append, LineText, Inline, InStrings, InLineStrings, Built}
+use Common.{position_after, initial_row, CanWrite, AreBuilt, instructions_bytes, set_address_bytes, row_instructions}
+use Common.{end_instructions, items_bytes, next_previous, AreFit, texts_after, emitted_texts, IsOffsetHeld}
+use Common.{program_bytes, whole_bytes, unit_bytes, IsBuilt, LineRow, BuiltItem, SetAddress, Row, End}
 use Rattle.std.proofs.Math.Nat.{mod-eq_of_lt}
-use Rattle.std.proofs.lemmas.List.Elements.{All-head, All-tail, All-weaker}
-use Rattle.gimli_core.specs.Numbers.{word_size}
-use Rattle.gimli_core.specs.Reading.{result_map}
-use Rattle.gimli_core.specs.declared.common.Encoding.{Encoding}
-use Rattle.gimli_core.specs.declared.common.LineEncoding.{LineEncoding}
-use Rattle.gimli_core.specs.declared.common.Format.{Format}
-use Rattle.gimli_core.specs.declared.common.Format.TheVariants.{Dwarf32, Dwarf64}
 use Rattle.gimli_core.specs.declared.common.SectionId.{SectionId}
-use Rattle.gimli_bytes.specs.Hand.{Hand, Placement, plain, section_word}
-use Rattle.gimli_bytes.specs.Number.{uleb}
-use Rattle.gimli_bytes.specs.Relocations.{placed, placed_offset, lowest_bytes, counted, address_placed}
-use Rattle.gimli_bytes.specs.Texts.{StringTables}
-use Rattle.gimli_bytes.specs.declared.error.Error.{Error}
-use Rattle.gimli_bytes.specs.declared.error.Error.TheVariants.{IncompatibleLineProgramEncoding}
 use Rattle.gimli_bytes.proofs.PlacedNumbers.{placed-word, placed-address}
 use Rattle.gimli_line.specs.LineNumbers.{DW_LNE_set_address}
-use Rattle.gimli_build.specs.Joined.{result_append}
-use Rattle.gimli_build.specs.LineText.{LineText, Inline, InStrings, InLineStrings}
-use Rattle.gimli_build.specs.Built.{Built, position_after}
-use Rattle.gimli_build.specs.Rows.{initial_row}
-use Rattle.gimli_build.specs.Conditions.{CanWrite, AreBuilt}
-use Rattle.gimli_build.specs.InstructionBytes.{instructions_bytes, set_address_bytes}
-use Rattle.gimli_build.specs.Encode.{row_instructions, end_instructions}
-use Rattle.gimli_build.specs.Items.{items_bytes, next_previous, AreFit}
-use Rattle.gimli_build.specs.Version5Tables.{texts_after}
-use Rattle.gimli_build.specs.Cause.{emitted_texts}
-use Rattle.gimli_build.specs.ReadsBack.{IsOffsetHeld}
 use Rattle.gimli_build.specs.Linked.{placed_item, placed_program, AddressFits, OffsetFits, SumsFit, TextsBeginAtZero}
-use Rattle.gimli_build.specs.Unit.{program_bytes, whole_bytes, unit_bytes}
-use Rattle.gimli_build.specs.inside.Conditions.{IsBuilt}
-use Rattle.gimli_build.specs.declared.built.row.LineRow.{LineRow}
-use Rattle.gimli_build.specs.declared.built.items.BuiltItem.{BuiltItem}
-use Rattle.gimli_build.specs.declared.built.items.BuiltItem.TheVariants.{SetAddress, Row, End}
 use Rattle.gimli_build.proofs.linking.SameBytes.{IsAlike, whole-alike, items-plain}
 
 -- ---- items

@@ -1,35 +1,14 @@
 -- What two hands write alike.
-use Rattle.std.proofs.Common.{◌≡◌, ℕ, ◌≤◌, Bool, true, false, List, [], ◌∷◌, ◌++◌, length, if◌then◌else◌, Ok, Err, refl}
-use Rattle.std.proofs.Common.{ap, ◌∙◌}
-use Rattle.std.specs.Prelude.{Result, All, nat_eq, nat_le}
-use Rattle.std.proofs.lemmas.Bool.{leb-false}
-use Rattle.std.proofs.lemmas.List.Elements.{All-head, All-tail}
-use Rattle.gimli_core.specs.declared.common.Encoding.{Encoding}
-use Rattle.gimli_core.specs.declared.common.LineEncoding.{LineEncoding}
-use Rattle.gimli_bytes.specs.Hand.{Hand, Placement, plain}
-use Rattle.gimli_bytes.specs.Relocations.{counted}
-use Rattle.gimli_bytes.specs.Number.{uleb, length_word}
-use Rattle.gimli_bytes.specs.Texts.{StringTables}
-use Rattle.gimli_bytes.specs.declared.error.Error.{Error}
-use Rattle.gimli_bytes.specs.declared.error.Error.TheVariants.{LineStringFormMismatch}
-use Rattle.gimli_build.specs.FormatWord.{format_word}
-use Rattle.gimli_build.specs.Joined.{result_append, result_concat, after_length}
-use Rattle.gimli_build.specs.LineText.{LineText}
-use Rattle.gimli_build.specs.Tables.{File}
-use Rattle.gimli_build.specs.Built.{Built}
-use Rattle.gimli_build.specs.Version4Tables.{directories_bytes, files_bytes}
-use Rattle.gimli_build.specs.Version5Tables.{text_form, first_form, path_texts, sources, formats_bytes}
-use Rattle.gimli_build.specs.Version5Tables.{directory_formats, file_formats, detail_bytes}
-use Rattle.gimli_build.specs.Version5Tables.{text_bytes, text_in_form, directory_table_bytes, source_bytes}
-use Rattle.gimli_build.specs.Version5Tables.{file_entry_bytes}
-use Rattle.gimli_build.specs.Version5Tables.{file_table_bytes}
-use Rattle.gimli_build.specs.Cause.{emitted_texts}
-use Rattle.gimli_build.specs.Unit.{line_encoding_bytes, opcode_bytes, opening_bytes, escape_bytes}
-use Rattle.gimli_build.specs.Unit.{tables_bytes, header_bytes, program_bytes, whole_bytes}
-use Rattle.gimli_build.specs.Items.{item_bytes, items_bytes, next_previous}
-use Rattle.gimli_build.specs.declared.built.row.LineRow.{LineRow}
-use Rattle.gimli_build.specs.declared.built.items.BuiltItem.{BuiltItem}
-use Rattle.gimli_build.specs.declared.built.items.BuiltItem.TheVariants.{SetAddress, Row, End}
+use Rattle.std.specs.Prelude.{◌≡◌, ◌≤◌, ◌∷◌, ◌++◌, if◌then◌else◌}
+use Rattle.gimli_build.proofs.Common
+use Common.{ℕ, Bool, true, false, List, [], length, Ok, Err, refl, ap, ◌∙◌, Result, All, nat_eq, nat_le, leb-false}
+use Common.{All-head, All-tail, Encoding, LineEncoding, Hand, Placement, plain, counted, uleb, length_word}
+use Common.{StringTables, Error, LineStringFormMismatch, format_word, result_append, result_concat, after_length}
+use Common.{LineText, File, Built, directories_bytes, files_bytes, text_form, first_form, path_texts, sources}
+use Common.{formats_bytes, directory_formats, file_formats, detail_bytes, text_bytes, text_in_form}
+use Common.{directory_table_bytes, source_bytes, file_entry_bytes, file_table_bytes, emitted_texts, line_encoding_bytes}
+use Common.{opcode_bytes, opening_bytes, escape_bytes, tables_bytes, header_bytes, program_bytes, whole_bytes}
+use Common.{item_bytes, items_bytes, next_previous, LineRow, BuiltItem, SetAddress, Row, End}
 use Rattle.gimli_build.proofs.reading.ReadyTexts.{source_of}
 use Rattle.gimli_build.proofs.reading.EmittedTexts.{IsOfFile, AreOfTables, of-tables}
 

@@ -1,13 +1,8 @@
 -- What is true of each text that is emitted, directory by directory and file by file.
-use Rattle.std.proofs.Common.{◌≡◌, ℕ, Bool, true, false, List, [], ◌∷◌, ◌++◌, map, if◌then◌else◌}
-use Rattle.std.specs.Prelude.{All, nat_le, flat_map}
-use Rattle.std.proofs.lemmas.List.Elements.{All-nil, All-cons, All-head, All-tail}
-use Rattle.gimli_bytes.specs.Texts.{StringTables}
-use Rattle.gimli_build.specs.LineText.{LineText}
-use Rattle.gimli_build.specs.Tables.{File}
-use Rattle.gimli_build.specs.Built.{Built}
-use Rattle.gimli_build.specs.Version5Tables.{first_form, path_texts, sources}
-use Rattle.gimli_build.specs.Cause.{file_texts, emitted_texts}
+use Rattle.std.specs.Prelude.{◌≡◌, ◌∷◌, ◌++◌, if◌then◌else◌}
+use Rattle.gimli_build.proofs.Common
+use Common.{ℕ, Bool, true, false, List, [], map, All, nat_le, flat_map, All-nil, All-cons, All-head, All-tail}
+use Common.{StringTables, LineText, File, Built, first_form, path_texts, sources, file_texts, emitted_texts}
 use Rattle.gimli_build.proofs.reading.ReadyTexts.{source_of}
 
 module _ (P : LineText → Type 0) (p : Built) (texts : StringTables) where

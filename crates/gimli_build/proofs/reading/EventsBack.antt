@@ -1,32 +1,13 @@
 -- The instructions that a written program is decoded into, and the rows that they give.
-use Rattle.std.proofs.Common.{◌≡◌, ℕ, ◌<◌, ◌≤◌, List, [], ◌∷◌, Ok, refl, sym, ap, ◌∙◌, subst, lit<, map}
-use Rattle.std.specs.Prelude.{None, IsTrue}
-use Rattle.std.proofs.lemmas.List.{append-nil}
-use Rattle.gimli_core.specs.Layout.{OrderAndLimit}
-use Rattle.gimli_core.specs.Numbers.{is_address_size}
-use Rattle.gimli_core.specs.Production.{Each}
-use Rattle.gimli_core.specs.declared.common.Encoding.{Encoding}
-use Rattle.gimli_core.specs.declared.common.LineEncoding.{LineEncoding}
-use Rattle.gimli_line.specs.header.Header.{Header}
-use Rattle.gimli_line.specs.run.Instruction.{Ins}
-use Rattle.gimli_line.specs.run.InstructionGrammar.{SpellsInstruction, Decodes}
+use Rattle.std.specs.Prelude.{◌≡◌, ◌<◌, ◌≤◌, ◌∷◌}
+use Rattle.gimli_build.proofs.Common
+use Common.{ℕ, List, [], Ok, refl, sym, ap, ◌∙◌, subst, lit<, map, None, IsTrue, append-nil, OrderAndLimit}
+use Common.{is_address_size, Each, Encoding, LineEncoding, Header, Ins, SpellsInstruction, Decodes, run, Parameters}
+use Common.{ReadRow, plain, LineRow, BuiltItem, SetAddress, Row, End, CanEncode, Built, base_of, AreBuilt, IsBuilt}
+use Common.{items_instructions, items_rows, items_bytes, next_previous, AddressesFit, AreFit, initial_row, built_rules}
+use Common.{RowsMatch, program_bytes}
 use Rattle.gimli_line.specs.run.Events.{row, Events, events_after, program_events}
-use Rattle.gimli_line.specs.run.Machine.{run}
-use Rattle.gimli_line.specs.header.Parameters.{Parameters}
-use Rattle.gimli_line.specs.declared.run.row.LineRow.{LineRow as ReadRow}
 use Rattle.gimli_line.proofs.Backwards.{starts}
-use Rattle.gimli_bytes.specs.Hand.{plain}
-use Rattle.gimli_build.specs.declared.built.row.LineRow.{LineRow}
-use Rattle.gimli_build.specs.declared.built.items.BuiltItem.{BuiltItem}
-use Rattle.gimli_build.specs.declared.built.items.BuiltItem.TheVariants.{SetAddress, Row, End}
-use Rattle.gimli_build.specs.Advance.{CanEncode}
-use Rattle.gimli_build.specs.Built.{Built, base_of}
-use Rattle.gimli_build.specs.Conditions.{AreBuilt}
-use Rattle.gimli_build.specs.inside.Conditions.{IsBuilt}
-use Rattle.gimli_build.specs.Items.{items_instructions, items_rows, items_bytes, next_previous, AddressesFit, AreFit}
-use Rattle.gimli_build.specs.Rows.{initial_row}
-use Rattle.gimli_build.specs.SameRow.{built_rules, RowsMatch}
-use Rattle.gimli_build.specs.Unit.{program_bytes}
 use Rattle.gimli_build.proofs.reading.RowRuns.{start-is}
 use Rattle.gimli_build.proofs.reading.ItemRuns.{items-run, start_position}
 use Rattle.gimli_build.proofs.spellings.ItemSpellings.{items-spelled}

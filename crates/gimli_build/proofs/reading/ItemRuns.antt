@@ -1,21 +1,11 @@
 -- The machine over the instructions of built items.
-use Rattle.std.proofs.Common.{◌≡◌, ℕ, ◌^◌, ◌<◌, ◌≤◌, List, [], ◌∷◌, refl, ap, ◌∙◌, arith, lit<, map}
-use Rattle.std.specs.Prelude.{IsTrue}
+use Rattle.std.specs.Prelude.{◌≡◌, ◌^◌, ◌<◌, ◌≤◌, ◌∷◌}
+use Rattle.gimli_build.proofs.Common
+use Common.{ℕ, List, [], refl, ap, ◌∙◌, arith, lit<, map, IsTrue, is_address_size, Encoding, LineEncoding, run, LineRow}
+use Common.{BuiltItem, SetAddress, Row, End, CanEncode, IsPosition, address_value, AreBuilt, initial_row, built_rules}
+use Common.{registers_after_row, read_row, read_end, items_instructions, items_rows, AddressesFit}
 use Rattle.std.proofs.Math.Nat.{mod-eq_of_lt}
-use Rattle.gimli_core.specs.Numbers.{is_address_size}
-use Rattle.gimli_core.specs.declared.common.Encoding.{Encoding}
-use Rattle.gimli_core.specs.declared.common.LineEncoding.{LineEncoding}
 use Rattle.gimli_line.specs.run.Events.{row}
-use Rattle.gimli_line.specs.run.Machine.{run}
-use Rattle.gimli_build.specs.declared.built.row.LineRow.{LineRow}
-use Rattle.gimli_build.specs.declared.built.items.BuiltItem.{BuiltItem}
-use Rattle.gimli_build.specs.declared.built.items.BuiltItem.TheVariants.{SetAddress, Row, End}
-use Rattle.gimli_build.specs.Advance.{CanEncode, IsPosition}
-use Rattle.gimli_build.specs.Built.{address_value}
-use Rattle.gimli_build.specs.Conditions.{AreBuilt}
-use Rattle.gimli_build.specs.Rows.{initial_row}
-use Rattle.gimli_build.specs.SameRow.{built_rules, registers_after_row, read_row, read_end}
-use Rattle.gimli_build.specs.Items.{items_instructions, items_rows, AddressesFit}
 use Rattle.gimli_build.proofs.reading.RowRuns.{row-runs, end-runs, set-address-runs, start-is}
 
 -- where offsets begin to count

@@ -1,46 +1,23 @@
 -- The instructions of items define no file; and what a run is refused for that defines none.
-use Rattle.std.proofs.Common.{◌≡◌, ℕ, Bool, true, false, not, List, [], ◌∷◌, ◌++◌, refl, sym, ap, ◌∙◌, append_assoc}
-use Rattle.std.proofs.Common.{if◌then◌else◌, nat_eq, nat_le}
-use Rattle.std.proofs.Common.{inl, inr, true≢false}
-use Rattle.std.specs.Prelude.{All, None, ℤ, pos, ◌-ℤ◌, ◌*◌, ◌+◌, ◌-◌}
-use Rattle.std.proofs.lemmas.List.{append-nil}
-use Rattle.std.proofs.lemmas.List.Elements.{All-nil, All-cons, All-head, All-tail, All-append}
-use Rattle.gimli_core.specs.Layout.{OrderAndLimit}
-use Rattle.gimli_core.specs.Production.{Each}
-use Rattle.gimli_core.specs.declared.common.LineEncoding.{LineEncoding}
+use Rattle.std.specs.Prelude.{◌≡◌, ◌∷◌, ◌++◌, if◌then◌else◌, ◌-ℤ◌, ◌*◌, ◌+◌, ◌-◌}
+use Rattle.gimli_build.proofs.Common
+use Common.{ℕ, Bool, true, false, not, List, [], refl, sym, ap, ◌∙◌, append_assoc, nat_eq, nat_le, inl, inr, true≢false}
+use Common.{All, None, ℤ, pos, append-nil, All-nil, All-cons, All-head, All-tail, All-append, OrderAndLimit, Each}
+use Common.{LineEncoding, Header, without_files, Parameters, ReadRow, Special, Copy, AdvancePc, AdvanceLine, ConstAddPc}
+use Common.{EndSequence, ReadAddress, Ins, defines_file, makes_row, SpellsInstruction, Decodes, files_after, is_refused}
+use Common.{step_of, next_registers, made_from, LineRow, BuiltItem, SetAddress, Row, End, operations, address_value}
+use Common.{when, marks, changes, is_special_advance, line_opcode, line_part, still_opcode, constant_advance, row_maker}
+use Common.{operation_part, row_instructions, end_instructions, next_previous, item_instructions, items_instructions}
 use Rattle.gimli_core.specs.declared.error.Error.{Error}
 use Rattle.gimli_core.specs.declared.error.Error.TheVariants.{AddressOverflow}
 use Rattle.gimli_line.specs.header.File.{File}
 use Rattle.gimli_line.specs.header.Orders.{HeaderSource}
-use Rattle.gimli_line.specs.header.Header.{Header, without_files}
-use Rattle.gimli_line.specs.header.Parameters.{Parameters}
-use Rattle.gimli_line.specs.declared.run.row.LineRow.{LineRow as ReadRow}
-use Rattle.gimli_line.specs.declared.run.instruction.LineInstruction.TheVariants.{Special, Copy, AdvancePc, AdvanceLine}
-use Rattle.gimli_line.specs.declared.run.instruction.LineInstruction.TheVariants.{ConstAddPc}
-use Rattle.gimli_line.specs.declared.run.instruction.LineInstruction.TheVariants.{
-  EndSequence,
-  SetAddress as ReadAddress,
-}
-use Rattle.gimli_line.specs.run.Instruction.{Ins, defines_file, makes_row}
-use Rattle.gimli_line.specs.run.InstructionGrammar.{SpellsInstruction, Decodes}
 use Rattle.gimli_line.specs.run.InstructionReading.{decoded_at}
 use Rattle.gimli_line.specs.run.Events.{Event, row, fault, EventWithFiles, with_files, given_of, events_of}
-use Rattle.gimli_line.specs.run.Instruction.{files_after}
-use Rattle.gimli_line.specs.run.Machine.{is_refused, step_of, next_registers, made_from}
 use Rattle.gimli_line.specs.run.RunState.{RunState}
 use Rattle.gimli_line.specs.run.Passing.{with_reset_row, PassesOver}
 use Rattle.gimli_line.specs.run.Rows.{live_events, WantsMemory, FaultIs}
 use Rattle.gimli_line.proofs.InstructionLaws.{is_decoded, one_decoding}
-use Rattle.gimli_build.specs.declared.built.row.LineRow.{LineRow}
-use Rattle.gimli_build.specs.declared.built.items.BuiltItem.{BuiltItem}
-use Rattle.gimli_build.specs.declared.built.items.BuiltItem.TheVariants.{SetAddress, Row, End}
-use Rattle.gimli_build.specs.Advance.{operations}
-use Rattle.gimli_build.specs.Built.{address_value}
-use Rattle.gimli_build.specs.Due.{when}
-use Rattle.gimli_build.specs.Encode.{marks, changes, is_special_advance, line_opcode, line_part, still_opcode}
-use Rattle.gimli_build.specs.Encode.{constant_advance, row_maker}
-use Rattle.gimli_build.specs.Encode.{operation_part, row_instructions, end_instructions}
-use Rattle.gimli_build.specs.Items.{next_previous, item_instructions, items_instructions}
 use Rattle.gimli_build.specs.NoFiles.{DefinesNoFile, program_started}
 
 -- ---- the instructions of items

@@ -1,21 +1,9 @@
 -- What is read of a written unit: its header, its decoding, and its rows together.
-use Rattle.std.proofs.Common.{◌≡◌, ℕ, ◌<◌, ◌≤◌, ◌^◌, Bool, List, [], ◌∷◌, length, Ok, if◌then◌else◌, ap, ◌∙◌, arith}
-use Rattle.std.proofs.Common.{length-append}
-use Rattle.std.specs.Prelude.{nat_le}
-use Rattle.gimli_core.specs.Layout.{OrderAndLimit}
-use Rattle.gimli_core.specs.declared.common.Encoding.{Encoding}
-use Rattle.gimli_bytes.specs.Hand.{Placement}
-use Rattle.gimli_bytes.specs.Relocations.{counted}
-use Rattle.gimli_bytes.specs.Texts.{AreTexts, StringTables}
-use Rattle.gimli_bytes.specs.Written.{Appends, AppendsThat}
-use Rattle.gimli_line.specs.header.Header.{UnitEntry}
-use Rattle.gimli_build.specs.Built.{Built}
-use Rattle.gimli_build.specs.Conditions.{CanWrite}
-use Rattle.gimli_build.specs.inside.Conditions.{IsBuilt}
-use Rattle.gimli_build.specs.Texts.{Sections}
-use Rattle.gimli_build.specs.Version5Tables.{texts_after}
-use Rattle.gimli_build.specs.ReadsBack.{ReadsBack, ReadsBackAt, IsReadWell}
-use Rattle.gimli_build.specs.Unit.{whole_bytes, unit_bytes}
+use Rattle.std.specs.Prelude.{◌≡◌, ◌<◌, ◌≤◌, ◌^◌, ◌∷◌, if◌then◌else◌}
+use Rattle.gimli_build.proofs.Common
+use Common.{ℕ, Bool, List, [], length, Ok, ap, ◌∙◌, arith, length-append, nat_le, OrderAndLimit, Encoding, Placement}
+use Common.{counted, AreTexts, StringTables, Appends, AppendsThat, UnitEntry, Built, CanWrite, IsBuilt, Sections}
+use Common.{texts_after, ReadsBack, ReadsBackAt, IsReadWell, whole_bytes, unit_bytes}
 use Rattle.gimli_build.proofs.writing.Joined.{appended_bytes}
 use Rattle.gimli_build.proofs.writing.WrittenParts.{before_written}
 use Rattle.gimli_build.proofs.spellings.EncodingSpellings.{version-known}

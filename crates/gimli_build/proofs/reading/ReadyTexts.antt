@@ -1,23 +1,13 @@
 -- The texts of a program of version 5 can be read back, with the tables as they are once it is written.
-use Rattle.std.proofs.Common.{◌≡◌, ◌≢◌, ℕ, ◌≤◌, Bool, true, false, List, [], ◌∷◌, ◌++◌, length, map, get_or, Option}
-use Rattle.std.proofs.Common.{Some, None, refl, sym, ap, ◌∙◌, arith}
-use Rattle.std.proofs.Common.{◌||◌, if◌then◌else◌, length-append}
-use Rattle.std.specs.Prelude.{◌&&◌, nat_eq, nat_le, slice_get, unwrap_or, All, IfSome, bytes_eq}
-use Rattle.std.specs.Option.{is_none, option_map_or}
-use Rattle.std.specs.List.{list_any}
-use Rattle.std.proofs.lemmas.Bool.{leb-false, le-leb}
-use Rattle.std.proofs.lemmas.List.Elements.{All-nil, All-cons, All-head, All-tail}
+use Rattle.std.specs.Prelude.{◌≡◌, ◌≢◌, ◌≤◌, ◌∷◌, ◌++◌, ◌||◌, if◌then◌else◌, ◌&&◌}
+use Rattle.gimli_build.proofs.Common
+use Common.{ℕ, Bool, true, false, List, [], length, map, get_or, Option, Some, None, refl, sym, ap, ◌∙◌, arith}
+use Common.{length-append, nat_eq, nat_le, slice_get, unwrap_or, All, IfSome, bytes_eq, is_none, option_map_or}
+use Common.{list_any, leb-false, le-leb, All-nil, All-cons, All-head, All-tail, slice_get_within, with_text}
+use Common.{index_of_text, StringTables, LineText, Inline, InStrings, InLineStrings, IsWithin, HasNoZero, bytes_in}
+use Common.{File, FitsFile, Built, CanWrite, IsBuilt, first_form, sources, needs_empty, empty_text, texts_after}
 use Rattle.std.proofs.lemmas.List.Folds.{list_any_at, list_any-append}
-use Rattle.std.proofs.lemmas.Option.{slice_get_within}
-use Rattle.gimli_bytes.specs.Texts.{with_text, index_of_text, StringTables}
 use Rattle.gimli_bytes.proofs.TextLemmas.{with_text-there, with_text-found}
-use Rattle.gimli_build.specs.LineText.{LineText, Inline, InStrings, InLineStrings, IsWithin, HasNoZero, bytes_in}
-use Rattle.gimli_build.specs.Tables.{File}
-use Rattle.gimli_build.specs.inside.Tables.{FitsFile}
-use Rattle.gimli_build.specs.Built.{Built}
-use Rattle.gimli_build.specs.Conditions.{CanWrite}
-use Rattle.gimli_build.specs.inside.Conditions.{IsBuilt}
-use Rattle.gimli_build.specs.Version5Tables.{first_form, sources, needs_empty, empty_text, texts_after}
 use Rattle.gimli_build.proofs.spellings.TextForms.{IsReady}
 
 -- ---- tables that gain the empty text

@@ -1,50 +1,24 @@
 -- The machine over the instructions of a row, and of an end.
-use Rattle.std.proofs.Common.{◌≡◌, ℕ, ◌+◌, ◌-◌, ◌*◌, ◌/◌, ◌%◌, ◌^◌, ◌<◌, ◌≤◌, Bool, true, false, not, List, [], ◌∷◌}
-use Rattle.std.proofs.Common.{◌++◌, refl, ap, ◌∙◌, arith, nat_eq}
-use Rattle.std.proofs.Common.{nat_le, if◌then◌else◌, ℤ, pos, ◌+ℤ◌, ◌-ℤ◌, ◌<ℤ◌, ◌≤ℤ◌, add-zero}
-use Rattle.std.proofs.Common.{append_assoc}
-use Rattle.std.specs.Prelude.{unsigned_abs, IsTrue}
+use Rattle.std.specs.Prelude.{◌≡◌, ◌+◌, ◌-◌, ◌*◌, ◌/◌, ◌%◌, ◌^◌, ◌<◌, ◌≤◌, ◌∷◌, ◌++◌, if◌then◌else◌, ◌+ℤ◌, ◌-ℤ◌, ◌<ℤ◌}
+use Rattle.std.specs.Prelude.{◌≤ℤ◌}
+use Rattle.gimli_build.proofs.Common
+use Common.{ℕ, Bool, true, false, not, List, [], refl, ap, ◌∙◌, arith, nat_eq, nat_le, ℤ, pos, add-zero, append_assoc}
+use Common.{unsigned_abs, IsTrue, ints, and_parts, nat_tests, is_address_size, Encoding, LineEncoding, ReadRow, Special}
+use Common.{Copy, AdvancePc, AdvanceLine, SetFile, SetColumn, NegateStatement, SetBasicBlock, ConstAddPc}
+use Common.{SetPrologueEnd, SetEpilogueBegin, SetIsa, EndSequence, SetDiscriminator, Parameters, Ins, run, initial}
+use Common.{reset_row, pointer_of, at_pointer, LineRow, CanEncode, IsPosition, CanFollow, operations, when, marks}
+use Common.{changes, line_part, line_opcode, is_special_advance, operation_part, row_instructions, row_maker}
+use Common.{still_opcode, constant_advance, end_instructions, file_number, initial_row, built_rules, read_row}
+use Common.{registers_after_row, read_end}
 use Rattle.std.specs.Int.Signed.{lt_z, le_z}
 use Rattle.std.proofs.Math.Nat.{mod-eq_of_lt, div-eq_of_lt}
 use Rattle.std.proofs.Math.Nat.{add-mul-div_right}
 use Rattle.std.proofs.Math.Nat.{add-mul-mod_self_right, mul-add}
 use Rattle.std.proofs.lemmas.Nat.{div-add-mod'}
-use Rattle.std.proofs.lemmas.Int.{ints}
-use Rattle.std.proofs.lemmas.Bool.{and_parts}
-use Rattle.std.proofs.lemmas.Bool.Decides.{nat_tests}
-use Rattle.gimli_core.specs.Numbers.{is_address_size}
-use Rattle.gimli_core.specs.declared.common.Encoding.{Encoding}
-use Rattle.gimli_core.specs.declared.common.LineEncoding.{LineEncoding}
-use Rattle.gimli_line.specs.declared.run.row.LineRow.{LineRow as ReadRow}
-use Rattle.gimli_line.specs.declared.run.instruction.LineInstruction.TheVariants.{Special, Copy, AdvancePc, AdvanceLine}
-use Rattle.gimli_line.specs.declared.run.instruction.LineInstruction.TheVariants.{SetFile, SetColumn, NegateStatement}
-use Rattle.gimli_line.specs.declared.run.instruction.LineInstruction.TheVariants.{
-  SetBasicBlock,
-  ConstAddPc,
-  SetPrologueEnd,
-  SetEpilogueBegin,
-  SetIsa,
-}
-use Rattle.gimli_line.specs.declared.run.instruction.LineInstruction.TheVariants.{
-  EndSequence,
-  SetAddress,
-  SetDiscriminator,
-}
-use Rattle.gimli_line.specs.header.Parameters.{Parameters}
-use Rattle.gimli_line.specs.run.Instruction.{Ins}
+use Rattle.gimli_line.specs.declared.run.instruction.LineInstruction.TheVariants.{SetAddress}
 use Rattle.gimli_line.specs.run.Registers.{advanced_line}
 use Rattle.gimli_line.specs.run.OperationPointer.{OperationPointer, address_limit}
 use Rattle.gimli_line.specs.run.Events.{row}
-use Rattle.gimli_line.specs.run.Machine.{run, initial, reset_row, pointer_of, at_pointer}
-use Rattle.gimli_build.specs.declared.built.row.LineRow.{LineRow}
-use Rattle.gimli_build.specs.Advance.{CanEncode, IsPosition, CanFollow, operations}
-use Rattle.gimli_build.specs.Due.{when}
-use Rattle.gimli_build.specs.Encode.{marks, changes, line_part, line_opcode, is_special_advance, operation_part}
-use Rattle.gimli_build.specs.Encode.{row_instructions, row_maker}
-use Rattle.gimli_build.specs.Encode.{still_opcode, constant_advance, end_instructions}
-use Rattle.gimli_build.specs.FileNumber.{file_number}
-use Rattle.gimli_build.specs.Rows.{initial_row}
-use Rattle.gimli_build.specs.SameRow.{built_rules, read_row, registers_after_row, read_end}
 use Rattle.gimli_build.proofs.sizes.Steps.{operations_above, whole_steps, taken_apart, special_parts}
 use Rattle.gimli_build.proofs.sizes.Steps.{none_of}
 

@@ -1,34 +1,14 @@
 -- The tables of a written unit: their bytes spell them, and what is read of them stands for what was built.
-use Rattle.std.proofs.Common.{◌≡◌, ℕ, ◌<◌, ◌^◌, Bool, true, false, List, [], ◌∷◌, ◌++◌, length, drop, map, option_map}
-use Rattle.std.proofs.Common.{Option, None, slice_get, if◌then◌else◌}
-use Rattle.std.proofs.Common.{Ok, refl, sym, ap, ◌∙◌, arith, length-append}
-use Rattle.std.specs.Prelude.{Result, nat_le}
-use Rattle.std.specs.Option.{option_to_list}
-use Rattle.std.proofs.lemmas.Bool.{leb-true}
-use Rattle.std.proofs.lemmas.List.{append-nil}
-use Rattle.std.proofs.lemmas.List.Elements.{All-drop}
-use Rattle.gimli_core.specs.Layout.{OrderAndLimit}
-use Rattle.gimli_core.specs.Values.{Value}
-use Rattle.gimli_core.specs.declared.attribute_value.AttributeValue.TheVariants.{String}
-use Rattle.gimli_bytes.specs.Hand.{Placement}
-use Rattle.gimli_bytes.specs.Relocations.{counted}
-use Rattle.gimli_bytes.specs.Texts.{AreTexts, StringTables}
-use Rattle.gimli_bytes.specs.declared.error.Error.{Error}
-use Rattle.gimli_line.specs.header.Header.{UnitEntry}
-use Rattle.gimli_line.specs.header.File.{File as ReadFile}
+use Rattle.std.specs.Prelude.{◌≡◌, ◌<◌, ◌^◌, ◌∷◌, ◌++◌, if◌then◌else◌}
+use Rattle.gimli_build.proofs.Common
+use Common.{ℕ, Bool, true, false, List, [], length, drop, map, option_map, Option, None, slice_get, Ok, refl, sym, ap}
+use Common.{◌∙◌, arith, length-append, Result, nat_le, option_to_list, leb-true, append-nil, All-drop, OrderAndLimit}
+use Common.{Value, String, Placement, counted, AreTexts, StringTables, Error, UnitEntry, ReadFile, FileEntryFormat}
+use Common.{LineText, bytes_in, HasNoZero, File, Details, Sections, OneByOne, Built, IsBuilt, IsDirectory, IsFile}
+use Common.{IsFound, result_append, directories_bytes, files_bytes, directory_formats, file_formats}
+use Common.{directory_table_bytes, file_table_bytes, tables_bytes}
 use Rattle.gimli_line.specs.header.HeaderGrammar.{path_of, file_of_entry, handed_value, directory_table, file_table}
-use Rattle.gimli_line.specs.declared.header.file_entry.FileEntryFormat.{FileEntryFormat}
-use Rattle.gimli_build.specs.LineText.{LineText, bytes_in, HasNoZero}
-use Rattle.gimli_build.specs.Tables.{File, Details}
-use Rattle.gimli_build.specs.Texts.{Sections, OneByOne}
 use Rattle.gimli_build.specs.Stored.{Stored}
-use Rattle.gimli_build.specs.Built.{Built}
-use Rattle.gimli_build.specs.inside.Conditions.{IsBuilt}
-use Rattle.gimli_build.specs.ReadsBack.{IsDirectory, IsFile, IsFound}
-use Rattle.gimli_build.specs.Joined.{result_append}
-use Rattle.gimli_build.specs.Version4Tables.{directories_bytes, files_bytes}
-use Rattle.gimli_build.specs.Version5Tables.{directory_formats, file_formats, directory_table_bytes, file_table_bytes}
-use Rattle.gimli_build.specs.Unit.{tables_bytes}
 use Rattle.gimli_build.proofs.writing.WrittenParts.{both_written}
 use Rattle.gimli_build.proofs.spellings.TableSpellings.{read_file, directories-spelled, files-spelled}
 use Rattle.gimli_build.proofs.spellings.EncodingSpellings.{first-chosen, second-chosen}

@@ -1,28 +1,11 @@
 -- What is read of the header of a written unit.
-use Rattle.std.proofs.Common.{◌≡◌, ℕ, ◌-◌, ◌<◌, ◌≤◌, ◌^◌, Bool, true, false, List, length, if◌then◌else◌, Ok, refl, ap}
-use Rattle.std.proofs.Common.{◌∙◌}
-use Rattle.std.proofs.Common.{arith, sym}
-use Rattle.std.specs.Prelude.{Result, Err, nat_le, All}
-use Rattle.std.proofs.lemmas.Bool.{leb-true, leb-false}
-use Rattle.gimli_core.specs.Layout.{OrderAndLimit}
-use Rattle.gimli_core.specs.declared.common.Encoding.{Encoding}
-use Rattle.gimli_core.specs.declared.common.Format.TheVariants.{Dwarf64}
-use Rattle.gimli_bytes.specs.Hand.{Placement, plain}
-use Rattle.gimli_bytes.specs.Relocations.{counted}
-use Rattle.gimli_bytes.specs.Texts.{AreTexts, StringTables}
-use Rattle.gimli_bytes.specs.declared.error.Error.{Error}
-use Rattle.gimli_bytes.specs.declared.error.Error.TheVariants.{IncompatibleLineProgramEncoding}
-use Rattle.gimli_line.specs.header.Header.{Header, UnitEntry}
-use Rattle.gimli_build.specs.Texts.{Sections, OneByOne}
-use Rattle.gimli_build.specs.Built.{Built}
-use Rattle.gimli_build.specs.Conditions.{CanWrite}
-use Rattle.gimli_build.specs.inside.Conditions.{IsBuilt}
-use Rattle.gimli_build.specs.SameRow.{built_rules}
-use Rattle.gimli_build.specs.Version5Tables.{texts_after}
-use Rattle.gimli_build.specs.ReadsBack.{AreFormats, IsUnit, directories_from_zero, IsDirectory, IsFile, IsReadWell}
-use Rattle.gimli_build.specs.ReadsBack.{IsOffsetHeld, IsFound}
-use Rattle.gimli_build.specs.Cause.{emitted_texts}
-use Rattle.gimli_build.specs.Unit.{operand_counts, program_bytes, whole_bytes, unit_bytes}
+use Rattle.std.specs.Prelude.{◌≡◌, ◌-◌, ◌<◌, ◌≤◌, ◌^◌, if◌then◌else◌}
+use Rattle.gimli_build.proofs.Common
+use Common.{ℕ, Bool, true, false, List, length, Ok, refl, ap, ◌∙◌, arith, sym, Result, Err, nat_le, All, leb-true}
+use Common.{leb-false, OrderAndLimit, Encoding, Dwarf64, Placement, plain, counted, AreTexts, StringTables, Error}
+use Common.{IncompatibleLineProgramEncoding, Header, UnitEntry, Sections, OneByOne, Built, CanWrite, IsBuilt}
+use Common.{built_rules, texts_after, AreFormats, IsUnit, directories_from_zero, IsDirectory, IsFile, IsReadWell}
+use Common.{IsOffsetHeld, IsFound, emitted_texts, operand_counts, program_bytes, whole_bytes, unit_bytes}
 use Rattle.gimli_build.proofs.reading.ReadyTexts.{tables-ready}
 use Rattle.gimli_build.proofs.reading.EmittedTexts.{of-tables}
 use Rattle.gimli_build.proofs.linking.SameBytes.{items-plain}

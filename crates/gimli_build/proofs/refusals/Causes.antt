@@ -1,39 +1,15 @@
 -- The first cause of a program is what its bytes are refused for.
-use Rattle.std.proofs.Common.{◌≡◌, ℕ, Bool, true, false, not, List, [], ◌∷◌, length, map, Ok, Err, refl, sym, ap, ◌∙◌}
-use Rattle.std.proofs.Common.{if◌then◌else◌, nat_le, nat_eq}
-use Rattle.std.proofs.Common.{◌⊎◌, inl, inr}
-use Rattle.std.specs.Prelude.{IsTrue, Option, Some, None, Result, ◌&&◌, nat_lt}
-use Rattle.gimli_core.specs.Numbers.{is_address_size}
-use Rattle.gimli_core.specs.Reading.{result_map}
-use Rattle.gimli_core.specs.declared.common.Encoding.{Encoding}
-use Rattle.gimli_core.specs.declared.common.LineEncoding.{LineEncoding}
-use Rattle.gimli_bytes.specs.Hand.{plain}
-use Rattle.gimli_bytes.specs.Number.{length_word}
-use Rattle.gimli_bytes.specs.Written.{Appends}
-use Rattle.gimli_bytes.specs.declared.address.Address.TheVariants.{Constant, Symbol}
-use Rattle.gimli_bytes.specs.declared.error.Error.{Error}
-use Rattle.gimli_bytes.specs.declared.error.Error.TheVariants.{
-  IncompatibleLineProgramEncoding,
-  UnsupportedVersion,
-  NeedVersion,
-}
-use Rattle.gimli_bytes.specs.Texts.{StringTables}
-use Rattle.gimli_build.specs.declared.built.row.LineRow.{LineRow}
-use Rattle.gimli_build.specs.declared.built.items.BuiltItem.{BuiltItem}
-use Rattle.gimli_build.specs.declared.built.items.BuiltItem.TheVariants.{SetAddress, Row, End}
-use Rattle.gimli_build.specs.Built.{Built}
-use Rattle.gimli_build.specs.Rows.{initial_row}
-use Rattle.gimli_build.specs.FormatWord.{format_word}
-use Rattle.gimli_build.specs.Joined.{result_append}
-use Rattle.gimli_build.specs.Items.{item_bytes, items_bytes, next_previous}
-use Rattle.gimli_build.specs.Version5Tables.{texts_after}
-use Rattle.gimli_build.specs.Unit.{opening_bytes, operations_bytes, line_encoding_bytes, flag_byte, base_byte}
-use Rattle.gimli_build.specs.Unit.{opcode_bytes, tables_bytes}
-use Rattle.gimli_build.specs.Unit.{fields_bytes, header_bytes, program_bytes, inside_bytes, escape_bytes, whole_bytes}
-use Rattle.gimli_build.specs.Unit.{is_incompatible, unit_bytes}
-use Rattle.gimli_build.specs.Cause.{cause_if, first_of, text_cause, item_cause, word_cause, unit_length_cause}
-use Rattle.gimli_build.specs.Cause.{header_length, unit_length, emitted_texts}
-use Rattle.gimli_build.specs.Cause.{first_cause, refusal}
+use Rattle.std.specs.Prelude.{◌≡◌, ◌∷◌, if◌then◌else◌, ◌⊎◌, ◌&&◌}
+use Rattle.gimli_build.proofs.Common
+use Common.{ℕ, Bool, true, false, not, List, [], length, map, Ok, Err, refl, sym, ap, ◌∙◌, nat_le, nat_eq, inl, inr}
+use Common.{IsTrue, Option, Some, None, Result, nat_lt, is_address_size, result_map, Encoding, LineEncoding, plain}
+use Common.{length_word, Appends, Constant, Symbol, Error, IncompatibleLineProgramEncoding, UnsupportedVersion}
+use Common.{NeedVersion, StringTables, LineRow, BuiltItem, SetAddress, Row, End, Built, initial_row, format_word}
+use Common.{result_append, item_bytes, items_bytes, next_previous, texts_after, opening_bytes, operations_bytes}
+use Common.{line_encoding_bytes, flag_byte, base_byte, opcode_bytes, tables_bytes, fields_bytes, header_bytes}
+use Common.{program_bytes, inside_bytes, escape_bytes, whole_bytes, is_incompatible, unit_bytes, cause_if, first_of}
+use Common.{text_cause, item_cause, word_cause, unit_length_cause, header_length, unit_length, emitted_texts}
+use Common.{first_cause, refusal}
 use Rattle.gimli_build.proofs.refusals.Refusals.{or_first, first_before_none, first_apart, joined-refusal}
 use Rattle.gimli_build.proofs.refusals.Refusals.{after-refusal, tested-refusal}
 use Rattle.gimli_build.proofs.refusals.Refusals.{barred-refusal, seven_causes}

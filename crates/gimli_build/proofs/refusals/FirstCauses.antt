@@ -1,14 +1,9 @@
 -- The first part of a program that is refused.
-use Rattle.std.proofs.Common.{◌≡◌, ℕ, ◌<◌, List, Some, map, length, get_or, arith, refl, ap, sym, ◌∙◌}
-use Rattle.std.specs.Prelude.{All, slice_get, option_map, false, ◌&&◌, nat_eq, nat_le}
-use Rattle.gimli_bytes.specs.Texts.{StringTables}
-use Rattle.gimli_build.specs.LineText.{LineText}
-use Rattle.gimli_build.specs.Built.{Built}
-use Rattle.gimli_build.specs.Version5Tables.{first_form}
-use Rattle.gimli_build.specs.Cause.{text_cause}
-use Rattle.gimli_build.specs.Refused.{cause_of_directory, wanted_form}
-use Rattle.std.proofs.lemmas.List.{length-map}
-use Rattle.std.proofs.lemmas.Option.{slice_get-map, slice_get_read, slice_get_within, get_or_from_slice_get}
+use Rattle.std.specs.Prelude.{◌≡◌, ◌<◌, ◌&&◌}
+use Rattle.gimli_build.proofs.Common
+use Common.{ℕ, List, Some, map, length, get_or, arith, refl, ap, sym, ◌∙◌, All, slice_get, option_map, false, nat_eq}
+use Common.{nat_le, StringTables, LineText, Built, first_form, text_cause, cause_of_directory, wanted_form, length-map}
+use Common.{slice_get-map, slice_get_read, slice_get_within, get_or_from_slice_get}
 
 -- why a directory is refused, where it is there and isn't the handed one
 pub directory_there : (p : Built) (texts : StringTables) (i : ℕ) (t : LineText) → slice_get p.directories i ≡ Some t

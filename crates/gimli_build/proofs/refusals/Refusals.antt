@@ -1,19 +1,11 @@
 -- What bytes are refused for, where they are written part by part.
-use Rattle.std.proofs.Common.{◌≡◌, ℕ, Bool, true, false, not, List, [], ◌∷◌, ◌++◌, length, map, Ok, Err, refl, sym, ap}
-use Rattle.std.proofs.Common.{◌∙◌, if◌then◌else◌, ◌^◌, arith, nat_le, nat_eq}
-use Rattle.std.specs.Prelude.{Option, Some, None, Result, flat_map, IsTrue, ◌||◌, nat_lt}
-use Rattle.gimli_bytes.specs.declared.error.Error.{Error}
-use Rattle.gimli_build.specs.Joined.{result_append, result_concat, after_length}
-use Rattle.gimli_build.specs.Cause.{cause_if, first_of, refusal, word_cause, unit_length_cause}
-use Rattle.std.proofs.lemmas.Bool.{ltb-true, ltb-false}
-use Rattle.std.proofs.lemmas.Bool.Decides.{nat_tests}
-use Rattle.gimli_core.specs.Numbers.{number_bytes, is_address_size}
-use Rattle.gimli_core.specs.declared.common.Format.{Format}
-use Rattle.gimli_core.specs.declared.common.Format.TheVariants.{Dwarf32, Dwarf64}
-use Rattle.gimli_bytes.specs.Number.{udata, length_word}
-use Rattle.gimli_bytes.specs.declared.error.Error.TheVariants.{ValueTooLarge, UnsupportedWordSize}
-use Rattle.gimli_bytes.specs.declared.error.Error.TheVariants.{InitialLengthOverflow}
-use Rattle.gimli_build.specs.FormatWord.{format_word}
+use Rattle.std.specs.Prelude.{◌≡◌, ◌∷◌, ◌++◌, if◌then◌else◌, ◌^◌, ◌||◌}
+use Rattle.gimli_build.proofs.Common
+use Common.{ℕ, Bool, true, false, not, List, [], length, map, Ok, Err, refl, sym, ap, ◌∙◌, arith, nat_le, nat_eq}
+use Common.{Option, Some, None, Result, flat_map, IsTrue, nat_lt, Error, result_append, result_concat, after_length}
+use Common.{cause_if, first_of, refusal, word_cause, unit_length_cause, ltb-true, ltb-false, nat_tests, number_bytes}
+use Common.{is_address_size, Format, Dwarf32, Dwarf64, udata, length_word, ValueTooLarge, UnsupportedWordSize}
+use Common.{InitialLengthOverflow, format_word}
 
 -- ---- causes
 

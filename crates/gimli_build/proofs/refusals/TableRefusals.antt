@@ -1,25 +1,13 @@
 -- What the tables of a unit are refused for.
-use Rattle.std.proofs.Common.{◌≡◌, ℕ, Bool, true, false, not, List, [], ◌∷◌, ◌++◌, length, drop, map, Ok, Err, refl}
-use Rattle.std.proofs.Common.{sym, ap, ◌∙◌, if◌then◌else◌, nat_le}
-use Rattle.std.proofs.Common.{nat_eq}
-use Rattle.std.specs.Prelude.{Option, Result, flat_map, unwrap_or}
-use Rattle.gimli_core.specs.declared.common.Format.{Format}
-use Rattle.gimli_bytes.specs.Hand.{plain}
-use Rattle.gimli_bytes.specs.Number.{uleb}
-use Rattle.gimli_bytes.specs.Texts.{offset_of, StringTables}
-use Rattle.gimli_bytes.specs.declared.error.Error.{Error}
-use Rattle.gimli_bytes.specs.declared.error.Error.TheVariants.{LineStringFormMismatch}
-use Rattle.gimli_build.specs.LineText.{LineText, Inline, InStrings, InLineStrings}
-use Rattle.gimli_build.specs.Tables.{File}
-use Rattle.gimli_build.specs.Built.{Built}
-use Rattle.gimli_build.specs.Joined.{result_append}
-use Rattle.gimli_build.specs.Version4Tables.{name_bytes, directories_bytes, file_bytes, files_bytes}
-use Rattle.gimli_build.specs.Version5Tables.{text_form, first_form, path_texts, sources, empty_text, directory_formats}
-use Rattle.gimli_build.specs.Version5Tables.{file_formats, formats_bytes}
-use Rattle.gimli_build.specs.Version5Tables.{detail_bytes, text_bytes, text_in_form, directory_table_bytes}
-use Rattle.gimli_build.specs.Version5Tables.{source_bytes, file_entry_bytes, file_table_bytes}
-use Rattle.gimli_build.specs.Unit.{tables_bytes}
-use Rattle.gimli_build.specs.Cause.{cause_if, first_of, offset_cause, text_cause, file_texts, emitted_texts, refusal}
+use Rattle.std.specs.Prelude.{◌≡◌, ◌∷◌, ◌++◌, if◌then◌else◌}
+use Rattle.gimli_build.proofs.Common
+use Common.{ℕ, Bool, true, false, not, List, [], length, drop, map, Ok, Err, refl, sym, ap, ◌∙◌, nat_le, nat_eq, Option}
+use Common.{Result, flat_map, unwrap_or, Format, plain, uleb, offset_of, StringTables, Error, LineStringFormMismatch}
+use Common.{LineText, Inline, InStrings, InLineStrings, File, Built, result_append, name_bytes, directories_bytes}
+use Common.{file_bytes, files_bytes, text_form, first_form, path_texts, sources, empty_text, directory_formats}
+use Common.{file_formats, formats_bytes, detail_bytes, text_bytes, text_in_form, directory_table_bytes, source_bytes}
+use Common.{file_entry_bytes, file_table_bytes, tables_bytes, cause_if, first_of, offset_cause, text_cause, file_texts}
+use Common.{emitted_texts, refusal}
 use Rattle.gimli_build.proofs.refusals.Refusals.{or_first, first_before_none, first_apart, first_alone, causes_append}
 use Rattle.gimli_build.proofs.refusals.Refusals.{causes_map, causes_flat}
 use Rattle.gimli_build.proofs.refusals.Refusals.{joined-refusal, parts-refusal}

@@ -1,35 +1,15 @@
 -- How many instructions and bytes a row has.
-use Rattle.std.proofs.Common.{◌≡◌, ℕ, ◌+◌, ◌-◌, ◌*◌, ◌/◌, ◌%◌, ◌<◌, ◌≤◌, Bool, true, false, not, List, [], ◌∷◌, ◌++◌}
-use Rattle.std.proofs.Common.{length, refl, ap, ◌∙◌, arith, lit≤}
-use Rattle.std.proofs.Common.{nat_eq, nat_le, if◌then◌else◌, ℤ, pos, ◌+ℤ◌, ◌-ℤ◌, ◌≤ℤ◌, ◌<ℤ◌, Some}
-use Rattle.std.specs.Prelude.{unsigned_abs}
+use Rattle.std.specs.Prelude.{◌≡◌, ◌+◌, ◌-◌, ◌*◌, ◌/◌, ◌%◌, ◌<◌, ◌≤◌, ◌∷◌, ◌++◌, if◌then◌else◌, ◌+ℤ◌, ◌-ℤ◌, ◌≤ℤ◌, ◌<ℤ◌}
+use Rattle.gimli_build.proofs.Common
+use Common.{ℕ, Bool, true, false, not, List, [], length, refl, ap, ◌∙◌, arith, lit≤, nat_eq, nat_le, ℤ, pos, Some}
+use Common.{unsigned_abs, ints, le-leb, nat_tests, Encoding, LineEncoding, Special, Copy, AdvancePc, AdvanceLine}
+use Common.{SetFile, SetColumn, NegateStatement, SetBasicBlock, ConstAddPc, SetPrologueEnd, SetEpilogueBegin, SetIsa}
+use Common.{SetDiscriminator, Ins, LineRow, CanEncode, operations, when, marks, changes, differ, line_part}
+use Common.{is_special_advance, row_maker, constant_advance, operation_part, row_instructions, instruction_bytes}
+use Common.{instructions_bytes, built_rules}
 use Rattle.std.proofs.Math.Nat.{mod-lt, div-add-mod'}
 use Rattle.std.proofs.lemmas.List.{length-append}
-use Rattle.std.proofs.lemmas.Int.{ints}
-use Rattle.std.proofs.lemmas.Bool.{le-leb}
-use Rattle.std.proofs.lemmas.Bool.Decides.{nat_tests}
-use Rattle.gimli_core.specs.declared.common.Encoding.{Encoding}
-use Rattle.gimli_core.specs.declared.common.LineEncoding.{LineEncoding}
-use Rattle.gimli_line.specs.declared.run.instruction.LineInstruction.TheVariants.{Special, Copy, AdvancePc, AdvanceLine}
-use Rattle.gimli_line.specs.declared.run.instruction.LineInstruction.TheVariants.{SetFile, SetColumn, NegateStatement}
-use Rattle.gimli_line.specs.declared.run.instruction.LineInstruction.TheVariants.{
-  SetBasicBlock,
-  ConstAddPc,
-  SetPrologueEnd,
-  SetEpilogueBegin,
-  SetIsa,
-}
-use Rattle.gimli_line.specs.declared.run.instruction.LineInstruction.TheVariants.{SetDiscriminator}
-use Rattle.gimli_line.specs.run.Instruction.{Ins}
 use Rattle.gimli_line.specs.run.OperationPointer.{operation_advance}
-use Rattle.gimli_build.specs.declared.built.row.LineRow.{LineRow}
-use Rattle.gimli_build.specs.Advance.{CanEncode, operations}
-use Rattle.gimli_build.specs.Due.{when}
-use Rattle.gimli_build.specs.Encode.{marks, changes, differ, line_part, is_special_advance}
-use Rattle.gimli_build.specs.Encode.{row_maker, constant_advance}
-use Rattle.gimli_build.specs.Encode.{operation_part, row_instructions}
-use Rattle.gimli_build.specs.InstructionBytes.{instruction_bytes, instructions_bytes}
-use Rattle.gimli_build.specs.SameRow.{built_rules}
 use Rattle.gimli_build.specs.Sizes.{HasSpecial, OnlyMoves}
 
 -- ---- instructions

@@ -1,10 +1,10 @@
 -- How many operations one position is after another.
-use Rattle.std.proofs.Common.{◌≡◌, ℕ, zero, suc, ◌+◌, ◌-◌, ◌*◌, ◌/◌, ◌%◌, ◌<◌, ◌≤◌, arith, ap, ◌∙◌, inl, inr, refl}
+use Rattle.std.specs.Prelude.{◌≡◌, ◌+◌, ◌-◌, ◌*◌, ◌/◌, ◌%◌, ◌<◌, ◌≤◌}
+use Rattle.gimli_build.proofs.Common.{ℕ, zero, suc, arith, ap, ◌∙◌, inl, inr, refl, cases_lt}
 use Rattle.std.proofs.Math.Nat.{mul-le-mul_right, mod-eq_of_lt, div-eq_of_lt, mul-div_cancel, add-mul-div_right}
 use Rattle.std.proofs.Math.Nat.{add-mul-mod_self_right, add-mul, mul_comm}
 use Rattle.std.proofs.Math.Nat.{div-mul-le_self}
 use Rattle.std.proofs.lemmas.Nat.{div-add-mod', le-div}
-use Rattle.std.proofs.lemmas.Bool.{cases_lt}
 
 -- two multiples of m that differ are at least m apart
 apart_by : (m p o : ℕ) → p % m ≡ 0 → o % m ≡ 0 → p < o → m ≤ o - p

@@ -1,33 +1,17 @@
 -- How many bytes the parts of a unit have, its tables, and a unit.
-use Rattle.std.proofs.Common.{◌≡◌, ℕ, ◌+◌, Bool, true, false, List, [], ◌∷◌, Ok, Err, arith, if◌then◌else◌}
-use Rattle.std.proofs.Common.{nat_le, ◌++◌, length, drop, sym, ap, ◌∙◌}
-use Rattle.std.specs.Prelude.{Result, sum_by, unwrap_or}
-use Rattle.gimli_core.specs.Numbers.{word_size}
-use Rattle.gimli_core.specs.declared.common.Encoding.{Encoding}
-use Rattle.gimli_core.specs.declared.common.LineEncoding.{LineEncoding}
-use Rattle.gimli_bytes.specs.Hand.{plain}
-use Rattle.gimli_bytes.specs.declared.error.Error.{Error}
-use Rattle.gimli_bytes.specs.declared.error.Error.TheVariants.{NeedVersion, LineStringFormMismatch}
-use Rattle.gimli_bytes.specs.Texts.{StringTables}
+use Rattle.std.specs.Prelude.{◌≡◌, ◌+◌, ◌∷◌, if◌then◌else◌, ◌++◌}
+use Rattle.gimli_build.proofs.Common
+use Common.{ℕ, Bool, true, false, List, [], Ok, Err, arith, nat_le, length, drop, sym, ap, ◌∙◌, Result, sum_by}
+use Common.{unwrap_or, word_size, Encoding, LineEncoding, plain, Error, NeedVersion, LineStringFormMismatch}
+use Common.{StringTables, Built, format_word, result_append, result_concat, after_length, opening_bytes}
+use Common.{line_encoding_bytes, opcode_bytes, tables_bytes, fields_bytes, header_bytes, program_bytes, inside_bytes}
+use Common.{tables_size, header_length, size_of, unit_length, text_size, file_size, entry_size, Format, uleb, LineText}
+use Common.{Inline, InStrings, InLineStrings, File, name_bytes, directories_bytes, file_bytes, files_bytes, first_form}
+use Common.{path_texts, sources, empty_text, directory_formats, file_formats, formats_bytes, detail_bytes, text_bytes}
+use Common.{text_in_form, directory_table_bytes, source_bytes, file_entry_bytes, file_table_bytes, Dwarf32, Dwarf64}
 use Rattle.gimli_bytes.proofs.RelocationLemmas.{length-number}
-use Rattle.gimli_build.specs.Built.{Built}
-use Rattle.gimli_build.specs.FormatWord.{format_word}
-use Rattle.gimli_build.specs.Joined.{result_append, result_concat, after_length}
-use Rattle.gimli_build.specs.Unit.{opening_bytes, line_encoding_bytes}
-use Rattle.gimli_build.specs.Unit.{opcode_bytes, tables_bytes, fields_bytes, header_bytes, program_bytes}
-use Rattle.gimli_build.specs.Unit.{inside_bytes}
-use Rattle.gimli_build.specs.Cause.{tables_size, header_length, size_of, unit_length, text_size, file_size, entry_size}
 use Rattle.std.proofs.lemmas.List.{length-append}
 use Rattle.std.proofs.lemmas.List.Sums.{sum_by-cons}
-use Rattle.gimli_core.specs.declared.common.Format.{Format}
-use Rattle.gimli_bytes.specs.Number.{uleb}
-use Rattle.gimli_build.specs.LineText.{LineText, Inline, InStrings, InLineStrings}
-use Rattle.gimli_build.specs.Tables.{File}
-use Rattle.gimli_build.specs.Version4Tables.{name_bytes, directories_bytes, file_bytes, files_bytes}
-use Rattle.gimli_build.specs.Version5Tables.{first_form, path_texts, sources, empty_text, directory_formats}
-use Rattle.gimli_build.specs.Version5Tables.{file_formats, formats_bytes, detail_bytes, text_bytes, text_in_form}
-use Rattle.gimli_build.specs.Version5Tables.{directory_table_bytes, source_bytes, file_entry_bytes, file_table_bytes}
-use Rattle.gimli_core.specs.declared.common.Format.TheVariants.{Dwarf32, Dwarf64}
 
 -- these are so many bytes, where they are written
 abbrev pub HasSize : Result (List ℕ) Error → ℕ → Type 0

@@ -1,37 +1,21 @@
 -- The bytes of the fixed fields of a unit spell them.
-use Rattle.std.proofs.Common.{◌≡◌, ℕ, ◌<◌, ◌≤◌, ◌^◌, Bool, true, false, List, [], ◌∷◌, ◌++◌, length, Ok, Err, refl, sym}
-use Rattle.std.proofs.Common.{arith, lit<}
-use Rattle.std.specs.Prelude.{Result, not, nat_eq, nat_le, nat_lt, ◌&&◌, if◌then◌else◌, ℤ, FitsSigned, IsTrue}
+use Rattle.std.specs.Prelude.{◌≡◌, ◌<◌, ◌≤◌, ◌^◌, ◌∷◌, ◌++◌, ◌&&◌, if◌then◌else◌}
+use Rattle.gimli_build.proofs.Common
+use Common.{ℕ, Bool, true, false, List, [], length, Ok, Err, refl, sym, arith, lit<, Result, not, nat_eq, nat_le}
+use Common.{nat_lt, ℤ, FitsSigned, IsTrue, rules, ints, to_z-of_z, ltb-true, leb-true, leb-false, lt-ltb, lt-leb}
+use Common.{le-leb, ne_eqb, eqb-true, append-nil, OrderAndLimit, SpellsNumber, SpellsInitialLength, number_bytes}
+use Common.{word_size, is_address_size, Production, ◌>>=◌, done, check, choose, byte, offset_word, fits_offset}
+use Common.{LineEncoding, Format, Dwarf32, Dwarf64, number_spelled, length_word, Error, NeedVersion, UnsupportedVersion}
+use Common.{ValueTooLarge, InitialLengthOverflow, positive, CanEncode, format_word, version_bytes, operations_bytes}
+use Common.{flag_byte, line_encoding_bytes, escape_bytes}
 use Rattle.std.specs.Int.{w8, cast_signed}
-use Rattle.std.proofs.Common.{rules}
-use Rattle.std.proofs.lemmas.Int.{ints, to_z-of_z}
-use Rattle.std.proofs.lemmas.Bool.{ltb-true, leb-true, leb-false, lt-ltb, lt-leb, le-leb, ne_eqb, eqb-true}
-use Rattle.std.proofs.lemmas.List.{append-nil}
-use Rattle.gimli_core.specs.Layout.{OrderAndLimit}
-use Rattle.gimli_core.specs.Numbers.{SpellsNumber, SpellsInitialLength, number_bytes, word_size, is_address_size}
-use Rattle.gimli_core.specs.Production.{Production, ◌>>=◌, done, check, choose, byte, offset_word, unit_length}
-use Rattle.gimli_core.specs.Production.{fits_offset}
-use Rattle.gimli_core.specs.declared.common.LineEncoding.{LineEncoding}
-use Rattle.gimli_core.specs.declared.common.Format.{Format}
-use Rattle.gimli_core.specs.declared.common.Format.TheVariants.{Dwarf32, Dwarf64}
+use Rattle.gimli_core.specs.Production.{unit_length}
 use Rattle.gimli_core.specs.declared.error.Error.{Error as ReadError}
-use Rattle.gimli_core.specs.declared.error.Error.TheVariants.{
-  UnsupportedAddressSize,
-  UnsupportedSegmentSize,
-  MinimumInstructionLengthZero,
-}
+use Rattle.gimli_core.specs.declared.error.Error.TheVariants.{UnsupportedAddressSize, UnsupportedSegmentSize}
+use Rattle.gimli_core.specs.declared.error.Error.TheVariants.{MinimumInstructionLengthZero}
 use Rattle.gimli_core.specs.declared.error.Error.TheVariants.{MaximumOperationsPerInstructionZero, LineRangeZero}
-use Rattle.gimli_core.proofs.Written.{number_spelled}
-use Rattle.gimli_bytes.specs.Number.{length_word}
-use Rattle.gimli_bytes.specs.declared.error.Error.{Error}
-use Rattle.gimli_bytes.specs.declared.error.Error.TheVariants.{NeedVersion, UnsupportedVersion, ValueTooLarge}
-use Rattle.gimli_bytes.specs.declared.error.Error.TheVariants.{InitialLengthOverflow}
-use Rattle.gimli_line.specs.header.Productions.{positive}
 use Rattle.gimli_line.specs.header.HeaderGrammar.{version_production, address_size_production, line_encoding_production}
-use Rattle.gimli_build.specs.Advance.{CanEncode}
-use Rattle.gimli_build.specs.FormatWord.{format_word}
-use Rattle.gimli_build.specs.Unit.{version_bytes, operations_bytes, flag_byte, base_byte, line_encoding_bytes}
-use Rattle.gimli_build.specs.Unit.{escape_bytes}
+use Rattle.gimli_build.specs.Unit.{base_byte}
 use Rattle.gimli_build.proofs.sizes.UnitSizes.{format_word_size}
 use Rattle.gimli_build.proofs.writing.WrittenParts.{same_written, after_written, before_written}
 

@@ -1,19 +1,10 @@
 -- An entry of the files of version 5: its bytes spell it, and a file is read of it.
-use Rattle.std.proofs.Common.{◌≡◌, ℕ, ◌<◌, ◌^◌, Bool, true, false, List, [], ◌∷◌, ◌++◌, length, map, Some, None, refl}
-use Rattle.std.proofs.Common.{sym, ap, ◌∙◌, subst}
-use Rattle.std.proofs.Common.{append_assoc, if◌then◌else◌}
-use Rattle.std.specs.Prelude.{nat_eq, replicate}
-use Rattle.std.proofs.lemmas.List.{append-nil}
-use Rattle.gimli_core.specs.Layout.{OrderAndLimit}
-use Rattle.gimli_core.specs.Values.{Value}
-use Rattle.gimli_core.specs.inside.Form.{SpellsForm}
-use Rattle.gimli_core.specs.declared.common.Format.{Format}
-use Rattle.gimli_core.specs.declared.attribute_value.AttributeValue.TheVariants.{Block, Udata}
-use Rattle.gimli_bytes.specs.Number.{uleb}
-use Rattle.gimli_bytes.proofs.ShortestUleb.{uleb_shortest}
-use Rattle.gimli_line.specs.header.File.{File as ReadFile}
+use Rattle.std.specs.Prelude.{◌≡◌, ◌<◌, ◌^◌, ◌∷◌, ◌++◌, if◌then◌else◌}
+use Rattle.gimli_build.proofs.Common
+use Common.{ℕ, Bool, true, false, List, [], length, map, Some, None, refl, sym, ap, ◌∙◌, subst, append_assoc, nat_eq}
+use Common.{replicate, append-nil, OrderAndLimit, Value, SpellsForm, Format, Block, Udata, uleb, uleb_shortest}
+use Common.{ReadFile, when}
 use Rattle.gimli_line.specs.header.HeaderGrammar.{TableEntry, entry_production, digest, file_of_entry}
-use Rattle.gimli_build.specs.Due.{when}
 use Rattle.gimli_build.proofs.spellings.FormatForms.{read_format, formats_of, nested}
 
 -- ---- what is read

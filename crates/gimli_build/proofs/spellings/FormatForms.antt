@@ -1,22 +1,12 @@
 -- The formats of a table of version 5: their bytes spell them, and one of them is a path.
-use Rattle.std.proofs.Common.{◌≡◌, ℕ, ◌<◌, ◌^◌, Bool, true, false, List, [], ◌∷◌, ◌++◌, length, map, refl, sym, ◌∙◌}
-use Rattle.std.proofs.Common.{subst, append_assoc, arith, lit<}
-use Rattle.std.specs.Prelude.{min}
-use Rattle.std.specs.List.{flat_map, count_by}
-use Rattle.std.proofs.lemmas.Bool.{lt-ltb}
-use Rattle.std.proofs.lemmas.List.{append-nil}
-use Rattle.gimli_core.specs.Production.{times}
-use Rattle.gimli_core.specs.Numbers.{SpellsUleb128}
+use Rattle.std.specs.Prelude.{◌≡◌, ◌<◌, ◌^◌, ◌∷◌, ◌++◌}
+use Rattle.gimli_build.proofs.Common
+use Common.{ℕ, Bool, true, false, List, [], length, map, refl, sym, ◌∙◌, subst, append_assoc, arith, lit<, min}
+use Common.{flat_map, count_by, lt-ltb, append-nil, times, SpellsUleb128, uleb_shortest, SpellsFormats, FileEntryFormat}
+use Common.{LineText, Inline, InStrings, InLineStrings, when, text_form, first_form, path_texts, sources, formats_bytes}
+use Common.{directory_formats, file_formats, Built}
 use Rattle.gimli_bytes.specs.Number.{uleb}
-use Rattle.gimli_bytes.proofs.ShortestUleb.{uleb_shortest}
 use Rattle.gimli_line.specs.header.HeaderGrammar.{format_production, is_content}
-use Rattle.gimli_line.specs.inside.header.HeaderGrammar.{SpellsFormats}
-use Rattle.gimli_line.specs.declared.header.file_entry.FileEntryFormat.{FileEntryFormat}
-use Rattle.gimli_build.specs.LineText.{LineText, Inline, InStrings, InLineStrings}
-use Rattle.gimli_build.specs.Due.{when}
-use Rattle.gimli_build.specs.Version5Tables.{text_form, first_form, path_texts, sources, formats_bytes}
-use Rattle.gimli_build.specs.Version5Tables.{directory_formats, file_formats}
-use Rattle.gimli_build.specs.Built.{Built}
 
 -- a content type and a form as they are read
 abbrev pub read_format : ℕ × ℕ → FileEntryFormat

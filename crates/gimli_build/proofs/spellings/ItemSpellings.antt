@@ -1,29 +1,11 @@
 -- The bytes of built items spell their instructions.
-use Rattle.std.proofs.Common.{◌≡◌, ℕ, ◌<◌, ◌^◌, List, [], ◌∷◌, ◌++◌, Ok, Err, refl, sym, subst, ap, ◌∙◌, append_assoc}
-use Rattle.std.proofs.Common.{lit<}
-use Rattle.std.specs.Prelude.{Result, IfOk}
-use Rattle.std.proofs.lemmas.List.{append-nil}
-use Rattle.gimli_core.specs.Layout.{OrderAndLimit}
-use Rattle.gimli_core.specs.Production.{Each}
-use Rattle.gimli_core.specs.declared.common.Encoding.{Encoding}
-use Rattle.gimli_core.specs.declared.common.LineEncoding.{LineEncoding}
-use Rattle.gimli_bytes.specs.Hand.{plain}
-use Rattle.gimli_bytes.specs.declared.address.Address.TheVariants.{Constant, Symbol}
-use Rattle.gimli_bytes.specs.declared.error.Error.{Error}
-use Rattle.gimli_line.specs.header.Header.{Header}
-use Rattle.gimli_line.specs.run.Instruction.{Ins}
-use Rattle.gimli_line.specs.run.InstructionGrammar.{SpellsInstruction}
+use Rattle.std.specs.Prelude.{◌≡◌, ◌<◌, ◌^◌, ◌∷◌, ◌++◌}
+use Rattle.gimli_build.proofs.Common
+use Common.{ℕ, List, [], Ok, Err, refl, sym, subst, ap, ◌∙◌, append_assoc, lit<, Result, IfOk, append-nil}
+use Common.{OrderAndLimit, Each, Encoding, LineEncoding, plain, Constant, Symbol, Error, Header, Ins, SpellsInstruction}
+use Common.{LineRow, BuiltItem, SetAddress, Row, End, CanEncode, AreBuilt, initial_row, row_instructions}
+use Common.{end_instructions, instructions_bytes, result_append, item_bytes, items_bytes, items_instructions, AreFit}
 use Rattle.gimli_line.specs.declared.run.instruction.LineInstruction.TheVariants as read
-use Rattle.gimli_build.specs.declared.built.row.LineRow.{LineRow}
-use Rattle.gimli_build.specs.declared.built.items.BuiltItem.{BuiltItem}
-use Rattle.gimli_build.specs.declared.built.items.BuiltItem.TheVariants.{SetAddress, Row, End}
-use Rattle.gimli_build.specs.Advance.{CanEncode}
-use Rattle.gimli_build.specs.Conditions.{AreBuilt}
-use Rattle.gimli_build.specs.Rows.{initial_row}
-use Rattle.gimli_build.specs.Encode.{row_instructions, end_instructions}
-use Rattle.gimli_build.specs.InstructionBytes.{instructions_bytes}
-use Rattle.gimli_build.specs.Joined.{result_append}
-use Rattle.gimli_build.specs.Items.{item_bytes, items_bytes, items_instructions, AreFit}
 use Rattle.gimli_build.proofs.spellings.Spellings.{each-spelled, all_row, all_end, address-spelled}
 
 -- both parts were written

@@ -1,51 +1,18 @@
 -- The bytes of an instruction spell it.
-use Rattle.std.proofs.Common.{◌≡◌, ℕ, ◌+◌, ◌-◌, ◌*◌, ◌^◌, ◌<◌, ◌≤◌, Bool, true, false, List, [], ◌∷◌, ◌++◌, length}
-use Rattle.std.proofs.Common.{refl, sym, arith, lit<, Ok}
-use Rattle.std.specs.Prelude.{nat_eq, nat_le, ◌||◌, if◌then◌else◌, Result, Err, ℤ, ◌+ℤ◌, ◌-ℤ◌, ◌≤ℤ◌}
-use Rattle.std.specs.Prelude.{◌<ℤ◌}
-use Rattle.std.specs.Prelude.{FitsSigned}
-use Rattle.std.specs.Int.{w64}
-use Rattle.std.proofs.Common.{rules}
-use Rattle.std.proofs.lemmas.Int.{ints}
-use Rattle.std.specs.List.{AllByRecursion}
+use Rattle.std.specs.Prelude.{◌≡◌, ◌+◌, ◌-◌, ◌*◌, ◌^◌, ◌<◌, ◌≤◌, ◌∷◌, ◌++◌, ◌||◌, if◌then◌else◌, ◌+ℤ◌, ◌-ℤ◌, ◌≤ℤ◌, ◌<ℤ◌}
+use Rattle.gimli_build.proofs.Common
+use Common.{ℕ, Bool, true, false, List, [], length, refl, sym, arith, lit<, Ok, nat_eq, nat_le, Result, Err, ℤ}
+use Common.{FitsSigned, w64, rules, ints, AllByRecursion, append-nil, lt-ltb, lt-leb, le-leb, ne_eqb, LineEncoding}
+use Common.{OrderAndLimit, SpellsUleb128, SpellsNumber, number_bytes, Each, number_spelled, plain, uleb, sleb, Error}
+use Common.{ValueTooLarge, UnsupportedWordSize, Constant, uleb_shortest, Header, Ins, standard_production}
+use Common.{extended_operands, SpellsInstruction, Special, Copy, AdvancePc, AdvanceLine, SetFile, SetColumn}
+use Common.{NegateStatement, SetBasicBlock, ConstAddPc, SetPrologueEnd, SetEpilogueBegin, SetIsa, EndSequence}
+use Common.{SetDiscriminator, LineRow, CanEncode, CanFollow, operations, marks, changes, line_part, line_opcode}
+use Common.{operation_part, row_instructions, end_instructions, instruction_bytes, instructions_bytes}
+use Common.{set_address_bytes, IsWritten, FitsInstructions}
 use borrow.Author.Tests.{ltb-true}
-use Rattle.std.proofs.lemmas.List.{append-nil}
-use Rattle.std.proofs.lemmas.Bool.{lt-ltb, lt-leb, le-leb, ne_eqb}
-use Rattle.gimli_core.specs.declared.common.LineEncoding.{LineEncoding}
-use Rattle.gimli_core.specs.Layout.{OrderAndLimit}
-use Rattle.gimli_core.specs.Numbers.{SpellsUleb128, SpellsNumber, number_bytes}
-use Rattle.gimli_core.specs.Production.{Each}
-use Rattle.gimli_core.proofs.Written.{number_spelled}
-use Rattle.gimli_bytes.specs.Hand.{plain}
-use Rattle.gimli_bytes.specs.Number.{uleb, sleb}
-use Rattle.gimli_bytes.specs.declared.error.Error.{Error}
-use Rattle.gimli_bytes.specs.declared.error.Error.TheVariants.{ValueTooLarge, UnsupportedWordSize}
-use Rattle.gimli_bytes.specs.declared.address.Address.TheVariants.{Constant}
-use Rattle.gimli_bytes.proofs.ShortestUleb.{uleb_shortest}
 use Rattle.gimli_bytes.proofs.ShortestSleb.{sleb_shortest}
-use Rattle.gimli_line.specs.header.Header.{Header}
-use Rattle.gimli_line.specs.run.Instruction.{Ins}
-use Rattle.gimli_line.specs.run.InstructionGrammar.{standard_production, extended_operands, SpellsInstruction}
-use Rattle.gimli_line.specs.declared.run.instruction.LineInstruction.TheVariants.{Special, Copy, AdvancePc, AdvanceLine}
-use Rattle.gimli_line.specs.declared.run.instruction.LineInstruction.TheVariants.{SetFile, SetColumn, NegateStatement}
-use Rattle.gimli_line.specs.declared.run.instruction.LineInstruction.TheVariants.{
-  SetBasicBlock,
-  ConstAddPc,
-  SetPrologueEnd,
-  SetEpilogueBegin,
-  SetIsa,
-}
-use Rattle.gimli_line.specs.declared.run.instruction.LineInstruction.TheVariants.{
-  EndSequence,
-  SetAddress,
-  SetDiscriminator,
-}
-use Rattle.gimli_build.specs.declared.built.row.LineRow.{LineRow}
-use Rattle.gimli_build.specs.Advance.{CanEncode, CanFollow, operations}
-use Rattle.gimli_build.specs.Encode.{marks, changes, line_part, line_opcode}
-use Rattle.gimli_build.specs.Encode.{operation_part, row_instructions, end_instructions}
-use Rattle.gimli_build.specs.InstructionBytes.{instruction_bytes, instructions_bytes, set_address_bytes, IsWritten}
-use Rattle.gimli_build.specs.InstructionBytes.{FitsInstructions}
+use Rattle.gimli_line.specs.declared.run.instruction.LineInstruction.TheVariants.{SetAddress}
 
 module _ (layout : OrderAndLimit) (h : Header) (base : h.parameters.opcode_base ≡ 13) (wide : 11 < layout.limit) where
   -- an instruction by a standard opcode

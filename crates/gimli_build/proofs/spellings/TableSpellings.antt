@@ -1,23 +1,12 @@
 -- The bytes of the tables of a unit up to version 4 spell them.
-use Rattle.std.proofs.Common.{◌≡◌, ◌≢◌, ℕ, ◌<◌, ◌^◌, List, [], ◌∷◌, ◌++◌, drop, map, Ok, refl, sym, append_assoc}
-use Rattle.std.specs.Prelude.{All}
-use Rattle.std.proofs.lemmas.List.{append-nil}
-use Rattle.std.proofs.lemmas.List.Elements.{All-head, All-tail, recursion_from_All}
-use Rattle.gimli_core.specs.Production.{Production, ◌>>=◌, Each}
-use Rattle.gimli_core.specs.Numbers.{SpellsUleb128}
-use Rattle.gimli_bytes.specs.Number.{uleb}
-use Rattle.gimli_bytes.proofs.ShortestUleb.{uleb_shortest}
-use Rattle.gimli_bytes.specs.Texts.{StringTables}
-use Rattle.gimli_line.specs.header.Productions.{path_text}
-use Rattle.gimli_line.specs.header.Header.{plain_file}
-use Rattle.gimli_line.specs.header.File.{File as ReadFile}
+use Rattle.std.specs.Prelude.{◌≡◌, ◌≢◌, ◌<◌, ◌^◌, ◌∷◌, ◌++◌}
+use Rattle.gimli_build.proofs.Common
+use Common.{ℕ, List, [], drop, map, Ok, refl, sym, append_assoc, All, append-nil, All-head, All-tail}
+use Common.{recursion_from_All, Production, ◌>>=◌, Each, SpellsUleb128, uleb, uleb_shortest, StringTables, path_text}
+use Common.{plain_file, ReadFile, SpellsPaths, SpellsFiles, LineText, Inline, InStrings, InLineStrings, bytes_in}
+use Common.{HasNoZero, IsNotEmpty, File, keys_of, FitsFile, result_concat, name_bytes, directories_bytes, file_bytes}
+use Common.{files_bytes}
 use Rattle.gimli_line.specs.header.HeaderGrammar.{file_production}
-use Rattle.gimli_line.specs.inside.header.HeaderGrammar.{SpellsPaths, SpellsFiles}
-use Rattle.gimli_build.specs.LineText.{LineText, Inline, InStrings, InLineStrings, bytes_in, HasNoZero, IsNotEmpty}
-use Rattle.gimli_build.specs.Tables.{File, keys_of}
-use Rattle.gimli_build.specs.inside.Tables.{FitsFile}
-use Rattle.gimli_build.specs.Joined.{result_concat}
-use Rattle.gimli_build.specs.Version4Tables.{name_bytes, directories_bytes, file_bytes, files_bytes}
 use Rattle.gimli_build.proofs.writing.WrittenParts.{same_written, both_written, before_written}
 
 unsigned_spelled : (n : ℕ) → n < 2 ^ 64 → SpellsUleb128 64 (uleb n) n

@@ -1,29 +1,13 @@
 -- The texts of a table of version 5 as values: their bytes spell these, and these stand for the texts.
-use Rattle.std.proofs.Common.{◌≡◌, ◌≢◌, ℕ, ◌<◌, ◌^◌, Bool, true, false, List, [], ◌∷◌, length, get_or, Some}
-use Rattle.std.proofs.Common.{Ok, refl, sym, ap, ◌∙◌, subst}
-use Rattle.std.proofs.Common.{arith, if◌then◌else◌, length-append}
-use Rattle.std.specs.Prelude.{Result, Err, nat_eq, slice_get, unwrap_or}
-use Rattle.std.proofs.lemmas.Bool.{eqb-true}
-use Rattle.std.proofs.lemmas.List.{append-nil}
-use Rattle.std.proofs.lemmas.List.Elements.{recursion_from_All}
-use Rattle.std.proofs.lemmas.Option.{slice_get-get_or}
-use Rattle.gimli_core.specs.Layout.{OrderAndLimit}
-use Rattle.gimli_core.specs.Values.{Value}
+use Rattle.std.specs.Prelude.{◌≡◌, ◌≢◌, ◌<◌, ◌^◌, ◌∷◌, if◌then◌else◌}
+use Rattle.gimli_build.proofs.Common
+use Common.{ℕ, Bool, true, false, List, [], length, get_or, Some, Ok, refl, sym, ap, ◌∙◌, subst, arith, length-append}
+use Common.{Result, Err, nat_eq, slice_get, unwrap_or, eqb-true, append-nil, recursion_from_All, slice_get-get_or}
+use Common.{OrderAndLimit, Value, SpellsForm, Format, Dwarf64, DebugStr, DebugLineStr, String, DebugStrRef}
+use Common.{DebugLineStrRef, Placement, counted, AreTexts, offset_of, StringTables, Error, LineStringFormMismatch}
+use Common.{LineText, Inline, InStrings, InLineStrings, IsWithin, HasNoZero, bytes_in, Sections, IsTextAt, IsText}
+use Common.{text_form, text_bytes, text_in_form, IsOffsetHeld, IsTextFound, IsFound}
 use Rattle.gimli_core.specs.Form.{form_production}
-use Rattle.gimli_core.specs.inside.Form.{SpellsForm}
-use Rattle.gimli_core.specs.declared.common.Format.{Format}
-use Rattle.gimli_core.specs.declared.common.Format.TheVariants.{Dwarf64}
-use Rattle.gimli_core.specs.declared.common.SectionId.TheVariants.{DebugStr, DebugLineStr}
-use Rattle.gimli_core.specs.declared.attribute_value.AttributeValue.TheVariants.{String, DebugStrRef, DebugLineStrRef}
-use Rattle.gimli_bytes.specs.Hand.{Placement}
-use Rattle.gimli_bytes.specs.Relocations.{counted}
-use Rattle.gimli_bytes.specs.Texts.{AreTexts, offset_of, StringTables}
-use Rattle.gimli_bytes.specs.declared.error.Error.{Error}
-use Rattle.gimli_bytes.specs.declared.error.Error.TheVariants.{LineStringFormMismatch}
-use Rattle.gimli_build.specs.LineText.{LineText, Inline, InStrings, InLineStrings, IsWithin, HasNoZero, bytes_in}
-use Rattle.gimli_build.specs.Texts.{Sections, IsTextAt, IsText}
-use Rattle.gimli_build.specs.Version5Tables.{text_form, text_bytes, text_in_form}
-use Rattle.gimli_build.specs.ReadsBack.{IsOffsetHeld, IsTextFound, IsFound}
 use Rattle.gimli_build.proofs.writing.WrittenParts.{same_written}
 use Rattle.gimli_build.proofs.spellings.EncodingSpellings.{offset-spelled, word-long}
 

@@ -1,30 +1,16 @@
 -- The bytes of a unit spell a header.
-use Rattle.std.proofs.Common.{◌≡◌, ℕ, ◌+◌, ◌-◌, ◌<◌, ◌≤◌, ◌^◌, Bool, List, [], ◌∷◌, ◌++◌, length, option_map, Ok}
-use Rattle.std.proofs.Common.{if◌then◌else◌, refl, sym, ap, ◌∙◌, arith}
-use Rattle.std.proofs.Common.{append_assoc}
-use Rattle.std.specs.Prelude.{Result, nat_le}
-use Rattle.std.proofs.lemmas.List.{append-nil, length-append}
-use Rattle.gimli_core.specs.Layout.{OrderAndLimit}
-use Rattle.gimli_core.specs.declared.common.Format.{Format}
-use Rattle.gimli_core.specs.declared.common.Format.TheVariants.{Dwarf32, Dwarf64}
+use Rattle.std.specs.Prelude.{◌≡◌, ◌+◌, ◌-◌, ◌<◌, ◌≤◌, ◌^◌, ◌∷◌, ◌++◌, if◌then◌else◌}
+use Rattle.gimli_build.proofs.Common
+use Common.{ℕ, Bool, List, [], length, option_map, Ok, refl, sym, ap, ◌∙◌, arith, append_assoc, Result, nat_le}
+use Common.{append-nil, OrderAndLimit, Format, Dwarf32, Dwarf64, Hand, length_word, Error, StringTables, Header}
+use Common.{UnitEntry, plain_file, Built, IsBuilt, Sections, built_rules, IsUnit, format_word, result_append}
+use Common.{opening_bytes, line_encoding_bytes, operand_counts, opcode_bytes, tables_bytes, fields_bytes, program_bytes}
+use Common.{escape_bytes, whole_bytes}
+use Rattle.std.proofs.lemmas.List.{length-append}
 use Rattle.gimli_core.specs.declared.error.Error.TheVariants.{OpcodeBaseZero}
-use Rattle.gimli_bytes.specs.Hand.{Hand}
-use Rattle.gimli_bytes.specs.Number.{length_word}
-use Rattle.gimli_bytes.specs.declared.error.Error.{Error}
-use Rattle.gimli_bytes.specs.Texts.{StringTables}
-use Rattle.gimli_line.specs.header.Header.{Header, UnitEntry, plain_file}
-use Rattle.gimli_line.specs.header.HeaderGrammar.{HeaderOpening, handed_value, parameters_production, opening_production}
+use Rattle.gimli_line.specs.header.HeaderGrammar.{HeaderOpening, handed_value, parameters_production}
+use Rattle.gimli_line.specs.header.HeaderGrammar.{opening_production}
 use Rattle.gimli_line.specs.header.HeaderGrammar.{fields_production, header_production}
-use Rattle.gimli_build.specs.Built.{Built}
-use Rattle.gimli_build.specs.inside.Conditions.{IsBuilt}
-use Rattle.gimli_build.specs.Texts.{Sections}
-use Rattle.gimli_build.specs.SameRow.{built_rules}
-use Rattle.gimli_build.specs.ReadsBack.{IsUnit}
-use Rattle.gimli_build.specs.FormatWord.{format_word}
-use Rattle.gimli_build.specs.Joined.{result_append}
-use Rattle.gimli_build.specs.Unit.{opening_bytes, line_encoding_bytes, operand_counts, opcode_bytes, tables_bytes}
-use Rattle.gimli_build.specs.Unit.{fields_bytes}
-use Rattle.gimli_build.specs.Unit.{program_bytes, escape_bytes, whole_bytes}
 use Rattle.gimli_build.proofs.writing.WrittenParts.{both_written, after_written, before_written}
 use Rattle.gimli_build.proofs.writing.WrittenParts.{counted_written}
 use Rattle.gimli_build.proofs.spellings.EncodingSpellings.{positive-spelled, encoding-spelled, version-spelled}

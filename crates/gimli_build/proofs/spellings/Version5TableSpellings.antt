@@ -1,34 +1,16 @@
 -- The bytes of the tables of version 5 spell them, and what is read of them stands for what was built.
-use Rattle.std.proofs.Common.{◌≡◌, ℕ, ◌<◌, ◌≤◌, ◌^◌, Bool, true, false, List, [], ◌∷◌, ◌++◌, length, map, Some, None}
-use Rattle.std.proofs.Common.{Ok, refl, sym, ap, ◌∙◌, subst}
-use Rattle.std.proofs.Common.{append_assoc, arith, if◌then◌else◌, length-append}
-use Rattle.std.specs.Prelude.{Result, nat_le, replicate, All}
-use Rattle.std.specs.Option.{option_map_or}
-use Rattle.std.proofs.lemmas.List.{append-nil}
-use Rattle.std.proofs.lemmas.List.Elements.{All-head, All-tail}
-use Rattle.gimli_core.specs.Layout.{OrderAndLimit}
-use Rattle.gimli_core.specs.Values.{Value}
-use Rattle.gimli_core.specs.Production.{times}
-use Rattle.gimli_core.specs.declared.common.Format.{Format}
-use Rattle.gimli_bytes.specs.Hand.{Placement}
-use Rattle.gimli_bytes.specs.Number.{uleb}
-use Rattle.gimli_bytes.specs.Relocations.{counted}
-use Rattle.gimli_bytes.specs.Texts.{AreTexts, StringTables}
-use Rattle.gimli_bytes.specs.declared.error.Error.{Error}
-use Rattle.gimli_bytes.proofs.ShortestUleb.{uleb_shortest}
-use Rattle.gimli_line.specs.header.File.{File as ReadFile}
-use Rattle.gimli_line.specs.header.HeaderGrammar.{TableEntry, entry_production, table_production, path_of, file_of_entry}
-use Rattle.gimli_line.specs.inside.header.HeaderGrammar.{SpellsFormats}
-use Rattle.gimli_build.specs.LineText.{LineText, bytes_in}
-use Rattle.gimli_build.specs.Tables.{File, Details}
-use Rattle.gimli_build.specs.Texts.{Sections, IsText, IsOptionalText, OneByOne}
+use Rattle.std.specs.Prelude.{◌≡◌, ◌<◌, ◌≤◌, ◌^◌, ◌∷◌, ◌++◌, if◌then◌else◌}
+use Rattle.gimli_build.proofs.Common
+use Common.{ℕ, Bool, true, false, List, [], length, map, Some, None, Ok, refl, sym, ap, ◌∙◌, subst, append_assoc, arith}
+use Common.{length-append, Result, nat_le, replicate, All, option_map_or, append-nil, All-head, All-tail, OrderAndLimit}
+use Common.{Value, times, Format, Placement, uleb, counted, AreTexts, StringTables, Error, uleb_shortest, ReadFile}
+use Common.{SpellsFormats, LineText, bytes_in, File, Details, Sections, IsText, IsOptionalText, OneByOne, result_append}
+use Common.{result_concat, Built, IsDirectory, IsFile, IsFound, first_form, path_texts, sources, formats_bytes}
+use Common.{directory_formats, file_formats, detail_bytes, text_in_form, directory_table_bytes, source_bytes}
+use Common.{file_entry_bytes, file_table_bytes}
+use Rattle.gimli_line.specs.header.HeaderGrammar.{TableEntry, entry_production, table_production, path_of}
+use Rattle.gimli_line.specs.header.HeaderGrammar.{file_of_entry}
 use Rattle.gimli_build.specs.Stored.{stored_details}
-use Rattle.gimli_build.specs.Joined.{result_append, result_concat}
-use Rattle.gimli_build.specs.Built.{Built}
-use Rattle.gimli_build.specs.ReadsBack.{IsDirectory, IsFile, IsFound}
-use Rattle.gimli_build.specs.Version5Tables.{first_form, path_texts, sources, formats_bytes, directory_formats}
-use Rattle.gimli_build.specs.Version5Tables.{file_formats, detail_bytes, text_in_form}
-use Rattle.gimli_build.specs.Version5Tables.{directory_table_bytes, source_bytes, file_entry_bytes, file_table_bytes}
 use Rattle.gimli_build.proofs.writing.WrittenParts.{same_written, both_written, after_written}
 use Rattle.gimli_build.proofs.spellings.TextForms.{read_text, IsReady, IsHeld, text-spelled, text-long, text-back}
 use Rattle.gimli_build.proofs.spellings.FormatForms.{read_format, formats_of, formats-same, directory-formats}

@@ -1,23 +1,11 @@
 -- A length that is written once what it counts is there.
-use Rattle.std.proofs.Common.{◌≡◌, ℕ, ◌+◌, ◌-◌, ◌<◌, ◌≤◌, ◌^◌, Bool, true, false, List, [], ◌++◌, length}
-use Rattle.std.proofs.Common.{refl, sym, ◌∙◌, arith, append_assoc}
-use Rattle.std.proofs.Common.{length-append, nat_lt, if◌then◌else◌, Ok, Err, OnOk, IfErr, IsTrue, ◌⊎◌, inr}
-use Rattle.std.proofs.lemmas.Bool.{le-ltb, lt-ltb}
-use Rattle.std.proofs.lemmas.List.{take_at, drop_at}
-use Rattle.std.specs.Prelude.{Result}
-use Rattle.gimli_core.specs.Numbers.{number_bytes, word_size}
-use Rattle.gimli_core.specs.declared.common.Format.{Format}
-use Rattle.gimli_core.specs.declared.common.Format.TheVariants.{Dwarf32, Dwarf64}
-use Rattle.gimli_bytes.specs.Hand.{Hand, Placement, plain}
-use Rattle.gimli_bytes.specs.Written.{Begins, Appends, IsOverwrite, overwrite_of, patch}
-use Rattle.gimli_bytes.specs.declared.sink.Sink.{Ghosts}
-use Rattle.gimli_bytes.specs.declared.error.Error.TheVariants.{OutOfMemory}
-use Rattle.gimli_build.specs.inside.Writes.{Writes}
-use Rattle.gimli_bytes.specs.Number.{udata, open_length, escape_size, length_word}
-use Rattle.gimli_bytes.specs.declared.error.Error.{Error}
-use Rattle.gimli_build.specs.FormatWord.{format_word}
-use Rattle.gimli_build.specs.Joined.{result_append, after_length}
-use Rattle.gimli_build.specs.Unit.{escape_bytes}
+use Rattle.std.specs.Prelude.{◌≡◌, ◌+◌, ◌-◌, ◌<◌, ◌≤◌, ◌^◌, ◌++◌, if◌then◌else◌, ◌⊎◌}
+use Rattle.gimli_build.proofs.Common
+use Common.{ℕ, Bool, true, false, List, [], length, refl, sym, ◌∙◌, arith, append_assoc, length-append, nat_lt, Ok, Err}
+use Common.{OnOk, IfErr, IsTrue, inr, le-ltb, lt-ltb, take_at, drop_at, Result, number_bytes, word_size, Format}
+use Common.{Dwarf32, Dwarf64, Hand, Placement, plain, Begins, Appends, IsOverwrite, overwrite_of, patch, Ghosts}
+use Common.{OutOfMemory, Writes, udata, open_length, escape_size, length_word, Error, format_word, result_append}
+use Common.{after_length, escape_bytes}
 use Rattle.gimli_build.proofs.writing.Joined.{on_ok, if_err, or_wanted, begins_then, begins_before}
 use Rattle.gimli_build.proofs.writing.Writes.{Leaves, writes_in}
 

@@ -1,19 +1,9 @@
 -- Instructions written one after the other.
-use Rattle.std.proofs.Common.{◌≡◌, ◌++◌, List, [], ◌∷◌, ℕ, Ok, Err, refl, ◌+◌, ◌-◌, ◌*◌, Bool, true, false}
-use Rattle.std.proofs.Common.{if◌then◌else◌, Some, None, nat_le, sym}
-use Rattle.std.specs.Prelude.{Result}
-use Rattle.gimli_core.specs.Reading.{result_map}
-use Rattle.gimli_bytes.specs.declared.error.Error.{Error}
-use Rattle.gimli_bytes.specs.declared.sink.Sink.{Ghosts}
-use Rattle.gimli_line.specs.run.Instruction.{Ins}
-use Rattle.gimli_build.specs.InstructionBytes.{instructions_bytes, instruction_bytes}
-use Rattle.gimli_build.specs.Joined.{result_append}
-use Rattle.gimli_build.specs.inside.Writes.{Writes, always}
-use Rattle.std.proofs.lemmas.Option.{none-some}
-use Rattle.std.proofs.lemmas.List.Concat.{flat_map-append}
-use Rattle.gimli_core.specs.declared.common.LineEncoding.{LineEncoding}
-use Rattle.gimli_line.specs.declared.run.instruction.LineInstruction.TheVariants.{ConstAddPc}
-use Rattle.gimli_build.specs.Encode.{operation_part, row_maker, constant_advance}
+use Rattle.std.specs.Prelude.{◌≡◌, ◌++◌, ◌∷◌, ◌+◌, ◌-◌, ◌*◌, if◌then◌else◌}
+use Rattle.gimli_build.proofs.Common
+use Common.{List, [], ℕ, Ok, Err, refl, Bool, true, false, Some, None, nat_le, sym, Result, result_map, Error, Ghosts}
+use Common.{Ins, instructions_bytes, instruction_bytes, result_append, Writes, always, none-some, flat_map-append}
+use Common.{LineEncoding, ConstAddPc, operation_part, row_maker, constant_advance}
 
 pub bytes_append : (is js : List Ins) → instructions_bytes (is ++ js) ≡ instructions_bytes is ++ instructions_bytes js
 bytes_append is js = flat_map-append instruction_bytes is js

@@ -1,24 +1,10 @@
 -- Items written one after the other.
-use Rattle.std.proofs.Common.{IsTrue, ◌≡◌, ℕ, ◌+◌, ◌<◌, ◌^◌, Bool, List, [], ◌∷◌, ◌++◌, Ok, Err, refl, sym, ap, ◌∙◌}
-use Rattle.std.proofs.Common.{append_assoc, lit<, length}
-use Rattle.std.proofs.Common.{get_or, add-one, take}
-use Rattle.std.proofs.lemmas.List.{append-nil}
-use Rattle.std.proofs.Math.Seq.{take-suc}
-use Rattle.std.specs.Prelude.{Result}
-use Rattle.gimli_core.specs.declared.common.Encoding.{Encoding}
-use Rattle.gimli_core.specs.declared.common.LineEncoding.{LineEncoding}
-use Rattle.gimli_bytes.specs.Hand.{Hand, Placement, plain}
-use Rattle.gimli_bytes.specs.Written.{Begins, Appends}
-use Rattle.gimli_bytes.specs.declared.error.Error.{Error}
-use Rattle.gimli_bytes.specs.declared.sink.Sink.{Ghosts}
-use Rattle.gimli_build.specs.declared.built.row.LineRow.{LineRow}
-use Rattle.gimli_build.specs.declared.built.items.BuiltItem.{BuiltItem}
-use Rattle.gimli_build.specs.declared.built.items.BuiltItem.TheVariants.{SetAddress, Row, End}
-use Rattle.gimli_build.specs.Advance.{CanEncode, IsPosition}
-use Rattle.gimli_build.specs.Conditions.{AreBuilt}
-use Rattle.gimli_build.specs.Joined.{result_append}
-use Rattle.gimli_build.specs.inside.Writes.{Writes}
-use Rattle.gimli_build.specs.Items.{item_bytes, items_bytes, next_previous, FitsItem, AreFit}
+use Rattle.std.specs.Prelude.{◌≡◌, ◌+◌, ◌<◌, ◌^◌, ◌∷◌, ◌++◌}
+use Rattle.gimli_build.proofs.Common
+use Common.{IsTrue, ℕ, Bool, List, [], Ok, Err, refl, sym, ap, ◌∙◌, append_assoc, lit<, length, get_or, add-one, take}
+use Common.{append-nil, take-suc, Result, Encoding, LineEncoding, Hand, Placement, plain, Begins, Appends, Error}
+use Common.{Ghosts, LineRow, BuiltItem, SetAddress, Row, End, CanEncode, IsPosition, AreBuilt, result_append, Writes}
+use Common.{item_bytes, items_bytes, next_previous, FitsItem, AreFit}
 use Rattle.gimli_build.proofs.reading.ItemRuns.{start_position}
 use Rattle.gimli_build.proofs.writing.Joined.{appended_bytes, joined-joined, begins_self, begins_then}
 

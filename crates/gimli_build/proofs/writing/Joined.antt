@@ -1,15 +1,10 @@
 -- Parts written one after the other.
-use Rattle.std.proofs.Common.{◌≡◌, ◌⊎◌, ℕ, ◌+◌, ◌<◌, ◌≤◌, List, [], ◌∷◌, ◌++◌, length, drop, drop-cons, take, map}
-use Rattle.std.proofs.Common.{slice_get, get_or, suc, add-one, Some, Ok, Err, OnOk, IfErr, refl, sym, ap, ◌∙◌}
-use Rattle.std.proofs.Common.{append_assoc, inl, inr, arith}
-use Rattle.std.proofs.lemmas.List.{append-nil, drop-map, take-take, length-take}
-use Rattle.std.proofs.lemmas.Option.{slice_get_within, get_or_from_slice_get}
-use Rattle.std.proofs.Math.Seq.{take-length, take-suc}
-use Rattle.std.specs.Prelude.{Result, All, Contains}
-use Rattle.std.proofs.lemmas.List.Elements.{All-head, All-drop, All-cons}
-use Rattle.gimli_bytes.specs.Written.{Begins, Appends}
-use Rattle.gimli_bytes.specs.declared.error.Error.{Error}
-use Rattle.gimli_build.specs.Joined.{result_append, result_concat}
+use Rattle.std.specs.Prelude.{◌≡◌, ◌⊎◌, ◌+◌, ◌<◌, ◌≤◌, ◌∷◌, ◌++◌}
+use Rattle.gimli_build.proofs.Common
+use Common.{ℕ, List, [], length, drop, drop-cons, take, map, slice_get, get_or, suc, add-one, Some, Ok, Err, OnOk}
+use Common.{IfErr, refl, sym, ap, ◌∙◌, append_assoc, inl, inr, arith, append-nil, drop-map, take-take, length-take}
+use Common.{slice_get_within, get_or_from_slice_get, take-length, take-suc, Result, All, Contains, All-head, All-drop}
+use Common.{All-cons, Begins, Appends, Error, result_append, result_concat}
 
 pub on_ok : {X : Type 0} (r : Result X Error) {P Q : Type 0} → (P → Q) → OnOk r P → OnOk r Q
 on_ok (Ok x) f p = f p

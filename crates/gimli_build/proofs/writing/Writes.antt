@@ -1,16 +1,11 @@
 -- Calls that append, one after the other.
-use Rattle.std.proofs.Common.{◌≡◌, ◌⊎◌, List, ◌∷◌, ℕ, Ok, Err, IsTrue, refl, sym, ap, ◌∙◌, inl, inr, subst, OnOk, IfErr}
-use Rattle.std.specs.Prelude.{Result}
+use Rattle.std.specs.Prelude.{◌≡◌, ◌⊎◌, ◌∷◌}
+use Rattle.gimli_build.proofs.Common
+use Common.{List, ℕ, Ok, Err, IsTrue, refl, sym, ap, ◌∙◌, inl, inr, subst, OnOk, IfErr, Result, err_from_is_err_and}
+use Common.{Hand, Placement, plain, Begins, Appends, Refuses, IsAppend, Error, OutOfMemory, Ghosts, result_append}
+use Common.{result_concat, after_length, Writes, always}
 use Rattle.std.specs.Result.{IsErrAnd}
-use Rattle.std.proofs.lemmas.Result.{err_from_is_err_and}
-use Rattle.gimli_bytes.specs.Hand.{Hand, Placement, plain}
-use Rattle.gimli_bytes.specs.Written.{Begins, Appends, Refuses, IsAppend}
-use Rattle.gimli_bytes.specs.declared.error.Error.{Error}
-use Rattle.gimli_bytes.specs.declared.error.Error.TheVariants.{OutOfMemory}
-use Rattle.gimli_bytes.specs.declared.sink.Sink.{Ghosts}
-use Rattle.gimli_build.specs.Joined.{result_append, result_concat, after_length}
 use Rattle.gimli_build.specs.Writes.{WritesOr, OfMemoryOr}
-use Rattle.gimli_build.specs.inside.Writes.{Writes, always}
 use Rattle.gimli_build.proofs.writing.Joined.{SoFar, none_so_far, one_more, on_ok, if_err, or_wanted, part_refused}
 use Rattle.gimli_build.proofs.writing.Joined.{first_refused, second_refused, appends_joined, begins_self, begins_then}
 

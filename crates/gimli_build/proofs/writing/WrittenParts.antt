@@ -1,8 +1,6 @@
 -- What bytes are made of that were joined.
-use Rattle.std.proofs.Common.{◌≡◌, ℕ, List, ◌++◌, length, Ok, Err, refl, sym}
-use Rattle.std.specs.Prelude.{Result}
-use Rattle.gimli_bytes.specs.declared.error.Error.{Error}
-use Rattle.gimli_build.specs.Joined.{result_append, after_length}
+use Rattle.std.specs.Prelude.{◌≡◌, ◌++◌}
+use Rattle.gimli_build.proofs.Common.{ℕ, List, length, Ok, Err, refl, sym, Result, Error, result_append, after_length}
 
 -- what was written is one thing
 pub same_written : (a b : List ℕ) → ◌≡◌ {A = Result (List ℕ) Error} (Ok a) (Ok b) → b ≡ a

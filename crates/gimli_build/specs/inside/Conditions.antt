@@ -1,5 +1,5 @@
 -- What the calls of a builder ask.
-use Rattle.std.specs.Prelude.{false, All}
+use Rattle.gimli_build.specs.Prelude.{false, All}
 use Rattle.gimli_build.specs.Tables.{AreTables, keys_of}
 use Rattle.gimli_build.specs.inside.Tables.{FitsFile}
 use Rattle.gimli_build.specs.Built.{Built}

@@ -1,6 +1,5 @@
 -- The formats of a table, where some aren't due.
-use Rattle.std.specs.Prelude.{ℕ, List, Bool}
-use Rattle.std.specs.List.{flat_map}
+use Rattle.gimli_build.specs.Prelude.{ℕ, List, Bool, flat_map}
 use Rattle.gimli_core.specs.declared.constants.DwForm.{DwForm}
 use Rattle.gimli_core.specs.declared.constants.DwLnct.{DwLnct}
 use Rattle.gimli_build.specs.Due.{when}

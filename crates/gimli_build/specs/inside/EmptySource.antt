@@ -1,6 +1,6 @@
 -- What a unit is written from, and the text that stands for the source of a file that has none.
-use Rattle.std.specs.Prelude.{◌≡◌, true}
-use Rattle.gimli_bytes.specs.Texts.{StringTables}
+use Rattle.std.specs.Prelude.{◌≡◌}
+use Rattle.gimli_build.specs.Prelude.{true, StringTables}
 use Rattle.gimli_build.specs.LineText.{LineText, IsWithin}
 use Rattle.gimli_build.specs.Built.{Built}
 use Rattle.gimli_build.specs.Conditions.{CanWrite}

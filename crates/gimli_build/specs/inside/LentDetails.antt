@@ -1,6 +1,5 @@
 -- What the tables end as, once a `&mut` to the details of a file has ended.
-use Rattle.std.specs.Prelude.{ℕ}
-use Rattle.std.specs.Borrow.{Lends, MutBor, Fml}
+use Rattle.gimli_build.specs.Prelude.{ℕ, Lends, MutBor, Fml}
 use Rattle.gimli_build.specs.Tables.{Tables, with_details}
 use Rattle.gimli_build.specs.TableFields.{details}
 use Rattle.gimli_build.specs.declared.built.files.FileInfo.{FileInfo}

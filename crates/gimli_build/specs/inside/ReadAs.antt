@@ -1,6 +1,6 @@
 -- The instructions of the encoder, as the reading half has them.
 use Rattle.gimli_line.specs.declared.run.instruction.LineInstruction.TheVariants as read
-use Rattle.gimli_line.specs.run.Instruction.{Ins}
+use Rattle.gimli_build.specs.Prelude.{Ins}
 use Rattle.gimli_build.specs.declared.rows.instruction.LineInstruction.{LineInstruction}
 use Rattle.gimli_build.specs.declared.rows.instruction.LineInstruction.TheVariants.{
   Special,

@@ -1,5 +1,5 @@
 -- The fields of the tables of a line program, as lists.
-use Rattle.std.specs.Prelude.{ℕ, List, map}
+use Rattle.gimli_build.specs.Prelude.{ℕ, List, map}
 use Rattle.gimli_build.specs.LineText.{LineText, line_text}
 use Rattle.gimli_build.specs.Tables.{FileKey, File}
 use Rattle.gimli_build.specs.declared.built.line_string.LineString.{LineString}

@@ -1,5 +1,6 @@
 -- The directories and the files of a line program, as lists.
-use Rattle.std.specs.Prelude.{◌≡◌, ◌<◌, ◌^◌, length}
+use Rattle.std.specs.Prelude.{◌≡◌, ◌<◌, ◌^◌}
+use Rattle.gimli_build.specs.Prelude.{length}
 use Rattle.gimli_build.specs.Tables.{File}
 
 -- 64 bits hold the numbers of a file, and a digest has sixteen bytes, as in any program

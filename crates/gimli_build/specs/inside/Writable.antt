@@ -1,6 +1,5 @@
 -- The part of what `write` requires that is asked of each file.
-use Rattle.std.specs.Prelude.{Bool, IsTrue, IfSome}
-use Rattle.gimli_bytes.specs.Texts.{StringTables}
+use Rattle.gimli_build.specs.Prelude.{Bool, IsTrue, IfSome, StringTables}
 use Rattle.gimli_build.specs.LineText.{LineText, IsWithin, HasNoZero}
 use Rattle.gimli_build.specs.Tables.{Details}
 

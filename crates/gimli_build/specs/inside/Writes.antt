@@ -1,10 +1,8 @@
 -- What a call leaves that appends wanted bytes to a writer, with no refusal beside the writer's.
-use Rattle.std.specs.Prelude.{◌≡◌, ◌⊎◌, ℕ, List, Result, Err, IsTrue, OnOk, IfErr}
-use Rattle.gimli_bytes.specs.Hand.{Hand, Placement, plain}
-use Rattle.gimli_bytes.specs.Written.{Begins, Appends}
-use Rattle.gimli_bytes.specs.declared.error.Error.{Error}
-use Rattle.gimli_bytes.specs.declared.error.Error.TheVariants.{OutOfMemory}
-use Rattle.gimli_bytes.specs.declared.sink.Sink.{Ghosts}
+use Rattle.std.specs.Prelude.{◌≡◌, ◌⊎◌}
+use Rattle.gimli_build.specs.Prelude
+use Prelude.{ℕ, List, Result, Err, IsTrue, OnOk, IfErr, Hand, Placement, plain, Begins, Appends, Error, OutOfMemory}
+use Prelude.{Ghosts}
 
 -- the same wanted of each hand: bytes that no linker changes
 abbrev pub always : Result (List ℕ) Error → Hand → Result (List ℕ) Error

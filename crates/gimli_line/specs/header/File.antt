@@ -1,6 +1,5 @@
 -- A file, with lists of bytes in place of readers and numbers in place of offsets.
-use Rattle.std.specs.Prelude.{ℕ, Bool, List, Option, option_map, IfSome}
-use Rattle.gimli_core.specs.Values.{value_seen, IsOrder, value_order}
+use Rattle.gimli_line.specs.Prelude.{ℕ, Bool, List, Option, option_map, IfSome, value_seen, IsOrder, value_order}
 use Rattle.gimli_line.specs.declared.header.file_entry.FileEntry.{FileEntry}
 
 abbrev pub File : Type 0

@@ -1,6 +1,5 @@
 -- What is taken of the values of tables of version 5, and what is left.
-use Rattle.std.specs.Prelude.{ℕ, List}
-use Rattle.gimli_core.specs.Reading.{Read, ◌>>=◌, offset_of}
+use Rattle.gimli_line.specs.Prelude.{ℕ, List, Read, ◌>>=◌, offset_of}
 
 -- a number that an offset holds
 abbrev pub offset_at : ℕ → (List ℕ → Read ℕ) → List ℕ → Read ℕ

@@ -1,14 +1,8 @@
 -- A header: what it says, and how contracts see it.
-use Rattle.std.specs.Prelude.{ℕ, zero, suc, Bool, List, [], ◌∷◌, ◌++◌, Option, None}
-use Rattle.std.specs.Prelude.{option_map, replicate, nat_le, nat_eq, if◌then◌else◌, slice_get}
-use Rattle.std.specs.List.{list_any}
-use Rattle.std.specs.declared.vec.Vec.{Vec}
-use Rattle.std.specs.declared.alloc.Global.{Global}
-use Rattle.gimli_core.specs.Values.{Value}
-use Rattle.gimli_core.specs.declared.attribute_value.AttributeValue.{AttributeValue}
-use Rattle.gimli_core.specs.declared.attribute_value.AttributeValue.TheVariants.{String}
-use Rattle.gimli_core.specs.declared.common.DebugLineOffset.{DebugLineOffset}
-use Rattle.gimli_core.specs.Layout.{OrderAndLimit}
+use Rattle.std.specs.Prelude.{◌∷◌, ◌++◌, if◌then◌else◌}
+use Rattle.gimli_line.specs.Prelude
+use Prelude.{ℕ, zero, suc, Bool, List, [], Option, None, option_map, replicate, nat_le, nat_eq, slice_get, list_any}
+use Prelude.{Vec, Global, Value, AttributeValue, String, DebugLineOffset, OrderAndLimit}
 use Rattle.gimli_line.specs.header.Parameters.{Parameters}
 use Rattle.gimli_line.specs.header.File.{File}
 use Rattle.gimli_line.specs.declared.header.file_entry.FileEntry.{FileEntry}

@@ -1,31 +1,19 @@
 -- How the header of a unit is spelled, production by production, and which refusal comes where a
 -- production isn't there (DWARF 5, section 6.2.4; DWARF 4, section 6.2.4).
-use Rattle.std.specs.Prelude.{◌≡◌, ℕ, ◌-◌, ◌≤◌, List, [], ◌∷◌, ◌++◌, length, map, replicate, min}
-use Rattle.std.specs.Prelude.{count_by, Bool, not, ◌&&◌, nat_eq, nat_le, if◌then◌else◌, Option}
-use Rattle.std.specs.Prelude.{Some, None, option_map}
+use Rattle.std.specs.Prelude.{◌≡◌, ◌-◌, ◌≤◌, ◌∷◌, ◌++◌, ◌&&◌, if◌then◌else◌}
+use Rattle.gimli_line.specs.Prelude
+use Prelude.{ℕ, List, [], length, map, replicate, min, count_by, Bool, not, nat_eq, nat_le, Option, Some, None}
+use Prelude.{option_map, Value, udata_value, Encoding, LineEncoding, Format, Block, String, Error, UnknownVersion}
+use Prelude.{UnsupportedAddressSize, UnsupportedSegmentSize, MinimumInstructionLengthZero}
+use Prelude.{MaximumOperationsPerInstructionZero, LineRangeZero, OpcodeBaseZero, MissingFileEntryFormatPath}
+use Prelude.{OrderAndLimit}
 use Rattle.std.specs.Int.{w8, cast_signed}
 use Rattle.gimli_core.specs.Numbers.{is_address_size, SpellsUleb128}
-use Rattle.gimli_core.specs.Values.{Value, udata_value}
 use Rattle.gimli_core.specs.Production.{Production, ◌>>=◌, ◌>>◌, done, check, choose, times}
 use Rattle.gimli_core.specs.Production.{list_to_zero, within, byte, number, some_bytes, unsigned}
 use Rattle.gimli_core.specs.Production.{unsigned_16}
 use Rattle.gimli_core.specs.Production.{offset_word, unit_length}
 use Rattle.gimli_core.specs.Form.{form_production}
-use Rattle.gimli_core.specs.declared.common.Encoding.{Encoding}
-use Rattle.gimli_core.specs.declared.common.LineEncoding.{LineEncoding}
-use Rattle.gimli_core.specs.declared.common.Format.{Format}
-use Rattle.gimli_core.specs.declared.attribute_value.AttributeValue.TheVariants.{Block, String}
-use Rattle.gimli_core.specs.declared.error.Error.{Error}
-use Rattle.gimli_core.specs.declared.error.Error.TheVariants.{
-  UnknownVersion,
-  UnsupportedAddressSize,
-}
-use Rattle.gimli_core.specs.declared.error.Error.TheVariants.{UnsupportedSegmentSize}
-use Rattle.gimli_core.specs.declared.error.Error.TheVariants.{MinimumInstructionLengthZero}
-use Rattle.gimli_core.specs.declared.error.Error.TheVariants.{MaximumOperationsPerInstructionZero}
-use Rattle.gimli_core.specs.declared.error.Error.TheVariants.{LineRangeZero, OpcodeBaseZero}
-use Rattle.gimli_core.specs.declared.error.Error.TheVariants.{MissingFileEntryFormatPath}
-use Rattle.gimli_core.specs.Layout.{OrderAndLimit}
 use Rattle.gimli_line.specs.LineNumbers.{DW_LNCT_path, DW_LNCT_directory_index, DW_LNCT_timestamp}
 use Rattle.gimli_line.specs.LineNumbers.{DW_LNCT_size, DW_LNCT_MD5, DW_LNCT_LLVM_source}
 use Rattle.gimli_line.specs.header.Parameters.{Parameters}

@@ -1,6 +1,5 @@
 -- What is taken of a header, step by step, and what is left.
-use Rattle.std.specs.Prelude.{ℕ, List, Ok}
-use Rattle.gimli_core.specs.Reading.{Read, ◌>>=◌, unsigned_at}
+use Rattle.gimli_line.specs.Prelude.{ℕ, List, Ok, Read, ◌>>=◌, unsigned_at}
 use Rattle.gimli_line.specs.header.File.{File}
 use Rattle.gimli_line.specs.header.Header.{plain_file}
 

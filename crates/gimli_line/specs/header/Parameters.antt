@@ -1,7 +1,6 @@
 -- What the instructions of a unit are executed by.
-use Rattle.std.specs.Prelude.{ℕ, ◌<◌}
-use Rattle.gimli_core.specs.declared.common.Encoding.{Encoding}
-use Rattle.gimli_core.specs.declared.common.LineEncoding.{LineEncoding}
+use Rattle.std.specs.Prelude.{◌<◌}
+use Rattle.gimli_line.specs.Prelude.{ℕ, Encoding, LineEncoding}
 
 -- what the instructions of a unit are executed by
 pub record Parameters : Type 0 where

@@ -1,8 +1,7 @@
 -- Further productions of a format, beside those of the core.
-use Rattle.std.specs.Prelude.{◌≡◌, ◌≢◌, ℕ, List, [], ◌∷◌, nat_eq, not, Option, Some, None}
-use Rattle.std.specs.Prelude.{if◌then◌else◌}
+use Rattle.std.specs.Prelude.{◌≡◌, ◌≢◌, ◌∷◌, if◌then◌else◌}
+use Rattle.gimli_line.specs.Prelude.{ℕ, List, [], nat_eq, not, Option, Some, None, Error}
 use Rattle.gimli_core.specs.Production.{Production, ◌>>=◌, ◌>>◌, done, check, byte, text}
-use Rattle.gimli_core.specs.declared.error.Error.{Error}
 
 -- ---- put together
 

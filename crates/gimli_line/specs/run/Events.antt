@@ -1,12 +1,10 @@
 -- What a program makes and gives: its rows and faults in order, with the files at each.
-use Rattle.std.specs.Prelude.{◌≡◌, ℕ, Bool, true, false, not, if◌then◌else◌, List, [], ◌∷◌, ◌++◌}
-use Rattle.std.specs.Prelude.{map, Option, Some, None}
-use Rattle.std.specs.List.{list_any, filter}
-use Rattle.gimli_core.specs.declared.error.Error.{Error}
-use Rattle.gimli_core.specs.declared.error.Error.TheVariants.{AddressOverflow}
+use Rattle.std.specs.Prelude.{◌≡◌, if◌then◌else◌, ◌∷◌, ◌++◌}
+use Rattle.gimli_line.specs.Prelude
+use Prelude.{ℕ, Bool, true, false, not, List, [], map, Option, Some, None, list_any, filter, Error, AddressOverflow}
+use Prelude.{OrderAndLimit}
 use Rattle.gimli_line.specs.declared.run.instruction.LineInstruction.TheVariants.{DefineFile}
 use Rattle.gimli_line.specs.declared.run.row.LineRow.{LineRow}
-use Rattle.gimli_core.specs.Layout.{OrderAndLimit}
 use Rattle.gimli_line.specs.header.Parameters.{Parameters}
 use Rattle.gimli_line.specs.run.Instruction.{Ins, is_end, makes_row}
 use Rattle.gimli_line.specs.header.File.{File}

@@ -1,7 +1,6 @@
 -- What a program makes and gives, with the files of the header at each point.
-use Rattle.std.specs.Prelude.{◌≡◌, ℕ, Bool, List, [], Option}
-use Rattle.gimli_core.specs.declared.error.Error.{Error}
-use Rattle.gimli_core.specs.Layout.{OrderAndLimit}
+use Rattle.std.specs.Prelude.{◌≡◌}
+use Rattle.gimli_line.specs.Prelude.{ℕ, Bool, List, [], Option, Error, OrderAndLimit}
 use Rattle.gimli_line.specs.run.Instruction.{Ins}
 use Rattle.gimli_line.specs.header.File.{File}
 use Rattle.gimli_line.specs.header.Header.{Header}

@@ -1,9 +1,7 @@
 -- What is done where an instruction is refused, and instructions that are executed from their
 -- bytes, without a value of their own between.
-use Rattle.std.specs.Prelude.{◌≡◌, ◌≢◌, ℕ, List, Bool, true, false, Ok}
-use Rattle.gimli_core.specs.declared.error.Error.{Error}
-use Rattle.gimli_core.specs.declared.error.Error.TheVariants.{AddressOverflow, OutOfMemory}
-use Rattle.gimli_core.specs.Reading.{Read}
+use Rattle.std.specs.Prelude.{◌≡◌, ◌≢◌}
+use Rattle.gimli_line.specs.Prelude.{ℕ, List, Bool, true, false, Ok, Error, AddressOverflow, OutOfMemory, Read}
 use Rattle.gimli_line.specs.declared.run.from_bytes.Executed.{Executed}
 use Rattle.gimli_line.specs.declared.run.from_bytes.Executed.TheVariants.{No, Quiet, Address, Row}
 use Rattle.gimli_line.specs.declared.run.instruction.LineInstruction.TheVariants.{

@@ -1,13 +1,12 @@
 -- How instructions are spelled, and how a program is decoded into them (DWARF 5, sections 6.2.3 and
 -- 6.2.5).
-use Rattle.std.specs.Prelude.{◌≡◌, ◌≢◌, ◌<◌, ◌^◌, ℕ, zero, suc, ◌-◌, List, [], ◌∷◌, ◌++◌}
-use Rattle.std.specs.Prelude.{nat_eq, nat_le, if◌then◌else◌, Option, Some, None, ℤ, slice_index}
+use Rattle.std.specs.Prelude.{◌≡◌, ◌≢◌, ◌<◌, ◌^◌, ◌-◌, ◌∷◌, ◌++◌, if◌then◌else◌}
+use Rattle.gimli_line.specs.Prelude
+use Prelude.{ℕ, zero, suc, List, [], nat_eq, nat_le, Option, Some, None, ℤ, slice_index, Error, UnexpectedEof}
+use Prelude.{BadUnsignedLeb128, BadSignedLeb128, UnsupportedOffset, OrderAndLimit}
 use Rattle.gimli_core.specs.Production.{Production, ◌>>=◌, done, choose, times, within, byte}
 use Rattle.gimli_core.specs.Production.{number, some_bytes, text, unsigned, signed, below_limit}
 use Rattle.gimli_core.specs.Production.{Each}
-use Rattle.gimli_core.specs.declared.error.Error.{Error}
-use Rattle.gimli_core.specs.declared.error.Error.TheVariants.{UnexpectedEof, BadUnsignedLeb128}
-use Rattle.gimli_core.specs.declared.error.Error.TheVariants.{BadSignedLeb128, UnsupportedOffset}
 use Rattle.gimli_line.specs.declared.run.instruction.LineInstruction.TheVariants.{
   Special,
   Copy,
@@ -31,7 +30,6 @@ use Rattle.gimli_line.specs.declared.run.instruction.LineInstruction.TheVariants
   SetDiscriminator,
   UnknownExtended,
 }
-use Rattle.gimli_core.specs.Layout.{OrderAndLimit}
 use Rattle.gimli_line.specs.LineNumbers.{DW_LNS_copy, DW_LNS_advance_pc, DW_LNS_advance_line}
 use Rattle.gimli_line.specs.LineNumbers.{DW_LNS_set_file, DW_LNS_set_column, DW_LNS_negate_stmt}
 use Rattle.gimli_line.specs.LineNumbers.{DW_LNS_set_basic_block, DW_LNS_const_add_pc}

@@ -1,6 +1,6 @@
 -- What is taken of the instructions that are still to come (DWARF 5, section 6.2.5).
-use Rattle.std.specs.Prelude.{◌≡◌, ◌≢◌, ℕ, List, [], ◌++◌, Option, Some, None}
-use Rattle.gimli_core.specs.declared.error.Error.{Error}
+use Rattle.std.specs.Prelude.{◌≡◌, ◌≢◌, ◌++◌}
+use Rattle.gimli_line.specs.Prelude.{ℕ, List, [], Option, Some, None, Error}
 use Rattle.gimli_line.specs.header.Header.{Header}
 use Rattle.gimli_line.specs.run.Instruction.{Ins}
 use Rattle.gimli_line.specs.run.InstructionGrammar.{SpellsInstruction, instruction_production}

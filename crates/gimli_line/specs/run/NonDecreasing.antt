@@ -1,5 +1,6 @@
 -- Row addresses within a sequence.
-use Rattle.std.specs.Prelude.{◌≡◌, ◌≤◌, ℕ, false, List, [], ◌∷◌}
+use Rattle.std.specs.Prelude.{◌≡◌, ◌≤◌, ◌∷◌}
+use Rattle.gimli_line.specs.Prelude.{ℕ, false, List, []}
 use Rattle.gimli_line.specs.run.Instruction.{Ins, is_end}
 use Rattle.gimli_line.specs.run.Events.{Event, row, fault}
 

@@ -2,9 +2,9 @@
 -- of a program are under a tombstone. DWARF has no rule for these. Ours is that of gimli and LLVM:
 -- a linker that drops code leaves its rows in the program, at an address that stands for nothing.
 -- The past of a point is the list of the instructions before it, the nearest first.
-use Rattle.std.specs.Prelude.{ℕ, ◌+◌, ◌-◌, ◌*◌, ◌/◌, ◌%◌, ◌^◌, Bool, false, not, ◌||◌, ◌&&◌}
-use Rattle.std.specs.Prelude.{nat_lt, nat_le, nat_eq, if◌then◌else◌, List, [], ◌∷◌, Option}
-use Rattle.std.specs.Prelude.{Some, None, option_map}
+use Rattle.std.specs.Prelude.{◌+◌, ◌-◌, ◌*◌, ◌/◌, ◌%◌, ◌^◌, ◌||◌, ◌&&◌, if◌then◌else◌, ◌∷◌}
+use Rattle.gimli_line.specs.Prelude
+use Prelude.{ℕ, Bool, false, not, nat_lt, nat_le, nat_eq, List, [], Option, Some, None, option_map}
 use Rattle.gimli_line.specs.declared.run.instruction.LineInstruction.TheVariants.{
   Special,
   AdvancePc,

@@ -1,5 +1,6 @@
 -- What a run passes over on its way.
-use Rattle.std.specs.Prelude.{◌≡◌, Bool, List, [], ◌∷◌, ◌++◌, ℕ}
+use Rattle.std.specs.Prelude.{◌≡◌, ◌∷◌, ◌++◌}
+use Rattle.gimli_line.specs.Prelude.{Bool, List, [], ℕ}
 use Rattle.gimli_core.specs.Production.{Each}
 use Rattle.gimli_line.specs.declared.run.row.LineRow.{LineRow}
 use Rattle.gimli_line.specs.header.Parameters.{Parameters}

@@ -1,8 +1,8 @@
 -- What the registers are at a point of a program, each looked up by itself from the point backwards
 -- (DWARF 5, sections 6.2.2 and 6.2.5). The past of a point is the list of the instructions before
 -- it, the nearest first.
-use Rattle.std.specs.Prelude.{ℕ, suc, ◌+◌, ◌-◌, ◌%◌, ◌^◌, Bool, true, false, not, if◌then◌else◌}
-use Rattle.std.specs.Prelude.{List, [], ◌∷◌, Option, Some, None, ℤ, pos, negsuc, ◌+ℤ◌}
+use Rattle.std.specs.Prelude.{◌+◌, ◌-◌, ◌%◌, ◌^◌, if◌then◌else◌, ◌∷◌, ◌+ℤ◌}
+use Rattle.gimli_line.specs.Prelude.{ℕ, suc, Bool, true, false, not, List, [], Option, Some, None, ℤ, pos, negsuc}
 use Rattle.gimli_line.specs.declared.run.instruction.LineInstruction.TheVariants.{
   Special,
   AdvanceLine,

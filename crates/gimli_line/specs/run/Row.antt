@@ -1,5 +1,5 @@
 -- The column of a row.
-use Rattle.std.specs.Prelude.{ℕ}
+use Rattle.gimli_line.specs.Prelude.{ℕ}
 use Rattle.std.specs.Int.NonZero.{non_zero_u64_get}
 use Rattle.gimli_line.specs.declared.run.row.ColumnType.{ColumnType}
 use Rattle.gimli_line.specs.declared.run.row.ColumnType.TheVariants.{LeftEdge, Column}

@@ -1,9 +1,9 @@
 -- What a row iterator still makes and gives.
-use Rattle.std.specs.Prelude.{◌≡◌, ◌≢◌, ◌⊎◌, ℕ, Bool, true, false, List, [], ◌∷◌, ◌++◌, All, Option}
-use Rattle.std.specs.Prelude.{Some, None, Result, Ok, Err}
+use Rattle.std.specs.Prelude.{◌≡◌, ◌≢◌, ◌⊎◌, ◌∷◌, ◌++◌}
+use Rattle.gimli_line.specs.Prelude
+use Prelude.{ℕ, Bool, true, false, List, [], All, Option, Some, None, Result, Ok, Err, Error, AddressOverflow}
+use Prelude.{OutOfMemory}
 use Rattle.std.specs.Borrow.{Bor}
-use Rattle.gimli_core.specs.declared.error.Error.{Error}
-use Rattle.gimli_core.specs.declared.error.Error.TheVariants.{AddressOverflow, OutOfMemory}
 use Rattle.gimli_line.specs.declared.run.row.LineRow.{LineRow}
 use Rattle.gimli_line.specs.header.File.{File}
 use Rattle.gimli_line.specs.header.Header.{Header, SeenHeader, without_files}

@@ -1,5 +1,5 @@
 -- What a row iterator is, for its callers.
-use Rattle.std.specs.Prelude.{Bool, List}
+use Rattle.gimli_line.specs.Prelude.{Bool, List}
 use Rattle.gimli_line.specs.declared.run.row.LineRow.{LineRow}
 use Rattle.gimli_line.specs.header.Header.{Header}
 use Rattle.gimli_line.specs.header.File.{File}

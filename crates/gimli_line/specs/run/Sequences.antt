@@ -1,8 +1,7 @@
 -- The sequences of a program, each run by itself.
-use Rattle.std.specs.Prelude.{◌≡◌, ℕ, true, false, List, [], ◌∷◌, ◌++◌, map, flat_map, Option, None}
-use Rattle.std.specs.List.{AllByRecursion}
-use Rattle.gimli_core.specs.declared.error.Error.{Error}
-use Rattle.gimli_core.specs.Layout.{OrderAndLimit}
+use Rattle.std.specs.Prelude.{◌≡◌, ◌∷◌, ◌++◌}
+use Rattle.gimli_line.specs.Prelude
+use Prelude.{ℕ, true, false, List, [], map, flat_map, Option, None, AllByRecursion, Error, OrderAndLimit}
 use Rattle.gimli_line.specs.declared.run.row.LineRow.{LineRow}
 use Rattle.gimli_line.specs.declared.run.sequences.LineSequence.{LineSequence}
 use Rattle.gimli_line.specs.header.Header.{Header}

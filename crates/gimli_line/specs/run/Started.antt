@@ -1,5 +1,5 @@
 -- What rows that start with the header of a program and with instructions give.
-use Rattle.std.specs.Prelude.{Bool}
+use Rattle.gimli_line.specs.Prelude.{Bool}
 use Rattle.gimli_line.specs.header.Header.{Header}
 use Rattle.gimli_line.specs.run.Unread.{Unread}
 use Rattle.gimli_line.specs.run.RunState.{RunState}

@@ -1,6 +1,5 @@
 -- What is read from, whatever the type of the reader.
-use Rattle.std.specs.Prelude.{ℕ, Bool, List}
-use Rattle.gimli_core.specs.Layout.{OrderAndLimit, layout_of}
+use Rattle.gimli_line.specs.Prelude.{ℕ, Bool, List, OrderAndLimit, layout_of}
 use Rattle.gimli_line.specs.header.Header.{Header}
 
 pub record Unread : Type 0 where

@@ -1,6 +1,7 @@
 -- A conversion, as far as it got, and what it has still to read.
+use Rattle.std.specs.Prelude.{◌≡◌, ◌⊎◌}
 use Rattle.gimli_write.specs.Prelude
-use Prelude.{◌≡◌, ◌⊎◌, ℕ, true, List, Option, Some, None, Result, Ok, Err, IfErr, OnOk}
+use Prelude.{ℕ, true, List, Option, Some, None, Result, Ok, Err, IfErr, OnOk}
 use Prelude.{MatchResult, Vec, Global, Address, Built, previous_position, CanBuild, LineRow, Row}
 use Prelude.{Sections, ConvertError, OutOfMemory, UnsupportedLineInstruction, SourceRow}
 use Prelude.{ConvertLineRow}

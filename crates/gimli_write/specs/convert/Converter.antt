@@ -1,7 +1,8 @@
 -- What a caller sees of a `ConvertLineProgram`: how far it got, and the tables that it is lent. And
 -- what a call of the builder does to it.
+use Rattle.std.specs.Prelude.{◌≡◌}
 use Rattle.gimli_write.specs.Prelude
-use Prelude.{◌≡◌, Result, OnErr, OnOk, Built, ConvertError}
+use Prelude.{Result, OnErr, OnOk, Built, ConvertError}
 use Rattle.gimli_write.specs.declared.convert.program.ConvertLineProgram.{ConvertLineProgram}
 use Rattle.gimli_write.specs.convert.Conversion.{Conversion, Progress, built_so_far, with_program}
 use Rattle.gimli_write.specs.convert.KeptTables.{StaysWritable}

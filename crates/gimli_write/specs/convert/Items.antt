@@ -1,9 +1,10 @@
 -- What a conversion reads of a line program: rows and ends, each at its point, found by looking
 -- back (DWARF 5, sections 6.2.2 and 6.2.5). The past of a point is the list of the instructions
 -- before it, the nearest first.
+use Rattle.std.specs.Prelude.{◌≡◌, ◌-◌, ◌&&◌, if◌then◌else◌, ◌∷◌}
 use Rattle.gimli_write.specs.Prelude
-use Prelude.{◌≡◌, ℕ, Bool, true, false, ◌-◌, not, ◌&&◌, if◌then◌else◌, nat_eq, nat_le, List, []}
-use Prelude.{◌∷◌, slice_get, Option, Some, None, ok_or, Result, Ok, Err, OrderAndLimit, Error, Header}
+use Prelude.{ℕ, Bool, true, false, not, nat_eq, nat_le, List, []}
+use Prelude.{slice_get, Option, Some, None, ok_or, Result, Ok, Err, OrderAndLimit, Error, Header}
 use Prelude.{Parameters, Ins, makes_row, Decodes, is_under_tombstone, overflows, row_at, Sections}
 use Prelude.{LineRow, ConvertError, Read, InvalidFileIndex, SourceRow, ConvertLineRow, SetAddress}
 use Prelude.{EndSequence}

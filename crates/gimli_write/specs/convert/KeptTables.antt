@@ -1,8 +1,9 @@
 -- The files of a conversion after a read: those that were there stay, and at the end, or where a
 -- read is refused for another cause than `OutOfMemory`, all are there that its source defines
 -- before. And the program can be written, whatever was read.
+use Rattle.std.specs.Prelude.{◌≡◌, if◌then◌else◌}
 use Rattle.gimli_write.specs.Prelude
-use Prelude.{◌≡◌, ℕ, if◌then◌else◌, is_some, List, texts_in, Built, CanWrite}
+use Prelude.{ℕ, is_some, List, texts_in, Built, CanWrite}
 use Rattle.gimli_build.specs.Tables.{keys_of, Keeps}
 use Rattle.gimli_write.specs.convert.SourceTables.{SourceTables, TablesAndTexts, tables_with}
 use Rattle.gimli_write.specs.convert.TablesAtEnd.{tables_at_end, tables_after_row}

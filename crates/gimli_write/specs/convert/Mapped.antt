@@ -1,8 +1,9 @@
 -- What it means that a converted program says what its source says, and what is asked of the source
 -- for it.
+use Rattle.std.specs.Prelude.{◌≡◌, ◌≢◌, ◌+◌, ◌≤◌, ◌&&◌, ◌||◌, if◌then◌else◌, ◌∷◌, ◌++◌}
 use Rattle.gimli_write.specs.Prelude
-use Prelude.{◌≡◌, ◌≢◌, ℕ, ◌+◌, ◌≤◌, Bool, true, false, not, ◌&&◌, ◌||◌, if◌then◌else◌, List, []}
-use Prelude.{◌∷◌, ◌++◌, map, slice_get, Option, Some, None, option_map, All, Ok, Vec, Global}
+use Prelude.{ℕ, Bool, true, false, not, List, []}
+use Prelude.{map, slice_get, Option, Some, None, option_map, All, Ok, Vec, Global}
 use Prelude.{OrderAndLimit, Value, Error, Address, StringTables, texts_in, ReadRow, File, Header}
 use Prelude.{directory_of, entry_of, Parameters, Events, row, FilesAtEnd, Ins, is_end, makes_row}
 use Prelude.{Decodes, is_under_tombstone, Built, address_value, file_number, LineText, bytes_in}

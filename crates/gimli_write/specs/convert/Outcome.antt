@@ -1,9 +1,10 @@
 -- What `convert` does with what is read of a source: addresses, rows and ends are handed to the
 -- builder in order, each before the next is read. It is a function, so what comes of a reading is
 -- told exactly.
+use Rattle.std.specs.Prelude.{◌+◌, ◌-◌, ◌*◌, ◌/◌, ◌%◌, ◌^◌, ◌&&◌, ◌||◌, if◌then◌else◌, ◌≡◌}
 use Rattle.gimli_write.specs.Prelude
-use Prelude.{ℕ, ◌+◌, ◌-◌, ◌*◌, ◌/◌, ◌%◌, ◌^◌, Bool, true, false, not, ◌&&◌, ◌||◌, if◌then◌else◌}
-use Prelude.{nat_eq, nat_lt, nat_le, List, [], Option, None, ok_or, ◌≡◌, Result, Ok, Err}
+use Prelude.{ℕ, Bool, true, false, not}
+use Prelude.{nat_eq, nat_lt, nat_le, List, [], Option, None, ok_or, Result, Ok, Err}
 use Prelude.{MatchResult, LineEncoding, Address, Built, previous_position, BuiltItem, Row, End}
 use Prelude.{ConvertError, InvalidAddress, MissingLineEndSequence, UnsupportedLineInstruction}
 use Prelude.{ConvertLineRow}

@@ -1,7 +1,8 @@
 -- What is made of the header of a source, before its program is read.
+use Rattle.std.specs.Prelude.{◌||◌, ◌∷◌, ◌+ℤ◌, if◌then◌else◌}
 use Rattle.gimli_write.specs.Prelude
-use Prelude.{ℕ, ◌||◌, List, [], ◌∷◌, Bool, false, Option, Some, None, option_map, ok_or, unwrap_or}
-use Prelude.{Result, Ok, Err, nat_eq, nat_le, nat_lt, pos, ◌+ℤ◌, int_lt, int_le, if◌then◌else◌}
+use Prelude.{ℕ, List, [], Bool, false, Option, Some, None, option_map, ok_or, unwrap_or}
+use Prelude.{Result, Ok, Err, nat_eq, nat_le, nat_lt, pos, int_lt, int_le}
 use Prelude.{option_map_or, Encoding, LineEncoding, Value, File, Header, directory_of, file_of}
 use Prelude.{has_content, LineText, made_text, made_table, Built, empty_built, Sections}
 use Prelude.{ConvertError, MissingCompilationDirectory, MissingCompilationName}

@@ -1,6 +1,7 @@
 -- The sequences of what a conversion reads.
+use Rattle.std.specs.Prelude.{◌≡◌, ◌∷◌, ◌++◌}
 use Rattle.gimli_write.specs.Prelude
-use Prelude.{◌≡◌, ℕ, List, [], ◌∷◌, ◌++◌, Option, Some, None, option_map, Result, Ok, Err, LineRow}
+use Prelude.{ℕ, List, [], Option, Some, None, option_map, Result, Ok, Err, LineRow}
 use Prelude.{ConvertError, MissingLineEndSequence, SetAddress, EndSequence}
 use Rattle.gimli_write.specs.declared.convert.rows.ConvertLineRow.TheVariants.{Row}
 use Rattle.gimli_write.specs.declared.convert.rows.ConvertLineSequence.{ConvertLineSequence}

@@ -1,6 +1,7 @@
 -- What a run over a source has still to read.
+use Rattle.std.specs.Prelude.{◌-◌, ◌&&◌, if◌then◌else◌, ◌∷◌}
 use Rattle.gimli_write.specs.Prelude
-use Prelude.{ℕ, ◌-◌, not, ◌&&◌, if◌then◌else◌, List, [], ◌∷◌, Option, Some, None, unwrap_or}
+use Prelude.{ℕ, not, List, [], Option, Some, None, unwrap_or}
 use Prelude.{Result, Ok, Error, Header, Ins, is_end, makes_row, decoded_at, Sections, ConvertError}
 use Prelude.{Read, SourceRow}
 use Rattle.gimli_core.specs.declared.error.Error.TheVariants.{AddressOverflow}

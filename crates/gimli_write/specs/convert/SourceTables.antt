@@ -1,6 +1,7 @@
 -- The directories and files of a source, as they are added to the program that is built of it.
+use Rattle.std.specs.Prelude.{◌∷◌, ◌++◌}
 use Rattle.gimli_write.specs.Prelude
-use Prelude.{ℕ, List, [], ◌∷◌, ◌++◌, Option, Some, option_map, ok_or, slice_get, Result, Ok}
+use Prelude.{ℕ, List, [], Option, Some, option_map, ok_or, slice_get, Result, Ok}
 use Prelude.{option_map_or, Value, File, made_text, made_table, Built, Sections, ConvertError}
 use Prelude.{InvalidDirectoryIndex}
 use Rattle.gimli_build.specs.Tables.{FileKey, with_directory, index_of_directory, with_file}

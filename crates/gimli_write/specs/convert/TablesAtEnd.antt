@@ -1,7 +1,8 @@
 -- The tables that a source leaves: the files that it defines are added, up to its end or to what is
 -- refused.
+use Rattle.std.specs.Prelude.{◌&&◌, ◌||◌, if◌then◌else◌, ◌∷◌}
 use Rattle.gimli_write.specs.Prelude
-use Prelude.{ℕ, Bool, not, ◌&&◌, ◌||◌, if◌then◌else◌, List, [], ◌∷◌, Option, Some, None, Result}
+use Prelude.{ℕ, Bool, not, List, [], Option, Some, None, Result}
 use Prelude.{Ok, Err, is_err, Ins, makes_row, decoded_at, Sections, ConvertError, SourceRow}
 use Rattle.gimli_line.specs.run.Machine.{is_refused}
 use Rattle.gimli_write.specs.convert.SourceTables.{TablesAndTexts}

@@ -1,7 +1,8 @@
 -- The texts of a source that is converted.
+use Rattle.std.specs.Prelude.{◌≡◌, ◌⊎◌, ◌&&◌, if◌then◌else◌}
 use Rattle.gimli_write.specs.Prelude
-use Prelude.{◌≡◌, ◌⊎◌, ℕ, ◌&&◌, List, Option, Some, None, Result, Ok, Err, length, nat_eq, nat_le}
-use Prelude.{if◌then◌else◌, Value, Sections, ConvertError, Read, InvalidAttributeValue}
+use Prelude.{ℕ, List, Option, Some, None, Result, Ok, Err, length, nat_eq, nat_le}
+use Prelude.{Value, Sections, ConvertError, Read, InvalidAttributeValue}
 use Prelude.{UnsupportedLineStringForm, OutOfMemory}
 use Rattle.std.specs.List.{list_any}
 use Rattle.std.specs.Result.{result_map_both}

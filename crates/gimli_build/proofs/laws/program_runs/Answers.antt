@@ -1,7 +1,4 @@
-use Rattle.std.proofs.Common.{ap, ◌∙◌, lit<}
-use Rattle.gimli_line.specs.run.Machine.{run}
-use Rattle.gimli_build.specs.Rows.{initial_row}
-use Rattle.gimli_build.specs.SameRow.{built_rules}
+use Rattle.gimli_build.proofs.Common.{ap, ◌∙◌, lit<, run, initial_row, built_rules}
 use Rattle.gimli_build.specs.Runs.{program_instructions}
 use Rattle.gimli_build.proofs.reading.RowRuns.{start-is}
 use Rattle.gimli_build.proofs.reading.ItemRuns.{items-run, start_position}

@@ -1,4 +1,4 @@
-use Rattle.gimli_build.specs.Rows.{initial_row}
+use Rattle.gimli_build.proofs.Common.{initial_row}
 use Rattle.gimli_build.proofs.reading.NoFiles.{items-none, starts-none, goes-none, refused-none}
 use Rattle.gimli_build.proofs.laws.written_rows_take_no_memory.Goals as goal
 

@@ -1,4 +1,4 @@
-use Rattle.std.proofs.Common.{◌∙◌}
+use Rattle.gimli_build.proofs.Common.{◌∙◌}
 use Rattle.gimli_build.proofs.writing.Writes.{first_unwritten, joins, passed_on}
 use Rattle.gimli_build.proofs.unit.write_inside.Goals as goal
 

@@ -1,7 +1,7 @@
-use Rattle.std.proofs.Common.{◌≡◌, ℕ, List, ◌-◌, ◌<◌, ◌^◌, ◌++◌, length, Ok, refl, sym, ap, ◌∙◌, arith, append_assoc}
-use Rattle.gimli_bytes.specs.Number.{length_word, open_length}
-use Rattle.gimli_build.specs.Joined.{result_append}
-use Rattle.gimli_build.specs.Unit.{escape_bytes}
+use Rattle.std.specs.Prelude.{◌≡◌, ◌-◌, ◌<◌, ◌^◌, ◌++◌}
+use Rattle.gimli_build.proofs.Common
+use Common.{ℕ, List, length, Ok, refl, sym, ap, ◌∙◌, arith, append_assoc, length_word, open_length, result_append}
+use Common.{escape_bytes}
 use Rattle.gimli_build.proofs.writing.Joined.{on_ok}
 use Rattle.gimli_build.proofs.linking.Lengths.{patched_length}
 use Rattle.gimli_build.proofs.writing.Frames.{counted_written, open_word, escape_is, escape_long, length_word_long}

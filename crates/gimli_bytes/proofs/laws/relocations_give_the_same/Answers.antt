@@ -1,4 +1,4 @@
-use Rattle.std.specs.Prelude.{length}
+use Rattle.gimli_bytes.proofs.Common.{length}
 use Rattle.gimli_bytes.proofs.Relocating.{inside-from}
 use Rattle.gimli_bytes.proofs.CallsRelocated.{calls_same}
 use Rattle.gimli_bytes.proofs.laws.relocations_give_the_same.Goals as goal

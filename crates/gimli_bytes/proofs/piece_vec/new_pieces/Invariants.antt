@@ -1,4 +1,5 @@
-use Rattle.std.proofs.Common.{◌≡◌, length, All}
+use Rattle.std.specs.Prelude.{◌≡◌}
+use Rattle.gimli_bytes.proofs.Common.{length, All}
 use Rattle.gimli_bytes.proofs.piece_vec.new_pieces.Given as goal
 
 abbrev pub invariant-loop : goal.invariant-loop

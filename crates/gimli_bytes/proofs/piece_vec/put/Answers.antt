@@ -1,9 +1,8 @@
-use Rattle.std.proofs.Common.{arith, ◌≡◌, ◌∙◌, ◌+◌, ◌<◌, ◌≤◌, ◌++◌, ◌/◌, ◌%◌, length, List, ℕ, ap, length-set}
-use Rattle.std.proofs.Common.{length-append}
+use Rattle.std.specs.Prelude.{◌≡◌, ◌+◌, ◌<◌, ◌≤◌, ◌++◌, ◌/◌, ◌%◌}
+use Rattle.gimli_bytes.proofs.Common
+use Common.{arith, ◌∙◌, length, List, ℕ, ap, length-append, take-append-drop, All-set, put_over}
+use Rattle.std.proofs.Common.{length-set}
 use Rattle.std.proofs.lemmas.Grind.{common_steps}
-use Rattle.std.proofs.lemmas.List.{take-append-drop}
-use Rattle.std.proofs.lemmas.List.Elements.{All-set}
-use Rattle.gimli_bytes.specs.inside.Pieces.{put_over}
 use Rattle.gimli_bytes.proofs.PieceLemmas.{piece-inside, put-step, length-put_over, length-concat}
 use Rattle.gimli_bytes.proofs.piece_vec.put.Goals as goal
 

@@ -1,6 +1,5 @@
-use Rattle.std.proofs.Common.{◌≡◌, ◌+◌, ◌≤◌, length, All}
-use Rattle.std.specs.List.{concat}
-use Rattle.gimli_bytes.specs.inside.Pieces.{put_over}
+use Rattle.std.specs.Prelude.{◌≡◌, ◌+◌, ◌≤◌}
+use Rattle.gimli_bytes.proofs.Common.{length, All, concat, put_over}
 use Rattle.gimli_bytes.proofs.piece_vec.put.Given as goal
 
 abbrev pub invariant-loop-rest : goal.invariant-loop-rest

@@ -1,6 +1,5 @@
-use Rattle.std.proofs.Common.{◌≡◌, refl}
-use Rattle.std.specs.Cmp.{unsigned_Decides}
-use Rattle.gimli_line.specs.declared.header.file_entry.FileEntry.{FileEntry}
+use Rattle.std.specs.Prelude.{◌≡◌}
+use Rattle.gimli_line.proofs.Common.{refl, unsigned_Decides, FileEntry}
 use Rattle.gimli_line.proofs.Equality.{both, whole}
 use Rattle.gimli_line.proofs.laws.equal_files_are_same.Goals as goal
 

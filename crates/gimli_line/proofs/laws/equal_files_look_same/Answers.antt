@@ -1,10 +1,7 @@
-use Rattle.std.proofs.Common.{◌≡◌, Bool, List, Option, Some, None, ℕ, refl, ap}
-use Rattle.std.specs.Prelude.{option_map}
-use Rattle.std.specs.Cmp.{unsigned_Decides}
-use Rattle.gimli_core.specs.Values.{Value, value_by}
-use Rattle.gimli_core.specs.declared.attribute_value.AttributeValue.{AttributeValue}
-use Rattle.gimli_line.specs.header.File.{File, FileOrders, file_by}
-use Rattle.gimli_line.specs.declared.header.file_entry.FileEntry.{FileEntry}
+use Rattle.std.specs.Prelude.{◌≡◌}
+use Rattle.gimli_line.proofs.Common
+use Common.{Bool, List, Option, Some, None, ℕ, refl, ap, option_map, unsigned_Decides, Value, value_by, AttributeValue}
+use Common.{File, FileOrders, file_by, FileEntry}
 use Rattle.gimli_line.proofs.Equality.{both, whole, zipped}
 use Rattle.gimli_line.proofs.laws.equal_files_look_same.Goals as goal
 

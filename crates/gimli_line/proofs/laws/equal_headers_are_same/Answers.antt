@@ -1,7 +1,4 @@
-use Rattle.std.proofs.Common.{refl, ap}
-use Rattle.std.specs.Cmp.{unsigned_Decides}
-use Rattle.std.proofs.lemmas.Slice.Eq.{slice_eq-Decides}
-use Rattle.gimli_core.specs.declared.common.DebugLineOffset.{DebugLineOffset}
+use Rattle.gimli_line.proofs.Common.{refl, ap, unsigned_Decides, slice_eq-Decides, DebugLineOffset}
 use Rattle.gimli_line.proofs.Equality.{both, whole, options}
 use Rattle.gimli_line.proofs.HeaderParts.{joined_parameters, parted_parameters, joined_offset, joined, parted}
 use Rattle.gimli_line.proofs.laws.equal_headers_are_same.Goals as goal

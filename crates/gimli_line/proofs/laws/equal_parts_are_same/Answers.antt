@@ -1,6 +1,5 @@
-use Rattle.std.proofs.Common.{◌≡◌, refl}
-use Rattle.std.specs.Cmp.{unsigned_Decides, booleans_Decides}
-use Rattle.gimli_line.specs.declared.run.row.LineRow.{LineRow}
+use Rattle.std.specs.Prelude.{◌≡◌}
+use Rattle.gimli_line.proofs.Common.{refl, unsigned_Decides, booleans_Decides, LineRow}
 use Rattle.gimli_line.proofs.Equality.{both, whole}
 use Rattle.gimli_line.proofs.laws.equal_parts_are_same.Goals as goal
 

@@ -1,8 +1,5 @@
-use Rattle.std.proofs.Common.{◌∙◌, sym, ap, List, Option}
-use Rattle.gimli_core.specs.declared.error.Error.{Error}
-use Rattle.gimli_line.specs.run.Instruction.{Ins}
+use Rattle.gimli_line.proofs.Common.{◌∙◌, sym, ap, List, Option, Error, Ins, decoded_at}
 use Rattle.gimli_line.proofs.InstructionLaws.{is_decoded, one_decoding}
-use Rattle.gimli_line.specs.run.InstructionReading.{decoded_at}
 use Rattle.gimli_line.proofs.laws.one_decoding.Goals as goal
 
 pub returns : goal.returns

@@ -1,15 +1,10 @@
 -- What is taken of the values of tables of version 5, and what is left.
-use Rattle.std.specs.Prelude.{ℕ, List, drop, Some, None, Ok, Err}
-use Rattle.gimli_core.specs.Layout.{OrderAndLimit}
-use Rattle.gimli_core.specs.Values.{Value}
-use Rattle.gimli_core.specs.Reading.{Read, ◌>>=◌, split_at, text_at, number_at, unsigned_at}
-use Rattle.gimli_core.specs.Reading.{signed_at, word_at}
+use Rattle.gimli_line.specs.Prelude
+use Prelude.{ℕ, List, drop, Some, None, Ok, Err, OrderAndLimit, Value, Read, ◌>>=◌, split_at, text_at, number_at}
+use Prelude.{unsigned_at, signed_at, word_at, Format, UnknownForm, Block, String}
 use Rattle.gimli_core.specs.Form.{Shape, fixed, three_bytes, word_offset, leb, signed_leb}
 use Rattle.gimli_core.specs.Form.{leb_offset, block, counted, leb_counted, string, shape_among}
 use Rattle.gimli_core.specs.Form.{shapes}
-use Rattle.gimli_core.specs.declared.common.Format.{Format}
-use Rattle.gimli_core.specs.declared.error.Error.TheVariants.{UnknownForm}
-use Rattle.gimli_core.specs.declared.attribute_value.AttributeValue.TheVariants.{Block, String}
 use Rattle.gimli_line.specs.header.FormReading.{offset_at}
 
 -- that many bytes, as a block

@@ -1,6 +1,6 @@
 -- How the header of a unit is spelled, production by production, and which refusal comes where a
 -- production isn't there (DWARF 5, section 6.2.4; DWARF 4, section 6.2.4).
-use Rattle.std.specs.Prelude.{ℕ, List}
+use Rattle.gimli_line.specs.Prelude.{ℕ, List}
 use Rattle.gimli_line.specs.header.File.{File}
 use Rattle.gimli_line.specs.declared.header.file_entry.FileEntryFormat.{FileEntryFormat}
 use Rattle.gimli_line.specs.header.HeaderGrammar.{

@@ -1,5 +1,5 @@
 -- The fields in front of the header length, as a call returns them.
-use Rattle.std.specs.Prelude.{ℕ, List}
+use Rattle.gimli_line.specs.Prelude.{ℕ, List}
 use Rattle.gimli_line.specs.header.HeaderGrammar.{HeaderOpening}
 use Rattle.gimli_line.specs.declared.header.parse.HeaderOpening.{HeaderOpening as HeaderOpeningOf}
 

@@ -1,26 +1,12 @@
 -- What is taken of a header, step by step, and what is left.
-use Rattle.std.specs.Prelude.{ℕ, ◌-◌, List, [], ◌∷◌, map, min, count_by, Bool, not, ◌&&◌, nat_eq}
-use Rattle.std.specs.Prelude.{nat_le, if◌then◌else◌, option_map, Ok, Err}
+use Rattle.std.specs.Prelude.{◌-◌, ◌∷◌, ◌&&◌, if◌then◌else◌}
+use Rattle.gimli_line.specs.Prelude
+use Prelude.{ℕ, List, [], map, min, count_by, Bool, not, nat_eq, nat_le, option_map, Ok, Err, OrderAndLimit, Value}
+use Prelude.{Read, ◌>>=◌, byte_at, split_at, text_at, number_at, unsigned_at, unsigned_16_at, word_at}
+use Prelude.{initial_length_at, address_size_at, times_at, within_at, Encoding, LineEncoding, Format, String, Error}
+use Prelude.{UnknownVersion, UnsupportedSegmentSize, MinimumInstructionLengthZero, MaximumOperationsPerInstructionZero}
+use Prelude.{LineRangeZero, OpcodeBaseZero, MissingFileEntryFormatPath}
 use Rattle.std.specs.Int.{w8, cast_signed}
-use Rattle.gimli_core.specs.Layout.{OrderAndLimit}
-use Rattle.gimli_core.specs.Values.{Value}
-use Rattle.gimli_core.specs.Reading.{Read, ◌>>=◌, byte_at, split_at, text_at, number_at}
-use Rattle.gimli_core.specs.Reading.{unsigned_at, unsigned_16_at, word_at, initial_length_at}
-use Rattle.gimli_core.specs.Reading.{address_size_at, times_at, within_at}
-use Rattle.gimli_core.specs.declared.common.Encoding.{Encoding}
-use Rattle.gimli_core.specs.declared.common.LineEncoding.{LineEncoding}
-use Rattle.gimli_core.specs.declared.common.Format.{Format}
-use Rattle.gimli_core.specs.declared.attribute_value.AttributeValue.TheVariants.{String}
-use Rattle.gimli_core.specs.declared.error.Error.{Error}
-use Rattle.gimli_core.specs.declared.error.Error.TheVariants.{
-  UnknownVersion,
-  UnsupportedSegmentSize,
-  MinimumInstructionLengthZero,
-  MaximumOperationsPerInstructionZero,
-  LineRangeZero,
-  OpcodeBaseZero,
-  MissingFileEntryFormatPath,
-}
 use Rattle.gimli_line.specs.header.Parameters.{Parameters}
 use Rattle.gimli_line.specs.header.File.{File}
 use Rattle.gimli_line.specs.header.Header.{Header, UnitEntry, plain_file}

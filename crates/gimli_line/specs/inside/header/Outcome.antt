@@ -1,10 +1,6 @@
 -- What a call returns of what is read.
-use Rattle.std.specs.Prelude.{◌≡◌, ◌≢◌, ℕ, List, map, Result, Ok, Err}
-use Rattle.std.specs.declared.vec.Vec.{Vec}
-use Rattle.std.specs.declared.alloc.Global.{Global}
-use Rattle.gimli_core.specs.Reading.{Read, ◌>>=◌}
-use Rattle.gimli_core.specs.declared.error.Error.{Error}
-use Rattle.gimli_core.specs.declared.error.Error.TheVariants.{OutOfMemory}
+use Rattle.std.specs.Prelude.{◌≡◌, ◌≢◌}
+use Rattle.gimli_line.specs.Prelude.{ℕ, List, map, Result, Ok, Err, Vec, Global, Read, ◌>>=◌, Error, OutOfMemory}
 
 -- what a call returned, its value seen by view, and the bytes that it left are what reading gives,
 -- unless memory was missing

@@ -1,5 +1,6 @@
 -- What the instructions of a unit are executed by.
-use Rattle.std.specs.Prelude.{◌<◌, IsTrue}
+use Rattle.std.specs.Prelude.{◌<◌}
+use Rattle.gimli_line.specs.Prelude.{IsTrue}
 use Rattle.gimli_core.specs.Numbers.{is_address_size}
 use Rattle.gimli_line.specs.header.Parameters.{Parameters, IsLineEncoding}
 

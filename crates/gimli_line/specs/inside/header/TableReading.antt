@@ -1,7 +1,6 @@
 -- What is taken of tables that a zero byte closes, and what is left.
-use Rattle.std.specs.Prelude.{ℕ, zero, suc, Bool, false, nat_eq, if◌then◌else◌, List, [], ◌∷◌}
-use Rattle.std.specs.Prelude.{length, Ok, Err}
-use Rattle.gimli_core.specs.Reading.{Read, ◌>>=◌, eof}
+use Rattle.std.specs.Prelude.{if◌then◌else◌, ◌∷◌}
+use Rattle.gimli_line.specs.Prelude.{ℕ, zero, suc, Bool, false, nat_eq, List, [], length, Ok, Err, Read, ◌>>=◌, eof}
 
 -- a zero byte comes next
 abbrev pub is_closed : List ℕ → Bool

@@ -1,9 +1,8 @@
 -- What one step of a row iterator does.
-use Rattle.std.specs.Prelude.{◌≡◌, ◌<◌, List, [], ◌∷◌, length, IfErr, IfOk, Result}
-use Rattle.gimli_core.specs.declared.error.Error.{Error}
+use Rattle.std.specs.Prelude.{◌≡◌, ◌<◌, ◌∷◌}
+use Rattle.gimli_line.specs.Prelude.{List, [], length, IfErr, IfOk, Result, Error, filter}
 use Rattle.gimli_line.specs.declared.run.rows.RowStep.{RowStep}
 use Rattle.gimli_line.specs.declared.run.rows.RowStep.TheVariants.{Done, Made, More}
-use Rattle.std.specs.List.{filter}
 use Rattle.gimli_line.specs.run.Events.{Event, row, is_given}
 use Rattle.gimli_line.specs.declared.run.row.LineRow.{LineRow}
 use Rattle.gimli_line.specs.run.RunState.{RunState}

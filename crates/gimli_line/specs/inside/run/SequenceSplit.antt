@@ -1,5 +1,6 @@
 -- Splitting a program into sequences, row by row.
-use Rattle.std.specs.Prelude.{ℕ, if◌then◌else◌, List, [], ◌∷◌, ◌++◌, Option, Some, None}
+use Rattle.std.specs.Prelude.{if◌then◌else◌, ◌∷◌, ◌++◌}
+use Rattle.gimli_line.specs.Prelude.{ℕ, List, [], Option, Some, None}
 use Rattle.std.specs.Option.{unwrap_or}
 use Rattle.gimli_line.specs.declared.run.row.LineRow.{LineRow}
 use Rattle.gimli_line.specs.run.Unread.{Unread}

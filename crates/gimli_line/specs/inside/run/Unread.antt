@@ -1,5 +1,6 @@
 -- What is read from, whatever the type of the reader.
-use Rattle.std.specs.Prelude.{◌-◌, length, take}
+use Rattle.std.specs.Prelude.{◌-◌}
+use Rattle.gimli_line.specs.Prelude.{length, take}
 use Rattle.gimli_line.specs.run.Unread.{Unread}
 
 -- what stands in front of a rest

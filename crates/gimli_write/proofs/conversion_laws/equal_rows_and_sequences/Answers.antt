@@ -1,5 +1,6 @@
+use Rattle.std.specs.Prelude.{◌≡◌}
 use Rattle.gimli_write.proofs.Common
-use Common.{◌≡◌, ℕ, refl, ap, Option, Some, None, nat_eq, option_eq, slice_eq-Decides, or, end, one, sequence_with}
+use Common.{ℕ, refl, ap, Option, Some, None, nat_eq, option_eq, slice_eq-Decides, or, end, one, sequence_with}
 use Rattle.std.specs.Bool.{Decides}
 use Rattle.std.specs.Cmp.{unsigned_Decides}
 use Rattle.gimli_line.proofs.Equality.{both, whole}

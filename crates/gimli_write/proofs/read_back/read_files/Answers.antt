@@ -1,5 +1,6 @@
+use Rattle.std.specs.Prelude.{◌<◌}
 use Rattle.gimli_write.proofs.Common
-use Common.{◌<◌, length, arith, file_seen, HasFileTexts, IsFileAnswer, file_answer}
+use Common.{length, arith, file_seen, HasFileTexts, IsFileAnswer, file_answer}
 use Rattle.gimli_write.proofs.ReadTexts.{mapped_at, one_by_one_more}
 use Rattle.gimli_write.proofs.read_back.read_files.Goals as goal
 

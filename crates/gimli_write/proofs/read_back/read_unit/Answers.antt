@@ -1,5 +1,6 @@
+use Rattle.std.specs.Prelude.{◌<◌, ◌^◌}
 use Rattle.gimli_write.proofs.Common
-use Common.{◌<◌, ◌^◌, length, ap, subst, List, ℕ, ◌∙◌, err_from_is_err_and, texts_in}
+use Common.{length, ap, subst, List, ℕ, ◌∙◌, err_from_is_err_and, texts_in}
 use Rattle.gimli_write.proofs.ReadUnits.{can_read, program_answered, program_refused, unread_refused}
 use Rattle.gimli_write.proofs.BuiltAnswers.{built_directories, built_files, built_rows, never_read}
 use Rattle.gimli_write.proofs.read_back.read_unit.Goals as goal

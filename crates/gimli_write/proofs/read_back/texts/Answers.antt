@@ -1,5 +1,6 @@
+use Rattle.std.specs.Prelude.{◌<◌}
 use Rattle.gimli_write.proofs.Common
-use Common.{◌<◌, length, arith, value_seen, IsText, HasText}
+use Common.{length, arith, value_seen, IsText, HasText}
 use Rattle.gimli_write.proofs.ReadTexts.{mapped_at, one_by_one_more}
 use Rattle.gimli_write.proofs.read_back.texts.Goals as goal
 

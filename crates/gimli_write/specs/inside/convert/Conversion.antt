@@ -1,6 +1,7 @@
 -- A conversion, as far as it got, and what it has still to read.
+use Rattle.std.specs.Prelude.{◌≡◌}
 use Rattle.gimli_write.specs.Prelude
-use Prelude.{◌≡◌, ℕ, Option, Some, None, SourceRow}
+use Prelude.{ℕ, Option, Some, None, SourceRow}
 use Rattle.gimli_write.specs.convert.SourceTables.{TablesAndTexts}
 use Rattle.gimli_write.specs.convert.Items.{Reading, ends, address_offered, row_or_end_offered}
 use Rattle.gimli_write.specs.convert.Items.{after_definitions}

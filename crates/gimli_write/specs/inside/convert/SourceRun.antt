@@ -1,6 +1,7 @@
 -- What a run over a source has still to read.
+use Rattle.std.specs.Prelude.{◌≡◌, ◌<◌, ◌-◌, ◌&&◌, if◌then◌else◌}
 use Rattle.gimli_write.specs.Prelude
-use Prelude.{◌≡◌, ◌<◌, ◌-◌, ℕ, not, ◌&&◌, if◌then◌else◌, List, [], length, IfErr, IfOk, Result}
+use Prelude.{ℕ, not, List, [], length, IfErr, IfOk, Result}
 use Prelude.{file_seen, Ins, makes_row, Sections, ConvertError, SourceRow, SourceStep, Done, More}
 use Prelude.{Defines, Made}
 use Rattle.gimli_line.specs.declared.run.row.LineRow.{LineRow}

@@ -1,4 +1,4 @@
-use Rattle.std.proofs.Common.{arith}
+use Rattle.gimli_build.proofs.Common.{arith}
 use Rattle.gimli_build.proofs.sizes.Steps.{operations_above}
 use Rattle.gimli_build.proofs.rows.encode.operation_advance.Goals as goal
 

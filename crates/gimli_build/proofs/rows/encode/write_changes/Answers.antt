@@ -1,10 +1,8 @@
+use Rattle.std.specs.Prelude.{◌≡◌}
+use Rattle.gimli_build.proofs.Common
+use Common.{Bool, true, false, nat_eq, not, refl, NegateStatement, SetFile, SetColumn, SetIsa, file_number, when}
+use Common.{differ}
 use Rattle.std.specs.Bool.{beq}
-use Rattle.std.proofs.Common.{◌≡◌, Bool, true, false, nat_eq, not, refl}
-use Rattle.gimli_line.specs.declared.run.instruction.LineInstruction.TheVariants.{NegateStatement, SetFile, SetColumn}
-use Rattle.gimli_line.specs.declared.run.instruction.LineInstruction.TheVariants.{SetIsa}
-use Rattle.gimli_build.specs.FileNumber.{file_number}
-use Rattle.gimli_build.specs.Due.{when}
-use Rattle.gimli_build.specs.Encode.{differ}
 use Rattle.gimli_build.proofs.writing.InstructionsWritten.{four_parts}
 use Rattle.gimli_build.proofs.writing.Writes.{bytes_unwritten, joins, unwritten, passed_on}
 use Rattle.gimli_build.proofs.rows.encode.write_changes.Goals as goal

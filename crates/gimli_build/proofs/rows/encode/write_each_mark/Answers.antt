@@ -1,7 +1,5 @@
-use Rattle.std.proofs.Common.{nat_eq, not}
-use Rattle.gimli_line.specs.declared.run.instruction.LineInstruction.TheVariants.{SetDiscriminator, SetBasicBlock}
-use Rattle.gimli_line.specs.declared.run.instruction.LineInstruction.TheVariants.{SetPrologueEnd, SetEpilogueBegin}
-use Rattle.gimli_build.specs.Due.{when}
+use Rattle.gimli_build.proofs.Common
+use Common.{nat_eq, not, SetDiscriminator, SetBasicBlock, SetPrologueEnd, SetEpilogueBegin, when}
 use Rattle.gimli_build.proofs.writing.InstructionsWritten.{four_parts}
 use Rattle.gimli_build.proofs.writing.Writes.{bytes_unwritten, joins, unwritten, passed_on}
 use Rattle.gimli_build.proofs.rows.encode.write_each_mark.Goals as goal

@@ -1,6 +1,5 @@
-use Rattle.std.proofs.Common.{[], ◌∷◌, nat_eq, not}
-use Rattle.gimli_line.specs.declared.run.instruction.LineInstruction.TheVariants.{AdvancePc, EndSequence}
-use Rattle.gimli_build.specs.Due.{when}
+use Rattle.std.specs.Prelude.{◌∷◌}
+use Rattle.gimli_build.proofs.Common.{[], nat_eq, not, AdvancePc, EndSequence, when}
 use Rattle.gimli_build.proofs.writing.InstructionsWritten.{bytes_append}
 use Rattle.gimli_build.proofs.writing.Writes.{bytes_unwritten, joins, passed_on}
 use Rattle.gimli_build.proofs.rows.encode.write_end.Goals as goal

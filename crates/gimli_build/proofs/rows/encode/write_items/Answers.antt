@@ -1,6 +1,5 @@
-use Rattle.std.proofs.Common.{◌≡◌, ℕ, ap, ◌<◌, length, ◌∙◌, arith}
-use Rattle.gimli_build.specs.Rows.{at_position}
-use Rattle.gimli_build.specs.Items.{next_previous}
+use Rattle.std.specs.Prelude.{◌≡◌, ◌<◌}
+use Rattle.gimli_build.proofs.Common.{ℕ, ap, length, ◌∙◌, arith, at_position, next_previous}
 use Rattle.gimli_build.proofs.reading.ItemRuns.{start_position}
 use Rattle.gimli_build.proofs.writing.ItemsWritten.{taken_next, fit_more, way_on, none_standing, written_more}
 use Rattle.gimli_build.proofs.writing.Joined.{next_left}

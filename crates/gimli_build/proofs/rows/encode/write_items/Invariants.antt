@@ -1,7 +1,4 @@
-use Rattle.std.proofs.Common.{drop, take}
-use Rattle.gimli_bytes.specs.Hand.{Hand}
-use Rattle.gimli_build.specs.Items.{items_bytes, AreFit}
-use Rattle.gimli_build.specs.Rows.{initial_row, at_position}
+use Rattle.gimli_build.proofs.Common.{drop, take, Hand, items_bytes, AreFit, initial_row, at_position}
 use Rattle.gimli_build.proofs.writing.ItemsWritten.{OnTheWay, Written}
 use Rattle.gimli_build.proofs.rows.encode.write_items.Given as goal
 

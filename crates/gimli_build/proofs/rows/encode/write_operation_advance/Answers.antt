@@ -1,7 +1,5 @@
-use Rattle.std.proofs.Common.{◌≡◌, ◌+◌, ◌-◌, ◌*◌, nat_le, false}
-use Rattle.std.proofs.lemmas.List.{append-nil}
-use Rattle.gimli_build.specs.Encode.{row_maker, constant_advance}
-use Rattle.gimli_build.specs.InstructionBytes.{instruction_bytes}
+use Rattle.std.specs.Prelude.{◌≡◌, ◌+◌, ◌-◌, ◌*◌}
+use Rattle.gimli_build.proofs.Common.{nat_le, false, append-nil, row_maker, constant_advance, instruction_bytes}
 use Rattle.gimli_build.proofs.writing.Writes.{passed_on, joins, unwritten, bytes_unwritten}
 use Rattle.gimli_build.proofs.writing.InstructionsWritten.{past, found, by_constant}
 use Rattle.gimli_build.proofs.rows.encode.write_operation_advance.Goals as goal

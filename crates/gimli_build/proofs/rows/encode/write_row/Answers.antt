@@ -1,8 +1,7 @@
-use Rattle.std.proofs.Common.{◌≡◌, arith, to_z, of_z, w64, pos, ◌-ℤ◌, ◌∙◌}
-use Rattle.std.proofs.lemmas.Int.{ints}
-use Rattle.gimli_build.specs.Advance.{operations}
-use Rattle.gimli_build.specs.Encode.{marks, changes, line_part, line_opcode, operation_part}
-use Rattle.gimli_build.specs.Rows.{at_position}
+use Rattle.std.specs.Prelude.{◌≡◌, ◌-ℤ◌}
+use Rattle.gimli_build.proofs.Common
+use Common.{arith, to_z, of_z, w64, pos, ◌∙◌, ints, operations, marks, changes, line_part, line_opcode, operation_part}
+use Common.{at_position}
 use Rattle.gimli_build.proofs.writing.InstructionsWritten.{four_parts}
 use Rattle.gimli_build.proofs.writing.Writes.{bytes_unwritten, joins, unwritten, passed_on}
 use Rattle.gimli_build.proofs.rows.encode.write_row.Goals as goal

@@ -1,4 +1,4 @@
-use Rattle.std.proofs.Common.{◌∙◌}
+use Rattle.gimli_build.proofs.Common.{◌∙◌}
 use Rattle.gimli_build.proofs.writing.InstructionsWritten.{address_parts}
 use Rattle.gimli_build.proofs.writing.Writes.{bytes_unwritten, joins, unwritten, wanted_alike, writes, passed_on}
 use Rattle.gimli_build.proofs.rows.instruction.write_set_address.Goals as goal

@@ -1,4 +1,4 @@
-use Rattle.gimli_bytes.proofs.LebLemmas.{uleb_one}
+use Rattle.gimli_build.proofs.Common.{uleb_one}
 use Rattle.gimli_build.proofs.writing.Writes.{writes}
 use Rattle.gimli_build.proofs.rows.instruction.write_unsigned.Goals as goal
 

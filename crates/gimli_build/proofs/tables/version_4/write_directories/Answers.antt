@@ -1,6 +1,4 @@
-use Rattle.std.proofs.lemmas.Result.{err_from_is_err_and}
-use Rattle.std.proofs.lemmas.List.{drop-map}
-use Rattle.gimli_build.specs.LineText.{line_text}
+use Rattle.gimli_build.proofs.Common.{err_from_is_err_and, drop-map, line_text}
 use Rattle.gimli_build.proofs.writing.Writes.{first_unwritten, joins}
 use Rattle.gimli_build.proofs.tables.version_4.write_directories.Goals as goal
 

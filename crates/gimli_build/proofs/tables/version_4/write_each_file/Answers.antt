@@ -1,10 +1,5 @@
-use Rattle.std.proofs.Common.{◌≤◌, arith}
-use Rattle.std.proofs.lemmas.List.{take_all}
-use Rattle.std.proofs.lemmas.List.Elements.{All-push}
-use Rattle.gimli_build.specs.LineText.{line_text}
-use Rattle.gimli_build.specs.Tables.{File}
-use Rattle.gimli_build.specs.inside.Tables.{FitsFile}
-use Rattle.gimli_build.specs.TableFields.{details}
+use Rattle.std.specs.Prelude.{◌≤◌}
+use Rattle.gimli_build.proofs.Common.{arith, take_all, All-push, line_text, File, FitsFile, details}
 use Rattle.gimli_build.proofs.writing.Joined.{next_at, taken_at}
 use Rattle.gimli_build.proofs.writing.Writes.{one_written, one_unwritten, passed_on}
 use Rattle.gimli_build.proofs.tables.version_4.write_each_file.Goals as goal

@@ -1,7 +1,4 @@
-use Rattle.std.proofs.Common.{drop, take, All}
-use Rattle.gimli_bytes.specs.Hand.{Hand}
-use Rattle.gimli_build.specs.inside.Tables.{FitsFile}
-use Rattle.gimli_build.specs.Version4Tables.{file_bytes}
+use Rattle.gimli_build.proofs.Common.{drop, take, All, Hand, FitsFile, file_bytes}
 use Rattle.gimli_build.proofs.writing.Writes.{WritesSoFar}
 use Rattle.gimli_build.proofs.tables.version_4.write_each_file.Given as goal
 

@@ -1,7 +1,4 @@
-use Rattle.std.proofs.Common.{List, ap, ◌∙◌}
-use Rattle.gimli_build.specs.Due.{when}
-use Rattle.gimli_build.specs.Tables.{File}
-use Rattle.gimli_build.specs.Version5Tables.{first_form, path_texts, sources}
+use Rattle.gimli_build.proofs.Common.{List, ap, ◌∙◌, when, File, first_form, path_texts, sources}
 use Rattle.gimli_build.proofs.building.FormatLemmas.{six_due}
 use Rattle.gimli_build.proofs.tables.version_5.file_formats.Goals as goal
 

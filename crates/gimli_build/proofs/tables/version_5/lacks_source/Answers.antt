@@ -1,8 +1,5 @@
-use Rattle.std.proofs.Common.{rules, ◌≡◌, true, false, sym, ◌∙◌}
-use Rattle.std.specs.Option.{is_none}
-use Rattle.gimli_build.specs.LineText.{line_text}
-use Rattle.gimli_build.specs.Tables.{File}
-use Rattle.gimli_build.specs.TableFields.{details}
+use Rattle.std.specs.Prelude.{◌≡◌}
+use Rattle.gimli_build.proofs.Common.{rules, true, false, sym, ◌∙◌, is_none, line_text, File, details}
 use Rattle.gimli_build.proofs.building.SourceLemmas.{any_found, any_passed, none_seen}
 use Rattle.gimli_build.proofs.tables.version_5.lacks_source.Goals as goal
 

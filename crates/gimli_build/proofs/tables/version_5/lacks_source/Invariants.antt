@@ -1,7 +1,5 @@
-use Rattle.std.proofs.Common.{◌≡◌, drop}
-use Rattle.std.specs.Option.{is_none}
-use Rattle.std.specs.List.{list_any}
-use Rattle.gimli_build.specs.Tables.{File}
+use Rattle.std.specs.Prelude.{◌≡◌}
+use Rattle.gimli_build.proofs.Common.{drop, is_none, list_any, File}
 use Rattle.gimli_build.proofs.tables.version_5.lacks_source.Given as goal
 
 abbrev pub invariant-loop-index : goal.invariant-loop-index

@@ -1,7 +1,4 @@
-use Rattle.std.proofs.Common.{◌∙◌}
-use Rattle.gimli_build.specs.LineText.{line_text}
-use Rattle.gimli_build.specs.Tables.{File}
-use Rattle.gimli_build.specs.TableFields.{details}
+use Rattle.gimli_build.proofs.Common.{◌∙◌, line_text, File, details}
 use Rattle.gimli_build.proofs.building.SourceLemmas.{first_path}
 use Rattle.gimli_build.proofs.tables.version_5.path_form.Goals as goal
 

@@ -1,7 +1,5 @@
-use Rattle.std.proofs.Common.{◌≡◌, Some, None, option_map, ap, ◌∙◌}
-use Rattle.gimli_build.specs.LineText.{line_text}
-use Rattle.gimli_build.specs.Tables.{File}
-use Rattle.gimli_build.specs.TableFields.{details}
+use Rattle.std.specs.Prelude.{◌≡◌}
+use Rattle.gimli_build.proofs.Common.{Some, None, option_map, ap, ◌∙◌, line_text, File, details}
 use Rattle.gimli_build.proofs.building.SourceLemmas.{source_found, source_passed}
 use Rattle.gimli_build.proofs.tables.version_5.source_form.Goals as goal
 

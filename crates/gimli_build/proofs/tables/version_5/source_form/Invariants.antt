@@ -1,5 +1,5 @@
-use Rattle.std.proofs.Common.{◌≡◌, drop}
-use Rattle.gimli_build.specs.Version5Tables.{sources}
+use Rattle.std.specs.Prelude.{◌≡◌}
+use Rattle.gimli_build.proofs.Common.{drop, sources}
 use Rattle.gimli_build.proofs.tables.version_5.source_form.Given as goal
 
 abbrev pub invariant-loop-index : goal.invariant-loop-index

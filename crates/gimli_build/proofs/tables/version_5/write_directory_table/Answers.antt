@@ -1,7 +1,5 @@
-use Rattle.std.proofs.Common.{◌≡◌, length, map, ap, sym, ◌∙◌}
-use Rattle.std.proofs.lemmas.List.{length-map}
-use Rattle.gimli_build.specs.LineText.{line_text}
-use Rattle.gimli_build.specs.Version5Tables.{first_form}
+use Rattle.std.specs.Prelude.{◌≡◌}
+use Rattle.gimli_build.proofs.Common.{length, map, ap, sym, ◌∙◌, length-map, line_text, first_form}
 use Rattle.gimli_build.proofs.writing.Writes.{bytes_unwritten, joins, passed_on}
 use Rattle.gimli_build.proofs.tables.version_5.write_directory_table.Goals as goal
 

@@ -1,5 +1,4 @@
-use Rattle.std.proofs.Common.{ap}
-use Rattle.std.proofs.lemmas.List.{take_all}
+use Rattle.gimli_build.proofs.Common.{ap, take_all}
 use Rattle.gimli_build.proofs.building.FormatLemmas.{due_bytes, due_more}
 use Rattle.gimli_build.proofs.writing.Writes.{joins, passed_on, same_bytes, unwritten}
 use Rattle.gimli_build.proofs.tables.version_5.write_due_formats.Goals as goal

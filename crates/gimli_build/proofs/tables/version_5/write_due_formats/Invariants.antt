@@ -1,5 +1,4 @@
-use Rattle.std.proofs.Common.{take, Ok}
-use Rattle.gimli_build.specs.inside.Writes.{Writes, always}
+use Rattle.gimli_build.proofs.Common.{take, Ok, Writes, always}
 use Rattle.gimli_build.proofs.building.FormatLemmas.{due_bytes}
 use Rattle.gimli_build.proofs.tables.version_5.write_due_formats.Given as goal
 

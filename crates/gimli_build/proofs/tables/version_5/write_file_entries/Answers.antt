@@ -1,11 +1,6 @@
-use Rattle.std.proofs.Common.{◌≡◌, ◌≤◌, slice_get, Some, sym, ap, ◌∙◌, arith}
-use Rattle.std.specs.Prelude.{List}
-use Rattle.std.proofs.lemmas.List.{take_all}
-use Rattle.std.proofs.lemmas.List.Elements.{All-nil, All-push}
-use Rattle.gimli_build.specs.LineText.{line_text}
-use Rattle.gimli_build.specs.Tables.{File}
-use Rattle.gimli_build.specs.inside.Tables.{FitsFile}
-use Rattle.gimli_build.specs.TableFields.{details}
+use Rattle.std.specs.Prelude.{◌≡◌, ◌≤◌}
+use Rattle.gimli_build.proofs.Common
+use Common.{slice_get, Some, sym, ap, ◌∙◌, arith, List, take_all, All-nil, All-push, line_text, File, FitsFile, details}
 use Rattle.gimli_build.proofs.writing.Joined.{next_at, taken_at}
 use Rattle.gimli_build.proofs.writing.Writes.{none_written, one_written, one_unwritten, passed_on}
 use Rattle.gimli_build.proofs.writing.Joined.{contains-at}

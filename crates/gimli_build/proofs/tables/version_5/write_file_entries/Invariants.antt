@@ -1,7 +1,4 @@
-use Rattle.std.proofs.Common.{drop, take, All}
-use Rattle.gimli_bytes.specs.Hand.{Hand}
-use Rattle.gimli_build.specs.inside.Tables.{FitsFile}
-use Rattle.gimli_build.specs.Version5Tables.{file_entry_bytes}
+use Rattle.gimli_build.proofs.Common.{drop, take, All, Hand, FitsFile, file_entry_bytes}
 use Rattle.gimli_build.proofs.writing.Writes.{WritesSoFar}
 use Rattle.gimli_build.proofs.tables.version_5.write_file_entries.Given as goal
 

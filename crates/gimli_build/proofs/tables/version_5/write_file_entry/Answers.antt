@@ -1,10 +1,5 @@
-use Rattle.std.proofs.Common.{ap, ◌∙◌, List}
-use Rattle.std.proofs.lemmas.List.Elements.{All-contains}
-use Rattle.gimli_build.specs.LineText.{IsWithin}
-use Rattle.std.specs.Prelude.{IfSome}
+use Rattle.gimli_build.proofs.Common.{ap, ◌∙◌, List, All-contains, IsWithin, IfSome, File, first_form, path_texts}
 use Rattle.gimli_build.proofs.building.SourceLemmas.{needs-empty}
-use Rattle.gimli_build.specs.Tables.{File}
-use Rattle.gimli_build.specs.Version5Tables.{first_form, path_texts}
 use Rattle.gimli_build.proofs.writing.Writes.{first_unwritten, joins, passed_on}
 use Rattle.gimli_build.proofs.tables.version_5.write_file_entry.Goals as goal
 

@@ -1,6 +1,5 @@
-use Rattle.std.proofs.Common.{rules, ◌≡◌, true, nat_eq}
-use Rattle.gimli_build.specs.LineText.{line_text}
-use Rattle.gimli_build.specs.Version5Tables.{text_form}
+use Rattle.std.specs.Prelude.{◌≡◌}
+use Rattle.gimli_build.proofs.Common.{rules, true, nat_eq, line_text, text_form}
 use Rattle.gimli_build.proofs.tables.version_5.write_line_string.Goals as goal
 
 pub returns-in-String : goal.returns-in-String

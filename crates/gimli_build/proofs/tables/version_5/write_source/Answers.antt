@@ -1,8 +1,7 @@
-use Rattle.std.proofs.Common.{rules, ◌≡◌, true, Some, None, refl, ◌∙◌}
-use Rattle.std.specs.Prelude.{Option, unwrap_or, IfSome}
-use Rattle.gimli_build.specs.LineText.{LineText, line_text, IsWithin}
-use Rattle.gimli_build.specs.TableFields.{details}
-use Rattle.gimli_build.specs.Version5Tables.{first_form, sources, empty_text}
+use Rattle.std.specs.Prelude.{◌≡◌}
+use Rattle.gimli_build.proofs.Common
+use Common.{rules, true, Some, None, refl, ◌∙◌, Option, unwrap_or, IfSome, LineText, line_text, IsWithin, details}
+use Common.{first_form, sources, empty_text}
 use Rattle.gimli_build.proofs.tables.version_5.write_source.Goals as goal
 
 stands : (source : Option LineText) (t e : LineText) → (source ≡ None → t ≡ e) → unwrap_or source t ≡ unwrap_or source e

@@ -1,5 +1,5 @@
-use Rattle.std.proofs.Common.{◌<◌, length, arith}
-use Rattle.gimli_build.specs.LineText.{line_text, IsWithin}
+use Rattle.std.specs.Prelude.{◌<◌}
+use Rattle.gimli_build.proofs.Common.{length, arith, line_text, IsWithin}
 use Rattle.gimli_build.proofs.writing.Joined.{next_seen, all_seen}
 use Rattle.gimli_build.proofs.writing.Writes.{one_written, one_unwritten, passed_on}
 use Rattle.gimli_build.proofs.tables.version_5.write_texts.Goals as goal

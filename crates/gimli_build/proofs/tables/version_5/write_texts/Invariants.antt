@@ -1,7 +1,4 @@
-use Rattle.std.proofs.Common.{drop, map}
-use Rattle.gimli_bytes.specs.Hand.{Hand}
-use Rattle.gimli_build.specs.LineText.{line_text}
-use Rattle.gimli_build.specs.Version5Tables.{text_in_form}
+use Rattle.gimli_build.proofs.Common.{drop, map, Hand, line_text, text_in_form}
 use Rattle.gimli_build.proofs.writing.Writes.{WritesSoFar}
 use Rattle.gimli_build.proofs.tables.version_5.write_texts.Given as goal
 

@@ -1,4 +1,4 @@
-use Rattle.std.proofs.Common.{◌∙◌}
+use Rattle.gimli_build.proofs.Common.{◌∙◌}
 use Rattle.gimli_build.proofs.writing.Writes.{first_unwritten, joins, writes, passed_on}
 use Rattle.gimli_build.proofs.unit.header.write_fields.Goals as goal
 

@@ -1,8 +1,5 @@
-use Rattle.std.proofs.Common.{◌≡◌, ℕ, List, ◌-◌, ◌<◌, ◌^◌, ◌++◌, sym, ap, ◌∙◌, arith}
-use Rattle.std.specs.Prelude.{Result}
-use Rattle.std.proofs.lemmas.List.{append-nil}
-use Rattle.gimli_bytes.specs.declared.error.Error.{Error}
-use Rattle.gimli_build.specs.FormatWord.{format_word}
+use Rattle.std.specs.Prelude.{◌≡◌, ◌-◌, ◌<◌, ◌^◌, ◌++◌}
+use Rattle.gimli_build.proofs.Common.{ℕ, List, sym, ap, ◌∙◌, arith, Result, append-nil, Error, format_word}
 use Rattle.gimli_build.proofs.writing.Frames.{counted_written, open_word, word_is, zero_word, no_escape}
 use Rattle.gimli_build.proofs.writing.Frames.{header_word_long}
 use Rattle.gimli_build.proofs.writing.Writes.{counted_unwritten, passed_on}

@@ -1,5 +1,6 @@
-use Rattle.std.proofs.Common.{◌≡◌, [], ◌∷◌, rules}
-use Rattle.gimli_build.specs.Unit.{flag_byte, base_byte}
+use Rattle.std.specs.Prelude.{◌≡◌, ◌∷◌}
+use Rattle.gimli_build.proofs.Common.{[], rules, flag_byte}
+use Rattle.gimli_build.specs.Unit.{base_byte}
 use Rattle.gimli_build.proofs.writing.Writes.{first_unwritten, joins, writes, passed_on}
 use Rattle.gimli_build.proofs.unit.header.write_line_encoding.Goals as goal
 

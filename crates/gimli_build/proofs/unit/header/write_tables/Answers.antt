@@ -1,4 +1,5 @@
-use Rattle.std.proofs.Common.{rules, ◌≡◌, true, nat_le}
+use Rattle.std.specs.Prelude.{◌≡◌}
+use Rattle.gimli_build.proofs.Common.{rules, true, nat_le}
 use Rattle.gimli_build.proofs.unit.header.write_tables.Goals as goal
 
 pub returns-then-version-le4-clause-writes : goal.returns-then-version-le4-clause-writes

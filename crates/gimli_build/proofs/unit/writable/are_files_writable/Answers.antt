@@ -1,9 +1,4 @@
-use Rattle.std.proofs.Common.{refl}
-use Rattle.gimli_bytes.specs.Texts.{texts_in}
-use Rattle.gimli_build.specs.LineText.{line_text}
-use Rattle.gimli_build.specs.Tables.{File}
-use Rattle.gimli_build.specs.TableFields.{details}
-use Rattle.gimli_build.specs.inside.Writable.{IsFileWritable}
+use Rattle.gimli_build.proofs.Common.{refl, texts_in, line_text, File, details, IsFileWritable}
 use Rattle.gimli_build.proofs.writing.Joined.{next_at}
 use Rattle.gimli_build.proofs.writing.Joined.{all_passed}
 use Rattle.gimli_build.proofs.unit.writable.are_files_writable.Goals as goal

@@ -1,8 +1,4 @@
-use Rattle.std.proofs.Common.{drop}
-use Rattle.std.specs.Prelude.{All}
-use Rattle.gimli_bytes.specs.Texts.{texts_in}
-use Rattle.gimli_build.specs.Tables.{File}
-use Rattle.gimli_build.specs.inside.Writable.{IsFileWritable}
+use Rattle.gimli_build.proofs.Common.{drop, All, texts_in, File, IsFileWritable}
 use Rattle.gimli_build.proofs.unit.writable.are_files_writable.Given as goal
 
 abbrev pub invariant-loop-index : goal.invariant-loop-index

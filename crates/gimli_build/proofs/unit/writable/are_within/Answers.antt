@@ -1,6 +1,5 @@
-use Rattle.std.proofs.Common.{◌<◌, length, map, arith}
-use Rattle.gimli_bytes.specs.Texts.{texts_in}
-use Rattle.gimli_build.specs.LineText.{IsWithin}
+use Rattle.std.specs.Prelude.{◌<◌}
+use Rattle.gimli_build.proofs.Common.{length, map, arith, texts_in, IsWithin}
 use Rattle.gimli_build.proofs.writing.Joined.{next_seen, all_seen}
 use Rattle.gimli_build.proofs.writing.Joined.{all_passed}
 use Rattle.gimli_build.proofs.unit.writable.are_within.Goals as goal

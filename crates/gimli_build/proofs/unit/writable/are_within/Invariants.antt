@@ -1,7 +1,4 @@
-use Rattle.std.proofs.Common.{drop, map}
-use Rattle.std.specs.Prelude.{All}
-use Rattle.gimli_bytes.specs.Texts.{texts_in}
-use Rattle.gimli_build.specs.LineText.{line_text, IsWithin}
+use Rattle.gimli_build.proofs.Common.{drop, map, All, texts_in, line_text, IsWithin}
 use Rattle.gimli_build.proofs.unit.writable.are_within.Given as goal
 
 abbrev pub invariant-loop-text : goal.invariant-loop-text

@@ -1,7 +1,6 @@
-use Rattle.std.proofs.Common.{◌≡◌, ◌-◌, ◌+◌, ◌++◌, ℕ, take, arith, ap, ◌∙◌, sym, pos, to_z, of_z, w64, ◌∷◌, []}
-use Rattle.std.proofs.lemmas.Int.{ints}
-use Rattle.std.proofs.lemmas.List.{take_more_set, length-set}
-use Rattle.std.specs.Int.{int_div_euclid}
+use Rattle.std.specs.Prelude.{◌≡◌, ◌-◌, ◌+◌, ◌++◌, ◌∷◌}
+use Rattle.gimli_bytes.proofs.Common
+use Common.{ℕ, take, arith, ap, ◌∙◌, sym, pos, to_z, of_z, w64, [], ints, take_more_set, length-set, int_div_euclid}
 use Rattle.gimli_bytes.specs.Number.{sleb, sleb_within}
 use Rattle.gimli_bytes.proofs.LebLemmas.{sleb_end, sleb_step}
 use Rattle.gimli_bytes.proofs.leb128.Leb128.signed.Goals as goal

@@ -1,6 +1,6 @@
-use Rattle.std.proofs.Common.{◌≡◌, ◌-◌, ◌+◌, ◌%◌, ◌++◌, ℕ, take, arith, ap, ◌∙◌, sym}
-use Rattle.std.proofs.lemmas.List.{take_more_set, length-set}
-use Rattle.gimli_bytes.specs.Number.{uleb, uleb_within}
+use Rattle.std.specs.Prelude.{◌≡◌, ◌-◌, ◌+◌, ◌%◌, ◌++◌}
+use Rattle.gimli_bytes.proofs.Common.{ℕ, take, arith, ap, ◌∙◌, sym, take_more_set, length-set, uleb_within}
+use Rattle.gimli_bytes.specs.Number.{uleb}
 use Rattle.gimli_bytes.proofs.LebLemmas.{uleb_end, uleb_step}
 use Rattle.gimli_bytes.proofs.leb128.Leb128.unsigned.Goals as goal
 

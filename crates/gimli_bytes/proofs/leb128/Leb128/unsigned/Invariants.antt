@@ -1,5 +1,5 @@
-use Rattle.std.proofs.Common.{◌≡◌, ◌++◌, ◌-◌, take, length}
-use Rattle.gimli_bytes.specs.Number.{uleb_within}
+use Rattle.std.specs.Prelude.{◌≡◌, ◌++◌, ◌-◌}
+use Rattle.gimli_bytes.proofs.Common.{take, length, uleb_within}
 use Rattle.gimli_bytes.proofs.leb128.Leb128.unsigned.Given as goal
 
 abbrev pub invariant-loop-len : goal.invariant-loop-len

@@ -1,5 +1,5 @@
-use Rattle.std.proofs.Common.{◌≡◌, ◌++◌}
-use Rattle.std.specs.List.{concat}
+use Rattle.std.specs.Prelude.{◌≡◌, ◌++◌}
+use Rattle.gimli_bytes.proofs.Common.{concat}
 use Rattle.gimli_bytes.proofs.piece_vec.PieceVec.into_vec.Given as goal
 
 abbrev pub invariant-loop-piece : goal.invariant-loop-piece

@@ -1,4 +1,5 @@
-use Rattle.std.proofs.Common.{◌≡◌, ◌∙◌, length, rules}
+use Rattle.std.specs.Prelude.{◌≡◌}
+use Rattle.gimli_bytes.proofs.Common.{◌∙◌, length, rules}
 use Rattle.gimli_bytes.proofs.PieceLemmas.{piece-count}
 use Rattle.gimli_bytes.proofs.piece_vec.PieceVec.piece_count.Goals as goal
 

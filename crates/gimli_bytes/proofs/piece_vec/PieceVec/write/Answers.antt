@@ -1,4 +1,5 @@
-use Rattle.std.proofs.Common.{rules, ◌≡◌, ◌≤◌, ◌+◌, ◌-◌, ◌++◌, length, arith}
+use Rattle.std.specs.Prelude.{◌≡◌, ◌≤◌, ◌+◌, ◌-◌, ◌++◌}
+use Rattle.gimli_bytes.proofs.Common.{rules, length, arith}
 use Rattle.gimli_bytes.proofs.PieceLemmas.{count-below, HoldPieces-grown, HoldPieces-same, bytes-within, bytes-length}
 use Rattle.gimli_bytes.proofs.PieceLemmas.{bytes-more, no_piece}
 use Rattle.gimli_bytes.proofs.piece_vec.PieceVec.write.Goals as goal

@@ -1,4 +1,4 @@
-use Rattle.std.proofs.Common.{sym}
+use Rattle.gimli_bytes.proofs.Common.{sym}
 use Rattle.gimli_bytes.proofs.PieceLemmas.{bytes-length}
 use Rattle.gimli_bytes.proofs.piece_vec.PieceVecWriter.len.Goals as goal
 

@@ -1,4 +1,4 @@
-use Rattle.std.proofs.Common.{◌∙◌, sym}
+use Rattle.gimli_bytes.proofs.Common.{◌∙◌, sym}
 use Rattle.gimli_bytes.proofs.Relocating.{inside-from, length-all}
 use Rattle.gimli_bytes.proofs.relocatable_vec.RelocatableVecWriter.len.Goals as goal
 

@@ -1,4 +1,4 @@
-use Rattle.std.proofs.Common.{inl, refl}
+use Rattle.gimli_bytes.proofs.Common.{inl, refl}
 use Rattle.gimli_bytes.proofs.WrittenAs.{no_truth}
 use Rattle.gimli_bytes.proofs.Completing.{either, on_ok, on_err, over_stays, stays_inside, completed_over}
 use Rattle.gimli_bytes.proofs.RelocatableRefusals.{if_err, bytes_at_refused}

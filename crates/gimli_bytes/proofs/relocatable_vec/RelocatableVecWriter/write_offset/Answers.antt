@@ -1,6 +1,5 @@
-use Rattle.std.proofs.Common.{◌<◌, ◌^◌, inl, arith, w64}
-use Rattle.std.specs.Int.{cast_signed}
-use Rattle.gimli_bytes.specs.declared.relocation.RelocationTarget.TheVariants.{OfSection}
+use Rattle.std.specs.Prelude.{◌<◌, ◌^◌}
+use Rattle.gimli_bytes.proofs.Common.{inl, arith, w64, cast_signed, OfSection}
 use Rattle.gimli_bytes.proofs.Parts.{begins_self}
 use Rattle.gimli_bytes.proofs.Completing.{either, grows_offset, completed_offset}
 use Rattle.gimli_bytes.proofs.RelocatableRefusals.{if_err, place_refused}

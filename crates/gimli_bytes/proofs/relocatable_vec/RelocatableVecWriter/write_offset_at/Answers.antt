@@ -1,6 +1,5 @@
-use Rattle.std.proofs.Common.{◌≡◌, ◌∙◌, ap, sym, ◌<◌, ◌^◌, inl, arith, to_z, of_z, w64}
-use Rattle.std.specs.Int.{cast_signed}
-use Rattle.std.proofs.lemmas.Int.{of_z-to_z}
+use Rattle.std.specs.Prelude.{◌≡◌, ◌<◌, ◌^◌}
+use Rattle.gimli_bytes.proofs.Common.{◌∙◌, ap, sym, inl, arith, to_z, of_z, w64, cast_signed, of_z-to_z}
 use Rattle.gimli_bytes.proofs.Completing.{stays_inside_at, completed_offset_at}
 use Rattle.gimli_bytes.proofs.RelocatableRefusals.{if_err, place_at_refused}
 use Rattle.gimli_bytes.proofs.relocatable_vec.RelocatableVecWriter.write_offset_at.Goals as goal

@@ -1,5 +1,4 @@
-use Rattle.std.proofs.Common.{inl, refl, pos}
-use Rattle.gimli_bytes.specs.declared.relocation.RelocationTarget.TheVariants.{OfSymbol}
+use Rattle.gimli_bytes.proofs.Common.{inl, refl, pos, OfSymbol}
 use Rattle.gimli_bytes.proofs.Parts.{begins_self}
 use Rattle.gimli_bytes.proofs.WrittenAs.{no_truth}
 use Rattle.gimli_bytes.proofs.Completing.{either, on_ok, on_err, grows_reference, completed_reference}

@@ -1,7 +1,6 @@
-use Rattle.std.proofs.Common.{rules, ◌≡◌, sym, ap, ◌∙◌, false, true, arith}
-use Rattle.std.specs.Prelude.{slice_get}
-use Rattle.gimli_bytes.specs.Texts.{with_text, index_of_text}
-use Rattle.gimli_bytes.specs.inside.TextFields.{texts_of}
+use Rattle.std.specs.Prelude.{◌≡◌}
+use Rattle.gimli_bytes.proofs.Common
+use Common.{rules, sym, ap, ◌∙◌, false, true, arith, slice_get, with_text, index_of_text, texts_of}
 use Rattle.gimli_bytes.proofs.TextLemmas.{is_there, not_there, index_there, place_new, texts_new, with_text-there}
 use Rattle.gimli_bytes.proofs.TextLemmas.{byte_count-new, with_text-AreTexts}
 use Rattle.gimli_bytes.proofs.TextLemmas.{with_text-found, with_text-KeepsTexts}

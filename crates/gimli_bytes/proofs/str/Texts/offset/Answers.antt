@@ -1,5 +1,6 @@
-use Rattle.std.proofs.Common.{◌+◌, ◌∙◌, arith, Vec, ℕ, Global, List}
-use Rattle.std.proofs.lemmas.List.{take-map, take_all}
+use Rattle.std.specs.Prelude.{◌+◌}
+use Rattle.gimli_bytes.proofs.Common.{◌∙◌, arith, ℕ, List, take-map, take_all}
+use Rattle.std.proofs.Common.{Vec, Global}
 use Rattle.gimli_bytes.proofs.TextLemmas.{byte_count-part, byte_count-more}
 use Rattle.gimli_bytes.proofs.str.Texts.offset.Goals as goal
 

@@ -1,8 +1,5 @@
-use Rattle.std.proofs.Common.{◌≡◌, ◌++◌, IsTrue, take}
-use Rattle.gimli_bytes.specs.Hand.{Placement}
-use Rattle.gimli_bytes.specs.Texts.{table_bytes}
-use Rattle.gimli_bytes.specs.inside.TextFields.{texts_of}
-use Rattle.gimli_bytes.specs.Written.{Begins}
+use Rattle.std.specs.Prelude.{◌≡◌, ◌++◌}
+use Rattle.gimli_bytes.proofs.Common.{IsTrue, take, Placement, table_bytes, texts_of, Begins}
 use Rattle.gimli_bytes.proofs.str.Texts.write.Given as goal
 
 abbrev pub invariant-loop-text : goal.invariant-loop-text

@@ -1,4 +1,5 @@
-use Rattle.std.proofs.Common.{◌≡◌, ◌≢◌, ◌∙◌, arith}
+use Rattle.std.specs.Prelude.{◌≡◌, ◌≢◌}
+use Rattle.gimli_bytes.proofs.Common.{◌∙◌, arith}
 use Rattle.gimli_bytes.proofs.WrittenAs.{refused_at_once, absolute_pointer, relative_pointer, other_pointer}
 use Rattle.gimli_bytes.proofs.writer.Writer.write_eh_pointer.Goals as goal
 

@@ -1,4 +1,5 @@
-use Rattle.std.proofs.Common.{◌≡◌, arith, ◌∙◌}
+use Rattle.std.specs.Prelude.{◌≡◌}
+use Rattle.gimli_bytes.proofs.Common.{arith, ◌∙◌}
 use Rattle.gimli_bytes.proofs.LebLemmas.{sleb_one}
 use Rattle.gimli_bytes.proofs.ShortestSleb.{sleb_shortest}
 use Rattle.gimli_bytes.proofs.writer.Writer.write_sleb128.Goals as goal

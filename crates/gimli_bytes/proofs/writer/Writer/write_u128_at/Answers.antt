@@ -1,5 +1,5 @@
-use Rattle.std.proofs.Common.{◌≡◌, ap, ◌∙◌}
-use Rattle.gimli_core.specs.Numbers.{number_bytes}
+use Rattle.std.specs.Prelude.{◌≡◌}
+use Rattle.gimli_bytes.proofs.Common.{ap, ◌∙◌, number_bytes}
 use Rattle.gimli_bytes.proofs.writer.Writer.write_u128_at.Goals as goal
 
 pub returns : goal.returns

@@ -1,5 +1,5 @@
-use Rattle.std.proofs.Common.{◌≡◌, ◌<◌, ℕ, Bool, true, false, [], ◌∷◌, ap, arith}
-use Rattle.gimli_core.specs.Numbers.{number_bytes}
+use Rattle.std.specs.Prelude.{◌≡◌, ◌<◌, ◌∷◌}
+use Rattle.gimli_bytes.proofs.Common.{ℕ, Bool, true, false, [], ap, arith, number_bytes}
 use Rattle.gimli_bytes.proofs.writer.Writer.write_u8_at.Goals as goal
 
 one_byte : (is_big : Bool) (n : ℕ) → n < 256 → number_bytes is_big 1 n ≡ n ∷ []

@@ -1,4 +1,4 @@
-use Rattle.std.proofs.Common.{arith}
+use Rattle.gimli_bytes.proofs.Common.{arith}
 use Rattle.gimli_bytes.proofs.LebLemmas.{uleb_one}
 use Rattle.gimli_bytes.proofs.ShortestUleb.{uleb_shortest}
 use Rattle.gimli_bytes.proofs.writer.Writer.write_uleb128.Goals as goal

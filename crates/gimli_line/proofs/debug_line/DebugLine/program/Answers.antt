@@ -1,4 +1,4 @@
-use Rattle.std.proofs.lemmas.Result.{err_from_is_err_and}
+use Rattle.gimli_line.proofs.Common.{err_from_is_err_and}
 use Rattle.gimli_line.proofs.HeaderLaws.{reads_header, unit_answered}
 use Rattle.gimli_line.proofs.debug_line.DebugLine.program.Goals as goal
 

@@ -1,7 +1,8 @@
-use Rattle.std.proofs.Common.{◌≡◌, ℕ, Bool, true, false, List, [], ◌∷◌, Ok, Err, refl, ap, ◌∙◌, IsTrue, if◌then◌else◌}
-use Rattle.gimli_core.specs.Numbers.{is_address_size}
-use Rattle.gimli_core.specs.Reading.{Read, address_size_at}
-use Rattle.gimli_core.specs.declared.error.Error.TheVariants.{UnsupportedAddressSize}
+use Rattle.std.specs.Prelude.{◌≡◌, ◌∷◌, if◌then◌else◌}
+use Rattle.gimli_line.proofs.Common
+use Common.{ℕ, Bool, true, false, List, [], Ok, Err, refl, ap, ◌∙◌, IsTrue, is_address_size, Read}
+use Common.{UnsupportedAddressSize}
+use Rattle.gimli_core.specs.Reading.{address_size_at}
 use Rattle.gimli_line.proofs.header.parse.parse_address_size.Goals as goal
 
 -- an address size that is read is one of the four

@@ -1,6 +1,4 @@
-use Rattle.std.proofs.Common.{◌∙◌, sym}
-use Rattle.std.proofs.lemmas.Result.{err_from_is_err_and}
-use Rattle.gimli_line.specs.inside.header.HeaderReading.{format_at}
+use Rattle.gimli_line.proofs.Common.{◌∙◌, sym, err_from_is_err_and, format_at}
 use Rattle.gimli_line.proofs.Loops.{viewed_same, times_goes_on, times_ends}
 use Rattle.gimli_line.proofs.header.tables.parse_all_formats.Goals as goal
 

@@ -1,6 +1,5 @@
-use Rattle.gimli_core.specs.Reading.{times_at}
-use Rattle.std.proofs.Common.{◌≡◌, ◌-◌}
-use Rattle.gimli_line.specs.inside.header.HeaderReading.{format_at}
+use Rattle.std.specs.Prelude.{◌≡◌, ◌-◌}
+use Rattle.gimli_line.proofs.Common.{times_at, format_at}
 use Rattle.gimli_line.proofs.Loops.{collected}
 use Rattle.gimli_line.proofs.header.tables.parse_all_formats.Given as goal
 

@@ -1,10 +1,4 @@
-use Rattle.std.proofs.Common.{ap, ◌∙◌}
-use Rattle.std.proofs.lemmas.List.{map_push}
-use Rattle.std.proofs.lemmas.Result.{err_from_is_err_and}
-use Rattle.gimli_core.specs.Reading.{text_at}
-use Rattle.gimli_core.specs.declared.attribute_value.AttributeValue.TheVariants.{String}
-use Rattle.gimli_line.specs.inside.header.Outcome.{read_map}
-use Rattle.gimli_line.specs.header.Productions.{path_text}
+use Rattle.gimli_line.proofs.Common.{ap, ◌∙◌, map_push, err_from_is_err_and, text_at, String, read_map, path_text}
 use Rattle.gimli_line.proofs.Order.{values_pushed}
 use Rattle.gimli_line.proofs.Closed.{reads_name}
 use Rattle.gimli_line.proofs.Loops.{closed_goes_on, closed_ends, closed_done, text_closed, text_free, text_refused}

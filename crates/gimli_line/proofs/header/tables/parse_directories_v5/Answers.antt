@@ -1,7 +1,4 @@
-use Rattle.std.proofs.Common.{◌∙◌}
-use Rattle.std.proofs.lemmas.List.{map_push}
-use Rattle.std.proofs.lemmas.Result.{err_from_is_err_and}
-use Rattle.gimli_line.specs.header.HeaderGrammar.{path_of}
+use Rattle.gimli_line.proofs.Common.{◌∙◌, map_push, err_from_is_err_and, path_of}
 use Rattle.gimli_line.proofs.Order.{values_pushed}
 use Rattle.gimli_line.proofs.Loops.{times_goes_on, times_ends, times_done, entry_kept}
 use Rattle.gimli_line.proofs.header.tables.parse_directories_v5.Goals as goal

@@ -1,11 +1,6 @@
-use Rattle.std.specs.List.{All}
-use Rattle.gimli_core.specs.Reading.{times_at}
-use Rattle.std.proofs.Common.{◌≡◌, ◌-◌, map}
-use Rattle.gimli_core.specs.Layout.{layout_of}
-use Rattle.gimli_core.specs.Values.{value_seen, ValueHasOrder}
-use Rattle.gimli_line.specs.inside.header.Outcome.{read_map}
-use Rattle.gimli_line.specs.header.HeaderGrammar.{path_of}
-use Rattle.gimli_line.specs.inside.header.HeaderReading.{entry_at, entries_at}
+use Rattle.std.specs.Prelude.{◌≡◌, ◌-◌}
+use Rattle.gimli_line.proofs.Common
+use Common.{All, times_at, map, layout_of, value_seen, ValueHasOrder, read_map, path_of, entry_at, entries_at}
 use Rattle.gimli_line.proofs.Loops.{collected}
 use Rattle.gimli_line.proofs.header.tables.parse_directories_v5.Given as goal
 

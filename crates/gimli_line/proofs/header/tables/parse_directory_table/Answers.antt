@@ -1,5 +1,4 @@
-use Rattle.std.proofs.lemmas.Result.{err_from_is_err_and}
-use Rattle.gimli_line.specs.header.HeaderGrammar.{path_of}
+use Rattle.gimli_line.proofs.Common.{err_from_is_err_and, path_of}
 use Rattle.gimli_line.proofs.Tables.{table_up_to_4, table_4_end, formats_end, table_from_5, table_5_end}
 use Rattle.gimli_line.proofs.header.tables.parse_directory_table.Goals as goal
 

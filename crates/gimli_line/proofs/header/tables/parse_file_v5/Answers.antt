@@ -1,4 +1,4 @@
-use Rattle.std.proofs.Common.{refl}
+use Rattle.gimli_line.proofs.Common.{refl}
 use Rattle.gimli_line.proofs.Order.{file_kept}
 use Rattle.gimli_line.proofs.Entries.{file_is}
 use Rattle.gimli_line.proofs.header.tables.parse_file_v5.Goals as goal

@@ -1,9 +1,5 @@
-use Rattle.std.proofs.Common.{◌≡◌, drop}
-use Rattle.gimli_core.specs.Layout.{layout_of}
-use Rattle.gimli_line.specs.header.File.{file_seen, FileHasOrder}
-use Rattle.gimli_line.specs.header.HeaderGrammar.{file_of_entry}
-use Rattle.gimli_line.specs.inside.header.HeaderReading.{entry_at}
-use Rattle.gimli_line.specs.inside.header.Outcome.{read_map}
+use Rattle.std.specs.Prelude.{◌≡◌}
+use Rattle.gimli_line.proofs.Common.{drop, layout_of, file_seen, FileHasOrder, file_of_entry, entry_at, read_map}
 use Rattle.gimli_line.specs.inside.header.EntryReading.{file_with, folded_at}
 use Rattle.gimli_line.proofs.header.tables.parse_file_v5.Given as goal
 

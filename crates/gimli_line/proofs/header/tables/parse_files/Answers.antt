@@ -1,7 +1,4 @@
-use Rattle.std.proofs.Common.{◌∙◌}
-use Rattle.std.proofs.lemmas.List.{map_push}
-use Rattle.std.proofs.lemmas.Result.{err_from_is_err_and}
-use Rattle.gimli_line.specs.inside.header.HeaderReading.{named_file_at}
+use Rattle.gimli_line.proofs.Common.{◌∙◌, map_push, err_from_is_err_and, named_file_at}
 use Rattle.gimli_line.proofs.Order.{files_pushed}
 use Rattle.gimli_line.proofs.HeaderLaws.{reads_named_file, named_file}
 use Rattle.gimli_line.proofs.Loops.{closed_goes_on, closed_ends, closed_done, closed_smaller, text_closed, text_free}

@@ -1,6 +1,5 @@
-use Rattle.std.proofs.Common.{◌≡◌, length, map}
-use Rattle.std.specs.List.{All}
-use Rattle.gimli_line.specs.header.File.{file_seen, FileHasOrder}
+use Rattle.std.specs.Prelude.{◌≡◌}
+use Rattle.gimli_line.proofs.Common.{length, map, All, file_seen, FileHasOrder}
 use Rattle.gimli_line.specs.inside.header.HeaderReading.{files_at}
 use Rattle.gimli_line.proofs.Loops.{collected}
 use Rattle.gimli_line.proofs.header.tables.parse_files.Given as goal

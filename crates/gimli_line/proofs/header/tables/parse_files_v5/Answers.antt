@@ -1,8 +1,4 @@
-use Rattle.std.proofs.Common.{◌∙◌}
-use Rattle.std.proofs.lemmas.List.{map_push}
-use Rattle.std.proofs.lemmas.Result.{err_from_is_err_and}
-use Rattle.gimli_line.specs.header.File.{FileHasOrder}
-use Rattle.gimli_line.specs.header.HeaderGrammar.{file_of_entry}
+use Rattle.gimli_line.proofs.Common.{◌∙◌, map_push, err_from_is_err_and, FileHasOrder, file_of_entry}
 use Rattle.gimli_line.proofs.Order.{files_pushed}
 use Rattle.gimli_line.proofs.Loops.{times_goes_on, times_ends, times_done, entries_start, entry_kept}
 use Rattle.gimli_line.proofs.Tables.{none_yet}

@@ -1,8 +1,4 @@
-use Rattle.std.proofs.Common.{rules, ap, sym, ◌∙◌}
-use Rattle.std.specs.Prelude.{nat_le}
-use Rattle.gimli_core.specs.Layout.{layout_of}
-use Rattle.gimli_line.specs.header.Header.{Header}
-use Rattle.gimli_line.specs.header.Parameters.{Parameters}
+use Rattle.gimli_line.proofs.Common.{rules, ap, sym, ◌∙◌, nat_le, layout_of, Header, Parameters}
 use Rattle.gimli_line.proofs.OtherExecutions.{opened, defines}
 use Rattle.gimli_line.proofs.run.from_bytes.read_defined_file.Goals as goal
 

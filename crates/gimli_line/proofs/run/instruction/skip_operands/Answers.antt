@@ -1,6 +1,4 @@
-use Rattle.std.proofs.Common.{rules}
-use Rattle.std.proofs.lemmas.Result.{err_from_is_err_and}
-use Rattle.gimli_core.specs.Reading.{unsigned_at}
+use Rattle.gimli_line.proofs.Common.{rules, err_from_is_err_and, unsigned_at}
 use Rattle.gimli_line.proofs.Operands.{passes_on, pass_ends}
 use Rattle.gimli_line.proofs.run.instruction.skip_operands.Goals as goal
 

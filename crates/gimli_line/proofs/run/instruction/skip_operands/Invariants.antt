@@ -1,6 +1,5 @@
-use Rattle.std.proofs.Common.{◌≡◌, ◌-◌}
-use Rattle.gimli_core.specs.Reading.{times_at, unsigned_at}
-use Rattle.gimli_line.specs.inside.run.InstructionReading.{without_value}
+use Rattle.std.specs.Prelude.{◌≡◌, ◌-◌}
+use Rattle.gimli_line.proofs.Common.{times_at, unsigned_at, without_value}
 use Rattle.gimli_line.proofs.run.instruction.skip_operands.Given as goal
 
 abbrev pub invariant-loop : goal.invariant-loop

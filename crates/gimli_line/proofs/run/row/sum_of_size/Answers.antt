@@ -1,4 +1,4 @@
-use Rattle.std.proofs.Common.{refl, arith}
+use Rattle.gimli_line.proofs.Common.{refl, arith}
 use Rattle.gimli_line.proofs.AddressSizes.{sum_fits}
 use Rattle.gimli_line.proofs.run.row.sum_of_size.Goals as goal
 

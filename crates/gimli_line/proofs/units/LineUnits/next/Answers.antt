@@ -1,6 +1,5 @@
-use Rattle.std.proofs.Common.{◌≡◌, ◌≢◌, Result, Ok, Err, IfErr, sym, ap, ◌∙◌, rules}
-use Rattle.gimli_core.specs.declared.error.Error.{Error}
-use Rattle.gimli_core.specs.declared.error.Error.TheVariants.{OutOfMemory}
+use Rattle.std.specs.Prelude.{◌≡◌, ◌≢◌}
+use Rattle.gimli_line.proofs.Common.{Result, Ok, Err, IfErr, sym, ap, ◌∙◌, rules, Error, OutOfMemory}
 use Rattle.gimli_line.proofs.UnitLaws.{offsets_none, offsets_step, rest_is_end}
 use Rattle.gimli_line.proofs.units.LineUnits.next.Goals as goal
 

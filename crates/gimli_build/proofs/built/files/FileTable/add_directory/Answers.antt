@@ -1,5 +1,4 @@
-use Rattle.std.proofs.Common.{◌∙◌, ap}
-use Rattle.gimli_build.specs.inside.TableFields.{directories_of, files_of}
+use Rattle.gimli_build.proofs.Common.{◌∙◌, ap, directories_of, files_of}
 use Rattle.gimli_build.proofs.building.TableLemmas.{
   directories_insert,
   index_of_equal_directory,

@@ -1,6 +1,4 @@
-use Rattle.std.proofs.Common.{◌∙◌, ap, refl, sym}
-use Rattle.std.specs.Option.{option_copied_mut}
-use Rattle.gimli_build.specs.inside.TableFields.{directories_of}
+use Rattle.gimli_build.proofs.Common.{◌∙◌, ap, refl, sym, option_copied_mut, directories_of}
 use Rattle.gimli_build.proofs.building.TableLemmas.{files_with, written-AreTables, details_at}
 use Rattle.gimli_build.proofs.built.files.FileTable.get_file_info_mut.Goals as goal
 

@@ -1,7 +1,6 @@
-use Rattle.std.proofs.Common.{◌<◌, ◌∙◌, ap, Some, sym, length, subst}
-use Rattle.gimli_build.specs.Tables.{with_file}
-use Rattle.gimli_build.specs.TableFields.{details}
-use Rattle.gimli_build.specs.inside.TableFields.{key, directories_of, files_of}
+use Rattle.std.specs.Prelude.{◌<◌}
+use Rattle.gimli_build.proofs.Common
+use Common.{◌∙◌, ap, Some, sym, length, subst, with_file, details, key, directories_of, files_of}
 use Rattle.gimli_bytes.proofs.TextLemmas.{index_found}
 use Rattle.gimli_build.proofs.building.TableLemmas.{files_insert, index_of_equal_file, pair_eq, file_found}
 use Rattle.gimli_build.proofs.building.TableLemmas.{with_file-AreTables, with_file-kept}

@@ -1,6 +1,5 @@
-use Rattle.std.proofs.Common.{◌<◌, ◌∙◌, ap, length, sym, subst}
-use Rattle.gimli_build.specs.TableFields.{details}
-use Rattle.gimli_build.specs.inside.TableFields.{directories_of, files_of}
+use Rattle.std.specs.Prelude.{◌<◌}
+use Rattle.gimli_build.proofs.Common.{◌∙◌, ap, length, sym, subst, details, directories_of, files_of}
 use Rattle.gimli_build.proofs.building.TableLemmas.{files_insert, index_of_equal_file, with_file-AreTables}
 use Rattle.gimli_build.proofs.built.files.FileTable.set_file.Goals as goal
 

@@ -1,4 +1,4 @@
-use Rattle.std.proofs.Common.{rules, sym, ap, length}
+use Rattle.gimli_build.proofs.Common.{rules, sym, ap, length}
 use Rattle.gimli_build.proofs.building.TableLemmas.{numbered_more}
 use Rattle.gimli_build.proofs.built.files.FilesIterator.next.Goals as goal
 

@@ -1,7 +1,6 @@
-use Rattle.std.proofs.Common.{◌≡◌, ◌≤◌, false, sym, subst, ap, ◌∙◌, slice_get}
-use Rattle.gimli_build.specs.LineText.{line_text, IsNotEmpty}
-use Rattle.gimli_build.specs.Tables.{keys_of, Keeps, with_directory}
-use Rattle.gimli_build.specs.Conditions.{IsProgram}
+use Rattle.std.specs.Prelude.{◌≡◌, ◌≤◌}
+use Rattle.gimli_build.proofs.Common
+use Common.{false, sym, subst, ap, ◌∙◌, slice_get, line_text, IsNotEmpty, keys_of, Keeps, with_directory, IsProgram}
 use Rattle.gimli_build.proofs.building.TableLemmas.{directory_found, directory_keeps, some_within}
 use Rattle.gimli_build.proofs.building.BuiltLemmas.{directory_added}
 use Rattle.gimli_build.proofs.built.line_program.LineProgram.add_directory.Goals as goal

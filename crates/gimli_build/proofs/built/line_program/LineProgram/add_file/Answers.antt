@@ -1,8 +1,7 @@
-use Rattle.std.proofs.Common.{◌≤◌, sym, subst, ◌∙◌, option_map, slice_get, arith}
-use Rattle.std.proofs.lemmas.List.{length-map}
-use Rattle.gimli_build.specs.LineText.{line_text, IsNotEmpty}
-use Rattle.gimli_build.specs.Tables.{File, FileKey, keys_of, Keeps}
-use Rattle.gimli_build.specs.Conditions.{IsProgram}
+use Rattle.std.specs.Prelude.{◌≤◌}
+use Rattle.gimli_build.proofs.Common
+use Common.{sym, subst, ◌∙◌, option_map, slice_get, arith, length-map, line_text, IsNotEmpty, File, FileKey, keys_of}
+use Common.{Keeps, IsProgram}
 use Rattle.gimli_build.proofs.building.TableLemmas.{file_found_at, file_keeps, file_others, some_within}
 use Rattle.gimli_build.proofs.building.BuiltLemmas.{file_added}
 use Rattle.gimli_build.proofs.built.line_program.LineProgram.add_file.Goals as goal

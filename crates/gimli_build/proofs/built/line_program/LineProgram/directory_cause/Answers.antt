@@ -1,11 +1,7 @@
-use Rattle.std.proofs.Common.{◌≡◌, ℕ, Some, sym, ap, ◌∙◌, rules}
-use Rattle.std.specs.Prelude.{false, ◌&&◌, nat_eq, nat_le, slice_get}
-use Rattle.gimli_core.specs.declared.common.Format.{Format}
-use Rattle.gimli_bytes.specs.Texts.{texts_in}
-use Rattle.gimli_build.specs.LineText.{line_text, IsWithin}
-use Rattle.gimli_build.specs.Version5Tables.{first_form}
-use Rattle.gimli_build.specs.Cause.{text_cause}
-use Rattle.gimli_build.specs.Refused.{wanted_form}
+use Rattle.std.specs.Prelude.{◌≡◌, ◌&&◌}
+use Rattle.gimli_build.proofs.Common
+use Common.{ℕ, Some, sym, ap, ◌∙◌, rules, false, nat_eq, nat_le, slice_get, Format, texts_in, line_text, IsWithin}
+use Common.{first_form, text_cause, wanted_form}
 use Rattle.gimli_build.proofs.refusals.FirstCauses.{mapped_at, all_at, directory_there}
 use Rattle.gimli_build.proofs.built.line_program.LineProgram.directory_cause.Goals as goal
 

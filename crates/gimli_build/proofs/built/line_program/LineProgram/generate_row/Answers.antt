@@ -1,5 +1,4 @@
-use Rattle.std.proofs.Common.{sym, subst}
-use Rattle.gimli_build.specs.Conditions.{CanGenerateRow}
+use Rattle.gimli_build.proofs.Common.{sym, subst, CanGenerateRow}
 use Rattle.gimli_build.proofs.building.BuiltLemmas.{item_pushed}
 use Rattle.gimli_build.proofs.built.line_program.LineProgram.generate_row.Goals as goal
 

@@ -1,9 +1,8 @@
-use Rattle.std.proofs.Common.{◌≡◌, ℕ, ◌+◌, ◌<◌, ◌≤◌, Bool, None, List, [], ◌∷◌, length, get_or, take, drop, reverse}
-use Rattle.std.proofs.Common.{◌∙◌, arith, below_more}
-use Rattle.std.proofs.lemmas.List.{reverse-append, take_rest}
-use Rattle.gimli_build.specs.Built.{Built, base_of}
+use Rattle.std.specs.Prelude.{◌≡◌, ◌+◌, ◌<◌, ◌≤◌, ◌∷◌}
+use Rattle.gimli_build.proofs.Common
+use Common.{ℕ, Bool, None, List, [], length, get_or, take, drop, reverse, ◌∙◌, arith, below_more, reverse-append}
+use Common.{take_rest, Built, base_of, BuiltItem}
 use Rattle.gimli_build.specs.Traps.{begins_unset, item_trap, trap_at, HaveNoTrap}
-use Rattle.gimli_build.specs.declared.built.items.BuiltItem.{BuiltItem}
 use Rattle.gimli_build.proofs.writing.ItemsWritten.{taken_next}
 use Rattle.gimli_build.proofs.writing.Joined.{next_left}
 use Rattle.gimli_build.proofs.built.line_program.LineProgram.next_trap.Goals as goal

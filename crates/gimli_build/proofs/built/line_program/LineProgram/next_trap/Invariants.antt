@@ -1,5 +1,5 @@
-use Rattle.std.proofs.Common.{◌≡◌, take, reverse}
-use Rattle.gimli_build.specs.Built.{base_of}
+use Rattle.std.specs.Prelude.{◌≡◌}
+use Rattle.gimli_build.proofs.Common.{take, reverse, base_of}
 use Rattle.gimli_build.specs.Traps.{begins_unset, HaveNoTrap}
 use Rattle.gimli_build.proofs.built.line_program.LineProgram.next_trap.Given as goal
 

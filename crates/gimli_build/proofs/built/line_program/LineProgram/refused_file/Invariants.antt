@@ -1,6 +1,5 @@
-use Rattle.std.proofs.Common.{◌≡◌, ℕ, ◌<◌, None}
-use Rattle.gimli_bytes.specs.Texts.{texts_in}
-use Rattle.gimli_build.specs.Refused.{cause_of_file}
+use Rattle.std.specs.Prelude.{◌≡◌, ◌<◌}
+use Rattle.gimli_build.proofs.Common.{ℕ, None, texts_in, cause_of_file}
 use Rattle.gimli_build.proofs.built.line_program.LineProgram.refused_file.Given as goal
 
 abbrev pub invariant-loop-index : goal.invariant-loop-index

@@ -1,5 +1,5 @@
-use Rattle.std.proofs.Common.{◌≡◌, ℕ, ◌<◌, None}
-use Rattle.gimli_build.specs.Refused.{cause_of_item}
+use Rattle.std.specs.Prelude.{◌≡◌, ◌<◌}
+use Rattle.gimli_build.proofs.Common.{ℕ, None, cause_of_item}
 use Rattle.gimli_build.proofs.built.line_program.LineProgram.refused_item.Given as goal
 
 abbrev pub invariant-loop-index : goal.invariant-loop-index

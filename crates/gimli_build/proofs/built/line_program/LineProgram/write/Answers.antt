@@ -1,16 +1,12 @@
-use Rattle.std.proofs.Common.{rules, ◌≡◌, false, subst}
-use Rattle.gimli_bytes.specs.Hand.{plain, unplaced}
-use Rattle.gimli_bytes.specs.Written.{Appends}
-use Rattle.gimli_bytes.specs.Texts.{texts_in}
-use Rattle.gimli_build.specs.Version5Tables.{texts_after}
-use Rattle.gimli_bytes.specs.Relocations.{placed, counted}
+use Rattle.std.specs.Prelude.{◌≡◌}
+use Rattle.gimli_build.proofs.Common
+use Common.{rules, false, subst, plain, unplaced, Appends, texts_in, texts_after, placed, counted, unit_bytes}
+use Common.{is_incompatible, err_from_is_err_and}
 use Rattle.gimli_build.specs.Linked.{placed_program, SumsFit}
-use Rattle.gimli_build.specs.Unit.{unit_bytes, is_incompatible}
 use Rattle.gimli_build.proofs.building.SourceLemmas.{can-write-after}
 use Rattle.gimli_build.proofs.reading.ReadBack.{appended-back}
 use Rattle.gimli_build.proofs.linking.PlacedUnits.{placed-counted, placed-short, is-built, can-write}
 use Rattle.gimli_build.proofs.linking.FoundTexts.{written-held}
-use Rattle.std.proofs.lemmas.Result.{err_from_is_err_and}
 use Rattle.gimli_build.proofs.writing.Writes.{refused_or_memory}
 use Rattle.gimli_build.proofs.refusals.Causes.{cause-is}
 use Rattle.gimli_build.proofs.built.line_program.LineProgram.write.Goals as goal

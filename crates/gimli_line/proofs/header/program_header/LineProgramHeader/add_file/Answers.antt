@@ -1,4 +1,4 @@
-use Rattle.std.proofs.Common.{refl}
+use Rattle.gimli_line.proofs.Common.{refl}
 use Rattle.gimli_line.proofs.Order.{files_after}
 use Rattle.gimli_line.proofs.header.program_header.LineProgramHeader.add_file.Goals as goal
 

@@ -1,5 +1,5 @@
-use Rattle.std.proofs.Common.{◌≤◌, ◌-◌, ◌∙◌, sym, ap, arith}
-use Rattle.std.specs.Prelude.{slice_get}
+use Rattle.std.specs.Prelude.{◌≤◌, ◌-◌}
+use Rattle.gimli_line.proofs.Common.{◌∙◌, sym, ap, arith, slice_get}
 use Rattle.gimli_line.proofs.LookUps.{directory_above}
 use Rattle.gimli_line.proofs.LookUps.{copied_entry}
 use Rattle.gimli_line.proofs.header.program_header.LineProgramHeader.directory.Goals as goal

@@ -1,4 +1,4 @@
-use Rattle.std.proofs.Common.{◌∙◌}
+use Rattle.gimli_line.proofs.Common.{◌∙◌}
 use Rattle.gimli_line.proofs.Opened.{header_answers}
 use Rattle.gimli_line.proofs.header.program_header.LineProgramHeader.parse.Goals as goal
 

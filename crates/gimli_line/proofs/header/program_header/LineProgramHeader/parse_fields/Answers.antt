@@ -1,4 +1,4 @@
-use Rattle.std.proofs.Common.{◌∙◌}
+use Rattle.gimli_line.proofs.Common.{◌∙◌}
 use Rattle.gimli_line.proofs.Order.{values_kept, files_kept, values_mapped, files_mapped}
 use Rattle.gimli_line.proofs.header.program_header.LineProgramHeader.parse_fields.Goals as goal
 

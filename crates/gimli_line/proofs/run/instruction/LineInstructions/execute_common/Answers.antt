@@ -1,5 +1,4 @@
-use Rattle.std.proofs.Common.{refl, sym, ap, ◌∙◌}
-use Rattle.gimli_line.specs.header.Header.{Header}
+use Rattle.gimli_line.proofs.Common.{refl, sym, ap, ◌∙◌, Header}
 use Rattle.gimli_line.proofs.Executions.{special_executed, standard_executed, executes_it, executes_none}
 use Rattle.gimli_line.proofs.run.instruction.LineInstructions.execute_common.Goals as goal
 

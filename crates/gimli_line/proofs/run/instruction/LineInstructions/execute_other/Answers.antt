@@ -1,7 +1,5 @@
-use Rattle.std.proofs.Common.{rules, ◌≡◌, ◌∙◌, refl, sym, ap, arith}
-use Rattle.gimli_core.specs.Layout.{layout_of}
-use Rattle.gimli_line.specs.declared.run.instruction.LineInstruction.TheVariants.{AdvancePc, ConstAddPc}
-use Rattle.gimli_line.specs.header.Header.{Header}
+use Rattle.std.specs.Prelude.{◌≡◌}
+use Rattle.gimli_line.proofs.Common.{rules, ◌∙◌, refl, sym, ap, arith, layout_of, AdvancePc, ConstAddPc, Header}
 use Rattle.gimli_line.proofs.Executions.{executes_it}
 use Rattle.gimli_line.proofs.OtherExecutions.{below_executed, advance_read, const_add_read, extended_first}
 use Rattle.gimli_line.proofs.run.instruction.LineInstructions.execute_other.Goals as goal

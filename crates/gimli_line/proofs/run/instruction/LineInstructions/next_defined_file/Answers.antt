@@ -1,5 +1,4 @@
-use Rattle.std.proofs.Common.{◌∙◌}
-use Rattle.gimli_core.specs.Layout.{layout_of}
+use Rattle.gimli_line.proofs.Common.{◌∙◌, layout_of}
 use Rattle.gimli_line.proofs.OtherExecutions.{extended_first}
 use Rattle.gimli_line.proofs.run.instruction.LineInstructions.next_defined_file.Goals as goal
 

@@ -1,6 +1,4 @@
-use Rattle.std.proofs.Common.{rules, ap, sym}
-use Rattle.gimli_line.specs.run.Instruction.{Ins}
-use Rattle.gimli_core.specs.Reading.{Read}
+use Rattle.gimli_line.proofs.Common.{rules, ap, sym, Ins, Read}
 use Rattle.gimli_line.proofs.InstructionLaws.{reads_instruction}
 use Rattle.gimli_line.proofs.run.instruction.LineInstructions.next_instruction.Goals as goal
 

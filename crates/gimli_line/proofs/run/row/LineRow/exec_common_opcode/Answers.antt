@@ -1,4 +1,5 @@
-use Rattle.std.proofs.Common.{rules, ◌≡◌, arith, to_z, of_z, w64}
+use Rattle.std.specs.Prelude.{◌≡◌}
+use Rattle.gimli_line.proofs.Common.{rules, arith, to_z, of_z, w64}
 use Rattle.std.proofs.lemmas.Int.{ints}
 use Rattle.gimli_line.proofs.Executions.{copies, negates, advances_line, sets_file, sets_column}
 use Rattle.gimli_line.proofs.run.row.LineRow.exec_common_opcode.Goals as goal

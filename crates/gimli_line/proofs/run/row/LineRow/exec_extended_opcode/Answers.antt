@@ -1,8 +1,4 @@
-use Rattle.std.proofs.Common.{rules, Bool, ap, ◌∙◌}
-use Rattle.gimli_core.specs.Layout.{layout_of}
-use Rattle.gimli_core.specs.Reading.{number_at}
-use Rattle.gimli_line.specs.header.Header.{Header}
-use Rattle.gimli_line.specs.header.Parameters.{Parameters}
+use Rattle.gimli_line.proofs.Common.{rules, Bool, ap, ◌∙◌, layout_of, number_at, Header, Parameters}
 use Rattle.gimli_line.proofs.OtherExecutions.{opened, ends, sets_address, sets_discriminator}
 use Rattle.gimli_line.proofs.run.row.LineRow.exec_extended_opcode.Goals as goal
 

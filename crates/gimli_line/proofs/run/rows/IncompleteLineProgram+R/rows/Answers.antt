@@ -1,6 +1,4 @@
-use Rattle.std.proofs.Common.{true, ap, ◌∙◌}
-use Rattle.gimli_line.specs.header.Orders.{source_of}
-use Rattle.gimli_line.specs.run.Unread.{Unread}
+use Rattle.gimli_line.proofs.Common.{true, ap, ◌∙◌, source_of, Unread}
 use Rattle.gimli_line.proofs.EventsWithFilesLaws.{started_events, started_files, started_made}
 use Rattle.gimli_line.proofs.run.rows.IncompleteLineProgram+R.rows.Goals as goal
 

@@ -1,9 +1,7 @@
-use Rattle.std.proofs.Common.{List, [], ◌∷◌, ◌≡◌, refl, sym, ap, subst, ◌∙◌}
-use Rattle.gimli_line.specs.declared.run.row.LineRow.{LineRow}
-use Rattle.gimli_line.specs.run.Events.{Event, row}
-use Rattle.gimli_line.specs.inside.run.Rows.{given_row}
-use Rattle.gimli_line.specs.run.Passing.{with_reset_row, PassesOver}
-use Rattle.gimli_line.specs.run.Rows.{live_events}
+use Rattle.std.specs.Prelude.{◌∷◌, ◌≡◌}
+use Rattle.gimli_line.proofs.Common
+use Common.{List, [], refl, sym, ap, subst, ◌∙◌, LineRow, Event, row, given_row, with_reset_row, PassesOver}
+use Common.{live_events}
 use Rattle.gimli_line.proofs.GivenRows.{fault_given, hidden, none_given, seen}
 use Rattle.gimli_line.proofs.Runs.{passes_both, refused_after, same_end}
 use Rattle.gimli_line.proofs.Sources.{keeps_both}

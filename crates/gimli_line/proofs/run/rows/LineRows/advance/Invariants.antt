@@ -1,7 +1,5 @@
-use Rattle.std.proofs.Common.{◌≡◌, [], length}
-use Rattle.gimli_line.specs.run.Rows.{made_left, KeepsRun}
-use Rattle.gimli_line.specs.run.Passing.{PassesOver, with_reset_row}
-use Rattle.gimli_line.specs.run.Rows.{events_left}
+use Rattle.std.specs.Prelude.{◌≡◌}
+use Rattle.gimli_line.proofs.Common.{[], length, made_left, KeepsRun, PassesOver, with_reset_row, events_left}
 use Rattle.gimli_line.proofs.run.rows.LineRows.advance.Given as goal
 
 abbrev pub invariant-rows : goal.invariant-rows

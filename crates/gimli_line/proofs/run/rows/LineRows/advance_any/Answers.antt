@@ -1,10 +1,6 @@
-use Rattle.std.proofs.Common.{◌≡◌, [], refl, sym, ap, ◌∙◌}
-use Rattle.gimli_line.specs.declared.run.row.LineRow.{LineRow}
-use Rattle.gimli_line.specs.header.Header.{Header}
-use Rattle.gimli_line.specs.run.Rows.{live_made}
-use Rattle.gimli_line.specs.run.Machine.{reset_row}
-use Rattle.gimli_line.specs.inside.run.Rows.{given_row}
-use Rattle.gimli_line.specs.run.Passing.{with_reset_row}
+use Rattle.std.specs.Prelude.{◌≡◌}
+use Rattle.gimli_line.proofs.Common
+use Common.{[], refl, sym, ap, ◌∙◌, LineRow, Header, live_made, reset_row, given_row, with_reset_row}
 use Rattle.gimli_line.proofs.Runs.{none_to_make, end_here, same_end, passes_none, passes_both, refused_after}
 use Rattle.gimli_line.proofs.Sources.{keeps_both}
 use Rattle.gimli_line.proofs.Steps.{keeps_rest, with_rest}

@@ -1,6 +1,5 @@
-use Rattle.std.proofs.Common.{◌≡◌, [], length}
-use Rattle.gimli_line.specs.run.Rows.{live_made, made_left, KeepsRun}
-use Rattle.gimli_line.specs.run.Passing.{PassesOver, with_reset_row}
+use Rattle.std.specs.Prelude.{◌≡◌}
+use Rattle.gimli_line.proofs.Common.{[], length, live_made, made_left, KeepsRun, PassesOver, with_reset_row}
 use Rattle.gimli_line.proofs.run.rows.LineRows.advance_any.Given as goal
 
 abbrev pub invariant-instructions : goal.invariant-instructions

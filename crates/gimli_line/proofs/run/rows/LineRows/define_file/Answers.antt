@@ -1,7 +1,4 @@
-use Rattle.std.proofs.Common.{refl, ap, ◌∙◌, false}
-use Rattle.gimli_line.specs.header.File.{FileHasOrder}
-use Rattle.gimli_line.specs.header.Header.{without_files}
-use Rattle.gimli_line.specs.run.Unread.{Unread}
+use Rattle.gimli_line.proofs.Common.{refl, ap, ◌∙◌, false, FileHasOrder, without_files, Unread}
 use Rattle.gimli_line.proofs.InstructionLaws.{reads_instruction}
 use Rattle.gimli_line.proofs.Steps.{keeps_run, step_goes, step_wants}
 use Rattle.gimli_line.proofs.run.rows.LineRows.define_file.Goals as goal

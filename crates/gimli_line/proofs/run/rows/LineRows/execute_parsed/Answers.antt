@@ -1,7 +1,5 @@
-use Rattle.std.proofs.Common.{◌≡◌, refl, sym, ap, ◌∙◌, true, false}
-use Rattle.gimli_line.specs.header.Header.{without_files}
-use Rattle.gimli_line.specs.run.Instruction.{InsHasOrder}
-use Rattle.gimli_line.specs.run.Unread.{Unread}
+use Rattle.std.specs.Prelude.{◌≡◌}
+use Rattle.gimli_line.proofs.Common.{refl, sym, ap, ◌∙◌, true, false, without_files, InsHasOrder, Unread}
 use Rattle.gimli_line.proofs.Runs.{only_overflow, source_same}
 use Rattle.gimli_line.proofs.Steps.{keeps_rest, keeps_run, step_done, step_faults, step_goes, step_overflows}
 use Rattle.gimli_line.proofs.Steps.{step_wants}

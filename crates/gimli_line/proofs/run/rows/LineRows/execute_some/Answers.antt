@@ -1,4 +1,4 @@
-use Rattle.std.proofs.Common.{ap, refl, ◌∙◌}
+use Rattle.gimli_line.proofs.Common.{ap, refl, ◌∙◌}
 use Rattle.gimli_line.proofs.Steps.{Has, executed_more, executed_refused, executed_row, none_executed, reads_both}
 use Rattle.gimli_line.proofs.Steps.{reads_more, reads_none, steps_after}
 use Rattle.gimli_line.proofs.Steps.{with_rest}

@@ -1,5 +1,5 @@
-use Rattle.std.proofs.Common.{◌≡◌, length}
-use Rattle.gimli_line.specs.inside.run.Rows.{ReadsOn}
+use Rattle.std.specs.Prelude.{◌≡◌}
+use Rattle.gimli_line.proofs.Common.{length, ReadsOn}
 use Rattle.gimli_line.proofs.Steps.{with_rest}
 use Rattle.gimli_line.proofs.run.rows.LineRows.execute_some.Given as goal
 

@@ -1,4 +1,4 @@
-use Rattle.std.proofs.Common.{refl}
+use Rattle.gimli_line.proofs.Common.{refl}
 use Rattle.gimli_line.proofs.Steps.{executed_more, executed_refused, executed_row}
 use Rattle.gimli_line.proofs.run.rows.LineRows.execute_uncommon.Goals as goal
 

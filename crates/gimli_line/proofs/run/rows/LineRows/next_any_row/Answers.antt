@@ -1,5 +1,4 @@
-use Rattle.std.proofs.Common.{refl}
-use Rattle.gimli_line.specs.run.Rows.{KeepsHeader}
+use Rattle.gimli_line.proofs.Common.{refl, KeepsHeader}
 use Rattle.gimli_line.proofs.GivenRows.{any_rest_alone}
 use Rattle.gimli_line.proofs.Sources.{sees_after}
 use Rattle.gimli_line.proofs.run.rows.LineRows.next_any_row.Goals as goal

@@ -1,6 +1,4 @@
-use Rattle.std.proofs.Common.{refl, sym, ◌∙◌}
-use Rattle.gimli_line.specs.run.Passing.{with_reset_row}
-use Rattle.gimli_line.specs.run.Rows.{KeepsHeader}
+use Rattle.gimli_line.proofs.Common.{refl, sym, ◌∙◌, with_reset_row, KeepsHeader}
 use Rattle.gimli_line.proofs.Runs.{none_to_come, never_refused}
 use Rattle.gimli_line.proofs.RowsAlone.{rest_alone, never_refused_alone}
 use Rattle.gimli_line.proofs.Sources.{sees_after}

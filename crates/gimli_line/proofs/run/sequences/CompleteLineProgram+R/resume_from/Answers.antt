@@ -1,5 +1,4 @@
-use Rattle.std.proofs.Common.{false}
-use Rattle.gimli_line.specs.header.Orders.{source_of}
+use Rattle.gimli_line.proofs.Common.{false, source_of}
 use Rattle.gimli_line.proofs.EventsWithFilesLaws.{started_events, started_files}
 use Rattle.gimli_line.proofs.ResumedRuns.{gives_run, gives_rows_alone}
 use Rattle.gimli_line.proofs.run.sequences.CompleteLineProgram+R.resume_from.Goals as goal

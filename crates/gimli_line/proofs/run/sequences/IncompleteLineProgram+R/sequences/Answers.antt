@@ -1,10 +1,5 @@
-use Rattle.std.proofs.Common.{[], map, ap, ◌∙◌}
-use Rattle.std.proofs.lemmas.Result.{err_from_is_err_and}
-use Rattle.gimli_line.specs.header.Header.{without_files}
-use Rattle.gimli_line.specs.run.Events.{row}
-use Rattle.gimli_line.specs.header.Orders.{source_of}
-use Rattle.gimli_line.specs.run.Unread.{Unread}
-use Rattle.gimli_line.specs.run.Passing.{with_reset_row}
+use Rattle.gimli_line.proofs.Common
+use Common.{[], map, ap, ◌∙◌, err_from_is_err_and, without_files, row, source_of, Unread, with_reset_row}
 use Rattle.gimli_line.specs.run.Sequences.{sequence_of}
 use Rattle.gimli_line.proofs.ResumedRuns.{resume_to_rows}
 use Rattle.gimli_line.proofs.SequenceLaws.{split_starts, split_goes, split_faults, split_source, split_ends, has_front}

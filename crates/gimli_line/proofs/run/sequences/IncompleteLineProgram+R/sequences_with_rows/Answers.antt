@@ -1,10 +1,6 @@
-use Rattle.std.proofs.Common.{[], map, List, subst, sym, ap, ◌∙◌}
-use Rattle.std.proofs.lemmas.Result.{err_from_is_err_and}
-use Rattle.gimli_line.specs.header.Header.{without_files}
-use Rattle.gimli_line.specs.run.Events.{Event, row}
-use Rattle.gimli_line.specs.header.Orders.{source_of}
-use Rattle.gimli_line.specs.run.Unread.{Unread}
-use Rattle.gimli_line.specs.run.Passing.{with_reset_row}
+use Rattle.gimli_line.proofs.Common
+use Common.{[], map, List, subst, sym, ap, ◌∙◌, err_from_is_err_and, without_files, Event, row, source_of, Unread}
+use Common.{with_reset_row}
 use Rattle.gimli_line.specs.run.Sequences.{Sequence, sequence_of, HaveRuns}
 use Rattle.gimli_line.proofs.ResumedRuns.{resume_to_rows}
 use Rattle.gimli_line.proofs.SequenceLaws.{split_starts, split_goes, split_faults, split_source, split_ends, has_front}

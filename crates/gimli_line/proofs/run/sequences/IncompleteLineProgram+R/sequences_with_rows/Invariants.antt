@@ -1,5 +1,4 @@
-use Rattle.std.proofs.Common.{length}
-use Rattle.gimli_line.specs.header.Orders.{source_of}
+use Rattle.gimli_line.proofs.Common.{length, source_of}
 use Rattle.gimli_line.proofs.SequenceLaws.{IsSplit, Keeping}
 use Rattle.gimli_line.proofs.run.sequences.IncompleteLineProgram+R.sequences_with_rows.Given as goal
 

@@ -1,5 +1,6 @@
+use Rattle.std.specs.Prelude.{◌≡◌}
 use Rattle.gimli_write.proofs.Common
-use Common.{◌≡◌, refl, sym, subst, None, err_from_is_err_and, Conversion}
+use Common.{refl, sym, subst, None, err_from_is_err_and, Conversion}
 use Rattle.gimli_write.proofs.Conversions.{held_last, held_stops}
 use Rattle.gimli_write.proofs.convert.conversion.Conversion.next_row.Goals as goal
 

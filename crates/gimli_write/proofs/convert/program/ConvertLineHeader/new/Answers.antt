@@ -1,5 +1,6 @@
+use Rattle.std.specs.Prelude.{◌≡◌}
 use Rattle.gimli_write.proofs.Common
-use Common.{◌≡◌, refl, sym, subst, option_map, err_from_is_err_and, Sections, TablesAndTexts, tables_with, handed_of}
+use Common.{refl, sym, subst, option_map, err_from_is_err_and, Sections, TablesAndTexts, tables_with, handed_of}
 use Common.{encoding_of, ReadsItems, start_of_source, reading_left, without_built}
 use Rattle.gimli_write.proofs.SourceReadings.{start_reads}
 use Rattle.gimli_write.proofs.Conversions.{prepared_plain}

@@ -1,5 +1,6 @@
+use Rattle.std.specs.Prelude.{◌≡◌}
 use Rattle.gimli_write.proofs.Common
-use Common.{◌≡◌, true, false, refl, sym, ap, ◌∙◌, subst, is_refused, reset_row, state_after, step_made, ins_seen, Read}
+use Common.{true, false, refl, sym, ap, ◌∙◌, subst, is_refused, reset_row, state_after, step_made, ins_seen, Read}
 use Rattle.gimli_write.proofs.SourceSteps.{state, is_overflow, ready_at_refusal, ready_when_quiet, header_kept}
 use Rattle.gimli_write.proofs.SourceSteps.{quiet_state, row_state, made_is}
 use Rattle.gimli_write.proofs.convert.run.SourceRun.execute.Goals as goal

@@ -1,5 +1,6 @@
+use Rattle.std.specs.Prelude.{◌≡◌}
 use Rattle.gimli_write.proofs.Common
-use Common.{◌≡◌, subst, Some, SetAddress, SourceRun, state_after}
+use Common.{subst, Some, SetAddress, SourceRun, state_after}
 use Rattle.gimli_write.proofs.SourceSteps.{state, address_done, address_ready, address_header, address_state}
 use Rattle.gimli_write.proofs.convert.run.SourceRun.set_address.Goals as goal
 

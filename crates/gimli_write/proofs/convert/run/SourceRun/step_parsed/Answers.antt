@@ -1,5 +1,6 @@
+use Rattle.std.specs.Prelude.{◌≡◌}
 use Rattle.gimli_write.proofs.Common
-use Common.{◌≡◌, false, refl, ap, SetAddress, DefineFile, file_seen, ins_seen, defines_file}
+use Common.{false, refl, ap, SetAddress, DefineFile, file_seen, ins_seen, defines_file}
 use Rattle.gimli_write.proofs.TablesAtEnd.{none_last, fault_last, file_last}
 use Rattle.gimli_write.proofs.SourceSteps.{state, other_kind, spelled_as, is_shorter, none_left, at_fault, after_file}
 use Rattle.gimli_write.proofs.SourceFromBytes.{steps_source}

@@ -1,5 +1,6 @@
+use Rattle.std.specs.Prelude.{◌<◌, ◌+◌}
 use Rattle.gimli_write.proofs.Common
-use Common.{◌<◌, ◌+◌, length, map, drop, arith, sym, ◌∙◌, value_seen, TablesAndTexts, tables_with, directory_added}
+use Common.{length, map, drop, arith, sym, ◌∙◌, value_seen, TablesAndTexts, tables_with, directory_added}
 use Common.{all_added}
 use Rattle.gimli_write.proofs.ConvertSteps.{done_first, next_added, kept_then}
 use Rattle.gimli_write.proofs.convert.tables.SourceTables.add_directories.Goals as goal

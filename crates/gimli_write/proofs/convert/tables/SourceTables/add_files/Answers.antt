@@ -1,5 +1,6 @@
+use Rattle.std.specs.Prelude.{◌<◌, ◌+◌}
 use Rattle.gimli_write.proofs.Common
-use Common.{◌<◌, ◌+◌, length, map, drop, arith, sym, ◌∙◌, err_from_is_err_and, file_seen, ◌>>=◌, TablesAndTexts}
+use Common.{length, map, drop, arith, sym, ◌∙◌, err_from_is_err_and, file_seen, ◌>>=◌, TablesAndTexts}
 use Common.{tables_with, file_added, all_added}
 use Rattle.gimli_write.proofs.ConvertSteps.{done_first, refused_first, refused_same, next_added, kept_then}
 use Rattle.gimli_write.proofs.convert.tables.SourceTables.add_files.Goals as goal
