@@ -20,4 +20,4 @@ pub use find::source_of;
 pub use missing::Missing;
 pub use outline::{Outline, checksum};
 pub use refusal::Refusal;
-pub use source::{Found, PathSections, FoundSections, Wanted};
+pub use source::{Found, FoundSections, PathSections, Wanted};

@@ -6,7 +6,7 @@ ghost use Rattle.debug_files.specs.Outlines.{section_in, Holds};
 use crate::directories::need_units;
 use crate::missing::Missing;
 use crate::outline::{Outline, checksum, whole};
-use crate::source::{PathSections, FoundSections, Wanted};
+use crate::source::{FoundSections, PathSections, Wanted};
 use elf_sections::usual_limit;
 use std::alloc::Global;
 use std::fs::File;

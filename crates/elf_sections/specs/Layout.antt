@@ -26,7 +26,8 @@ address_size Elf64 = 8
 
 -- the number in so many bytes at an offset
 abbrev pub number_at : Layout → ℕ → ℕ → List ℕ → ℕ
-number_at layout size offset bytes = value_of (is_big_endian layout.order) (take size (drop offset bytes))
+number_at layout size offset bytes =
+    value_of (is_big_endian layout.order) (take size (drop offset bytes))
 
 -- the bytes in which the lowest so many bytes of a number stand at an offset
 abbrev pub with_number : Layout → ℕ → ℕ → ℕ → List ℕ → List ℕ

@@ -1,7 +1,8 @@
 -- A line program as it was built.
 use Rattle.std.specs.Prelude.{◌-◌, ◌∷◌}
 use Rattle.gimli_build.specs.Prelude
-use Prelude.{ℕ, Bool, false, true, List, [], length, slice_get, negsuc, option_map_or, Encoding, Dwarf32, LineEncoding}
+use Prelude.{ℕ, Bool, false, true, List, [], length, slice_get, negsuc, option_map_or, Encoding}
+use Prelude.{Dwarf32, LineEncoding}
 use Prelude.{Address, Constant, Symbol}
 use Rattle.gimli_build.specs.LineText.{LineText}
 use Rattle.gimli_build.specs.Tables.{File}

@@ -1,7 +1,8 @@
 -- A program after a call of the builder that returns Ok.
 use Rattle.std.specs.Prelude.{◌∷◌, ◌++◌}
 use Rattle.gimli_build.specs.Prelude
-use Prelude.{ℕ, true, false, [], Option, option_map, option_to_list, Encoding, LineEncoding, Address}
+use Prelude.{ℕ, true, false, [], Option, option_map, option_to_list, Encoding, LineEncoding}
+use Prelude.{Address}
 use Rattle.gimli_build.specs.LineText.{LineText}
 use Rattle.gimli_build.specs.Tables.{FileKey, Details, Tables, with_directory, with_file}
 use Rattle.gimli_build.specs.Rows.{initial_row, without_marks, row_after_address}

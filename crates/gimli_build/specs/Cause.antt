@@ -1,9 +1,12 @@
 -- Why a unit can't be written: the first cause, in the order of what is written.
 use Rattle.std.specs.Prelude.{◌+◌, ◌^◌, ◌∷◌, ◌++◌, ◌&&◌, if◌then◌else◌}
 use Rattle.gimli_build.specs.Prelude
-use Prelude.{ℕ, List, [], length, map, flat_map, drop, sum_by, unwrap_or, Bool, not, nat_eq, nat_le, nat_lt, Option}
-use Prelude.{Some, None, Result, Ok, Err, word_size, Encoding, Format, Dwarf32, Dwarf64, plain, uleb, Constant, Symbol}
-use Prelude.{Error, IncompatibleLineProgramEncoding, UnsupportedVersion, NeedVersion, LineStringFormMismatch}
+use Prelude.{ℕ, List, [], length, map, flat_map, drop, sum_by, unwrap_or, Bool, not, nat_eq, nat_le}
+use Prelude.{nat_lt, Option}
+use Prelude.{Some, None, Result, Ok, Err, word_size, Encoding, Format, Dwarf32, Dwarf64, plain}
+use Prelude.{uleb, Constant, Symbol}
+use Prelude.{Error, IncompatibleLineProgramEncoding, UnsupportedVersion, NeedVersion}
+use Prelude.{LineStringFormMismatch}
 use Prelude.{ValueTooLarge, InvalidAddress, InitialLengthOverflow, offset_of, StringTables}
 use Rattle.gimli_core.specs.FormNumbers.{DW_FORM_string}
 use Rattle.gimli_build.specs.LineText.{LineText, Inline, InStrings, InLineStrings}

@@ -1,7 +1,8 @@
 -- What the calls of a builder ask.
 use Rattle.std.specs.Prelude.{◌≡◌, ◌<◌, ◌≤◌, ◌^◌, ◌∷◌}
 use Rattle.gimli_build.specs.Prelude
-use Prelude.{ℕ, Bool, true, false, List, [], length, drop, IsTrue, IfSome, All, is_address_size, Encoding, LineEncoding}
+use Prelude.{ℕ, Bool, true, false, List, [], length, drop, IsTrue, IfSome, All, is_address_size}
+use Prelude.{Encoding, LineEncoding}
 use Prelude.{StringTables}
 use Rattle.gimli_build.specs.LineText.{LineText, IsWithin, HasNoZero, IsNotEmpty}
 use Rattle.gimli_build.specs.Tables.{FileKey}

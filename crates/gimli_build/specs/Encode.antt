@@ -2,13 +2,33 @@
 -- 6.2.5).
 use Rattle.std.specs.Prelude.{◌+◌, ◌-◌, ◌*◌, ◌/◌, ◌&&◌, if◌then◌else◌, ◌∷◌, ◌++◌, ◌+ℤ◌, ◌-ℤ◌}
 use Rattle.gimli_build.specs.Prelude
-use Prelude.{ℕ, Bool, true, false, not, nat_eq, nat_le, List, [], ℤ, pos, unsigned_abs, int_le, int_lt, LineEncoding}
+use Prelude.{ℕ, Bool, true, false, not, nat_eq, nat_le, List, [], ℤ, pos, unsigned_abs, int_le}
+use Prelude.{int_lt, LineEncoding}
 use Prelude.{Ins}
-use Rattle.gimli_line.specs.declared.run.instruction.LineInstruction.TheVariants.{Special, Copy, AdvancePc, AdvanceLine}
-use Rattle.gimli_line.specs.declared.run.instruction.LineInstruction.TheVariants.{SetFile, SetColumn, NegateStatement}
-use Rattle.gimli_line.specs.declared.run.instruction.LineInstruction.TheVariants.{SetBasicBlock, ConstAddPc}
-use Rattle.gimli_line.specs.declared.run.instruction.LineInstruction.TheVariants.{SetPrologueEnd, SetEpilogueBegin}
-use Rattle.gimli_line.specs.declared.run.instruction.LineInstruction.TheVariants.{SetIsa, EndSequence, SetDiscriminator}
+use Rattle.gimli_line.specs.declared.run.instruction.LineInstruction.TheVariants.{
+  Special,
+  Copy,
+  AdvancePc,
+  AdvanceLine,
+}
+use Rattle.gimli_line.specs.declared.run.instruction.LineInstruction.TheVariants.{
+  SetFile,
+  SetColumn,
+  NegateStatement,
+}
+use Rattle.gimli_line.specs.declared.run.instruction.LineInstruction.TheVariants.{
+  SetBasicBlock,
+  ConstAddPc,
+}
+use Rattle.gimli_line.specs.declared.run.instruction.LineInstruction.TheVariants.{
+  SetPrologueEnd,
+  SetEpilogueBegin,
+}
+use Rattle.gimli_line.specs.declared.run.instruction.LineInstruction.TheVariants.{
+  SetIsa,
+  EndSequence,
+  SetDiscriminator,
+}
 use Rattle.gimli_build.specs.declared.built.row.LineRow.{LineRow}
 use Rattle.gimli_build.specs.Due.{when}
 use Rattle.gimli_build.specs.FileNumber.{file_number}

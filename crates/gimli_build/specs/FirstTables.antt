@@ -1,6 +1,7 @@
 -- The tables of a new program.
 use Rattle.std.specs.Prelude.{◌∷◌, if◌then◌else◌}
-use Rattle.gimli_build.specs.Prelude.{ℕ, List, [], nat_le, Option, option_map, unwrap_or, option_map_or}
+use Rattle.gimli_build.specs.Prelude.{ℕ, List, [], nat_le, Option, option_map, unwrap_or}
+use Rattle.gimli_build.specs.Prelude.{option_map_or}
 use Rattle.gimli_build.specs.LineText.{LineText, line_text}
 use Rattle.gimli_build.specs.Tables.{Details, File, Tables, no_details, with_directory}
 use Rattle.gimli_build.specs.Tables.{index_of_directory}

@@ -1,14 +1,34 @@
 -- The bytes of instructions as they are written (DWARF 5, sections 6.2.5.2 and 6.2.5.3).
 use Rattle.std.specs.Prelude.{◌+◌, ◌^◌, ◌<◌, ◌≤◌, ◌∷◌, ◌++◌}
 use Rattle.gimli_build.specs.Prelude
-use Prelude.{ℕ, Bool, List, [], length, flat_map, Result, FitsSigned, uleb, sleb, Hand, Address, Error, Ins}
+use Prelude.{ℕ, Bool, List, [], length, flat_map, Result, FitsSigned, uleb, sleb, Hand, Address}
+use Prelude.{Error, Ins}
 use Rattle.std.specs.Int.{w64}
 use Rattle.gimli_core.specs.Reading.{result_map}
-use Rattle.gimli_line.specs.declared.run.instruction.LineInstruction.TheVariants.{Special, Copy, AdvancePc, AdvanceLine}
-use Rattle.gimli_line.specs.declared.run.instruction.LineInstruction.TheVariants.{SetFile, SetColumn, NegateStatement}
-use Rattle.gimli_line.specs.declared.run.instruction.LineInstruction.TheVariants.{SetBasicBlock, ConstAddPc}
-use Rattle.gimli_line.specs.declared.run.instruction.LineInstruction.TheVariants.{SetPrologueEnd, SetEpilogueBegin}
-use Rattle.gimli_line.specs.declared.run.instruction.LineInstruction.TheVariants.{SetIsa, EndSequence, SetDiscriminator}
+use Rattle.gimli_line.specs.declared.run.instruction.LineInstruction.TheVariants.{
+  Special,
+  Copy,
+  AdvancePc,
+  AdvanceLine,
+}
+use Rattle.gimli_line.specs.declared.run.instruction.LineInstruction.TheVariants.{
+  SetFile,
+  SetColumn,
+  NegateStatement,
+}
+use Rattle.gimli_line.specs.declared.run.instruction.LineInstruction.TheVariants.{
+  SetBasicBlock,
+  ConstAddPc,
+}
+use Rattle.gimli_line.specs.declared.run.instruction.LineInstruction.TheVariants.{
+  SetPrologueEnd,
+  SetEpilogueBegin,
+}
+use Rattle.gimli_line.specs.declared.run.instruction.LineInstruction.TheVariants.{
+  SetIsa,
+  EndSequence,
+  SetDiscriminator,
+}
 use Rattle.gimli_build.specs.declared.built.row.LineRow.{LineRow}
 use Rattle.gimli_line.specs.LineNumbers.{DW_LNE_end_sequence, DW_LNE_set_address}
 use Rattle.gimli_line.specs.LineNumbers.{DW_LNE_set_discriminator, DW_LNS_advance_line}

@@ -1,6 +1,7 @@
 -- The instructions of built items, and the rows that they are read as.
 use Rattle.std.specs.Prelude.{◌+◌, ◌-◌, ◌*◌, ◌^◌, ◌<◌, ◌≤◌, ◌∷◌, ◌++◌}
-use Rattle.gimli_build.specs.Prelude.{ℕ, Bool, List, [], Result, Ok, Encoding, LineEncoding, Hand, Error, ReadRow, Ins}
+use Rattle.gimli_build.specs.Prelude.{ℕ, Bool, List, [], Result, Ok, Encoding, LineEncoding, Hand}
+use Rattle.gimli_build.specs.Prelude.{Error, ReadRow, Ins}
 use Rattle.gimli_line.specs.declared.run.instruction.LineInstruction.TheVariants as read
 use Rattle.gimli_build.specs.declared.built.row.LineRow.{LineRow}
 use Rattle.gimli_build.specs.declared.built.items.BuiltItem.{BuiltItem}

@@ -1,7 +1,8 @@
 -- Texts of a line program, without where they lie in memory.
 use Rattle.std.specs.Prelude.{◌≢◌, ◌<◌, if◌then◌else◌}
 use Rattle.gimli_build.specs.Prelude
-use Prelude.{ℕ, Bool, false, List, [], length, slice_get, unwrap_or, bytes_eq, nat_eq, nat_le, All, with_text}
+use Prelude.{ℕ, Bool, false, List, [], length, slice_get, unwrap_or, bytes_eq, nat_eq, nat_le, All}
+use Prelude.{with_text}
 use Prelude.{index_of_text, StringTables}
 use Rattle.gimli_build.specs.declared.built.line_string.LineString.{LineString}
 use Rattle.gimli_build.specs.declared.built.line_string.LineString.TheVariants.{

@@ -1,7 +1,8 @@
 -- A unit whose addresses, and offsets of texts, a linker fills in: the program that it is then.
 use Rattle.std.specs.Prelude.{◌≡◌, ◌+◌, ◌≤◌, ◌^◌, ◌++◌}
 use Rattle.gimli_build.specs.Prelude
-use Prelude.{ℕ, List, length, map, All, word_size, Format, DebugStr, DebugLineStr, Placement, unplaced, table_bytes}
+use Prelude.{ℕ, List, length, map, All, word_size, Format, DebugStr, DebugLineStr, Placement}
+use Prelude.{unplaced, table_bytes}
 use Prelude.{StringTables}
 use Rattle.gimli_bytes.specs.Relocations.{AddressOf, CallFits, address_placed}
 use Rattle.gimli_build.specs.LineText.{LineText}

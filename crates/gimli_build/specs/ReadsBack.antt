@@ -1,12 +1,18 @@
 -- What is read of a unit that was built.
 use Rattle.std.specs.Prelude.{◌≡◌, ◌-◌, ◌<◌, ◌≤◌, ◌++◌, if◌then◌else◌}
 use Rattle.gimli_build.specs.Prelude
-use Prelude.{ℕ, All, List, [], length, map, slice_get, Bool, false, None, option_map, nat_le, IfSome, option_to_list}
-use Prelude.{OrderAndLimit, Value, Dwarf64, DebugStr, DebugLineStr, String, Header, UnitEntry, Decodes, Events, row}
+use Prelude.{ℕ, All, List, [], length, map, slice_get, Bool, false, None, option_map, nat_le}
+use Prelude.{IfSome, option_to_list}
+use Prelude.{OrderAndLimit, Value, Dwarf64, DebugStr, DebugLineStr, String, Header, UnitEntry}
+use Prelude.{Decodes, Events, row}
 use Prelude.{ReadRow, Placement, unplaced, offset_of, StringTables}
 use Rattle.gimli_line.specs.declared.header.file_entry.FileEntryFormat.{FileEntryFormat}
 use Rattle.gimli_build.specs.Version5Tables.{directory_formats, file_formats}
-use Rattle.gimli_line.specs.header.HeaderGrammar.{HeaderOpening, header_production, fields_production}
+use Rattle.gimli_line.specs.header.HeaderGrammar.{
+  HeaderOpening,
+  header_production,
+  fields_production,
+}
 use Rattle.gimli_line.specs.header.File.{File as ReadFile}
 use Rattle.gimli_build.specs.LineText.{LineText, Inline, InStrings, InLineStrings, bytes_in}
 use Rattle.gimli_build.specs.Tables.{File}

@@ -1,7 +1,8 @@
 -- Where `write` refuses a program: which of its directories, files and items have a cause.
 use Rattle.std.specs.Prelude.{◌≡◌, ◌<◌, ◌&&◌, if◌then◌else◌, ◌∷◌}
 use Rattle.gimli_build.specs.Prelude
-use Prelude.{ℕ, Bool, nat_eq, nat_le, [], Option, Some, None, slice_get, option_map_or, option_and_then, Error}
+use Prelude.{ℕ, Bool, nat_eq, nat_le, [], Option, Some, None, slice_get, option_map_or}
+use Prelude.{option_and_then, Error}
 use Prelude.{StringTables}
 use Rattle.gimli_core.specs.FormNumbers.{DW_FORM_string}
 use Rattle.gimli_build.specs.LineText.{LineText}

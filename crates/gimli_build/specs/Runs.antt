@@ -1,7 +1,8 @@
 -- A run of the instructions of a built program: where it stands between two items, what can come
 -- next, and what it gives.
 use Rattle.std.specs.Prelude.{◌≡◌, ◌+◌, ◌-◌, ◌*◌, ◌^◌, ◌<◌, ◌≤◌, ◌++◌}
-use Rattle.gimli_build.specs.Prelude.{ℕ, List, map, Encoding, LineEncoding, ReadRow, Parameters, Ins, Event, row}
+use Rattle.gimli_build.specs.Prelude.{ℕ, List, map, Encoding, LineEncoding, ReadRow, Parameters}
+use Rattle.gimli_build.specs.Prelude.{Ins, Event, row}
 use Rattle.gimli_line.specs.run.Machine.{run, initial}
 use Rattle.gimli_build.specs.declared.built.row.LineRow.{LineRow}
 use Rattle.gimli_build.specs.declared.built.items.BuiltItem.{BuiltItem}

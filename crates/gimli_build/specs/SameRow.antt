@@ -1,6 +1,7 @@
 -- A built row or end as the reading half has it (DWARF 5, section 6.2.2).
 use Rattle.std.specs.Prelude.{◌≡◌, ◌+◌, ◌∷◌}
-use Rattle.gimli_build.specs.Prelude.{ℕ, true, false, List, [], Encoding, LineEncoding, ReadRow, Parameters}
+use Rattle.gimli_build.specs.Prelude.{ℕ, true, false, List, [], Encoding, LineEncoding, ReadRow}
+use Rattle.gimli_build.specs.Prelude.{Parameters}
 use Rattle.gimli_build.specs.declared.built.row.LineRow.{LineRow}
 use Rattle.gimli_build.specs.FileNumber.{file_number}
 use Rattle.gimli_build.specs.Encode.{built_opcode_base}

@@ -1,7 +1,10 @@
 -- What a row needs few bytes for (DWARF 5, section 6.2.5.1).
 use Rattle.std.specs.Prelude.{◌≡◌, ◌-◌, ◌≤◌, ◌-ℤ◌}
 use Rattle.gimli_build.specs.Prelude.{ℕ, false, Some, ℤ, pos, length, Parameters}
-use Rattle.gimli_line.specs.declared.run.instruction.LineInstruction.TheVariants.{Special, ConstAddPc}
+use Rattle.gimli_line.specs.declared.run.instruction.LineInstruction.TheVariants.{
+  Special,
+  ConstAddPc,
+}
 use Rattle.gimli_line.specs.run.Registers.{line_advance}
 use Rattle.gimli_line.specs.run.OperationPointer.{operation_advance}
 use Rattle.gimli_build.specs.declared.built.row.LineRow.{LineRow}

@@ -1,7 +1,8 @@
 -- The texts that values of a header stand for (DWARF 5, section 6.2.4.1).
 use Rattle.std.specs.Prelude.{◌≡◌, ◌≢◌, ◌∷◌, ◌++◌}
 use Rattle.gimli_build.specs.Prelude
-use Prelude.{ℕ, List, [], drop, All, Option, Some, None, Value, String, DebugStrRef, DebugLineStrRef}
+use Prelude.{ℕ, List, [], drop, All, Option, Some, None, Value, String, DebugStrRef}
+use Prelude.{DebugLineStrRef}
 
 -- the two sections of texts
 pub record Sections : Type 0 where

@@ -1,7 +1,8 @@
 -- What readers drop or misread of a program that `write` takes.
 use Rattle.std.specs.Prelude.{◌≡◌, ◌+◌, ◌*◌, ◌^◌, ◌<◌, ◌≤◌, ◌&&◌, ◌||◌, if◌then◌else◌, ◌∷◌}
 use Rattle.gimli_build.specs.Prelude
-use Prelude.{ℕ, nat_eq, nat_le, nat_lt, Bool, true, false, not, List, [], length, take, drop, reverse, Option, Some}
+use Prelude.{ℕ, nat_eq, nat_le, nat_lt, Bool, true, false, not, List, [], length, take, drop}
+use Prelude.{reverse, Option, Some}
 use Prelude.{None}
 use Rattle.std.specs.List.{list_all}
 use Rattle.gimli_build.specs.Built.{Built, base_of}

@@ -2,8 +2,10 @@
 -- DWARF 4, section 6.2.4).
 use Rattle.std.specs.Prelude.{◌∷◌, ◌&&◌, ◌||◌, if◌then◌else◌}
 use Rattle.gimli_build.specs.Prelude
-use Prelude.{ℕ, List, [], Bool, not, nat_eq, nat_le, nat_lt, Result, Ok, Err, ℤ, number_bytes, Encoding, LineEncoding}
-use Prelude.{Format, Dwarf32, Dwarf64, length_word, Hand, Error, IncompatibleLineProgramEncoding, UnsupportedVersion}
+use Prelude.{ℕ, List, [], Bool, not, nat_eq, nat_le, nat_lt, Result, Ok, Err, ℤ, number_bytes}
+use Prelude.{Encoding, LineEncoding}
+use Prelude.{Format, Dwarf32, Dwarf64, length_word, Hand, Error, IncompatibleLineProgramEncoding}
+use Prelude.{UnsupportedVersion}
 use Prelude.{NeedVersion, StringTables}
 use Rattle.std.specs.Int.{w8, cast_unsigned}
 use Rattle.gimli_build.specs.FormatWord.{format_word}

@@ -1,8 +1,10 @@
 -- The tables of a unit of version 5 as they are written (DWARF 5, section 6.2.4, parts 13 to 20).
 use Rattle.std.specs.Prelude.{◌++◌, ◌∷◌, ◌&&◌, if◌then◌else◌}
 use Rattle.gimli_build.specs.Prelude
-use Prelude.{ℕ, List, [], length, map, Bool, nat_eq, nat_le, Some, None, unwrap_or, Result, Ok, Err, is_none, flat_map}
-use Prelude.{word_size, Format, DebugStr, DebugLineStr, uleb, Hand, with_text, index_of_text, offset_of, StringTables}
+use Prelude.{ℕ, List, [], length, map, Bool, nat_eq, nat_le, Some, None, unwrap_or, Result, Ok, Err}
+use Prelude.{is_none, flat_map}
+use Prelude.{word_size, Format, DebugStr, DebugLineStr, uleb, Hand, with_text, index_of_text}
+use Prelude.{offset_of, StringTables}
 use Prelude.{Error, LineStringFormMismatch}
 use Rattle.std.specs.List.{list_any}
 use Rattle.gimli_core.specs.FormNumbers.{DW_FORM_data16, DW_FORM_line_strp, DW_FORM_string}

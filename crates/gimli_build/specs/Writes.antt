@@ -1,7 +1,8 @@
 -- What a call leaves that appends wanted bytes to a writer.
 use Rattle.std.specs.Prelude.{◌≡◌, ◌⊎◌}
 use Rattle.gimli_build.specs.Prelude
-use Prelude.{ℕ, List, Result, Err, IsTrue, OnOk, IfErr, Hand, Placement, plain, Begins, Appends, Error, OutOfMemory}
+use Prelude.{ℕ, List, Result, Err, IsTrue, OnOk, IfErr, Hand, Placement, plain, Begins, Appends}
+use Prelude.{Error, OutOfMemory}
 use Prelude.{Ghosts}
 
 -- as `IsAppend`, with refusals of its own, and but for those: a part that is wanted late may be

@@ -173,7 +173,8 @@ completed_over p v w x at is called = grind (arith, over_same, inside-from)
 puts_at : (p : Placement) (v w : Relocatable) (at : ℕ) (section : SectionId) (n size : ℕ) → n < 2 ^ 64
     → are_inside v ≡ true
     → after_call v (OffsetAt at section n size) ≡ Ok w
-    → (patch (placed_offset p v.is_big section n size) (applied p v) at ≡ Ok (applied p w)) × AreInside w × (w.is_big ≡ v.is_big)
+    → (patch (placed_offset p v.is_big section n size) (applied p v) at ≡ Ok (applied p w)) × AreInside w
+    × (w.is_big ≡ v.is_big)
 puts_at p v w at section n size small is called =
     let bits : cast_unsigned w64 (cast_signed w64 n) ≡ n = of_z-to_z w64 n small in
     let sum = p.section section (cast_unsigned w64 (cast_signed w64 n) % 256 ^ size) % 256 ^ size in

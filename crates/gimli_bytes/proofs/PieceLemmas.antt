@@ -23,7 +23,8 @@ length-concat n (p ∷ ps) s =
       arith,
       length-append p (concat ps),
       length-concat n ps (All-tail (λ q. length q ≡ n) p ps s),
-      All-head (λ q. length q ≡ n) p ps s)
+      All-head (λ q. length q ≡ n) p ps s,
+    )
 
 -- ---- bytes put over others
 

@@ -8,7 +8,8 @@ use Rattle.gimli_bytes.proofs.SectionWords.{word-is}
 use Rattle.gimli_bytes.proofs.Relocating.{sum_low}
 use Rattle.gimli_bytes.proofs.CallsRelocated.{is_size, size_short, wraps}
 
-pub placed-word : (is_big : Bool) (n size : ℕ) → n < 256 ^ size → lowest_bytes is_big n size ≡ section_word is_big n size
+pub placed-word : (is_big : Bool) (n size : ℕ) → n < 256 ^ size
+    → lowest_bytes is_big n size ≡ section_word is_big n size
 placed-word is_big n size fits = ap (λ k. udata is_big k size) (mod-eq_of_lt fits) ∙ by (nat_eq size 8) refl
   where
     by : (b : Bool) → nat_eq size 8 ≡ b → udata is_big n size ≡ section_word is_big n size
@@ -18,7 +19,8 @@ placed-word is_big n size fits = ap (λ k. udata is_big k size) (mod-eq_of_lt fi
         let small : n < 2 ^ 64 = rw eight at fits in
         sym (word-is _ n size small)
 
-pub placed-address : (at : Placement) (is_big : Bool) (address : Address) (size : ℕ) → CallFits at (AddressOf address size)
+pub placed-address : (at : Placement) (is_big : Bool) (address : Address) (size : ℕ)
+    → CallFits at (AddressOf address size)
     → placed_address at is_big address size ≡ address_bytes is_big (address_placed at address) size
 placed-address at is_big (Constant n) size fits = refl
 placed-address at is_big (Symbol symbol addend) size fits =

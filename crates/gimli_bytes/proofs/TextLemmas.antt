@@ -142,7 +142,8 @@ length-table_bytes (t ∷ ts) =
       length-append (t ++ 0 ∷ []) (table_bytes ts),
       length-append t (0 ∷ []),
       sum_by-cons (λ (x : List ℕ). length x + 1) t ts,
-      length-table_bytes ts)
+      length-table_bytes ts,
+    )
 
 pub table_bytes-at : (ts : List (List ℕ)) (i : ℕ) (t : List ℕ) → slice_get ts i ≡ Some t
     → drop (offset_of ts i) (table_bytes ts) ≡ t ++ 0 ∷ table_bytes (drop (i + 1) ts)

@@ -45,7 +45,8 @@ pub relative_pointer : (is_big : Bool) (old : List ℕ) (address : Address) (n p
     (format : DwEhPe) (size : ℕ)
     → address ≡ Constant n
     → bit_and encoding.0 0x70 ≡ 0x10 → place ≡ length old → format.0 ≡ bit_and encoding.0 0x0f
-    → pointer_at_end is_big old address encoding size ≡ pointer_data is_big ((n + (2 ^ 64 - place)) % 2 ^ 64) format size
+    → pointer_at_end is_big old address encoding size
+    ≡ pointer_data is_big ((n + (2 ^ 64 - place)) % 2 ^ 64) format size
 relative_pointer is_big old address n place encoding format size constant kind later is =
     rw (constant, kind, ← later)
     (ap (λ f. pointer_data is_big ((n + (2 ^ 64 - place)) % 2 ^ 64) f size) (same_format _ _ is))

@@ -27,7 +27,8 @@ pub record Hand : Type 0 where
 
 -- an offset in a section, or a length, of a size: eight bytes hold each
 abbrev pub section_word : Bool → ℕ → ℕ → Result (List ℕ) Error
-section_word is_big n size = if nat_eq size 8 then Ok (number_bytes is_big 8 n) else udata is_big n size
+section_word is_big n size =
+    if nat_eq size 8 then Ok (number_bytes is_big 8 n) else udata is_big n size
 
 abbrev pub plain_offset : Bool → SectionId → ℕ → ℕ → Result (List ℕ) Error
 plain_offset is_big section n size = section_word is_big n size

@@ -1,5 +1,5 @@
--- The bytes of a number as it is written, or the refusal of its value or its size. "is_big" says that
--- the most significant byte comes first.
+-- The bytes of a number as it is written, or the refusal of its value or its size. "is_big" says
+-- that the most significant byte comes first.
 use Rattle.std.specs.Prelude.{◌+◌, ◌-◌, ◌*◌, ◌/◌, ◌%◌, ◌^◌, ◌||◌, if◌then◌else◌, ◌∷◌, ◌++◌}
 use Rattle.gimli_bytes.specs.Prelude.{number_bytes, result_map}
 use Rattle.std.specs.Prelude.{ℕ, zero, suc, Bool, nat_lt}
@@ -173,4 +173,5 @@ pointer_bytes is_big place (Symbol symbol addend) encoding size = Err InvalidAdd
 
 -- the same for an address that is written after these bytes
 abbrev pub pointer_at_end : Bool → List ℕ → Address → DwEhPe → ℕ → Result (List ℕ) Error
-pointer_at_end is_big old address encoding size = pointer_bytes is_big (length old) address encoding size
+pointer_at_end is_big old address encoding size =
+    pointer_bytes is_big (length old) address encoding size

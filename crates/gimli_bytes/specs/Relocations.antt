@@ -3,7 +3,8 @@
 -- chapter 4, "Relocation").
 use Rattle.std.specs.Prelude.{◌≡◌, ◌⊎◌, ◌+◌, ◌%◌, ◌<◌, ◌^◌, ◌+ℤ◌, ◌&&◌, if◌then◌else◌, ◌∷◌, ◌++◌}
 use Rattle.gimli_bytes.specs.Prelude.{number_bytes, value_of, result_map, SectionId}
-use Rattle.std.specs.Prelude.{ℕ, ℤ, pos, negsuc, FitsSigned, unsigned_abs, Bool, nat_le, nat_lt, List, [], length, take}
+use Rattle.std.specs.Prelude.{ℕ, ℤ, pos, negsuc, FitsSigned, unsigned_abs, Bool, nat_le, nat_lt}
+use Rattle.std.specs.Prelude.{List, [], length, take}
 use Rattle.std.specs.Prelude.{drop, All, Result, Ok, Err}
 use Rattle.std.specs.List.{list_all, list_any}
 use Rattle.std.specs.Int.{w64, cast_signed, cast_unsigned}
@@ -167,7 +168,8 @@ plainly_after placement is_big old (Bytes bytes) = Ok (old ++ bytes)
 plainly_after placement is_big old (AddressOf (Constant n) size) =
     result_map (λ word. old ++ word) (udata is_big n size)
 plainly_after placement is_big old (AddressOf (Symbol symbol addend) size) =
-    result_map (λ word. old ++ word) (sum_bytes is_big (pos (placement.symbol symbol) +ℤ addend) size)
+    result_map (λ word. old ++ word)
+    (sum_bytes is_big (pos (placement.symbol symbol) +ℤ addend) size)
 plainly_after placement is_big old (OffsetInto section n size) =
     result_map (λ word. old ++ word) (udata is_big (placement.section section n) size)
 plainly_after placement is_big old (ReferenceTo symbol size) =

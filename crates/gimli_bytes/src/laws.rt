@@ -99,7 +99,8 @@ pub fn table_bytes_length()
 pub fn relocations_give_the_same()
     ensures { (placement : Placement) (v w : Relocatable) (calls : List Call) →
         IsTrue (are_inside v) → CallsFit placement calls → after_calls v calls ≡ Ok w →
-        plainly_after_calls placement v.is_big (applied placement v) calls ≡ Ok (applied placement w) }
+        plainly_after_calls placement v.is_big (applied placement v) calls
+        ≡ Ok (applied placement w) }
 {}
 
 /// What a linker puts at a place is the sum itself, where it fits the size.

@@ -20,7 +20,8 @@ sections_by info abbreviations strings line_strings string_offsets is_big offset
 pub same_sections : (info abbreviations strings line_strings string_offsets i a s l o : List ℕ)
     (is_big offsets_big b : Bool)
     → info ≡ i → abbreviations ≡ a → strings ≡ s → line_strings ≡ l → string_offsets ≡ o → is_big ≡ b → offsets_big ≡ b
-    → sections_by info abbreviations strings line_strings string_offsets is_big offsets_big ≡ sections_handed i a l s o b
+    → sections_by info abbreviations strings line_strings string_offsets is_big offsets_big
+    ≡ sections_handed i a l s o b
 same_sections info abbreviations strings line_strings string_offsets i a s l o is_big offsets_big b info_is
     abbreviations_is strings_are line_strings_are
     string_offsets_are big_is offsets_big_is =

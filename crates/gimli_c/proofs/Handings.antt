@@ -100,7 +100,8 @@ no_line_strings p is =
     ap (λ (b : Bool). if b && nat_eq (first_form (sources p.files)) 0x1f then with_text [] [] else []) (no_empty p is)
 
 -- so what was written to an empty section with empty tables is read back with empty tables
-pub read_back : (written is_big : Bool) (p : Built) (texts : StringTables) (old new : List ℕ) → written ≡ is_big → old ≡ []
+pub read_back : (written is_big : Bool) (p : Built) (texts : StringTables) (old new : List ℕ) → written ≡ is_big
+    → old ≡ []
     → p.file_has_source ≡ false → HaveEmptySource p no_texts texts
     → (unit : List ℕ) × (new ≡ old ++ unit) × ReadsBackAs written p texts unit → ReadsBackAs is_big p no_texts new
 read_back written is_big p texts old new big_is old_is none gained given =

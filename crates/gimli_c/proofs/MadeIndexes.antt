@@ -10,7 +10,8 @@ use Rattle.gimli_lookup.specs.SectionUnits.{IsUnitOf}
 use Rattle.gimli_c.specs.MadeIndex.{IndexSource, given_of, index_source, program, entry_of, section_read, AreAllUnitsOf}
 use Rattle.gimli_c.specs.MadeIndex.{IsIndexBytesOf}
 
-pub same_all_units : (section other : List ℕ) (is_big other_big : Bool) (size lowest : ℕ) (line_strings strings : List ℕ)
+pub same_all_units : (section other : List ℕ) (is_big other_big : Bool) (size lowest : ℕ)
+    (line_strings strings : List ℕ)
     (units : List KeptUnit)
     → other ≡ section → other_big ≡ is_big
     → AreUnits (layout_of other_big (2 ^ 64)) 0 other (map (λ (u : KeptUnit). u.unit.offset) units)
@@ -34,7 +35,8 @@ index_made m directory units size old bytes size_is old_is index =
 pub same_index : (section : List ℕ) (is_big : Bool) (size lowest : ℕ) (line_strings strings l s : List ℕ)
     (compilations given : Sections) (identity bytes : List ℕ)
     → line_strings ≡ l → strings ≡ s → compilations ≡ given
-    → IsIndexBytesOf (index_source (program section is_big size lowest line_strings strings) compilations identity) bytes
+    → IsIndexBytesOf (index_source (program section is_big size lowest line_strings strings) compilations identity)
+    bytes
     → IsIndexBytesOf (index_source (program section is_big size lowest l s) given identity) bytes
 same_index section is_big size lowest line_strings strings l s compilations given identity bytes line_strings_are
     strings_are compilations_are is =

@@ -67,7 +67,8 @@ next_is layout section offset next after is ends = at_answer (any_unit_at layout
         )
 
 -- the same by other names of the section and of its order
-pub same_next : (section other : List ℕ) (is_big other_big : Bool) (offset next : ℕ) → other ≡ section → other_big ≡ is_big
+pub same_next : (section other : List ℕ) (is_big other_big : Bool) (offset next : ℕ) → other ≡ section
+    → other_big ≡ is_big
     → IsNext (layout_of other_big (2 ^ 64)) other offset next → IsNext (layout_of is_big (2 ^ 64)) section offset next
 same_next section other is_big other_big offset next s b is =
     subst (λ (x : List ℕ). IsNext (layout_of is_big (2 ^ 64)) x offset next) s
@@ -174,7 +175,10 @@ pub unit_given : (p : Location) (next : ℕ) (h : Header) (layout : OrderAndLimi
 unit_given p next h layout unit has is tells read = record {
   header = h;
   events = read.events;
-  has_events = record { unit = has; given = subst (λ (n : OrderAndLimit). Events n h h.program read.events) is read.given };
+  has_events = record {
+    unit = has;
+    given = subst (λ (n : OrderAndLimit). Events n h h.program read.events) is read.given;
+  };
   files = read.files;
   at_end = subst (λ (n : OrderAndLimit). FilesAtEnd n true h h.program read.files) is read.at_end;
   seen =

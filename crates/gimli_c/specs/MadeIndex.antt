@@ -60,7 +60,8 @@ entry_of address_size = record { address_size = address_size; directory = None; 
 pub record AreAllUnitsOf (p : IndexedProgram) (units : List KeptUnit) : Type 0 where
   pub offsets : AreUnits (layout_of p.is_big (2 ^ 64)) 0 p.section
       (map (λ u. u.unit.offset) units)
-  pub each : All (IsUnitOf (section_read p.section p.is_big) (entry_of p.address_size) p.lowest) units
+  pub each : All (IsUnitOf (section_read p.section p.is_big) (entry_of p.address_size) p.lowest)
+      units
 
 -- ---- the index
 

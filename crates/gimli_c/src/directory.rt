@@ -38,7 +38,8 @@ pub extern "C" fn gimli_line_proved_read_directory(
     ensures none { result ≡ NO_SUCH_DIRECTORY →
         GivesNoDirectory (location section.now is_big address_size offset) number }
     ensures refused { result ≢ OK → result ≢ NO_ROOM → result ≢ NO_SUCH_DIRECTORY
-        → result ≢ OUT_OF_MEMORY → HasNoUnit (location section.now is_big address_size offset) result }
+        → result ≢ OUT_OF_MEMORY
+        → HasNoUnit (location section.now is_big address_size offset) result }
     ensures size { is_address_size address_size ≡ false → result ≡ UNSUPPORTED_ADDRESS_SIZE }
     ensures kept { result ≢ OK → bytes.new ≡ bytes.old }
     ensures no_text { result ≢ OK → result ≢ NO_ROOM → directory.new ≡ directory.old }

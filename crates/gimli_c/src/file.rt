@@ -103,12 +103,14 @@ pub extern "C" fn gimli_line_proved_read_file(
 ) -> u32
     ensures found { result ≡ OK → WritesFile (location section.now is_big address_size offset)
         number file.new path.old path.new directory.old directory.new }
-    ensures larger { result ≡ NO_ROOM → NeedsFileRoom (location section.now is_big address_size offset)
+    ensures larger { result ≡ NO_ROOM
+        → NeedsFileRoom (location section.now is_big address_size offset)
         number file.new path.old directory.old }
     ensures none { result ≡ NO_SUCH_FILE →
         GivesNoFile (location section.now is_big address_size offset) number }
     ensures refused { result ≢ OK → result ≢ NO_ROOM → result ≢ NO_SUCH_FILE
-        → result ≢ OUT_OF_MEMORY → HasNoUnit (location section.now is_big address_size offset) result }
+        → result ≢ OUT_OF_MEMORY
+        → HasNoUnit (location section.now is_big address_size offset) result }
     ensures size { is_address_size address_size ≡ false → result ≡ UNSUPPORTED_ADDRESS_SIZE }
     ensures kept { result ≢ OK → (path.new ≡ path.old) × (directory.new ≡ directory.old) }
     ensures no_file { result ≢ OK → result ≢ NO_ROOM → file.new ≡ file.old }

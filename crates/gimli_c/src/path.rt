@@ -123,7 +123,8 @@ pub extern "C" fn gimli_line_proved_read_path(
 ) -> u32
     ensures found { result ≡ OK → WritesPath (location section.now is_big address_size offset)
         (texts_handed line_strings.now strings.now) number comp_dir.now path.old path.new size.new }
-    ensures larger { result ≡ NO_ROOM → NeedsPathRoom (location section.now is_big address_size offset)
+    ensures larger { result ≡ NO_ROOM
+        → NeedsPathRoom (location section.now is_big address_size offset)
         (texts_handed line_strings.now strings.now) number comp_dir.now path.old size.new }
     ensures refused { result ≢ OK → result ≢ NO_ROOM → result ≢ OUT_OF_MEMORY → HasNoPath
         (location section.now is_big address_size offset)

@@ -167,7 +167,8 @@ fn section_of(
     requires can { CanWrite program.now no_texts }
     requires source { program.now.file_has_source ≡ false }
     ensures unit { IfOk result (λ section.
-        Appends (unit_bytes plain is_big program.now.encoding program.now no_texts) [] section.bytes) }
+        Appends (unit_bytes plain is_big program.now.encoding program.now no_texts) []
+        section.bytes) }
     ensures reads_back { IfOk result (λ section.
         ReadsBackAs is_big program.now no_texts section.bytes) }
     ensures no_cause { OnOk result

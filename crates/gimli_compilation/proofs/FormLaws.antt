@@ -31,7 +31,8 @@ module _ (layout : OrderAndLimit) where
   reads_shape (Unsigned kind) = reads_both unsigned _ _ _ reads_unsigned (λ n. reads_done (Number kind n))
   reads_shape Signed = reads_both signed _ _ _ reads_signed (λ z. reads_done Passed)
   reads_shape (Block size) = reads_passed size
-  reads_shape (Counted size) = reads_both (number layout.is_big size) _ _ _ (reads_number layout.is_big size) reads_passed
+  reads_shape (Counted size) =
+      reads_both (number layout.is_big size) _ _ _ (reads_number layout.is_big size) reads_passed
   reads_shape UnsignedCounted = reads_both unsigned _ _ _ reads_unsigned reads_passed
   reads_shape String = reads_both text _ _ _ reads_text (λ name. reads_done (Text name))
 

@@ -259,7 +259,8 @@ length_takes is_big n Dwarf64 s = absurd (omega (arith, ap length s.2, length-ap
 frame_takes : (layout : OrderAndLimit) → TakesBytes (frame_production layout)
 frame_takes layout =
     takes_both (unit_length layout) _
-    (takes_both (initial_length layout.is_big) _ (record { none = λ unit s. length_takes layout.is_big unit.0 unit.1 s }))
+    (takes_both (initial_length layout.is_big) _
+    (record { none = λ unit s. length_takes layout.is_big unit.0 unit.1 s }))
 
 some_front : (layout : OrderAndLimit) (front : List ℕ) (unit : List ℕ × Format)
     → (frame_production layout).Spells front unit → 0 < length front

@@ -56,7 +56,8 @@ from_offset layout offset l = do
 
 -- the values of an entry, in the order of its specifications; each takes the place of what stood
 -- before for its attribute
-abbrev pub attributes_production : OrderAndLimit → Encoding → Attributes (List ℕ) → List Specification
+abbrev pub attributes_production : OrderAndLimit → Encoding → Attributes (List ℕ)
+    → List Specification
     → Production (Attributes (List ℕ))
 attributes_production layout encoding before [] = done before
 attributes_production layout encoding before (s ∷ specifications) = do

@@ -88,7 +88,10 @@ fn shape_of(form: DwForm, encoding: Encoding) -> Option<Shape>
     let word_size = encoding.format.word_size();
     match form {
         constants::DW_FORM_addr => Some(Shape::Fixed(encoding.address_size, NumberKind::Other)),
-        constants::DW_FORM_ref_addr => Some(Shape::Fixed(reference_size(encoding), NumberKind::Other)),
+        constants::DW_FORM_ref_addr => Some(Shape::Fixed(
+            reference_size(encoding),
+            NumberKind::Other,
+        )),
         shared::DW_FORM_sec_offset => Some(Shape::Fixed(word_size, NumberKind::SectionOffset)),
         shared::DW_FORM_strp => Some(Shape::Fixed(word_size, NumberKind::StringOffset)),
         shared::DW_FORM_line_strp => Some(Shape::Fixed(word_size, NumberKind::LineStringOffset)),

@@ -27,7 +27,8 @@ pub(crate) fn split_unit<R: Reader>(input: &mut R) -> Result<(R, Format)>
 /// Takes a version, from 2 to 5. Refused by `UnknownVersion` at any other.
 #[tactic(auto, unfolding(crate::specs::inside::HeaderReading::version_at))]
 fn parse_version<R: Reader>(input: &mut R) -> Result<u16>
-    ensures read { (result, R.bytes input.new) ≡ version_at (R.is_big input.old) (R.bytes input.old) }
+    ensures read { (result, R.bytes input.new)
+        ≡ version_at (R.is_big input.old) (R.bytes input.old) }
     ensures order { R.is_big input.new ≡ R.is_big input.old }
 {
     let version = input.read_u16()?;

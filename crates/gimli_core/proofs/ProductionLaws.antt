@@ -256,7 +256,8 @@ module _ (is_big : Bool) where
       → (tail : List ℕ) × (rest ≡ tail ++ left) × SpellsNumber is_big 8 tail m
   number_8 = (reads_number is_big 8).found
 
-  after_found : (n : ℕ) → First n → (rest : List ℕ) (u : ℕ × Format) (left first : List ℕ) → SpellsNumber is_big 4 first n
+  after_found : (n : ℕ) → First n → (rest : List ℕ) (u : ℕ × Format) (left first : List ℕ)
+      → SpellsNumber is_big 4 first n
       → after_first is_big n rest ≡ (Ok u, left)
       → (tail : List ℕ) × (rest ≡ tail ++ left) × SpellsInitialLength is_big (first ++ tail) u.1 u.0
   after_found n (short lt is) rest u left first spelled e =
@@ -301,7 +302,8 @@ module _ (is_big : Bool) where
       grind (arith, bind_fault, reads_number)
   after_fault n (reserved le other not_short is) rest e f = grind arith
 
-  length_fault : (bytes : List ℕ) (e : Error) → (length_at is_big bytes).0 ≡ Err e → (initial_length is_big).Fault bytes e
+  length_fault : (bytes : List ℕ) (e : Error) → (length_at is_big bytes).0 ≡ Err e
+      → (initial_length is_big).Fault bytes e
   length_fault bytes e f = elim (bind_fault _ _ e f) [
     | inl p ↦ inl ((reads_number is_big 4).fault bytes e p)
     | inr q ↦
@@ -316,7 +318,8 @@ module _ (is_big : Bool) where
   after_refused n rest e (inr f) =
       grind (arith, bind_refused, reads_number)
 
-  length_refused : (bytes : List ℕ) (e : Error) → (initial_length is_big).Fault bytes e → (length_at is_big bytes).0 ≡ Err e
+  length_refused : (bytes : List ℕ) (e : Error) → (initial_length is_big).Fault bytes e
+      → (length_at is_big bytes).0 ≡ Err e
   length_refused bytes e (inl f) =
       grind (arith, bind_refused, reads_number)
   length_refused bytes e (inr f) =

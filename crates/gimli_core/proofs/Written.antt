@@ -48,7 +48,8 @@ high_reversed (suc size) n =
     ∙ ap (λ k. bytes_low_first 0 size n ++ byte_at k n ∷ []) (sym same)
     ∙ sym (low_more size 0 n)
 
-pub number_spelled : (is_big : Bool) (size n : ℕ) → n < 256 ^ size → SpellsNumber is_big size (number_bytes is_big size n) n
+pub number_spelled : (is_big : Bool) (size n : ℕ) → n < 256 ^ size
+    → SpellsNumber is_big size (number_bytes is_big size n) n
 number_spelled is_big size n fits =
     let whole : n / 256 ^ 0 ≡ n = div-one n in
     let below : n / 256 ^ 0 < 256 ^ size = omega arith in

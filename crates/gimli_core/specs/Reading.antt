@@ -144,7 +144,8 @@ signed_at bytes = sleb_at 9 bytes >>= λ z rest. (Ok (pos z.0 -ℤ pos z.1), res
 -- a word of the format, as an offset
 unfoldable pub word_at : Bool → ℕ → Format → List ℕ → Read ℕ
 word_at is_big limit Dwarf32 bytes = number_at is_big 4 bytes
-word_at is_big limit Dwarf64 bytes = number_at is_big 8 bytes >>= λ n rest. (offset_of limit n, rest)
+word_at is_big limit Dwarf64 bytes =
+    number_at is_big 8 bytes >>= λ n rest. (offset_of limit n, rest)
 
 -- the length of a unit, and its format
 unfoldable pub initial_length_at : Bool → ℕ → List ℕ → Read (ℕ × Format)

@@ -103,7 +103,8 @@ pub fn equal_values_are_same<R: Reader + PartialEq>()
 /// their bytes and order and offsets in their numbers, if this is so of readers and of offsets.
 pub fn equal_values_look_same<R: Reader + PartialEq>()
     ensures { ComparesBy (both R.bytes R.is_big) R.eq → ComparesBy R.Offset.number R.Offset.eq →
-        ComparesBy (value_by R.bytes R.is_big R.Offset.number) ⟦<AttributeValue<R> as PartialEq>⟧.eq }
+        ComparesBy (value_by R.bytes R.is_big R.Offset.number)
+        ⟦<AttributeValue<R> as PartialEq>⟧.eq }
 {}
 
 /// `==` of numbers that have a type of their own holds exactly where the two are the same number.
@@ -155,7 +156,8 @@ pub fn equal_orders_are_same()
     ensures run_time { IsExact ⟦<RunTimeEndian as PartialEq>⟧.eq }
     ensures little_by_order { ComparesBy ⟦<LittleEndian as Endianity>⟧.is_big
         ⟦<LittleEndian as PartialEq>⟧.eq }
-    ensures big_by_order { ComparesBy ⟦<BigEndian as Endianity>⟧.is_big ⟦<BigEndian as PartialEq>⟧.eq }
+    ensures big_by_order { ComparesBy ⟦<BigEndian as Endianity>⟧.is_big
+        ⟦<BigEndian as PartialEq>⟧.eq }
     ensures run_time_by_order { ComparesBy ⟦<RunTimeEndian as Endianity>⟧.is_big
         ⟦<RunTimeEndian as PartialEq>⟧.eq }
 {}

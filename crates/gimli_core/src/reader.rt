@@ -288,7 +288,8 @@ pub trait Reader: Copy {
     /// `read_address_size` gives it.
     fn read_address(&mut self, size: u8) -> Result<u64>
         requires { IsTrue (is_address_size size) }
-        ensures read { (result, bytes self.new) ≡ number_at (is_big self.old) size (bytes self.old) }
+        ensures read { (result, bytes self.new)
+            ≡ number_at (is_big self.old) size (bytes self.old) }
         ensures order { is_big self.new ≡ is_big self.old }
     {
         match size {

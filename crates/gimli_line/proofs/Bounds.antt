@@ -120,7 +120,8 @@ module _ (layout : OrderAndLimit) (format : Format) where
         ap length e.3,
         length-append b.0 b.1,
         ap length b.2,
-        ap (λ (t : List FileEntryFormat × List TableEntry). length t.1) e.5.1)
+        ap (λ (t : List FileEntryFormat × List TableEntry). length t.1) e.5.1,
+      )
 
 -- ---- the tables of a header
 
@@ -152,14 +153,16 @@ module _ (layout : OrderAndLimit) (encoding : Encoding) where
         ap length s.3,
         paths_bounded s.1 s.0 s.4,
         length-map {B = Value} s.0 String,
-        ap (λ (t : List FileEntryFormat × List Value). length t.1) s.5.1))
+        ap (λ (t : List FileEntryFormat × List Value). length t.1) s.5.1,
+      ))
       (λ s. omega (
         arith,
         length-append s.1 s.2,
         ap length s.3,
         table_bounded layout encoding.format s.1 s.0 s.4,
         length-map s.0.1 path_of,
-        ap (λ (t : List FileEntryFormat × List Value). length t.1) s.5.1))
+        ap (λ (t : List FileEntryFormat × List Value). length t.1) s.5.1,
+      ))
 
   all_files_bounded : (bytes : List ℕ) (table : List FileEntryFormat × List File)
       → (file_table layout encoding).Spells bytes table
@@ -171,14 +174,16 @@ module _ (layout : OrderAndLimit) (encoding : Encoding) where
         length-append s.1 s.2,
         ap length s.3,
         files_bounded s.1 s.0 s.4,
-        ap (λ (t : List FileEntryFormat × List File). length t.1) s.5.1))
+        ap (λ (t : List FileEntryFormat × List File). length t.1) s.5.1,
+      ))
       (λ s. omega (
         arith,
         length-append s.1 s.2,
         ap length s.3,
         table_bounded layout encoding.format s.1 s.0 s.4,
         length-map s.0.1 file_of_entry,
-        ap (λ (t : List FileEntryFormat × List File). length t.1) s.5.1))
+        ap (λ (t : List FileEntryFormat × List File). length t.1) s.5.1,
+      ))
 
 -- the bytes that the header length counts are that many, and stand in front of the program
 opening_counted : (layout : OrderAndLimit) (handed : ℕ) (format : Format) (bytes : List ℕ) (o : HeaderOpening)
@@ -187,7 +192,8 @@ opening_counted : (layout : OrderAndLimit) (handed : ℕ) (format : Format) (byt
 opening_counted layout handed format bytes o s =
     grind (arith, length-append)
 
-fields_bounded : (layout : OrderAndLimit) (unit_entry : UnitEntry) (unit : ℕ) (o : HeaderOpening) (program bytes : List ℕ)
+fields_bounded : (layout : OrderAndLimit) (unit_entry : UnitEntry) (unit : ℕ) (o : HeaderOpening)
+    (program bytes : List ℕ)
     (h : Header)
     → (fields_production layout unit_entry unit o program).Spells bytes h
     → (length h.directories + length h.files ≤ length bytes) × (h.program ≡ program)
@@ -215,12 +221,14 @@ unit_bounded layout unit_entry bytes h u =
         ap length fields.1,
         length-append o.4.1.0 o.0.1,
         ap length o.4.1.1,
-        ap length i.4.1),
+        ap length i.4.1,
+      ),
       omega (
         arith,
         ap length u.2,
         length-append s.1 s.2,
         ap length s.3,
         length-append i.1 i.2,
-        ap length i.3),
+        ap length i.3,
+      ),
     )

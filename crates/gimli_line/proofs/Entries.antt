@@ -7,7 +7,8 @@ use Common.{entry_at, FileEntryFormat}
 use Rattle.gimli_line.specs.inside.header.EntryReading.{value_after, file_with, fold_of, folded_at}
 
 -- the last value of an entry, from its first value on
-last_of : {A : Type 0} (wanted : ℕ) (pick : Value → Option A) (first : A) (content : ℕ) (value : Value) (entry : TableEntry)
+last_of : {A : Type 0} (wanted : ℕ) (pick : Value → Option A) (first : A) (content : ℕ) (value : Value)
+    (entry : TableEntry)
     → last_value wanted pick first ((content, value) ∷ entry)
     ≡ last_value wanted pick (value_after wanted pick content value first) entry
 last_of {A} wanted pick first content value entry = at_pick (if nat_eq content wanted then pick value else None)

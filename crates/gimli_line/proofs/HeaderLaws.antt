@@ -256,7 +256,8 @@ reads_file_names layout encoding =
     reads_if (nat_le encoding.version 4) _ _ _ _ (reads_both files_production _ _ _ reads_files (λ files. reads_done _))
     (reads_entries_seen file_of_entry layout encoding.format)
 
-pub reads_fields : (layout : OrderAndLimit) (unit_entry : UnitEntry) (unit : ℕ) (opening : HeaderOpening) (program : List ℕ)
+pub reads_fields : (layout : OrderAndLimit) (unit_entry : UnitEntry) (unit : ℕ) (opening : HeaderOpening)
+    (program : List ℕ)
     → Reads (fields_production layout unit_entry unit opening program)
     (fields_at layout unit_entry unit opening program)
 unfolding fields_at

@@ -97,7 +97,8 @@ module _ (layout : OrderAndLimit) (h : Header) where
   reads_extended_operands : (opcode : ℕ) (operands : List ℕ)
       → Reads (extended_operands layout h opcode operands) (extended_operands_at layout h opcode operands)
   unfolding extended_operands_at
-  reads_extended_operands opcode operands = at_operand (operand_of opcode (extended_opcodes h.parameters.encoding.version))
+  reads_extended_operands opcode operands =
+      at_operand (operand_of opcode (extended_opcodes h.parameters.encoding.version))
     where
       at_operand : (found : Option Operand) → Reads {A = Ins}
           (elim found [

@@ -21,7 +21,6 @@ file_above h i old lt = grind (arith)
 -- ---- an entry that was found, seen as a table's
 
 module _ {A B : Type 0} (see : A → B) where
-
   pub lent_entry : (items : List A) (found : Option (Bor A)) (i : ℕ) → option_map (λ b. b.now) found ≡ slice_get items i
       → option_map (λ b. see b.now) found ≡ slice_get (map see items) i
   lent_entry items found i is = grind (arith, slice_get-map)

@@ -200,7 +200,8 @@ named_fault bytes mid e is =
 
 -- ---- the entries of a table of version 5, whose count is read first
 
-module _ (layout : OrderAndLimit) (format : Format) {B : Type 0} (f : TableEntry → B) (formats : List FileEntryFormat) where
+module _ (layout : OrderAndLimit) (format : Format) {B : Type 0} (f : TableEntry → B)
+    (formats : List FileEntryFormat) where
   pub entries_start : (bytes : List ℕ) (count : ℕ) (left : List ℕ) → (Ok count, left) ≡ unsigned_at bytes
       → collected [] f (times_at (count - 0) (entry_at layout format formats) left)
       ≡ read_map (map f) (entries_at layout format formats bytes)

@@ -31,7 +31,8 @@ few_after parameters files past (i ∷ list) end =
       length-append (with_files (files past) here) (made_after parameters files (i ∷ past) list end),
       length_with_files (files past) here,
       one_at_most (overflows parameters past i) (makes_row i) (row_at parameters past i),
-      few_after parameters files (i ∷ past) list end)
+      few_after parameters files (i ∷ past) list end,
+    )
 
 few_from : (appends : Bool) (parameters : Parameters) (r : LineRow) (files : List File) (list : List Ins)
     (end : Option Error)
@@ -45,7 +46,8 @@ few_from appends parameters r files (i ∷ list) end =
       length-append (with_files files here) later,
       length_with_files files here,
       one_at_most (is_refused parameters i r) (makes_row i) (step_of parameters i r),
-      few_from appends parameters (next_registers parameters i r) (files_after appends i files) list end)
+      few_from appends parameters (next_registers parameters i r) (files_after appends i files) list end,
+    )
 
 few_given : (events : List EventWithFiles) → length (given_of events) ≤ length events
 few_given [] = omega arith
@@ -99,7 +101,8 @@ module _ (layout : OrderAndLimit) (h : Header) where
         arith,
         ap length m.made,
         few_after h.parameters (files_at appends h.files) [] m.list m.end,
-        decoded_bounded bytes m.list m.end m.decoding)
+        decoded_bounded bytes m.list m.end m.decoding,
+      )
 
   pub events_bounded : (bytes : List ℕ) (events : List Event) → Events layout h bytes events
       → length events ≤ length bytes
@@ -111,7 +114,8 @@ module _ (layout : OrderAndLimit) (h : Header) where
         length-map (given_of made) (λ (t : EventWithFiles). t.event),
         few_given made,
         few_after h.parameters (λ before. []) [] given.list given.end,
-        decoded_bounded bytes given.list given.end given.decoding)
+        decoded_bounded bytes given.list given.end given.decoding,
+      )
 
   pub with_files_bounded : (appends : Bool) (bytes : List ℕ) (events : List EventWithFiles)
       → EventsWithFiles layout appends h bytes events
@@ -123,7 +127,8 @@ module _ (layout : OrderAndLimit) (h : Header) where
         ap length given.given,
         few_given made,
         made_bounded appends bytes made
-            (record { list = given.list; end = given.end; decoding = given.decoding; made = refl }))
+            (record { list = given.list; end = given.end; decoding = given.decoding; made = refl }),
+      )
 
 pub made_left_bounded : (rows : RunState) → length (made_left rows) ≤ length rows.unread.bytes
 made_left_bounded rows =

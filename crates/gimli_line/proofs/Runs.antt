@@ -208,7 +208,8 @@ files_joined : (a : Bool) (files : List File) (list more : List Ins)
 files_joined a files [] more = refl
 files_joined a files (i ∷ list) more = files_joined a _ list more
 
-pub passes_both : (a b c : RunState) (es fs : List Event) → PassesOver a b es → PassesOver b c fs → PassesOver a c (es ++ fs)
+pub passes_both : (a b c : RunState) (es fs : List Event) → PassesOver a b es → PassesOver b c fs
+    → PassesOver a c (es ++ fs)
 passes_both a b c es fs p q = record {
   list = p.list ++ q.list;
   front = p.front ++ q.front;

@@ -200,7 +200,8 @@ module _ (layout : OrderAndLimit) where
           ap length u.2,
           ap length b.parts,
           length-append u.0 u.1,
-          length-append b.unit b.rest)
+          length-append b.unit b.rest,
+        )
     | inr r ↦ absurd cc
   ]
 

@@ -1,7 +1,8 @@
 -- What is taken of a section, unit by unit.
 use Rattle.std.specs.Prelude.{◌-◌, ◌∷◌}
 use Rattle.gimli_line.specs.Prelude
-use Prelude.{ℕ, zero, suc, List, [], length, Ok, Err, OrderAndLimit, Read, ◌>>=◌, split_at, initial_length_at}
+use Prelude.{ℕ, zero, suc, List, [], length, Ok, Err, OrderAndLimit, Read, ◌>>=◌, split_at}
+use Prelude.{initial_length_at}
 
 -- a length, and as many bytes as it says
 unfoldable pub any_unit_at : OrderAndLimit → List ℕ → Read (List ℕ)

@@ -57,7 +57,8 @@ impl<R: Reader> DebugLine<R> {
         comp_name: Option<R>,
     ) -> Result<IncompleteLineProgram<R>>
         requires { IsTrue (is_address_size address_size) }
-        ensures unit { IfOk result (SpellsUnitAt (unread_of R.bytes R.is_big R.Offset.limit self.now)
+        ensures unit { IfOk result
+            (SpellsUnitAt (unread_of R.bytes R.is_big R.Offset.limit self.now)
             (R.Offset.number offset.0) (unit_entry R.bytes address_size comp_dir comp_name)) }
         ensures refusal { IfErr result (λ e. e ≢ OutOfMemory
             → HasUnitFaultAt (unread_of R.bytes R.is_big R.Offset.limit self.now)

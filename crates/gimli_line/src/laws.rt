@@ -236,7 +236,8 @@ pub fn equal_instructions_are_same<R: Reader + PartialEq>()
 /// offsets, as it is of readers over slices.
 pub fn equal_instructions_look_same<R: Reader + PartialEq>()
     ensures { ComparesBy (both R.bytes R.is_big) R.eq → ComparesBy R.Offset.number R.Offset.eq →
-        ComparesBy (ins_by R.bytes R.is_big R.Offset.number) ⟦<LineInstruction<R> as PartialEq>⟧.eq }
+        ComparesBy (ins_by R.bytes R.is_big R.Offset.number)
+        ⟦<LineInstruction<R> as PartialEq>⟧.eq }
 {
     equal_files_look_same::<R>();
 }
@@ -291,9 +292,11 @@ pub fn equal_programs_are_same<R: Reader + PartialEq>()
 /// and order and offsets in their numbers, if this is so of readers and of offsets, as it is of
 /// readers over slices.
 pub fn equal_programs_look_same<R: Reader + PartialEq>()
-    ensures parsed { ComparesBy (both R.bytes R.is_big) R.eq → ComparesBy R.Offset.number R.Offset.eq →
+    ensures parsed { ComparesBy (both R.bytes R.is_big) R.eq
+        → ComparesBy R.Offset.number R.Offset.eq →
         ComparesSeen R.bytes R.is_big R.Offset.number ⟦<IncompleteLineProgram<R> as PartialEq>⟧.eq }
-    ensures whole { ComparesBy (both R.bytes R.is_big) R.eq → ComparesBy R.Offset.number R.Offset.eq →
+    ensures whole { ComparesBy (both R.bytes R.is_big) R.eq → ComparesBy R.Offset.number R.Offset.eq
+        →
         ComparesSeen R.bytes R.is_big R.Offset.number ⟦<CompleteLineProgram<R> as PartialEq>⟧.eq }
 {
     equal_headers_look_same::<R>();

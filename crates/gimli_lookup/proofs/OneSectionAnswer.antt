@@ -107,7 +107,8 @@ same_parts once layout lowest h k c e d s t x y =
 
 abbrev pub AreNeverBoth : Type 0
 AreNeverBoth =
-    (layout : OrderAndLimit) (entry : UnitEntry) (bytes : List ℕ) (h : Header) (e : Error) → SpellsUnit layout entry bytes h
+    (layout : OrderAndLimit) (entry : UnitEntry) (bytes : List ℕ) (h : Header) (e : Error)
+    → SpellsUnit layout entry bytes h
     → HasUnitFault layout entry bytes e → ⊥
 
 abbrev pub IsOneHeader : Type 0

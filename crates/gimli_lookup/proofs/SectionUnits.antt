@@ -90,7 +90,8 @@ is_unit_of section entry lowest (Ok program) u o sequences offset unit fault lay
   is_header = outcome.1;
   layout = outcome.2 ∙ layout;
   kept =
-      subst (λ (n : OrderAndLimit). IsKept n lowest program.meaning outcome.0.meaning u.fault sequences) layout outcome.3;
+      subst (λ (n : OrderAndLimit). IsKept n lowest program.meaning outcome.0.meaning u.fault sequences) layout
+      outcome.3;
 })
 
 -- ---- the walk

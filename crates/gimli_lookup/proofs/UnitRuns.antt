@@ -38,7 +38,8 @@ before_fault layout h old new rows front (Some e) made files are stops = record 
   rows_are = are;
 }
 
-pub is_kept : (lowest : ℕ) (h : Header) (source : HeaderSource) (old new : RunState) (e : Option Error) (to : SequenceCut)
+pub is_kept : (lowest : ℕ) (h : Header) (source : HeaderSource) (old new : RunState) (e : Option Error)
+    (to : SequenceCut)
     → old ≡ whole_run h source
     → Makes source.layout true h h.program (made_left old)
     → FilesAtEnd source.layout true h h.program (files_at_end old)

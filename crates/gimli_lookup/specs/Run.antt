@@ -19,7 +19,8 @@ IsFirstFound a sequences found =
     MatchOption found (All (HasNoPair a) sequences) (λ pair. IsFirstPair a sequences pair.0 pair.1)
 
 -- a program gives rows and no fault, and these are the rows of each of its sequences
-pub record AreRowsOfSequences (layout : OrderAndLimit) (h : Header) (sequences : List (List LineRow))
+pub record AreRowsOfSequences (layout : OrderAndLimit) (h : Header)
+    (sequences : List (List LineRow))
     : Type 0 where
   pub rows : List LineRow
   pub given : Events layout h h.program (map row rows)

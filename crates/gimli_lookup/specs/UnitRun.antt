@@ -24,7 +24,8 @@ pub record HasFaultAfter (layout : OrderAndLimit) (h : Header) (rows : List Line
   pub rows_are : events_of front ≡ map row rows
 
 -- a program makes these rows and has no fault, and these files are defined at its end
-pub record HasNoFault (layout : OrderAndLimit) (h : Header) (rows : List LineRow) (files : List File)
+pub record HasNoFault (layout : OrderAndLimit) (h : Header) (rows : List LineRow)
+    (files : List File)
     : Type 0 where
   pub events : List EventWithFiles
   pub made : Makes layout true h h.program events
@@ -33,7 +34,8 @@ pub record HasNoFault (layout : OrderAndLimit) (h : Header) (rows : List LineRow
 
 -- these are the rows that a program makes before its first fault, and the files that are defined
 -- there; where it has no fault, all rows and all files
-abbrev pub AreBeforeFault : OrderAndLimit → Header → List LineRow → Option Error → List File → Type 0
+abbrev pub AreBeforeFault : OrderAndLimit → Header → List LineRow → Option Error → List File
+    → Type 0
 AreBeforeFault layout h rows None files = HasNoFault layout h rows files
 AreBeforeFault layout h rows (Some e) files = HasFaultAfter layout h rows e files
 

@@ -4,7 +4,8 @@ ghost use Rattle.std.specs.Prelude.{◌≡◌, ◌≢◌, ◌≤◌, ◌+◌, �
 ghost use Rattle.std.specs.Prelude.{IfErr, IfOk, MatchOption};
 ghost use Rattle.gimli_line.specs.header.Orders.{source_of, KeepsSource};
 ghost use Rattle.gimli_line.specs.run.Events.{row};
-ghost use Rattle.gimli_line.specs.run.Sequences.{sequence_of, AreSequences, HasFirstFault, HaveRuns};
+ghost use Rattle.gimli_line.specs.run.Sequences.{sequence_of, AreSequences, HasFirstFault};
+ghost use Rattle.gimli_line.specs.run.Sequences.{HaveRuns};
 ghost use Rattle.gimli_lookup.specs.FirstPair.{HasNoPair, IsFirstPair};
 ghost use Rattle.gimli_lookup.specs.Kept.{AreRowsThroughLastEnd};
 ghost use Rattle.gimli_lookup.specs.Run.{AreRowsOfSequences};

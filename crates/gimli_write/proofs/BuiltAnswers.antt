@@ -2,7 +2,8 @@
 use Rattle.std.specs.Prelude.{◌≡◌, ◌<◌, ◌^◌, ◌∷◌, ◌++◌}
 use Rattle.gimli_write.proofs.Common
 use Common.{ℕ, Bool, List, [], length, drop, map, refl, sym, ap, ◌∙◌, subst, Result, Option}
-use Common.{Some, None, IfOk, IfErr, append-nil, IfOk-weaker, MatchResult-weaker, OrderAndLimit, Value, Error, StringTables}
+use Common.{Some, None, IfOk, IfErr, append-nil, IfOk-weaker, MatchResult-weaker, OrderAndLimit, Value, Error}
+use Common.{StringTables}
 use Common.{Header, UnitEntry, SpellsUnit, ReadFile, Event, row, fault, Events, program_events, ReadRow, one_header}
 use Common.{one_decoding, bytes_in, Built, AddressesFit, RowsMatch, Sections, IsText, IsOptionalText, OneByOne}
 use Common.{ConvertError, Read, NoMemory, RoundTrip, FileAnswer, file_answer, built_file, Answers, IsFileAnswer}

@@ -90,7 +90,8 @@ pub use Prelude.{Address, All, Bool, Built, BuiltItem, CanWrite, ConvertError, C
 pub use Prelude.{Error, Events, File, Header, IfErr, IfOk, IfSome, Ins, InvalidAddress, InvalidAttributeValue}
 pub use Prelude.{InvalidDirectoryIndex, InvalidFileIndex, IsOptionalText, IsText, KeepsTexts, LineEncoding, LineRow}
 pub use Prelude.{LineText, List, Made, MatchResult, MissingCompilationDirectory, MissingLineEndSequence, More, None}
-pub use Prelude.{OrderAndLimit, Ok, OnErr, OnOk, OneByOne, Option, Parameters, Read, ReadFile, ReadRow, Result, RowsMatch}
+pub use Prelude.{OrderAndLimit, Ok, OnErr, OnOk, OneByOne, Option, Parameters, Read, ReadFile, ReadRow, Result}
+pub use Prelude.{RowsMatch}
 pub use Prelude.{Sections, Some, SourceRow, SourceStep, StringTables, UnitEntry, UnsupportedLineInstruction, Value}
 pub use Prelude.{Write, [], bytes_in, decoded_at, directory_of, empty_built, false, file_seen, is_end}
 pub use Prelude.{is_err, is_some, is_under_tombstone, length, made_table, made_text, makes_row, map, nat_eq, nat_le}

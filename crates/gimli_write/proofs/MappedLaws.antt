@@ -197,7 +197,8 @@ no_file sections tables next v is =
 -- ---- a conversion that was done
 
 -- its parts
-pub record WasConverted (convert_address : ℕ → Option Address) (s : ToConvert) (line_strings : List (List ℕ)) (c : Outcome)
+pub record WasConverted (convert_address : ℕ → Option Address) (s : ToConvert) (line_strings : List (List ℕ))
+    (c : Outcome)
     : Type 0 where
   pub reading : Reading
   pub first : TablesAndTexts

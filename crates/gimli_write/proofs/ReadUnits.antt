@@ -22,12 +22,14 @@ use Rattle.gimli_write.proofs.ReadRuns.{is_memory}
 pub same_unit : (limit size n : ℕ) (is_big other : Bool) (directory other_directory section other_section : List ℕ)
     (h : Header)
     → other ≡ is_big → other_directory ≡ directory → other_section ≡ section
-    → SpellsUnit (record { is_big = other; limit = limit }) (unit_entry_with size other_directory) (drop n other_section) h
+    → SpellsUnit (record { is_big = other; limit = limit }) (unit_entry_with size other_directory)
+    (drop n other_section) h
     → BeginsUnit (record { is_big = is_big; limit = limit }) (unit_entry_with size directory) (drop n section) h
 same_unit limit size n is_big other directory other_directory section other_section h b d s spelled =
     subst (λ x. BeginsUnit (record { is_big = x; limit = limit }) (unit_entry_with size directory) (drop n section) h) b
     (subst (λ x. BeginsUnit (record { is_big = other; limit = limit }) (unit_entry_with size x) (drop n section) h) d
-    (subst (λ x. BeginsUnit (record { is_big = other; limit = limit }) (unit_entry_with size other_directory) (drop n x) h)
+    (subst (λ x.
+    BeginsUnit (record { is_big = other; limit = limit }) (unit_entry_with size other_directory) (drop n x) h)
     s
     (record { spelled = spelled })))
 
@@ -42,7 +44,8 @@ pub same_fault : (limit size n : ℕ) (is_big other : Bool) (directory other_dir
     (drop n other_section) e
     → BeginsFault (record { is_big = is_big; limit = limit }) (unit_entry_with size directory) (drop n section) e
 same_fault limit size n is_big other directory other_directory section other_section e b d s fault =
-    subst (λ x. BeginsFault (record { is_big = x; limit = limit }) (unit_entry_with size directory) (drop n section) e) b
+    subst (λ x. BeginsFault (record { is_big = x; limit = limit }) (unit_entry_with size directory) (drop n section) e)
+    b
     (subst (λ x. BeginsFault (record { is_big = other; limit = limit }) (unit_entry_with size x) (drop n section) e) d
     (subst
     (λ x. BeginsFault (record { is_big = other; limit = limit }) (unit_entry_with size other_directory) (drop n x) e) s
@@ -85,7 +88,8 @@ module _ (layout : OrderAndLimit) (unit_entry : UnitEntry) (bytes : List ℕ) wh
 
 -- ---- answers of the same by another name
 
-pub same_answers : (r : Result RoundTrip ConvertError) (n m : OrderAndLimit) (s t : Sections) (h k : Header) → n ≡ m → s ≡ t
+pub same_answers : (r : Result RoundTrip ConvertError) (n m : OrderAndLimit) (s t : Sections) (h k : Header) → n ≡ m
+    → s ≡ t
     → h ≡ k
     → IfOk r (λ answer. AreAnswers n s h (answers answer)) → IfOk r (λ answer. AreAnswers m t k (answers answer))
 same_answers r n m s t h k a b d is =

@@ -3,7 +3,8 @@ use Rattle.std.specs.Prelude.{◌≡◌, ◌≢◌, ◌<◌, ◌≤◌, ◌-◌,
 use Rattle.gimli_write.proofs.Common
 use Common.{ℕ, Bool, true, false, not, List, [], length}
 use Common.{refl, sym, ap, ◌∙◌, subst, append_assoc, arith, Option, Some, None, unwrap_or, Result, Ok, Err, OnOk, OnErr}
-use Common.{IfOk, IfErr, length-append, append-nil, false≢true, OrderAndLimit, Error, AddressOverflow, OutOfMemory, Header}
+use Common.{IfOk, IfErr, length-append, append-nil, false≢true, OrderAndLimit, Error, AddressOverflow, OutOfMemory}
+use Common.{Header}
 use Common.{File, Parameters, Special, Copy, EndSequence, DefineFile, SetAddress, Ins, ins_seen, is_end, makes_row}
 use Common.{defines_file, files_after, SpellsInstruction, instruction_production, decoded_at, step_of, reset_row}
 use Common.{is_refused, next_registers, Unread, is_decoded, one_decoding, instructions_bounded, Sections, ConvertError}

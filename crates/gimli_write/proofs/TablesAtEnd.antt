@@ -2,7 +2,8 @@
 use Rattle.std.specs.Prelude.{◌≡◌, ◌≢◌, ◌&&◌, ◌||◌, if◌then◌else◌, ◌∷◌, ◌++◌}
 use Rattle.gimli_write.proofs.Common
 use Common.{ℕ, Bool, true, false, not, List, [], refl, sym, ap, ◌∙◌}
-use Common.{Option, Some, Result, Ok, Err, OnOk, IfOk, IfErr, OrderAndLimit, Error, AddressOverflow, File, DefineFile, Ins}
+use Common.{Option, Some, Result, Ok, Err, OnOk, IfOk, IfErr, OrderAndLimit, Error, AddressOverflow, File, DefineFile}
+use Common.{Ins}
 use Common.{makes_row, defines_file, SpellsInstruction, instruction_production, decoded_at, is_refused, Unread}
 use Common.{Sections, ConvertError, Read, SourceStep, More, Made, TablesAndTexts, file_added, tables_after_definition}
 use Common.{SourceRun, row_made, state_after, step_made}

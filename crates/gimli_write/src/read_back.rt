@@ -421,7 +421,8 @@ pub fn round_trip<E: Endianity>(
     ensures never_read { HasFittingAddresses program.now → IfErr result (IsCausedRefusal
         (first_cause (E.is_big w.old.0.endian) encoding program.now
         (texts_in strings.old line_strings.old))) }
-    ensures refusal { IfErr result (IsRoundTripRefusal (E.is_big w.old.0.endian) encoding program.now
+    ensures refusal { IfErr result
+        (IsRoundTripRefusal (E.is_big w.old.0.endian) encoding program.now
         (texts_in strings.old line_strings.old) w.old.0.bytes w.new.0.bytes) }
     ensures tables { OnOk result (HaveEmptySource program.now
         (texts_in strings.old line_strings.old) (texts_in strings.new line_strings.new)) }

@@ -111,7 +111,10 @@ impl Inputs {
     }
 
     /// The sections of the program. None where they can't be read, which is reported.
-    pub(crate) fn program(&self, session: &mut Session<'_>) -> io::Result<Option<InputSections<'_>>> {
+    pub(crate) fn program(
+        &self,
+        session: &mut Session<'_>,
+    ) -> io::Result<Option<InputSections<'_>>> {
         match InputSections::new(session.run.rt.alloc(), self.kind, self.files()) {
             Ok(program) => Ok(Some(program)),
             Err(refusal) => {

@@ -7,7 +7,7 @@ use crate::opened_index::identity_of;
 use elf_sections::{Elf, ElfError, usual_limit};
 use gimli_core::Reader;
 use gimli_index::{MakeError, write_index};
-use lines_inputs::{Input, InputError, PathSources, InputSections, look_up};
+use lines_inputs::{Input, InputError, InputSections, PathSources, look_up};
 use lines_pieces::Result;
 use lines_words::{Files, InputKind, Output};
 use std::alloc::{AllocError, Global};
@@ -36,7 +36,11 @@ pub fn program_identity(
 }
 
 /// The build id that is told, or else that of an ELF file.
-fn own_build_id<'i>(kind: InputKind, files: Files<'i>, build_id: Option<&'i [u8]>) -> Option<&'i [u8]> {
+fn own_build_id<'i>(
+    kind: InputKind,
+    files: Files<'i>,
+    build_id: Option<&'i [u8]>,
+) -> Option<&'i [u8]> {
     match (build_id, kind) {
         (None, InputKind::Elf) => Elf::parse(files.file).ok()?.build_id().ok()?,
         _ => build_id,

@@ -23,7 +23,8 @@ impl Run<'_> {
     /// output takes no more; what was printed before stands.
     pub fn perform(self, kind: InputKind, files: Files<'_>) -> io::Result<u8>
         ensures status { IfOk result (λ status. status ≤ 1) }
-        ensures no_lines { kind ≡ InputKind.Elf → (HasLines files.entry.limit files.entry.file.now → ⊥)
+        ensures no_lines { kind ≡ InputKind.Elf
+            → (HasLines files.entry.limit files.entry.file.now → ⊥)
             → IfOk result (λ status. status ≡ 1) }
         ensures no_lines_fails { kind ≡ InputKind.Elf
             → (HasLines files.entry.limit files.entry.file.now → ⊥)

@@ -54,7 +54,8 @@ module _ (old new : List (LinePlace × ℕ)) where
       ≡ with_change (change place) (is_at (place_order place) other) (get place_order before other)
 
   -- what stands for another place after that
-  stands : (place other : LinePlace) (test : Bool) (before after : Option Change) → is_at (place_order place) other ≡ test
+  stands : (place other : LinePlace) (test : Bool) (before after : Option Change)
+      → is_at (place_order place) other ≡ test
       → after ≡ with_change (change place) test before
       → (after ≡ before) ⊎ ((place ≡ other) × (after ≡ change other))
   stands place other false before after is same = at_change (change place) same
@@ -72,7 +73,8 @@ module _ (old new : List (LinePlace × ℕ)) where
           let one = one_place place other is in
           inr (one, same ∙ sym own ∙ ap change one)
 
-  pub part_on : (place : LinePlace) (before after : BTreeMap LinePlace Change) → Kept place before after → IsPart old new before
+  pub part_on : (place : LinePlace) (before after : BTreeMap LinePlace Change) → Kept place before after
+      → IsPart old new before
       → IsPart old new after
   part_on place before after kept part other =
       elim (stands place other (is_at (place_order place) other) (get place_order before other)
@@ -113,7 +115,8 @@ module _ (old new : List (LinePlace × ℕ)) where
   IsDone source left changes = (other : LinePlace) → is_some (bytes_at source other) ≡ true
       → list_any (eq_by_cmp place_order other) left ≡ false → get place_order changes other ≡ change other
 
-  pub done_on : (source : List (LinePlace × ℕ)) (place : LinePlace) (left : List LinePlace) (before after : BTreeMap LinePlace Change)
+  pub done_on : (source : List (LinePlace × ℕ)) (place : LinePlace) (left : List LinePlace)
+      (before after : BTreeMap LinePlace Change)
       → Kept place before after
       → IsPart old new before → IsDone source (place ∷ left) before → IsDone source left after
   done_on source place left before after kept part done other there gone =

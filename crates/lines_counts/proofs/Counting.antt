@@ -111,10 +111,12 @@ module _ (layout : OrderAndLimit) (h : Header) where
       (sizes : InstructionBytes) → next ≡ Some i → TakesNext h before after next → rest ≡ before.bytes
       → before.layout ≡ layout
       → AreCounted layout h program old rest middle
-      → ((n : OrderAndLimit) (k : Header) (front behind : List ℕ) → rest ≡ front ++ behind → SpellsInstruction n k front i
+      → ((n : OrderAndLimit) (k : Header) (front behind : List ℕ) → rest ≡ front ++ behind
+      → SpellsInstruction n k front i
       → ◌≡◌ {A = Result InstructionBytes Error} (Ok sizes)
       (Ok (record { opcode = opcode_size front; operands = length front - opcode_size front })))
-      → ((n : OrderAndLimit) (k : Header) (front behind : List ℕ) → rest ≡ front ++ behind → SpellsInstruction n k front i
+      → ((n : OrderAndLimit) (k : Header) (front behind : List ℕ) → rest ≡ front ++ behind
+      → SpellsInstruction n k front i
       → left ≡ behind)
       → kind ≡ spent_on i
       → Counts middle (record { kind = kind; bytes = sizes.opcode; operands = sizes.operands } ∷ []) new

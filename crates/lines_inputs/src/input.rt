@@ -128,7 +128,11 @@ impl<'i> OtherSections<'i> {
 impl<'i> InputSections<'i> {
     /// The sections of files; in an object file each section stands at 0. Refused as `InputError`
     /// says.
-    pub fn new(alloc: Global, kind: InputKind, files: Files<'i>) -> Result<InputSections<'i>, InputError>
+    pub fn new(
+        alloc: Global,
+        kind: InputKind,
+        files: Files<'i>,
+    ) -> Result<InputSections<'i>, InputError>
         ensures elf { kind ≡ InputKind.Elf → OnOk result
             (HasLines files.entry.limit files.entry.file.now) }
     {

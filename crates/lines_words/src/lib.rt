@@ -22,7 +22,7 @@ pub use numbers::{
 pub use output::{Json, Output, Screen, Style};
 pub use path_text::{ColumnMark, JsonBytes, NameText, PathText, SourceText, last_part, shown_path};
 pub use request::{
-    CodeAddress, Command, Files, Form, InputKind, LineNames, Notation, PathForm, Request, SourcePlace,
-    UnitChoice, UnitFiles,
+    CodeAddress, Command, Files, Form, InputKind, LineNames, Notation, PathForm, Request,
+    SourcePlace, UnitChoice, UnitFiles,
 };
 pub use words::{message_of, parse};

@@ -64,7 +64,13 @@ fn perform<F: Read + Drop, O: Write>(
         Command::Sequences(location) => print_unit(alloc, file, location, Printed::Sequences, out),
         Command::Units(numbers) => print_units(alloc, file, numbers, out),
         Command::Find(query) => {
-            print_unit(alloc, file, query.location, Printed::Pair(query.address), out)
+            print_unit(
+                alloc,
+                file,
+                query.location,
+                Printed::Pair(query.address),
+                out,
+            )
         }
     }
 }

@@ -25,7 +25,8 @@ module _ (at : Placement) (is_big : Bool) (encoding : Encoding) (e : LineEncodin
   items_placed previous (SetAddress a ∷ items) fit =
       let size = encoding.address_size in
       let next = next_previous encoding.version e.default_is_stmt previous (SetAddress a) in
-      let first : set_address_bytes (placed at) is_big a size ≡ set_address_bytes plain is_big (address_placed at a) size =
+      let first : set_address_bytes (placed at) is_big a size
+      ≡ set_address_bytes plain is_big (address_placed at a) size =
       ap (result_map (λ operand. 0 ∷ uleb (size + 1) ++ DW_LNE_set_address ∷ operand))
       (placed-address at _ a _ (All-head (AddressFits at size) _ _ fit)) in
       ap (λ r. result_append r (items_bytes (placed at) is_big encoding e next items)) first
@@ -66,7 +67,8 @@ module _ (at : Placement) (is_big : Bool) (p : Built) (texts : StringTables) whe
 
 -- ---- units
 
-unit_alike : (h k : Hand) (is_big : Bool) (unit : Encoding) (p q : Built) (texts : StringTables) → q.encoding ≡ p.encoding
+unit_alike : (h k : Hand) (is_big : Bool) (unit : Encoding) (p q : Built) (texts : StringTables)
+    → q.encoding ≡ p.encoding
     → whole_bytes h is_big p (texts_after p texts) ≡ whole_bytes k is_big q (texts_after q texts)
     → unit_bytes h is_big unit p texts ≡ unit_bytes k is_big unit q texts
 unit_alike h k is_big unit p q texts encoding same =

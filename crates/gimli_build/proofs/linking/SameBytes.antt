@@ -39,7 +39,8 @@ module _ (h k : Hand) (is_big : Bool) (p : Built) (texts : StringTables) where
       same
 
   directories_alike : All IsAlike p.directories
-      → directory_table_bytes h is_big p.encoding.format texts p ≡ directory_table_bytes k is_big p.encoding.format texts p
+      → directory_table_bytes h is_big p.encoding.format texts p
+      ≡ directory_table_bytes k is_big p.encoding.format texts p
   directories_alike all =
       ap (λ r. result_append (Ok (formats_bytes (directory_formats p) ++ uleb (length p.directories))) r)
       (concat_alike _ _
@@ -56,10 +57,12 @@ module _ (h k : Hand) (is_big : Bool) (p : Built) (texts : StringTables) where
       → file_entry_bytes h is_big p.encoding.format texts p f ≡ file_entry_bytes k is_big p.encoding.format texts p f
   file_alike f all =
       let form = first_form (path_texts p.files) in
-      ap (λ r. result_append r (result_append (Ok (detail_bytes p f)) (source_bytes h is_big p.encoding.format texts p f)))
+      ap (λ r.
+      result_append r (result_append (Ok (detail_bytes p f)) (source_bytes h is_big p.encoding.format texts p f)))
       (form_alike _ _ all.path)
       ∙ ap (λ r.
-      result_append (text_in_form k is_big p.encoding.format texts form f.0.0) (result_append (Ok (detail_bytes p f)) r))
+      result_append (text_in_form k is_big p.encoding.format texts form f.0.0)
+      (result_append (Ok (detail_bytes p f)) r))
       (source_alike f all.source)
 
   files_alike : All (IsOfFile IsAlike p texts) p.files
@@ -85,7 +88,8 @@ module _ (h k : Hand) (is_big : Bool) (p : Built) (texts : StringTables) where
       new_alike parts =
           ap (λ r. result_append r (file_table_bytes h is_big p.encoding.format texts p))
           (directories_alike parts.directories)
-          ∙ ap (λ r. result_append (directory_table_bytes k is_big p.encoding.format texts p) r) (files_alike parts.files)
+          ∙ ap (λ r. result_append (directory_table_bytes k is_big p.encoding.format texts p) r)
+          (files_alike parts.files)
 
       by : (b : Bool) → nat_le p.encoding.version 4 ≡ b
           → (let r : Result (List ℕ) Error = if b then old else new h in r) ≡ (if b then old else new k)
@@ -106,10 +110,12 @@ module _ (h k : Hand) (is_big : Bool) (p : Built) (texts : StringTables) where
       (result_append (line_encoding_bytes p.encoding.version p.line_encoding) (result_append (Ok opcode_bytes) r)))
       (tables_alike all) in
       ap
-      (λ r. after_length whole (result_append (opening_bytes is_big p.encoding) (result_append r (program_bytes h is_big p))))
+      (λ r. after_length whole
+      (result_append (opening_bytes is_big p.encoding) (result_append r (program_bytes h is_big p))))
       header
       ∙ ap (λ r.
-      after_length whole (result_append (opening_bytes is_big p.encoding) (result_append (header_bytes k is_big p texts) r)))
+      after_length whole
+      (result_append (opening_bytes is_big p.encoding) (result_append (header_bytes k is_big p texts) r)))
       same
 
 -- ---- items

@@ -167,7 +167,8 @@ module _ (p : Built) (old_texts : StringTables) (new : nat_le p.encoding.version
       → (p.file_has_source ≡ true → IfSome f.1.source HasNoZero)
       → (f.1.source ≡ None → list_any (λ f. is_none f.1.source) p.files ≡ true)
       → IsFileReady p texts f
-  file_ready f clean within fits source ends wanting = grind (arith, within_more, more, more_lines, source_ready, some_within, empty_ready, source_same)
+  file_ready f clean within fits source ends wanting =
+      grind (arith, within_more, more, more_lines, source_ready, some_within, empty_ready, source_same)
 
   pub tables-ready : AreReady p texts
   tables-ready = record {

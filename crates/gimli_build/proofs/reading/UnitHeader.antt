@@ -93,7 +93,8 @@ module _ (at : Placement) (layout : OrderAndLimit) (unit_entry : UnitEntry) (sec
       late new = let above = leb-false p.encoding.version 4 new in omega (arith, above)
 
 -- a unit whose length 64 bits hold
-pub header-back : (at : Placement) (layout : OrderAndLimit) (unit_entry : UnitEntry) (sections : Sections) (is_big : Bool)
+pub header-back : (at : Placement) (layout : OrderAndLimit) (unit_entry : UnitEntry) (sections : Sections)
+    (is_big : Bool)
     (unit_encoding : Encoding) (p : Built)
     (old_texts : StringTables) (unit : List ℕ)
     → length unit < 2 ^ 64 → IsBuilt p → CanWrite p old_texts → AreTexts (texts_after p old_texts).strings

@@ -103,7 +103,8 @@ item-refusal is_big encoding e previous known (SetAddress (Symbol symbol addend)
 item-refusal is_big encoding e previous known (Row r) = refl
 item-refusal is_big encoding e previous known (End offset op_index) = refl
 
-items-refusal : (is_big : Bool) (encoding : Encoding) (e : LineEncoding) → IsTrue (is_address_size encoding.address_size)
+items-refusal : (is_big : Bool) (encoding : Encoding) (e : LineEncoding)
+    → IsTrue (is_address_size encoding.address_size)
     → (previous : LineRow) (items : List BuiltItem)
     → refusal (items_bytes plain is_big encoding e previous items)
     ≡ first_of (map (item_cause encoding.address_size) items)
@@ -138,7 +139,8 @@ module _ (is_big : Bool) (p : Built) (texts : StringTables) where
       let format = p.encoding.format in
       let cause = header_cause p texts in
       after-refusal (λ n. format_word is_big format n) (fields_bytes plain is_big p texts) cause
-      (λ bytes is. word-refusal is_big format (length bytes) ∙ ap (word_cause format) (fields_size is_big p texts bytes is))
+      (λ bytes is. word-refusal is_big format (length bytes)
+      ∙ ap (word_cause format) (fields_size is_big p texts bytes is))
       ∙ ap (λ (c : Option Error). or_first c cause) fields-refusal
 
   -- the causes of what the unit length counts
@@ -167,7 +169,8 @@ module _ (is_big : Bool) (p : Built) (texts : StringTables) where
         after-refusal (λ n. result_append (Ok (escape_bytes is_big format)) (length_word is_big format n))
         (inside_bytes plain is_big p texts) cause
         (λ bytes is. joined-refusal (Ok (escape_bytes is_big format)) (length_word is_big format (length bytes))
-        ∙ length-refusal is_big format (length bytes) ∙ ap (unit_length_cause format) (inside_size is_big p texts bytes is))
+        ∙ length-refusal is_big format (length bytes)
+        ∙ ap (unit_length_cause format) (inside_size is_big p texts bytes is))
         ∙ ap (λ (c : Option Error). or_first c cause) inside-refusal
 
 -- the first cause of a program is what its bytes are refused for

@@ -125,7 +125,8 @@ not_below m n = grind (arith, nat_le)
     by false false h k = grind (arith, nat_tests)
 
 -- the word of a header length or an offset
-pub word-refusal : (is_big : Bool) (format : Format) (n : ℕ) → refusal (format_word is_big format n) ≡ word_cause format n
+pub word-refusal : (is_big : Bool) (format : Format) (n : ℕ)
+    → refusal (format_word is_big format n) ≡ word_cause format n
 word-refusal is_big Dwarf32 n =
     grind (arith, tested-refusal, not_below)
 word-refusal is_big Dwarf64 n = refl

@@ -61,7 +61,8 @@ size_after length_of (Err e) m n before counted = size_of_none e _
 -- ---- numbers
 
 -- a word of a format
-pub format_word_size : (is_big : Bool) (format : Format) (n : ℕ) → HasSize (format_word is_big format n) (word_size format)
+pub format_word_size : (is_big : Bool) (format : Format) (n : ℕ)
+    → HasSize (format_word is_big format n) (word_size format)
 format_word_size is_big Dwarf32 n =
     size_as _ _ 4 (length-number _ 4 n)
     (size_tested _ _ _)
@@ -109,7 +110,8 @@ module _ (is_big : Bool) (format : Format) (texts : StringTables) where
   stored_size (InLineStrings i) = format_word_size _ _ _
 
   tested_text : (same : Bool) (t : LineText)
-      → HasSize (if same then text_bytes plain is_big format texts t else Err LineStringFormMismatch) (text_size format t)
+      → HasSize (if same then text_bytes plain is_big format texts t else Err LineStringFormMismatch)
+      (text_size format t)
   tested_text true t = stored_size t
   tested_text false t = size_of_none _ _
 
@@ -136,7 +138,8 @@ path_first : (path details source : ℕ) → path + (details + source) ≡ (path
 path_first path details source = omega arith
 
 module _ (is_big : Bool) (p : Built) (texts : StringTables) where
-  one_entry_size : (f : File) → HasSize (file_entry_bytes plain is_big p.encoding.format texts p f) (entry_size p texts f)
+  one_entry_size : (f : File)
+      → HasSize (file_entry_bytes plain is_big p.encoding.format texts p f) (entry_size p texts f)
   one_entry_size f =
       let format = p.encoding.format in
       let form = first_form (sources p.files) in

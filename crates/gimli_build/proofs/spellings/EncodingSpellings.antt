@@ -155,7 +155,8 @@ version_written is_big version bytes is = grind arith
     by true t is = grind (arith, same_written)
     by false t is = absurd cc
 
-pub version-known : (is_big : Bool) (version : ℕ) (bytes : List ℕ) → version_bytes is_big version ≡ Ok bytes → version ≤ 5
+pub version-known : (is_big : Bool) (version : ℕ) (bytes : List ℕ) → version_bytes is_big version ≡ Ok bytes
+    → version ≤ 5
 version-known is_big version bytes is =
     grind (arith, leb-true, both_true, version_written)
 
@@ -216,7 +217,8 @@ word_spelled : (is_big : Bool) (format : Format) (n : ℕ) (bytes : List ℕ) �
 word_spelled is_big Dwarf32 n bytes small is = grind arith
   where
     by : (b : Bool) → nat_lt n (2 ^ 32) ≡ b
-        → (let r : Result (List ℕ) Error = if b then Ok (number_bytes is_big 4 n) else Err ValueTooLarge in r) ≡ Ok bytes
+        → (let r : Result (List ℕ) Error = if b then Ok (number_bytes is_big 4 n) else Err ValueTooLarge in r)
+        ≡ Ok bytes
         → SpellsNumber is_big 4 bytes n
     by true t is = grind (arith, same_written, number_spelled, ltb-true)
     by false t is = absurd cc

@@ -137,7 +137,8 @@ pub all_row : (version : ℕ) (e : LineEncoding) (previous built : LineRow) → 
     → FitsInstructions version built
     → AllByRecursion IsWritten (row_instructions version e previous built)
 all_row version e previous built can follows from fits =
-    grind (arith, rules, ints, line_opcode_is, all_append, all_marks, all_changes, all_line, all_operations, operations_fit)
+    grind
+    (arith, rules, ints, line_opcode_is, all_append, all_marks, all_changes, all_line, all_operations, operations_fit)
 
 pub all_end : (e : LineEncoding) (previous : LineRow) (o i : ℕ)
     → CanFollow e previous.address_offset previous.op_index o i

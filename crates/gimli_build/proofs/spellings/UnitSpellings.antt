@@ -73,7 +73,8 @@ unit_written hand is_big p texts unit is =
     }
 
 -- the fields, and their parts
-pub record FieldsWritten (hand : Hand) (is_big : Bool) (p : Built) (texts : StringTables) (fields : List ℕ) : Type 0 where
+pub record FieldsWritten (hand : Hand) (is_big : Bool) (p : Built) (texts : StringTables) (fields : List ℕ)
+    : Type 0 where
   encoding : List ℕ
   pub tables : List ℕ
   encoding_is : line_encoding_bytes p.encoding.version p.line_encoding ≡ Ok encoding
@@ -260,7 +261,8 @@ module _ (hand : Hand) (layout : OrderAndLimit) (unit_entry : UnitEntry) (sectio
         let inside = inside-short hand layout.is_big p texts _ w in
         let fields = fields-short hand layout.is_big p texts unit w in
         let inside_held : p.encoding.format ≡ Dwarf64 → length w.inside < layout.limit = λ wide.
-        (let rest = inside-wide hand layout.is_big p texts _ w wide in let lt = holds wide in omega (arith, rest, lt)) in
+        (let rest = inside-wide hand layout.is_big p texts _ w wide in let lt = holds wide in
+        omega (arith, rest, lt)) in
         let fields_held : p.encoding.format ≡ Dwarf64 → length w.fields < layout.limit = λ wide.
         (let lt = inside_held wide in omega (arith, fields, lt)) in
         let length_spelled =

@@ -163,7 +163,8 @@ module _ (at : Placement) (layout : OrderAndLimit) (p : Built) (texts : StringTa
       let form = first_form (path_texts p.files) in
       let a =
       both_written (text_written form f.0.0)
-      (result_append (Ok (detail_bytes p f)) (source_bytes (counted at) layout.is_big p.encoding.format texts p f)) bytes
+      (result_append (Ok (detail_bytes p f)) (source_bytes (counted at) layout.is_big p.encoding.format texts p f))
+      bytes
       is in
       let whole = ap length a.whole ∙ length-append a.first a.rest in
       let long = text-long at layout.is_big p.encoding.format texts form f.0.0 a.first a.first_is in

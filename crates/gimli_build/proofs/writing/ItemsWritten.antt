@@ -9,7 +9,8 @@ use Rattle.gimli_build.proofs.reading.ItemRuns.{start_position}
 use Rattle.gimli_build.proofs.writing.Joined.{appended_bytes, joined-joined, begins_self, begins_then}
 
 -- these bytes stand for the items so far, and those are left
-pub record Standing (hand : Hand) (is_big : Bool) (encoding : Encoding) (e : LineEncoding) (whole : Result (List ℕ) Error)
+pub record Standing (hand : Hand) (is_big : Bool) (encoding : Encoding) (e : LineEncoding)
+    (whole : Result (List ℕ) Error)
     (old new : List ℕ) (previous : LineRow)
     (left : List BuiltItem) : Type 0 where
   pub done : List ℕ
@@ -17,16 +18,19 @@ pub record Standing (hand : Hand) (is_big : Bool) (encoding : Encoding) (e : Lin
   pub parts : whole ≡ result_append (Ok done) (items_bytes hand is_big encoding e previous left)
 
 -- one item more
-pub standing_more : (hand : Hand) (is_big : Bool) (encoding : Encoding) (e : LineEncoding) (whole : Result (List ℕ) Error)
+pub standing_more : (hand : Hand) (is_big : Bool) (encoding : Encoding) (e : LineEncoding)
+    (whole : Result (List ℕ) Error)
     (old new newer : List ℕ)
     (previous : LineRow)
     (item : BuiltItem) (left : List BuiltItem)
     → Standing hand is_big encoding e whole old new previous (item ∷ left)
     → Appends (item_bytes hand is_big encoding e previous item) new newer
-    → Standing hand is_big encoding e whole old newer (next_previous encoding.version e.default_is_stmt previous item) left
+    → Standing hand is_big encoding e whole old newer (next_previous encoding.version e.default_is_stmt previous item)
+    left
 standing_more hand is_big encoding e whole old new newer previous item left so more =
     let a = appended_bytes _ _ _ more in
-    let rest = items_bytes hand is_big encoding e (next_previous encoding.version e.default_is_stmt previous item) left in
+    let rest =
+    items_bytes hand is_big encoding e (next_previous encoding.version e.default_is_stmt previous item) left in
     record {
       done = so.done ++ a.0;
       written = a.2 ∙ ap (λ l. l ++ a.0) so.written ∙ append_assoc old so.done a.0;

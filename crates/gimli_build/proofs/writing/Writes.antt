@@ -194,7 +194,8 @@ unwritten first refused =
 -- what a length counts
 pub counted_unwritten : {W X Y : Type 0} {sink : Ghosts W} {old mid new : W} {e : Error} {body : Hand
     → Result (List ℕ) Error}
-    (full : ℕ → Result (List ℕ) Error) → Begins (sink.contents old) (sink.contents mid) → sink.is_big mid ≡ sink.is_big old
+    (full : ℕ → Result (List ℕ) Error) → Begins (sink.contents old) (sink.contents mid)
+    → sink.is_big mid ≡ sink.is_big old
     → (IsTrue (sink.completes old) → IsTrue (sink.completes mid)) → Writes {X = X} sink mid new (Err e) body
     → Writes {X = Y} sink old new (Err e) (λ hand. after_length full (body hand))
 counted_unwritten {body = body} full begins same stays refused =

@@ -1,7 +1,8 @@
 -- What a call leaves that appends wanted bytes to a writer, with no refusal beside the writer's.
 use Rattle.std.specs.Prelude.{◌≡◌, ◌⊎◌}
 use Rattle.gimli_build.specs.Prelude
-use Prelude.{ℕ, List, Result, Err, IsTrue, OnOk, IfErr, Hand, Placement, plain, Begins, Appends, Error, OutOfMemory}
+use Prelude.{ℕ, List, Result, Err, IsTrue, OnOk, IfErr, Hand, Placement, plain, Begins, Appends}
+use Prelude.{Error, OutOfMemory}
 use Prelude.{Ghosts}
 
 -- the same wanted of each hand: bytes that no linker changes

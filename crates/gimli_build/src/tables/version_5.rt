@@ -252,7 +252,8 @@ fn write_line_string<W: Writer>(
 ) -> Result<()>
     requires { IsWithin input.now.texts (line_text text.now) }
     ensures { Writes W.Sink w.old w.new result
-        (λ hand. text_in_form hand (W.is_big w.old) input.now.program.encoding.format input.now.texts
+        (λ hand. text_in_form hand (W.is_big w.old) input.now.program.encoding.format
+        input.now.texts
         form.0 (line_text text.now)) }
 {
     if text.form() != form {

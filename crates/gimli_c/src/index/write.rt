@@ -92,7 +92,8 @@ fn made_index<'s>(
     ensures ok { IfOk result (λ bytes. IsIndexBytesOf (index_source
         (program section.now options.now.is_big options.now.address_size options.now.lowest
         texts.now.debug_line_str.slice.now texts.now.debug_str.slice.now)
-        (sections_of (λ s. s.slice.now) (λ s. is_big_endian s.endian) (2 ^ 64) sections.now) identity.now)
+        (sections_of (λ s. s.slice.now) (λ s. is_big_endian s.endian) (2 ^ 64) sections.now)
+        identity.now)
         bytes.items) }
     ensures err { IfErr result IsIndexRefusal }
 {

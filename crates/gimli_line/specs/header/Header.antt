@@ -1,7 +1,8 @@
 -- A header: what it says, and how contracts see it.
 use Rattle.std.specs.Prelude.{◌∷◌, ◌++◌, if◌then◌else◌}
 use Rattle.gimli_line.specs.Prelude
-use Prelude.{ℕ, zero, suc, Bool, List, [], Option, None, option_map, replicate, nat_le, nat_eq, slice_get, list_any}
+use Prelude.{ℕ, zero, suc, Bool, List, [], Option, None, option_map, replicate, nat_le, nat_eq}
+use Prelude.{slice_get, list_any}
 use Prelude.{Vec, Global, Value, AttributeValue, String, DebugLineOffset, OrderAndLimit}
 use Rattle.gimli_line.specs.header.Parameters.{Parameters}
 use Rattle.gimli_line.specs.header.File.{File}

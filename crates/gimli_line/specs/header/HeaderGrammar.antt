@@ -2,10 +2,13 @@
 -- production isn't there (DWARF 5, section 6.2.4; DWARF 4, section 6.2.4).
 use Rattle.std.specs.Prelude.{◌≡◌, ◌-◌, ◌≤◌, ◌∷◌, ◌++◌, ◌&&◌, if◌then◌else◌}
 use Rattle.gimli_line.specs.Prelude
-use Prelude.{ℕ, List, [], length, map, replicate, min, count_by, Bool, not, nat_eq, nat_le, Option, Some, None}
-use Prelude.{option_map, Value, udata_value, Encoding, LineEncoding, Format, Block, String, Error, UnknownVersion}
+use Prelude.{ℕ, List, [], length, map, replicate, min, count_by, Bool, not, nat_eq, nat_le, Option}
+use Prelude.{Some, None}
+use Prelude.{option_map, Value, udata_value, Encoding, LineEncoding, Format, Block, String, Error}
+use Prelude.{UnknownVersion}
 use Prelude.{UnsupportedAddressSize, UnsupportedSegmentSize, MinimumInstructionLengthZero}
-use Prelude.{MaximumOperationsPerInstructionZero, LineRangeZero, OpcodeBaseZero, MissingFileEntryFormatPath}
+use Prelude.{MaximumOperationsPerInstructionZero, LineRangeZero, OpcodeBaseZero}
+use Prelude.{MissingFileEntryFormatPath}
 use Prelude.{OrderAndLimit}
 use Rattle.std.specs.Int.{w8, cast_signed}
 use Rattle.gimli_core.specs.Numbers.{is_address_size, SpellsUleb128}
@@ -180,7 +183,8 @@ parameters_production encoding = do
   done (record { encoding = encoding; line_encoding = line_encoding; opcode_base = opcode_base })
 
 -- the directories, with their formats
-abbrev pub directory_table : OrderAndLimit → Encoding → Production (List FileEntryFormat × List Value)
+abbrev pub directory_table : OrderAndLimit → Encoding
+    → Production (List FileEntryFormat × List Value)
 directory_table layout encoding =
     choose (nat_le encoding.version 4)
     (do
@@ -206,7 +210,8 @@ abbrev pub handed_value : {A : Type 0} → Encoding → Option A → Option A
 handed_value encoding handed = if nat_le encoding.version 4 then handed else None
 
 -- the further fields of a header, whose program was found already
-abbrev pub fields_production : OrderAndLimit → UnitEntry → ℕ → HeaderOpening → List ℕ → Production Header
+abbrev pub fields_production : OrderAndLimit → UnitEntry → ℕ → HeaderOpening → List ℕ
+    → Production Header
 fields_production layout unit_entry unit opening program = do
   parameters ← parameters_production opening.encoding
   counts ← some_bytes (parameters.opcode_base - 1)
@@ -253,7 +258,8 @@ HasUnitFault layout unit_entry bytes e = (header_production layout unit_entry).F
 -- ---- what spells a table
 
 -- the entries of a table of version 5
-abbrev pub SpellsEntries : OrderAndLimit → Format → List FileEntryFormat → List ℕ → List TableEntry → Type 0
+abbrev pub SpellsEntries : OrderAndLimit → Format → List FileEntryFormat → List ℕ → List TableEntry
+    → Type 0
 SpellsEntries layout format formats = (entries_production layout format formats).Spells
 
 -- the bytes begin with a count, which spells n, and at least n bytes stand after it

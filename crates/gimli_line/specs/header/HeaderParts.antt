@@ -1,7 +1,8 @@
 -- The parts of a header, which `==` of headers compares, and how many entries its tables have.
 use Rattle.std.specs.Prelude.{◌≡◌, ◌+◌}
 use Rattle.gimli_line.specs.Prelude
-use Prelude.{ℕ, Bool, List, length, map, Option, option_map, Decides, Value, value_by, AttributeValue, DebugLineOffset}
+use Prelude.{ℕ, Bool, List, length, map, Option, option_map, Decides, Value, value_by}
+use Prelude.{AttributeValue, DebugLineOffset}
 use Rattle.gimli_core.specs.Equality.{ComparesBy, both}
 use Rattle.gimli_line.specs.header.File.{File, FileOrders, file_by}
 use Rattle.gimli_line.specs.header.Header.{Header, SeenHeader}

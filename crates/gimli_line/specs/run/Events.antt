@@ -1,7 +1,8 @@
 -- What a program makes and gives: its rows and faults in order, with the files at each.
 use Rattle.std.specs.Prelude.{◌≡◌, if◌then◌else◌, ◌∷◌, ◌++◌}
 use Rattle.gimli_line.specs.Prelude
-use Prelude.{ℕ, Bool, true, false, not, List, [], map, Option, Some, None, list_any, filter, Error, AddressOverflow}
+use Prelude.{ℕ, Bool, true, false, not, List, [], map, Option, Some, None, list_any, filter, Error}
+use Prelude.{AddressOverflow}
 use Prelude.{OrderAndLimit}
 use Rattle.gimli_line.specs.declared.run.instruction.LineInstruction.TheVariants.{DefineFile}
 use Rattle.gimli_line.specs.declared.run.row.LineRow.{LineRow}

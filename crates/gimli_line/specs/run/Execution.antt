@@ -1,7 +1,8 @@
 -- What is done where an instruction is refused, and instructions that are executed from their
 -- bytes, without a value of their own between.
 use Rattle.std.specs.Prelude.{◌≡◌, ◌≢◌}
-use Rattle.gimli_line.specs.Prelude.{ℕ, List, Bool, true, false, Ok, Error, AddressOverflow, OutOfMemory, Read}
+use Rattle.gimli_line.specs.Prelude.{ℕ, List, Bool, true, false, Ok, Error, AddressOverflow}
+use Rattle.gimli_line.specs.Prelude.{OutOfMemory, Read}
 use Rattle.gimli_line.specs.declared.run.from_bytes.Executed.{Executed}
 use Rattle.gimli_line.specs.declared.run.from_bytes.Executed.TheVariants.{No, Quiet, Address, Row}
 use Rattle.gimli_line.specs.declared.run.instruction.LineInstruction.TheVariants.{

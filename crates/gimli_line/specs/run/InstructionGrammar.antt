@@ -2,7 +2,8 @@
 -- 6.2.5).
 use Rattle.std.specs.Prelude.{◌≡◌, ◌≢◌, ◌<◌, ◌^◌, ◌-◌, ◌∷◌, ◌++◌, if◌then◌else◌}
 use Rattle.gimli_line.specs.Prelude
-use Prelude.{ℕ, zero, suc, List, [], nat_eq, nat_le, Option, Some, None, ℤ, slice_index, Error, UnexpectedEof}
+use Prelude.{ℕ, zero, suc, List, [], nat_eq, nat_le, Option, Some, None, ℤ, slice_index, Error}
+use Prelude.{UnexpectedEof}
 use Prelude.{BadUnsignedLeb128, BadSignedLeb128, UnsupportedOffset, OrderAndLimit}
 use Rattle.gimli_core.specs.Production.{Production, ◌>>=◌, done, choose, times, within, byte}
 use Rattle.gimli_core.specs.Production.{number, some_bytes, text, unsigned, signed, below_limit}

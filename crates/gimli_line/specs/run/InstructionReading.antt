@@ -1,8 +1,10 @@
 -- What is taken of instructions, and what is left; and the instructions of a whole program.
 use Rattle.std.specs.Prelude.{◌-◌, ◌∷◌, if◌then◌else◌}
 use Rattle.gimli_line.specs.Prelude
-use Prelude.{ℕ, zero, suc, List, [], length, take, nat_eq, nat_le, Option, Some, None, Ok, Err, slice_index}
-use Prelude.{OrderAndLimit, Read, ◌>>=◌, byte_at, split_at, text_at, number_at, unsigned_at, signed_at, times_at}
+use Prelude.{ℕ, zero, suc, List, [], length, take, nat_eq, nat_le, Option, Some, None, Ok, Err}
+use Prelude.{slice_index}
+use Prelude.{OrderAndLimit, Read, ◌>>=◌, byte_at, split_at, text_at, number_at, unsigned_at}
+use Prelude.{signed_at, times_at}
 use Prelude.{within_at, Error}
 use Rattle.gimli_line.specs.declared.run.instruction.LineInstruction.TheVariants.{
   Special,

@@ -1,7 +1,8 @@
 -- The line machine: one register record, and what an instruction does to it (DWARF 5, sections
 -- 6.2.2 and 6.2.5).
 use Rattle.std.specs.Prelude.{◌≤◌, ◌&&◌, ◌||◌, if◌then◌else◌, ◌∷◌, ◌++◌}
-use Rattle.gimli_line.specs.Prelude.{Bool, true, false, not, List, [], Option, Some, None, Error, AddressOverflow}
+use Rattle.gimli_line.specs.Prelude.{Bool, true, false, not, List, [], Option, Some, None, Error}
+use Rattle.gimli_line.specs.Prelude.{AddressOverflow}
 use Rattle.gimli_line.specs.declared.run.instruction.LineInstruction.TheVariants.{
   Special,
   AdvancePc,

@@ -2,7 +2,8 @@
 -- (DWARF 5, sections 6.2.2 and 6.2.5). The past of a point is the list of the instructions before
 -- it, the nearest first.
 use Rattle.std.specs.Prelude.{◌+◌, ◌-◌, ◌%◌, ◌^◌, if◌then◌else◌, ◌∷◌, ◌+ℤ◌}
-use Rattle.gimli_line.specs.Prelude.{ℕ, suc, Bool, true, false, not, List, [], Option, Some, None, ℤ, pos, negsuc}
+use Rattle.gimli_line.specs.Prelude.{ℕ, suc, Bool, true, false, not, List, [], Option, Some, None}
+use Rattle.gimli_line.specs.Prelude.{ℤ, pos, negsuc}
 use Rattle.gimli_line.specs.declared.run.instruction.LineInstruction.TheVariants.{
   Special,
   AdvanceLine,

@@ -1,7 +1,8 @@
 -- What a row iterator still makes and gives.
 use Rattle.std.specs.Prelude.{◌≡◌, ◌≢◌, ◌⊎◌, ◌∷◌, ◌++◌}
 use Rattle.gimli_line.specs.Prelude
-use Prelude.{ℕ, Bool, true, false, List, [], All, Option, Some, None, Result, Ok, Err, Error, AddressOverflow}
+use Prelude.{ℕ, Bool, true, false, List, [], All, Option, Some, None, Result, Ok, Err, Error}
+use Prelude.{AddressOverflow}
 use Prelude.{OutOfMemory}
 use Rattle.std.specs.Borrow.{Bor}
 use Rattle.gimli_line.specs.declared.run.row.LineRow.{LineRow}

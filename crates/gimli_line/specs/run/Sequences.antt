@@ -1,7 +1,8 @@
 -- The sequences of a program, each run by itself.
 use Rattle.std.specs.Prelude.{◌≡◌, ◌∷◌, ◌++◌}
 use Rattle.gimli_line.specs.Prelude
-use Prelude.{ℕ, true, false, List, [], map, flat_map, Option, None, AllByRecursion, Error, OrderAndLimit}
+use Prelude.{ℕ, true, false, List, [], map, flat_map, Option, None, AllByRecursion, Error}
+use Prelude.{OrderAndLimit}
 use Rattle.gimli_line.specs.declared.run.row.LineRow.{LineRow}
 use Rattle.gimli_line.specs.declared.run.sequences.LineSequence.{LineSequence}
 use Rattle.gimli_line.specs.header.Header.{Header}
@@ -58,7 +59,8 @@ pub record ResumesToRows (h : Header) (s : Sequence) : Type 0 where
 -- the sequences of a program with the header h, over the complete header c: the program has no
 -- fault, c has its files, each sequence has a run of its own, and all runs in order are that of the
 -- program through its last end
-pub record AreSequences (layout : OrderAndLimit) (h c : Header) (parts : List Sequence) : Type 0 where
+pub record AreSequences (layout : OrderAndLimit) (h c : Header) (parts : List Sequence)
+    : Type 0 where
   pub list : List Ins
   pub decoding : Decodes layout h h.program list None
   pub rows : List LineRow

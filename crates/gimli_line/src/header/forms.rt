@@ -22,7 +22,8 @@ pub(crate) fn parse_attribute<R: Reader>(
     form: DwForm,
 ) -> Result<AttributeValue<R>>
     ensures read { (result_map (value_seen R.bytes R.Offset.number) result, R.bytes input.new)
-        ≡ form_at (layout_of (R.is_big input.old) R.Offset.limit) format form.0 (R.bytes input.old) }
+        ≡ form_at (layout_of (R.is_big input.old) R.Offset.limit) format form.0
+        (R.bytes input.old) }
     ensures order { R.is_big input.new ≡ R.is_big input.old }
     ensures part { IfOk result (ValueHasOrder R.is_big (R.is_big input.old)) }
 {

@@ -43,7 +43,8 @@ fn parse_positive<R: Reader>(input: &mut R, error: Error) -> Result<u8>
 /// appendix F). Refused by `UnknownVersion` at any other.
 #[tactic(auto, unfolding(crate::specs::inside::header::HeaderReading::version_at))]
 fn parse_version<R: Reader>(input: &mut R) -> Result<u16>
-    ensures read { (result, R.bytes input.new) ≡ version_at (R.is_big input.old) (R.bytes input.old) }
+    ensures read { (result, R.bytes input.new)
+        ≡ version_at (R.is_big input.old) (R.bytes input.old) }
     ensures order { R.is_big input.new ≡ R.is_big input.old }
 {
     let version = input.read_u16()?;

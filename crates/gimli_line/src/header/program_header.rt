@@ -413,7 +413,8 @@ where
         ensures err { OnErr result (self.new.meaning ≡ self.old.meaning) }
         ensures memory { IfErr result (λ e. e ≡ Error.OutOfMemory) }
         ensures source { KeepsSource (λ order. FileHasOrder R.is_big order file)
-            (source_of R.is_big Offset.number self.old) (source_of R.is_big Offset.number self.new) }
+            (source_of R.is_big Offset.number self.old)
+            (source_of R.is_big Offset.number self.new) }
     {
         push(&mut self.file_names, file)
     }

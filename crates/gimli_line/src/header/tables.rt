@@ -114,7 +114,8 @@ fn parse_files<R: Reader>(alloc: Global, input: &mut R) -> Result<Vec<FileEntry<
     ensures read { IsListOutcome (file_seen R.bytes R.Offset.number) result (R.bytes input.new)
         (files_at (R.bytes input.old)) }
     ensures order { R.is_big input.new ≡ R.is_big input.old }
-    ensures parts { IfOk result (λ files. All (FileHasOrder R.is_big (R.is_big input.old)) files.items) }
+    ensures parts { IfOk result (λ files.
+        All (FileHasOrder R.is_big (R.is_big input.old)) files.items) }
 {
     let mut files = Vec::new(alloc);
     loop {
@@ -211,7 +212,8 @@ fn parse_files_v5<R: Reader>(
         (file_entries_at (layout_of (R.is_big input.old) R.Offset.limit) format formats.now
         (R.bytes input.old)) }
     ensures order { R.is_big input.new ≡ R.is_big input.old }
-    ensures parts { IfOk result (λ files. All (FileHasOrder R.is_big (R.is_big input.old)) files.items) }
+    ensures parts { IfOk result (λ files.
+        All (FileHasOrder R.is_big (R.is_big input.old)) files.items) }
 {
     let count = input.read_uleb128()?;
     let mut files = Vec::new(alloc);

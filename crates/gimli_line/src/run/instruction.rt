@@ -116,7 +116,8 @@ where
     #[tactic(auto, unfolding(crate::specs::run::InstructionReading::ins_at))]
     pub(crate) fn parse(header: &LineProgramHeader<R, Offset>, input: &mut R) -> Result<Self>
         ensures read { (result_map (ins_seen R.bytes Offset.number) result, R.bytes input.new)
-            ≡ ins_at (record { is_big = R.is_big input.old; limit = Offset.limit }) header.now.meaning
+            ≡ ins_at (record { is_big = R.is_big input.old; limit = Offset.limit })
+            header.now.meaning
             (R.bytes input.old) }
         ensures order { R.is_big input.new ≡ R.is_big input.old }
         ensures allowed { IfOk result (λ i. IsAllowed header.now.meaning.parameters
@@ -162,7 +163,8 @@ where
         ensures read { (after : List ℕ)
             → (result_map (ins_seen R.bytes Offset.number) result, after)
             ≡ extended_operands_at
-            (record { is_big = R.is_big operands; limit = Offset.limit }) header.now.meaning opcode.0
+            (record { is_big = R.is_big operands; limit = Offset.limit }) header.now.meaning
+            opcode.0
             (R.bytes operands) after }
         ensures allowed { IfOk result (λ i. IsAllowed header.now.meaning.parameters
             (ins_seen R.bytes Offset.number i)) }
@@ -236,7 +238,8 @@ where
     ) -> Result<Self>
         requires { 0 < opcode.0 }
         ensures read { (result_map (ins_seen R.bytes Offset.number) result, R.bytes input.new)
-            ≡ unknown_at (record { is_big = R.is_big input.old; limit = Offset.limit }) header.now.meaning
+            ≡ unknown_at (record { is_big = R.is_big input.old; limit = Offset.limit })
+            header.now.meaning
             opcode.0
             (slice_index header.now.meaning.operand_counts (opcode.0 - 1)) (R.bytes input.old) }
         ensures order { R.is_big input.new ≡ R.is_big input.old }

@@ -196,7 +196,8 @@ impl<R: Reader, P: LineProgram<R>> LineRows<R, P> {
         ensures err { IfErr result (FaultIs live_made (with_reset_row self.old) self.new) }
         ensures keeps { KeepsRun self.old self.new }
         ensures passes { IfOk result (λ found. MatchBool found
-            (PassesOver (with_reset_row self.old) (with_reset_row self.new) (given_row self.new.row))
+            (PassesOver (with_reset_row self.old) (with_reset_row self.new)
+            (given_row self.new.row))
             ((self.new.unread.bytes ≡ []) × PassesOver (with_reset_row self.old) self.new [])) }
     {
         self.row.reset(self.program.header());

@@ -171,7 +171,8 @@ impl<R: Reader> IncompleteLineProgram<R> {
         ensures ok { IfOk result (λ found. AreSequences self.layout self.meaning found.0.meaning
             (map sequence_of found.1.items)) }
         ensures source { IfOk result (λ found. KeepsSource (λ order. self.layout.is_big ≡ order)
-            (source_of R.is_big R.Offset.number self) (source_of R.is_big R.Offset.number found.0)) }
+            (source_of R.is_big R.Offset.number self)
+            (source_of R.is_big R.Offset.number found.0)) }
         ensures unrefused { IfOk result (λ found.
             All (ResumesToRows found.0.meaning) (map sequence_of found.1.items)) }
         ensures err { IfErr result
@@ -196,9 +197,11 @@ impl<R: Reader> IncompleteLineProgram<R> {
         ensures ok { IfOk result (λ found.
             AreSequences self.layout self.meaning found.0.meaning (map sequence_of found.1.items)) }
         ensures each { IfOk result (λ found.
-            HaveRuns found.0.meaning (map sequence_of found.1.items) (map (map row) found.2.items)) }
+            HaveRuns found.0.meaning (map sequence_of found.1.items)
+            (map (map row) found.2.items)) }
         ensures source { IfOk result (λ found. KeepsSource (λ order. self.layout.is_big ≡ order)
-            (source_of R.is_big R.Offset.number self) (source_of R.is_big R.Offset.number found.0)) }
+            (source_of R.is_big R.Offset.number self)
+            (source_of R.is_big R.Offset.number found.0)) }
         ensures unrefused { IfOk result (λ found.
             All (ResumesToRows found.0.meaning) (map sequence_of found.1.items)) }
         ensures err { IfErr result

@@ -160,7 +160,8 @@ pub record IsBegun (s : ToConvert) (old : List (List ℕ)) (new : Progress) : Ty
 
 -- what comes of a source, where nothing is built before: the refusal of a step of its header, else
 -- what comes of reading its program
-abbrev pub IsConverted : (ℕ → Option Address) → ToConvert → List (List ℕ) → Result Outcome ConvertError
+abbrev pub IsConverted : (ℕ → Option Address) → ToConvert → List (List ℕ)
+    → Result Outcome ConvertError
     → Type 0
 IsConverted convert_address s line_strings outcome =
     (reading : Reading) × MatchResult (tables_of_header s.sections s.header s.given line_strings)

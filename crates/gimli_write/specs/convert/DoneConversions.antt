@@ -1,6 +1,7 @@
 -- A conversion that was done, and what is read back of it.
 use Rattle.gimli_write.specs.Prelude
-use Prelude.{ℕ, true, List, map, Option, Ok, OrderAndLimit, Address, StringTables, texts_in, ReadRow}
+use Prelude.{ℕ, true, List, map, Option, Ok, OrderAndLimit, Address, StringTables, texts_in}
+use Prelude.{ReadRow}
 use Prelude.{UnitEntry, File, Events, row, FilesAtEnd, Built, bytes_in, ReadsBack, Sections}
 use Prelude.{OneByOne, texts_after}
 use Rattle.gimli_write.specs.RoundTrip.{built_file}

@@ -14,7 +14,8 @@ unit_entry_with size directory = record {
 }
 
 -- the bytes begin with a unit that has this header
-pub record BeginsUnit (layout : OrderAndLimit) (unit_entry : UnitEntry) (bytes : List ℕ) (h : Header)
+pub record BeginsUnit (layout : OrderAndLimit) (unit_entry : UnitEntry) (bytes : List ℕ)
+    (h : Header)
     : Type 0 where
   pub spelled : SpellsUnit layout unit_entry bytes h
 

@@ -40,7 +40,8 @@ module _ {R Offset Endian : Type 0} (bytes : R → List ℕ) (is_big : R → Boo
   rebuilt f (Some v) e = rw e refl
   rebuilt f None e = rw e refl
 
-  joined : (x y : FileEntry R Offset Endian) → SameParts x y → file_by bytes is_big number x ≡ file_by bytes is_big number y
+  joined : (x y : FileEntry R Offset Endian) → SameParts x y
+      → file_by bytes is_big number x ≡ file_by bytes is_big number y
   joined x y p = rw (← rebuilt x x.source refl, ← rebuilt y y.source refl)
       (same (by x.path_name) (by y.path_name) p.0 x.directory_index y.directory_index p.1.0 x.timestamp y.timestamp
       p.1.1.0 x.size y.size p.1.1.1.0 x.md5 y.md5
@@ -51,7 +52,8 @@ module _ {R Offset Endian : Type 0} (bytes : R → List ℕ) (is_big : R → Boo
   sources (Some v) = refl
   sources None = refl
 
-  parted : (x y : FileEntry R Offset Endian) → file_by bytes is_big number x ≡ file_by bytes is_big number y → SameParts x y
+  parted : (x y : FileEntry R Offset Endian) → file_by bytes is_big number x ≡ file_by bytes is_big number y
+      → SameParts x y
   parted x y e =
       let source : zipped (file_by bytes is_big number x).0.source (file_by bytes is_big number x).1.1
       ≡ zipped (file_by bytes is_big number y).0.source (file_by bytes is_big number y).1.1 = ap

@@ -1,7 +1,8 @@
 -- What is taken of an entry of version 5, value by value.
 use Rattle.std.specs.Prelude.{if◌then◌else◌, ◌∷◌}
 use Rattle.gimli_line.specs.Prelude
-use Prelude.{ℕ, nat_eq, List, [], Option, Some, None, Ok, OrderAndLimit, Value, udata_value, Read, ◌>>=◌, Format}
+use Prelude.{ℕ, nat_eq, List, [], Option, Some, None, Ok, OrderAndLimit, Value, udata_value, Read}
+use Prelude.{◌>>=◌, Format}
 use Rattle.gimli_line.specs.LineNumbers.{DW_LNCT_path, DW_LNCT_directory_index, DW_LNCT_timestamp}
 use Rattle.gimli_line.specs.LineNumbers.{DW_LNCT_size, DW_LNCT_MD5, DW_LNCT_LLVM_source}
 use Rattle.gimli_line.specs.header.File.{File}

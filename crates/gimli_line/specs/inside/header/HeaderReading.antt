@@ -1,10 +1,14 @@
 -- What is taken of a header, step by step, and what is left.
 use Rattle.std.specs.Prelude.{◌-◌, ◌∷◌, ◌&&◌, if◌then◌else◌}
 use Rattle.gimli_line.specs.Prelude
-use Prelude.{ℕ, List, [], map, min, count_by, Bool, not, nat_eq, nat_le, option_map, Ok, Err, OrderAndLimit, Value}
-use Prelude.{Read, ◌>>=◌, byte_at, split_at, text_at, number_at, unsigned_at, unsigned_16_at, word_at}
-use Prelude.{initial_length_at, address_size_at, times_at, within_at, Encoding, LineEncoding, Format, String, Error}
-use Prelude.{UnknownVersion, UnsupportedSegmentSize, MinimumInstructionLengthZero, MaximumOperationsPerInstructionZero}
+use Prelude.{ℕ, List, [], map, min, count_by, Bool, not, nat_eq, nat_le, option_map, Ok, Err}
+use Prelude.{OrderAndLimit, Value}
+use Prelude.{Read, ◌>>=◌, byte_at, split_at, text_at, number_at, unsigned_at, unsigned_16_at}
+use Prelude.{word_at}
+use Prelude.{initial_length_at, address_size_at, times_at, within_at, Encoding, LineEncoding}
+use Prelude.{Format, String, Error}
+use Prelude.{UnknownVersion, UnsupportedSegmentSize, MinimumInstructionLengthZero}
+use Prelude.{MaximumOperationsPerInstructionZero}
 use Prelude.{LineRangeZero, OpcodeBaseZero, MissingFileEntryFormatPath}
 use Rattle.std.specs.Int.{w8, cast_signed}
 use Rattle.gimli_line.specs.header.Parameters.{Parameters}
@@ -147,13 +151,16 @@ table_of plain view layout encoding bytes =
     read_map (map view) (entries_at layout encoding.format formats rest) >>= λ items rest.
     (Ok (formats, items), rest))
 
-abbrev pub directories_at : OrderAndLimit → Encoding → List ℕ → Read (List FileEntryFormat × List Value)
+abbrev pub directories_at : OrderAndLimit → Encoding → List ℕ
+    → Read (List FileEntryFormat × List Value)
 directories_at = table_of (λ bytes. read_map (map String) (paths_at bytes)) path_of
 
-abbrev pub file_names_at : OrderAndLimit → Encoding → List ℕ → Read (List FileEntryFormat × List File)
+abbrev pub file_names_at : OrderAndLimit → Encoding → List ℕ
+    → Read (List FileEntryFormat × List File)
 file_names_at = table_of files_at file_of_entry
 
-unfoldable pub fields_at : OrderAndLimit → UnitEntry → ℕ → HeaderOpening → List ℕ → List ℕ → Read Header
+unfoldable pub fields_at : OrderAndLimit → UnitEntry → ℕ → HeaderOpening → List ℕ → List ℕ
+    → Read Header
 fields_at layout unit_entry unit opening program bytes =
     parameters_at opening.encoding bytes >>= λ parameters rest.
     split_at (parameters.opcode_base - 1) rest >>= λ counts rest.

@@ -17,7 +17,8 @@ returns-in_err-sections-clause-err g c =
 pub read_section-requires-clause-unit : goal.read_section-requires-clause-unit
 read_section-requires-clause-unit g c =
     let lt = subst (λ xs. length xs < 2 ^ 64) c.slice-bytes.ensures c.slice-bytes.type_inv.0 in
-    can_read (g.E.Endianity.is_big c.args.section.now.endian) (g.E.Endianity.is_big c.endian-endian.result) c.args.program.now
+    can_read (g.E.Endianity.is_big c.args.section.now.endian) (g.E.Endianity.is_big c.endian-endian.result)
+    c.args.program.now
     (texts_in c.args.strings.now c.args.line_strings.now) c.args.section.now.bytes c.slice-bytes.result.now
     c.args.offset.0 c.encoding.result.address_size c.working_directory.result.now c.in_ok-sections.sections
     (ap g.E.Endianity.is_big c.endian-endian.ensures) c.slice-bytes.ensures

@@ -11,7 +11,8 @@ returns-clause-writes g c =
     let format = c.args.input.now.program.encoding.format in
     let n = c.len.result - c.len-start.result in
     let small : n < 2 ^ 64 = omega arith in
-    let zero = rw (c.word_size-size.ensures, c.format.ensures, zero_word is_big format) at c.in_ok-write_udata.ensures in
+    let zero =
+    rw (c.word_size-size.ensures, c.format.ensures, zero_word is_big format) at c.in_ok-write_udata.ensures in
     let fields = rw zero.ordered at c.in_ok-write_fields.ensures.writes in
     let call =
     rw (fields.ordered ∙ zero.ordered, c.word_size-size.ensures, c.format.ensures, word_is is_big format n small) at

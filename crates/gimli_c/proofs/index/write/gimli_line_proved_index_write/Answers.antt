@@ -9,7 +9,8 @@ returns-then-bytes-stored-clause-room c = λ _.
     record {
       bytes = c.in-Ok.made.items;
       is_index =
-          same_index c.args.section.now c.args.options.now.is_big _ _ _ _ _ _ _ _ c.args.identity.now _ c.new.ensures.bytes
+          same_index c.args.section.now c.args.options.now.is_big _ _ _ _ _ _ _ _ c.args.identity.now _
+          c.new.ensures.bytes
           c.new-2.ensures.bytes
           c.sections_in-sections.ensures c.in-Ok.ensures.ok;
       passes = omega (arith, c.if-bytes-stored.true, same);
@@ -22,7 +23,8 @@ returns-clause-ok c = λ _.
     record {
       bytes = c.in-Ok.made.items;
       is_index =
-          same_index c.args.section.now c.args.options.now.is_big _ _ _ _ _ _ _ _ c.args.identity.now _ c.new.ensures.bytes
+          same_index c.args.section.now c.args.options.now.is_big _ _ _ _ _ _ _ _ c.args.identity.now _
+          c.new.ensures.bytes
           c.new-2.ensures.bytes
           c.sections_in-sections.ensures c.in-Ok.ensures.ok;
       fits = omega (arith, c.if-bytes-stored.false, same);

@@ -17,6 +17,7 @@ loop-place-preserved c =
       done =
           done_on c.args.old.now c.args.new.now c.args.self.now place c.next.new.self c.loop-place.changes
           c.keep_change.new.changes kept part
-          (subst (λ (left : List LinePlace). IsDone c.args.old.now c.args.new.now c.args.self.now left c.loop-place.changes)
+          (subst (λ (left : List LinePlace).
+          IsDone c.args.old.now c.args.new.now c.args.self.now left c.loop-place.changes)
           goes c.loop-place.invariant.done);
     }
