@@ -5,7 +5,7 @@ use Rattle.std.specs.Prelude.{false, nat_eq, if◌then◌else◌}
 use Rattle.std.specs.BTreeMap.{BTreeMap, get, is_at}
 use Rattle.std.specs.Map.{lookup}
 use Rattle.std.specs.declared.cmp.Ordering.{Ordering}
-use Rattle.lines_counts.specs.contracts.coverage.PlaceOrd.TheImpl as place_ord
+use Rattle.lines_counts.specs.contracts.coverage.LinePlaceOrd.TheImpl as place_ord
 use Rattle.lines_counts.specs.declared.coverage.Change.{Change}
 use Rattle.lines_counts.specs.declared.coverage.LinePlace.{LinePlace}
 
