@@ -66,8 +66,8 @@ pub use Rattle.gimli_core.proofs.Written.{number_spelled}
 pub use Rattle.gimli_core.specs.Layout.{OrderAndLimit}
 pub use Rattle.gimli_core.specs.Numbers.{SpellsInitialLength, SpellsNumber, SpellsUleb128, is_address_size}
 pub use Rattle.gimli_core.specs.Numbers.{number_bytes, word_size}
-pub use Rattle.gimli_core.specs.Production.{Each, Production, byte, check, choose, done, fits_offset, offset_word}
-pub use Rattle.gimli_core.specs.Production.{times, ◌>>=◌}
+pub use Rattle.gimli_core.specs.Production.{Each, Production, below_limit, byte, check, choose, done, fits_offset}
+pub use Rattle.gimli_core.specs.Production.{offset_word, times, unsigned, ◌>>=◌}
 pub use Rattle.gimli_core.specs.Reading.{result_map}
 pub use Rattle.gimli_core.specs.Values.{Value}
 pub use Rattle.gimli_core.specs.declared.attribute_value.AttributeValue.TheVariants.{Block, DebugLineStrRef}

@@ -13,7 +13,7 @@ use Rattle.gimli_build.proofs.building.TableLemmas.{keys-with_file, keys-with_de
 -- where items leave off, from a position on
 reached : ℕ × ℕ → List BuiltItem → ℕ × ℕ
 reached position [] = position
-reached position (item ∷ items) = grind arith
+reached position (item ∷ items) = reached (position_after item) items
 
 last_at : (position : ℕ × ℕ) (item : BuiltItem) (items : List BuiltItem) (n : ℕ) → n ≡ length items
     → reached position (item ∷ items) ≡ option_map_or position_after (slice_get (item ∷ items) n) (0, 0)

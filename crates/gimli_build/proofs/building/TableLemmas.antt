@@ -3,10 +3,10 @@ use Rattle.std.specs.Prelude.{◌≡◌, ◌≢◌, ◌+◌, ◌<◌, ◌||◌, 
 use Rattle.gimli_build.proofs.Common
 use Common.{ℕ, zero, suc, Bool, true, false, cond, not, List, [], map, length, refl, sym, ap, ◌∙◌, slice_get, drop}
 use Common.{Option, Some, None, option_map, true≢false, arith, length-append, nat_eq, is_some, unwrap_or, list_any}
-use Common.{position_or_len, AllZip, map-append, All-push, LineText, Inline, InStrings, InLineStrings, line_text}
-use Common.{line_text_eq, HasNoZero, with_directory, index_of_directory, FileKey, Details, no_details, File, key_eq}
-use Common.{has_file, index_of_file, with_details, with_file, keys_of, Keeps, AreTables, with_indexes, details, key}
-use Common.{directories_of, files_of}
+use Common.{position_or_len, AllZip, nat_tests, map-append, All-push, LineText, Inline, InStrings, InLineStrings}
+use Common.{line_text, line_text_eq, HasNoZero, with_directory, index_of_directory, FileKey, Details, no_details, File}
+use Common.{key_eq, has_file, index_of_file, with_details, with_file, keys_of, Keeps, AreTables, with_indexes, details}
+use Common.{key, directories_of, files_of}
 use native.Mathlib.Nat.{suc-add as suc_add}
 use Rattle.std.proofs.lemmas.Cmp.{nat_eq_equiv}
 use Rattle.std.proofs.lemmas.List.Folds.{list_any_at}
@@ -45,7 +45,7 @@ line_text_eq-same : (s t : LineText) → s ≡ t → line_text_eq t s ≡ true
 line_text_eq-same s t e = grind (arith, line_text_eq-self)
 
 nat_eq-tells : (i j : ℕ) → nat_eq i j ≡ true → i ≡ j
-nat_eq-tells i j h = grind (arith)
+nat_eq-tells i j h = grind (arith, nat_tests)
 
 and_true : (a b : Bool) → (a && b) ≡ true → (a ≡ true) × (b ≡ true)
 and_true true b h = (refl, h)
@@ -101,10 +101,10 @@ abbrev pub pair_eq : LineString × ℕ → LineString × ℕ → Bool
 pair_eq x y = ghosts.eq x.0 y.0 && nat_eq x.1 y.1
 
 pub pair_eq-is : (x y : LineString × ℕ) → pair_eq x y ≡ key_eq (key x) (key y)
-pair_eq-is x y = grind (arith)
+pair_eq-is x y = grind (arith, line_eq)
 
 key_eq-same : (k l : FileKey) → k ≡ l → key_eq l k ≡ true
-key_eq-same k l e = grind (arith, line_text_eq-self)
+key_eq-same k l e = grind (arith, line_text_eq-self, nat_eq_equiv)
 
 -- the files after an insertion
 pub files_insert : (es : List ((LineString × ℕ) × FileInfo)) (k : LineString × ℕ) (v : FileInfo)
@@ -267,11 +267,11 @@ line_text_eq-tells (Inline a) (Inline b) h = grind (arith, bytes_eq-Decides)
 line_text_eq-tells (Inline a) (InStrings j) h = cc
 line_text_eq-tells (Inline a) _ h = cc
 line_text_eq-tells (InStrings i) (Inline b) h = cc
-line_text_eq-tells (InStrings i) (InStrings j) h = grind (arith)
+line_text_eq-tells (InStrings i) (InStrings j) h = grind (arith, nat_eq-tells)
 line_text_eq-tells (InStrings i) _ h = cc
 line_text_eq-tells _ (Inline b) h = cc
 line_text_eq-tells _ (InStrings j) h = cc
-line_text_eq-tells (InLineStrings i) (InLineStrings j) h = grind (arith)
+line_text_eq-tells (InLineStrings i) (InLineStrings j) h = grind (arith, nat_eq-tells)
 
 key_eq-tells : (k l : FileKey) → key_eq k l ≡ true → k ≡ l
 key_eq-tells k l h =
@@ -289,7 +289,7 @@ found_there eq tells (y ∷ xs) x h = at (eq x y) refl (found_there eq tells xs 
         → slice_get (y ∷ xs) (cond (not b) (1 + position_or_len (eq x) xs) 0) ≡ Some x
     at true e rest h = grind arith
     at false e rest h =
-        grind (arith)
+        grind (arith, slice_get)
 
 found_new : {A : Type 0} (eq : A → A → Bool) (xs : List A) (x : A) → list_any (eq x) xs ≡ false
     → slice_get (xs ++ x ∷ []) (position_or_len (eq x) xs) ≡ Some x
@@ -301,7 +301,7 @@ found_new eq (y ∷ xs) x h = at (eq x y) (found_new eq xs x) h
         → slice_get (y ∷ xs ++ x ∷ []) (cond (not b) (1 + position_or_len (eq x) xs) 0) ≡ Some x
     at true rest h = cc
     at false rest h =
-        grind (arith)
+        grind (arith, slice_get)
 
 found : {A : Type 0} (eq : A → A → Bool) → ((x y : A) → eq x y ≡ true → x ≡ y) → (xs : List A) (x : A)
     → slice_get (if list_any (eq x) xs then xs else xs ++ x ∷ []) (position_or_len (eq x) xs) ≡ Some x

@@ -2,24 +2,24 @@
 use Rattle.std.specs.Prelude.{◌≡◌, ◌+◌, ◌-◌, ◌*◌, ◌/◌, ◌%◌, ◌^◌, ◌<◌, ◌≤◌, ◌∷◌, ◌++◌, if◌then◌else◌, ◌+ℤ◌, ◌-ℤ◌, ◌<ℤ◌}
 use Rattle.std.specs.Prelude.{◌≤ℤ◌}
 use Rattle.gimli_build.proofs.Common
-use Common.{ℕ, Bool, true, false, not, List, [], refl, ap, ◌∙◌, arith, nat_eq, nat_le, ℤ, pos, add-zero, append_assoc}
-use Common.{unsigned_abs, IsTrue, ints, and_parts, nat_tests, is_address_size, Encoding, LineEncoding, ReadRow, Special}
-use Common.{Copy, AdvancePc, AdvanceLine, SetFile, SetColumn, NegateStatement, SetBasicBlock, ConstAddPc}
-use Common.{SetPrologueEnd, SetEpilogueBegin, SetIsa, EndSequence, SetDiscriminator, Parameters, Ins, run, initial}
-use Common.{reset_row, pointer_of, at_pointer, LineRow, CanEncode, IsPosition, CanFollow, operations, when, marks}
-use Common.{changes, line_part, line_opcode, is_special_advance, operation_part, row_instructions, row_maker}
-use Common.{still_opcode, constant_advance, end_instructions, file_number, initial_row, built_rules, read_row}
-use Common.{registers_after_row, read_end}
+use Common.{ℕ, Bool, true, false, not, List, [], refl, sym, ap, ◌∙◌, arith, nat_eq, nat_le, ℤ, pos, nat_lt, add-zero}
+use Common.{append_assoc, unsigned_abs, IsTrue, ints, and_parts, lt-leb, le-leb, le-ltb, nat_tests, is_address_size}
+use Common.{Encoding, LineEncoding, ReadRow, Special, Copy, AdvancePc, AdvanceLine, SetFile, SetColumn, NegateStatement}
+use Common.{SetBasicBlock, ConstAddPc, SetPrologueEnd, SetEpilogueBegin, SetIsa, EndSequence, SetDiscriminator}
+use Common.{Parameters, Ins, run, initial, reset_row, pointer_of, at_pointer, LineRow, CanEncode, IsPosition, CanFollow}
+use Common.{operations, when, marks, changes, differ, line_part, line_opcode, is_special_advance, operation_part}
+use Common.{row_instructions, row_maker, still_opcode, constant_advance, end_instructions, file_number, initial_row}
+use Common.{built_rules, read_row, registers_after_row, read_end}
 use Rattle.std.specs.Int.Signed.{lt_z, le_z}
-use Rattle.std.proofs.Math.Nat.{mod-eq_of_lt, div-eq_of_lt}
+use Rattle.std.proofs.Math.Nat.{mod-eq_of_lt, div-eq_of_lt, div-one, div-mul-le_self, mod-lt, mod-le, pow-le-pow_right}
 use Rattle.std.proofs.Math.Nat.{add-mul-div_right}
-use Rattle.std.proofs.Math.Nat.{add-mul-mod_self_right, mul-add}
-use Rattle.std.proofs.lemmas.Nat.{div-add-mod'}
+use Rattle.std.proofs.Math.Nat.{add-mul-mod_self_right, mul-add, mul-le-mul_left}
+use Rattle.std.proofs.lemmas.Nat.{div-add-mod', le-div}
 use Rattle.gimli_line.specs.declared.run.instruction.LineInstruction.TheVariants.{SetAddress}
 use Rattle.gimli_line.specs.run.Registers.{advanced_line}
-use Rattle.gimli_line.specs.run.OperationPointer.{OperationPointer, address_limit}
+use Rattle.gimli_line.specs.run.OperationPointer.{OperationPointer, advanced_by, is_too_large, address_limit}
 use Rattle.gimli_line.specs.run.Events.{row}
-use Rattle.gimli_build.proofs.sizes.Steps.{operations_above, whole_steps, taken_apart, special_parts}
+use Rattle.gimli_build.proofs.sizes.Steps.{operations_above, whole_steps, taken_apart, special_parts, enough_of}
 use Rattle.gimli_build.proofs.sizes.Steps.{none_of}
 
 -- ---- pointers
@@ -29,6 +29,17 @@ abbrev pub ahead : LineEncoding → ℕ → OperationPointer → OperationPointe
 ahead e n p = record {
   address = p.address + e.minimum_instruction_length * ((p.op_index + n) / e.maximum_operations_per_instruction);
   op_index = (p.op_index + n) % e.maximum_operations_per_instruction;
+}
+
+abbrev one_operation : LineEncoding → ℕ → OperationPointer → OperationPointer
+one_operation e n p = record { address = p.address + e.minimum_instruction_length * n % 2 ^ 64; op_index = 0 }
+
+abbrev more_operations : LineEncoding → ℕ → OperationPointer → OperationPointer
+more_operations e n p = record {
+  address =
+      p.address
+      + e.minimum_instruction_length * ((p.op_index + n) % 2 ^ 64 / e.maximum_operations_per_instruction) % 2 ^ 64;
+  op_index = (p.op_index + n) % 2 ^ 64 % e.maximum_operations_per_instruction;
 }
 
 -- an address holds the pointer n operations further on
@@ -41,23 +52,59 @@ pub record HasRoom (parameters : Parameters) (p : OperationPointer) (n : ℕ) : 
       < address_limit parameters
   pub limit : address_limit parameters ≤ 2 ^ 64
 
+-- the machine's pointer is this one there
+pub on-ahead : (parameters : Parameters) (p : OperationPointer) (n : ℕ) → HasRoom parameters p n
+    → advanced_by parameters n p ≡ ahead parameters.line_encoding n p
+on-ahead parameters p n room = grind (arith, nat_eq)
+  where
+    by : (b : Bool) → nat_eq parameters.line_encoding.maximum_operations_per_instruction 1 ≡ b
+        → (if b then one_operation parameters.line_encoding n p else more_operations parameters.line_encoding n p)
+        ≡ ahead parameters.line_encoding n p
+    by true h =
+        grind (arith, nat_tests, div-one, mod-eq_of_lt)
+    by false h =
+        grind (arith, mod-eq_of_lt)
+
+-- an address holds it
+pub not_exceeding : (parameters : Parameters) (p : OperationPointer) (n : ℕ) → HasRoom parameters p n
+    → is_too_large parameters (ahead parameters.line_encoding n p) ≡ false
+not_exceeding parameters p n room =
+    grind (arith, lt-leb)
+
 -- one advance after the other
 pub ahead-ahead : (e : LineEncoding) (p : OperationPointer) (q n : ℕ) → 1 ≤ e.maximum_operations_per_instruction
     → ahead e n (ahead e q p) ≡ ahead e (q + n) p
 ahead-ahead e p q n pk =
-    grind (arith, div-add-mod', add-mul-div_right, add-mul-mod_self_right, mul-add)
+    let k = e.maximum_operations_per_instruction in
+    let m = e.minimum_instruction_length in
+    let x = p.op_index + q in
+    let split : p.op_index + (q + n) ≡ x % k + n + x / k * k = (let h = div-add-mod' x k in omega (arith, h)) in
+    let division : (p.op_index + (q + n)) / k
+    ≡ (x % k + n) / k + x / k = rw split (add-mul-div_right (x % k + n) (x / k) (omega arith)) in
+    let rest : (p.op_index + (q + n)) % k ≡ (x % k + n) % k = rw split (add-mul-mod_self_right (x % k + n) (x / k) k) in
+    let address : p.address + m * (x / k) + m * ((x % k + n) / k)
+    ≡ p.address
+    + m
+    * ((p.op_index + (q + n)) / k) = rw division (let h = mul-add m ((x % k + n) / k) (x / k) in omega (arith, h)) in
+    λ j. record { address = address j; op_index = sym rest j }
 
 -- no operations
 pub ahead-none : (e : LineEncoding) (p : OperationPointer) → p.op_index < e.maximum_operations_per_instruction
     → ahead e 0 p ≡ p
 ahead-none e p lt =
-    grind (arith, div-eq_of_lt)
+    grind (arith, add-zero, div-eq_of_lt, mod-eq_of_lt)
+
+-- fewer operations need no more room
+pub less_room : (parameters : Parameters) (p : OperationPointer) (q n : ℕ) → q ≤ n → HasRoom parameters p n
+    → HasRoom parameters p q
+less_room parameters p q n le room =
+    grind (arith, div-mul-le_self, le-div, mul-le-mul_left)
 
 -- the rest of the operations has its room
 pub rest_room : (parameters : Parameters) (p : OperationPointer) (q n : ℕ) → q ≤ n → HasRoom parameters p n
     → HasRoom parameters (ahead parameters.line_encoding q p) (n - q)
 rest_room parameters p q n le room =
-    grind (arith, ahead-ahead)
+    grind (arith, ahead-ahead, mod-lt, mod-le)
 
 -- ---- parts of a run
 
@@ -91,7 +138,16 @@ module _ (encoding : Encoding) (e : LineEncoding) where
   keep r s false i goes stands list = grind arith
 
   same_from_test : (m n : ℕ) → not (nat_eq m n) ≡ false → m ≡ n
-  same_from_test m n h = grind (arith)
+  same_from_test m n h = grind (arith, nat_tests)
+
+  turned : (a b : Bool) → differ a b ≡ true → not b ≡ a
+  turned true b h = h
+  turned false b h = ap not h
+
+  stays : (a b : Bool) → differ a b ≡ false → b ≡ a
+  stays true true h = refl
+  stays true false h = sym h
+  stays false b h = h
 
   -- what stands for one row alone
   goes-marks : (r : ReadRow) (built : LineRow) → r.discriminator ≡ 0 → r.basic_block ≡ false → r.prologue_end ≡ false
@@ -105,7 +161,7 @@ module _ (encoding : Encoding) (e : LineEncoding) where
         epilogue_begin = built.epilogue_begin;
       })
   goes-marks r built d0 b0 p0 e0 =
-      grind (arith)
+      grind (arith, nat_eq, keep, same_from_test, goes_then)
 
   -- what lasts from row to row
   goes-changes : (r : ReadRow) (version : ℕ) (previous built : LineRow) → r.is_stmt ≡ previous.is_statement
@@ -120,13 +176,18 @@ module _ (encoding : Encoding) (e : LineEncoding) where
         isa = built.isa;
       })
   goes-changes r version previous built hs hf hc hi =
-      grind (arith, same_from_test)
+      grind (arith, nat_eq, keep, turned, stays, same_from_test, goes_then)
 
   -- ---- advances
 
   goes-advance : (r : ReadRow) (n : ℕ) → r.tombstone ≡ false → HasRoom parameters (pointer_of r) n
       → Goes r (AdvancePc n ∷ []) (moved_on e n r)
-  goes-advance r n shown room list = grind (arith)
+  goes-advance r n shown room list = grind (arith, on-ahead, not_exceeding)
+
+  goes-constant : (r : ReadRow) → r.tombstone ≡ false → HasRoom parameters (pointer_of r) (constant_advance e)
+      → Goes r (ConstAddPc ∷ []) (moved_on e (constant_advance e) r)
+  goes-constant r shown room list =
+      grind (arith, on-ahead, not_exceeding)
 
   -- a special opcode of this line advance above the base, and of so many operations
   makes-special : (r : ReadRow) (u n : ℕ) → 1 ≤ e.line_range → u < e.line_range → r.tombstone ≡ false
@@ -134,11 +195,11 @@ module _ (encoding : Encoding) (e : LineEncoding) where
       → Makes r (Special (13 + u + n * e.line_range) ∷ [])
       (record (moved_on e n r) { line = advanced_line (e.line_base +ℤ pos u) r.line })
   makes-special r u n some lt shown room list =
-      grind (arith, special_parts)
+      grind (arith, special_parts, on-ahead, not_exceeding)
 
   -- the line after the advance to another line
   advance_to : (l to : ℕ) (z : ℤ) → pos to ≡ pos l +ℤ z → to < 2 ^ 64 → advanced_line z l ≡ to
-  advance_to l to (pos n) h small = grind (arith)
+  advance_to l to (pos n) h small = grind (arith, ints, mod-eq_of_lt)
   advance_to l to _ h small = omega (arith, ints)
 
   -- the registers that a special opcode of this line advance above the base makes, and so many operations
@@ -159,7 +220,20 @@ module _ (encoding : Encoding) (e : LineEncoding) where
           ≡ row (made u n r) ∷ run parameters (reset_row parameters (made u n r)) list
       by false t = makes-special r u n (omega (arith, lt)) lt shown room list
       by true t =
-          grind (arith, nat_tests, none_of, ints, pos, add-zero, mod-eq_of_lt, ahead-none, makes-copy)
+          let g = e.line_range in
+          let same : 13 + u + n * g ≡ still_opcode e = grind (arith, nat_tests) in
+          let idle : n
+          ≡ 0 = none_of n u g (unsigned_abs e.line_base) (omega (arith, same))
+          (omega (arith, ints, can.base, can.above)) in
+          let product = ap (λ x. x * g) idle in
+          let low : u ≡ unsigned_abs e.line_base = omega (arith, same, product) in
+          let flat : e.line_base +ℤ pos u ≡ pos 0 = omega (arith, ints, low, can.base) in
+          let line : advanced_line (e.line_base +ℤ pos u) r.line
+          ≡ r.line = rw flat (ap (λ l. l % 2 ^ 64) (add-zero r.line) ∙ mod-eq_of_lt small) in
+          let there : ahead e n (pointer_of r) ≡ pointer_of r = ap (λ x. ahead e x (pointer_of r)) idle
+          ∙ ahead-none e _ room.within in
+          let stands : r ≡ made u n r = λ j. record (at_pointer (sym there j) r) { line = sym line j } in
+          makes-copy r shown list ∙ ap (λ s. row s ∷ run parameters (reset_row parameters s) list) stands
 
   -- the operations of a row, and the row
   makes-operations : (r : ReadRow) (u n : ℕ) → CanEncode e → u < e.line_range → r.tombstone ≡ false → r.line < 2 ^ 64
@@ -176,7 +250,22 @@ module _ (encoding : Encoding) (e : LineEncoding) where
           ≡ row (made u n r) ∷ run parameters (reset_row parameters (made u n r)) list
       by true h c = makes-row r u n can lt shown small room list
       by false h true =
-          cc
+          let g = e.line_range in
+          let q = constant_advance e in
+          let over : 255 < 13 + u + n * g = grind (arith, nat_tests) in
+          let some : 1 ≤ g = omega (arith, lt) in
+          let enough : q ≤ n = enough_of g u n q some lt over (div-mul-le_self 242 g) in
+          let back : q + (n - q) ≡ n = omega arith in
+          let there : ahead e (n - q) (ahead e q (pointer_of r))
+          ≡ ahead e n (pointer_of r) = ahead-ahead e _ q _ can.operations
+          ∙ ap (λ x. ahead e x (pointer_of r)) back in
+          let s : ReadRow = moved_on e q r in
+          let same : made u (n - q) s ≡ made u n r = λ j.
+          record (at_pointer (there j) r) { line = advanced_line (e.line_base +ℤ pos u) r.line } in
+          let first =
+          goes-constant r shown (less_room _ _ q n enough room) (row_maker e (13 + u + (n - q) * g) ∷ list) in
+          let second = makes-row s u _ can lt shown small (rest_room _ _ q n enough room) list in
+          first ∙ second ∙ ap (λ x. row x ∷ run parameters (reset_row parameters x) list) same
       by false h false =
           let s : ReadRow = moved_on e n r in
           let keeps_bytes : 13 + u ≡ 13 + u + 0 * e.line_range = omega arith in
@@ -219,14 +308,26 @@ module _ (encoding : Encoding) (e : LineEncoding) where
           ∷ run parameters (reset_row parameters (record (moved_on e n r) { line = l })) list)
           line
       by false t =
-          cc
+          let s : ReadRow = record r { line = advanced_line d r.line } in
+          let u = unsigned_abs e.line_base in
+          let reached = advance_to _ _ d there small' in
+          let lt : u < e.line_range = omega (arith, ints, can.base, can.above) in
+          let flat : e.line_base +ℤ pos u ≡ pos 0 = omega (arith, ints, can.base) in
+          let small1 : s.line < 2 ^ 64 = rw reached small' in
+          let line : advanced_line (e.line_base +ℤ pos u) s.line
+          ≡ to = rw (flat, reached) (ap (λ l. l % 2 ^ 64) (add-zero to) ∙ mod-eq_of_lt small') in
+          makes-operations s u n can lt shown small1 room list
+          ∙ ap
+          (λ l. row (record (moved_on e n r) { line = l })
+          ∷ run parameters (reset_row parameters (record (moved_on e n r) { line = l })) list)
+          line
 
   -- ---- rows and ends
 
   -- addresses have at most eight bytes
   limit_small : IsTrue (is_address_size encoding.address_size) → address_limit parameters ≤ 2 ^ 64
   limit_small known =
-      grind (arith)
+      grind (arith, nat_tests, pow-le-pow_right)
 
   -- where the operations to a position that can follow lead
   record Reaches (base p j o i : ℕ) : Type 0 where
@@ -238,7 +339,28 @@ module _ (encoding : Encoding) (e : LineEncoding) where
       → CanFollow e p j o i
       → base + o < 2 ^ (8 * encoding.address_size) → Reaches base p j o i
   reaches base p j o i known can position follows held =
-      grind (arith, operations_above, taken_apart, whole_steps, limit_small)
+      let k = e.maximum_operations_per_instruction in
+      let m = e.minimum_instruction_length in
+      let t = (o - p) / m in
+      let n = operations e p j o i in
+      let above =
+      operations_above m k p j o i can.instruction_length position.divides follows.position.divides follows.after
+      follows.later position.within in
+      let sum : j + n ≡ t * k + i = omega (arith, above) in
+      let apart = taken_apart k t i follows.position.within in
+      let q : (j + n) / k ≡ t = rw sum apart.0 in
+      let w : (j + n) % k ≡ i = rw sum apart.1 in
+      let whole = whole_steps m p o can.instruction_length position.divides follows.position.divides follows.after in
+      let a : base + p + m * ((j + n) / k) ≡ base + o = rw q (omega (arith, whole)) in
+      record {
+        room = record {
+          within = position.within;
+          count = omega (arith, sum, follows.fits);
+          address = rw a held;
+          limit = limit_small known;
+        };
+        there = λ x. record { address = a x; op_index = w x };
+      }
 
   -- the instructions of a row make the row, from the registers after the row before it
   pub row-runs : (base : ℕ) (previous built : LineRow) → IsTrue (is_address_size encoding.address_size) → CanEncode e
@@ -249,7 +371,42 @@ module _ (encoding : Encoding) (e : LineEncoding) where
       → Makes (registers_after_row encoding.version base previous) (row_instructions encoding.version e previous built)
       (read_row encoding.version base built)
   row-runs base previous built known can position follows from to held =
-      grind (arith, pos, goes-marks, goes-changes, ints, reaches, makes-move, goes_then, append_assoc, makes_then)
+      let version = encoding.version in
+      let r0 : ReadRow = registers_after_row version base previous in
+      let d = pos built.line -ℤ pos previous.line in
+      let n = operations e previous.address_offset previous.op_index built.address_offset built.op_index in
+      let r1 : ReadRow = record r0 {
+        discriminator = built.discriminator;
+        basic_block = built.basic_block;
+        prologue_end = built.prologue_end;
+        epilogue_begin = built.epilogue_begin;
+      } in
+      let r2 : ReadRow = record r1 {
+        is_stmt = built.is_statement;
+        file = file_number version built.file;
+        column = built.column;
+        isa = built.isa;
+      } in
+      let s1 = goes-marks r0 built refl refl refl refl in
+      let s2 = goes-changes r1 version previous built refl refl refl refl in
+      let apart : pos built.line ≡ pos previous.line +ℤ d = omega (arith, ints) in
+      let ends = reaches _ _ _ _ _ known can position follows held in
+      let s3 = makes-move _ d n _ can refl (omega arith) (omega arith) apart ends.room in
+      let s4 : Makes r2 (line_part e d ++ operation_part e (line_opcode e d) n) (read_row version base built) =
+      λ list.
+      s3 list
+      ∙ ap
+      (λ p. row (record (at_pointer p r2) { line = built.line })
+      ∷ run parameters (reset_row parameters (record (at_pointer p r2) { line = built.line })) list)
+      ends.there in
+      let s12 = goes_then r0 _ _ (marks built) (changes version previous built) s1 s2 in
+      λ list.
+      ap (λ is. run parameters r0 (is ++ list))
+      (append_assoc (marks built ++ changes version previous built) (line_part e d)
+      (operation_part e (line_opcode e d) n))
+      ∙ makes_then r0 _ _ (marks built ++ changes version previous built)
+      (line_part e d ++ operation_part e (line_opcode e d) n)
+      s12 s4 list
 
   -- the instructions of an end make the end
   pub end-runs : (base : ℕ) (previous : LineRow) (o i : ℕ) → IsTrue (is_address_size encoding.address_size)
@@ -259,7 +416,17 @@ module _ (encoding : Encoding) (e : LineEncoding) where
       → Makes (registers_after_row encoding.version base previous) (end_instructions e previous o i)
       (read_end encoding.version base previous o i)
   end-runs base previous o i known can position follows held =
-      grind (arith, reaches, nat_eq, keep, goes-advance, same_from_test, ahead-none, makes_then)
+      let r : ReadRow = registers_after_row encoding.version base previous in
+      let n = operations e previous.address_offset previous.op_index o i in
+      let ends = reaches _ _ _ o i known can position follows held in
+      let s : ReadRow = at_pointer (record { address = base + o; op_index = i }) r in
+      let first : Goes r (when (not (nat_eq n 0)) (AdvancePc n)) s = keep r s _ _
+      (λ h list. goes-advance r n refl ends.room list ∙ ap (λ p. run parameters (at_pointer p r) list) ends.there)
+      (λ h. let idle : n ≡ 0 = same_from_test n 0 h in
+      let there : pointer_of r ≡ record { address = base + o; op_index = i } = sym (ahead-none e _ position.within)
+      ∙ ap (λ x. ahead e x (pointer_of r)) (sym idle) ∙ ends.there in
+      λ j. at_pointer (there j) r) in
+      makes_then r s _ (when (not (nat_eq n 0)) (AdvancePc n)) (EndSequence ∷ []) first (λ list. refl)
 
   -- a set address that doesn't go back moves the registers there
   pub set-address-runs : (base a : ℕ) (previous : LineRow) → base + previous.address_offset ≤ a
@@ -267,7 +434,7 @@ module _ (encoding : Encoding) (e : LineEncoding) where
       → Goes (registers_after_row encoding.version base previous) (SetAddress a ∷ [])
       (registers_after_row encoding.version a (record previous { address_offset = 0; op_index = 0 }))
   set-address-runs base a previous le lt list =
-      grind (arith)
+      grind (arith, nat_lt, le-ltb, nat_le, lt-leb, add-zero)
 
   -- a sequence starts after its initial row
   pub start-is : encoding.version ≤ 5
@@ -279,6 +446,6 @@ module _ (encoding : Encoding) (e : LineEncoding) where
           ≡ registers_after_row encoding.version 0
           (record (initial_row encoding.version e.default_is_stmt) { file = if b then 1 else 0 })
       by true h =
-          grind (arith)
+          grind (arith, nat_le, lt-leb, nat_tests)
       by false h =
-          grind (arith)
+          grind (arith, nat_le, le-leb, nat_tests)

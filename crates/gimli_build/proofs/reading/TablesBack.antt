@@ -2,13 +2,13 @@
 use Rattle.std.specs.Prelude.{◌≡◌, ◌<◌, ◌^◌, ◌∷◌, ◌++◌, if◌then◌else◌}
 use Rattle.gimli_build.proofs.Common
 use Common.{ℕ, Bool, true, false, List, [], length, drop, map, option_map, Option, None, slice_get, Ok, refl, sym, ap}
-use Common.{◌∙◌, arith, length-append, Result, nat_le, option_to_list, leb-true, append-nil, All-drop, OrderAndLimit}
-use Common.{Value, String, Placement, counted, AreTexts, StringTables, Error, UnitEntry, ReadFile, FileEntryFormat}
-use Common.{LineText, bytes_in, HasNoZero, File, Details, Sections, OneByOne, Built, IsBuilt, IsDirectory, IsFile}
-use Common.{IsFound, result_append, directories_bytes, files_bytes, directory_formats, file_formats}
-use Common.{directory_table_bytes, file_table_bytes, tables_bytes}
+use Common.{◌∙◌, arith, length-append, Result, nat_le, replicate, option_to_list, leb-true, append-nil, All-drop}
+use Common.{OrderAndLimit, Value, String, Placement, counted, AreTexts, StringTables, Error, UnitEntry, ReadFile}
+use Common.{FileEntryFormat, LineText, bytes_in, HasNoZero, File, Details, Sections, OneByOne, Built, IsBuilt}
+use Common.{IsDirectory, IsFile, IsFound, result_append, directories_bytes, files_bytes, directory_formats}
+use Common.{file_formats, directory_table_bytes, file_table_bytes, tables_bytes}
 use Rattle.gimli_line.specs.header.HeaderGrammar.{path_of, file_of_entry, handed_value, directory_table, file_table}
-use Rattle.gimli_build.specs.Stored.{Stored}
+use Rattle.gimli_build.specs.Stored.{Stored, stored_details}
 use Rattle.gimli_build.proofs.writing.WrittenParts.{both_written}
 use Rattle.gimli_build.proofs.spellings.TableSpellings.{read_file, directories-spelled, files-spelled}
 use Rattle.gimli_build.proofs.spellings.EncodingSpellings.{first-chosen, second-chosen}
@@ -68,13 +68,19 @@ module _ (sections : Sections) (texts : StringTables) where
 
   handed_back : (ds : List LineText) → 0 < length ds
       → AreDirectories (with_handed (option_map (bytes_in texts) (slice_get ds 0)) ds) ds
-  handed_back [] some = absurd (omega (arith))
+  handed_back [] some = absurd (omega (arith, some))
   handed_back (d ∷ ds) some = (refl, texts_back _)
+
+  -- what a file keeps
+  stored_old : (p : Built) (d : Details) → nat_le p.encoding.version 4 ≡ true
+      → stored_details p texts d
+      ≡ record { timestamp = d.timestamp; size = d.size; md5 = replicate 16 0; source = None }
+  stored_old p d old = rw old refl
 
   file_back : (p : Built) (f : File) → nat_le p.encoding.version 4 ≡ true
       → IsFile sections p texts (read_file texts f) f
   file_back p f old =
-      grind (arith)
+      grind (arith, stored_old)
 
   files_back : (p : Built) (fs : List File) → nat_le p.encoding.version 4 ≡ true
       → OneByOne (IsFile sections p texts) (map (read_file texts) fs) fs

@@ -48,6 +48,11 @@ pub special_parts : (g u n : ℕ) → 1 ≤ g → u < g → ((13 + u + n * g - 1
 special_parts g u n pg lt =
     grind (arith, add-mul-mod_self_right, mod-eq_of_lt, add-mul-div_right, div-eq_of_lt)
 
+-- where one special opcode doesn't do, there are as many operations as const_add_pc has
+pub enough_of : (g u n q : ℕ) → 1 ≤ g → u < g → 255 < 13 + u + n * g → q * g ≤ 242 → q ≤ n
+enough_of g u n q pg lt over le =
+    grind (arith, cases_lt, mul-le-mul_right, add-mul)
+
 -- the special opcode that advances nothing is no sum of a line advance and operations
 pub none_of : (n u g b : ℕ) → u + n * g ≡ b → b < g → n ≡ 0
 none_of zero u g b h lt = refl

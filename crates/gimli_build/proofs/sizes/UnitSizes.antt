@@ -1,9 +1,9 @@
 -- How many bytes the parts of a unit have, its tables, and a unit.
 use Rattle.std.specs.Prelude.{◌≡◌, ◌+◌, ◌∷◌, if◌then◌else◌, ◌++◌}
 use Rattle.gimli_build.proofs.Common
-use Common.{ℕ, Bool, true, false, List, [], Ok, Err, arith, nat_le, length, drop, sym, ap, ◌∙◌, Result, sum_by}
+use Common.{ℕ, Bool, true, false, List, [], Ok, Err, refl, arith, nat_le, length, drop, sym, ap, ◌∙◌, Result, sum_by}
 use Common.{unwrap_or, word_size, Encoding, LineEncoding, plain, Error, NeedVersion, LineStringFormMismatch}
-use Common.{StringTables, Built, format_word, result_append, result_concat, after_length, opening_bytes}
+use Common.{StringTables, Built, format_word, result_append, result_concat, after_length, version_bytes, opening_bytes}
 use Common.{line_encoding_bytes, opcode_bytes, tables_bytes, fields_bytes, header_bytes, program_bytes, inside_bytes}
 use Common.{tables_size, header_length, size_of, unit_length, text_size, file_size, entry_size, Format, uleb, LineText}
 use Common.{Inline, InStrings, InLineStrings, File, name_bytes, directories_bytes, file_bytes, files_bytes, first_form}
@@ -75,7 +75,7 @@ format_word_size is_big Dwarf64 n =
 
 name_size : (format : Format) (t : LineText) → HasSize (name_bytes t) (text_size format t)
 name_size format (Inline text) =
-    grind (arith, length-append)
+    grind (arith, size_as, length-append, size_of_ok)
 name_size format (InStrings i) = size_of_none _ _
 name_size format (InLineStrings i) = size_of_none _ _
 
@@ -103,6 +103,9 @@ files_size format files =
 
 -- ---- texts of version 5
 
+nothing_first : (n : ℕ) → n ≡ 0 + n
+nothing_first n = omega arith
+
 module _ (is_big : Bool) (format : Format) (texts : StringTables) where
   stored_size : (t : LineText) → HasSize (text_bytes plain is_big format texts t) (text_size format t)
   stored_size (Inline text) = name_size format (Inline text)
@@ -123,7 +126,7 @@ module _ (is_big : Bool) (format : Format) (texts : StringTables) where
       → HasSize (if has then text_in_form plain is_big format texts form t else Ok [])
       (sum_by (λ (s : ℕ × LineText). text_size format s.1) (if has then (form, t) ∷ [] else []))
   source_size true form t =
-      grind (arith, formed_size)
+      grind (arith, size_as, nothing_first, formed_size)
   source_size false form t = size_of_ok _
 
 -- ---- tables of version 5
@@ -132,7 +135,7 @@ module _ (is_big : Bool) (format : Format) (texts : StringTables) where
 prefixed_size : (formats number : List ℕ) (rest : Result (List ℕ) Error) (n : ℕ) → HasSize rest n
     → HasSize (result_append (Ok (formats ++ number)) rest) (length formats + length number + n)
 prefixed_size formats number rest n size =
-    grind (arith, length-append)
+    grind (arith, size_as, length-append, size_joined, size_of_ok)
 
 path_first : (path details source : ℕ) → path + (details + source) ≡ (path + source) + details
 path_first path details source = omega arith
@@ -202,17 +205,37 @@ module _ (is_big : Bool) (p : Built) (texts : StringTables) where
 
 -- ---- the version and what stands with it
 
+version_size : (is_big : Bool) (version : ℕ) → HasSize (version_bytes is_big version) 2
+version_size is_big version =
+    size_as _ _ 2 (length-number _ 2 _)
+    (size_tested _ _ _)
+
+opened_size : (old : Bool) (version : Result (List ℕ) Error) (address_size : ℕ) → HasSize version 2
+    → HasSize (result_append version (Ok (if old then [] else address_size ∷ 0 ∷ []))) (if old then 2 else 4)
+opened_size true version address_size size = size_joined _ _ 2 0 size (size_of_ok _)
+opened_size false version address_size size = size_joined _ _ 2 2 size (size_of_ok _)
+
 opening_size : (is_big : Bool) (encoding : Encoding)
     → HasSize (opening_bytes is_big encoding) (if nat_le encoding.version 4 then 2 else 4)
 opening_size is_big encoding =
-    grind (arith)
+    grind (arith, opened_size, version_size)
 
 -- ---- what the header length counts
+
+operations_size : (fourth one : Bool) (operations : ℕ)
+    → HasSize (if fourth then Ok (operations ∷ []) else (if one then Ok [] else Err (NeedVersion 4)))
+    (if fourth then 1 else 0)
+operations_size true one operations = size_of_ok _
+operations_size false one operations = size_tested _ _ _
+
+encoding_count : (fourth : Bool) → 1 + ((if fourth then 1 else 0) + 3) ≡ (if fourth then 5 else 4)
+encoding_count true = refl
+encoding_count false = refl
 
 line_encoding_size : (version : ℕ) (e : LineEncoding)
     → HasSize (line_encoding_bytes version e) (if nat_le 4 version then 5 else 4)
 line_encoding_size version e =
-    grind (arith)
+    grind (arith, nat_le, size_as, encoding_count, size_joined, size_of_ok, operations_size)
 
 three_parts : (a b c : ℕ) → a + (b + c) ≡ a + b + c
 three_parts a b c = omega arith

@@ -11,7 +11,8 @@ use Rattle.gimli_core.specs.declared.error.Error.TheVariants.{OpcodeBaseZero}
 use Rattle.gimli_line.specs.header.HeaderGrammar.{HeaderOpening, handed_value, parameters_production}
 use Rattle.gimli_line.specs.header.HeaderGrammar.{opening_production}
 use Rattle.gimli_line.specs.header.HeaderGrammar.{fields_production, header_production}
-use Rattle.gimli_build.proofs.writing.WrittenParts.{both_written, after_written, before_written}
+use Rattle.gimli_build.proofs.writing.Frames.{size_4, size_8}
+use Rattle.gimli_build.proofs.writing.WrittenParts.{same_written, both_written, after_written, before_written}
 use Rattle.gimli_build.proofs.writing.WrittenParts.{counted_written}
 use Rattle.gimli_build.proofs.spellings.EncodingSpellings.{positive-spelled, encoding-spelled, version-spelled}
 use Rattle.gimli_build.proofs.spellings.EncodingSpellings.{address-spelled, offset-spelled, length-spelled}
@@ -111,7 +112,7 @@ length_wide : (is_big : Bool) (format : Format) (n : ℕ) (word : List ℕ) → 
     → length (escape_bytes is_big format ++ word) ≡ 12
 length_wide is_big Dwarf32 n word wide is = absurd cc
 length_wide is_big Dwarf64 n word wide is =
-    grind (arith)
+    grind (arith, length-append, size_4, same_written, size_8)
 
 inside-wide : (hand : Hand) (is_big : Bool) (p : Built) (texts : StringTables) (unit : List ℕ)
     (w : UnitWritten hand is_big p texts unit)

@@ -48,7 +48,7 @@ module _ (layout : OrderAndLimit) (format : Format) {X : Type 0} (formats : List
       let whole = ap length b.whole ∙ length-append b.first b.rest in
       let first = long x b.first b.first_is in
       let rest = few xs b.rest b.rest_is in
-      omega (arith)
+      omega (arith, whole, first, rest)
 
   table_spelled : (xs : List X) (bytes : List ℕ) → SpellsFormats (formats_bytes formats) (map read_format formats)
       → All P xs
@@ -61,7 +61,7 @@ module _ (layout : OrderAndLimit) (format : Format) {X : Type 0} (formats : List
       let b = after_written (front ++ count) (result_concat part xs) bytes is in
       let whole = ap length b.whole ∙ length-append (front ++ count) b.rest in
       let short = few xs b.rest b.rest_is in
-      let number = (uleb_shortest (length xs) (omega (arith))).spells in
+      let number = (uleb_shortest (length xs) (omega (arith, whole, short, small))).spells in
       let entries = each_spelled xs b.rest all b.rest_is in (
         map read_format formats,
         front,

@@ -1,8 +1,8 @@
 -- A length that is written once what it counts is there.
 use Rattle.std.specs.Prelude.{◌≡◌, ◌+◌, ◌-◌, ◌<◌, ◌≤◌, ◌^◌, ◌++◌, if◌then◌else◌, ◌⊎◌}
 use Rattle.gimli_build.proofs.Common
-use Common.{ℕ, Bool, true, false, List, [], length, refl, sym, ◌∙◌, arith, append_assoc, length-append, nat_lt, Ok, Err}
-use Common.{OnOk, IfErr, IsTrue, inr, le-ltb, lt-ltb, take_at, drop_at, Result, number_bytes, word_size, Format}
+use Common.{ℕ, Bool, true, false, List, [], length, refl, sym, ap, ◌∙◌, arith, append_assoc, length-append, nat_lt, Ok}
+use Common.{Err, OnOk, IfErr, IsTrue, inr, le-ltb, lt-ltb, take_at, drop_at, Result, number_bytes, word_size, Format}
 use Common.{Dwarf32, Dwarf64, Hand, Placement, plain, Begins, Appends, IsOverwrite, overwrite_of, patch, Ghosts}
 use Common.{OutOfMemory, Writes, udata, open_length, escape_size, length_word, Error, format_word, result_append}
 use Common.{after_length, escape_bytes}
@@ -52,7 +52,11 @@ module _ (full length_of : ℕ → Result (List ℕ) Error) (escape blank old c1
       by (Err e) is w so h = absurd (rw is at written)
       by (Ok bytes) is (Err e) so h = cc
       by (Ok bytes) is (Ok word) so h =
-          grind (arith, known, same_ok, put, append_assoc)
+          let shape : after_length full body ≡ Ok ((escape ++ word) ++ bytes) = known _ is
+          ∙ ap (λ r. result_append (result_append (Ok escape) r) (Ok bytes)) so in
+          let same : new ≡ (old ++ escape) ++ word ++ bytes = sym (same_ok _ _ (sym (put _ _ is so) ∙ h)) in
+          rw shape
+          (same ∙ ap (λ l. l ++ bytes) (append_assoc old escape word) ∙ append_assoc old (escape ++ word) bytes)
 
   frame_refused : (e : Error) → patch (length_of n) c2 position ≡ Err e → after_length full body ≡ Err e
   frame_refused e h = by _ refl _ refl h
@@ -61,7 +65,7 @@ module _ (full length_of : ℕ → Result (List ℕ) Error) (escape blank old c1
           → patch w c2 position ≡ Err e → after_length full body ≡ Err e
       by (Err d) is w so h = absurd (rw is at written)
       by (Ok bytes) is (Err d) so h =
-          grind (arith, known)
+          known _ is ∙ ap (λ r. result_append (result_append (Ok escape) r) (Ok bytes)) so ∙ h
       by (Ok bytes) is (Ok word) so h = absurd (let never = sym (put _ _ is so) ∙ h in cc)
 
   -- so much of one view of a writer
@@ -119,7 +123,11 @@ counted_written {sink = sink} {r = r} {escape = escape} {blank = blank} {positio
       memory = λ keeps_bytes memory_alone.
           leaves (λ e. e ≡ OutOfMemory) plain _ _ _ _ (so.held keeps_bytes) (inside.ok keeps_bytes) so.count
           (call.ok keeps_bytes) (if_err r (λ e. inr) (call.err memory_alone));
-      linked = grind arith;
+      linked = λ at completes.
+          let opened = so.stays completes in
+          leaves sink.refuses (sink.hand at) _ _ _ _ (so.linked at completes) (inside.completed at opened)
+          (so.count_linked at completes) (call.completed at (inside.stays opened))
+          (call.completed_own at (inside.stays opened));
     })
 
 -- ---- words
