@@ -28,8 +28,7 @@ pub struct GimliEncoding {
     pub minimum_instruction_length: u8,
     /// How many operations an instruction of the machine has, from 1 on; 1 before version 4.
     pub maximum_operations_per_instruction: u8,
-    /// What each sequence starts with in the register is_stmt: 0 for false, any other number for
-    /// true.
+    /// What each sequence starts with in the register is_stmt: false if 0, else true.
     pub default_is_stmt: u8,
     /// The least line advance of a special opcode, at most 0.
     pub line_base: i8,

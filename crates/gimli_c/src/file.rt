@@ -55,8 +55,7 @@ pub const TEXT_INDEX: u64 = 5;
 pub struct GimliFile {
     /// The path, which is full or starts at the directory.
     pub path: GimliText,
-    /// The directory; none where its number is that of no directory, as number 0 is up to
-    /// version 4.
+    /// The directory; none if there is none of its number, as of 0 up to version 4.
     pub directory: GimliText,
     /// The text of the file; none where it isn't known.
     pub source: GimliText,

@@ -50,8 +50,7 @@ fn skip_unit<R: Reader>(input: &mut R)
     }
 }
 
-/// Takes a unit, whatever its content is: its length, and as many bytes as that says. Returns the
-/// latter.
+/// Takes a unit, whatever its content is, by its length. Returns as many bytes as that says.
 #[tactic(auto, unfolding(gimli_line::specs::UnitReading::any_unit_at))]
 fn split_unit<R: Reader>(input: &mut R) -> Result<R>
     ensures { (result_map R.bytes result, R.bytes input.new)
