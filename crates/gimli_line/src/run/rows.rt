@@ -211,14 +211,39 @@ impl<R: Reader, P: LineProgram<R>> LineRows<R, P> {
         }
     }
 
-    /// Executes common instructions from their bytes, up to the first that makes a row or is
-    /// another one, and that one too. What is read from stands in a variable of its own over the
-    /// loop, so that it stays in the processor's registers.
+    /// Executes the next instruction, and more where it is a common one that makes no row. The
+    /// first one stands before the loop, since most rows take one or two.
     #[inline(always)]
     fn execute_some(&mut self) -> Result<RowStep>
         ensures { StepsTo self.old self.new result }
     {
         let mut instructions = self.instructions.clone();
+        let header = self.program.header();
+        let executed = match instructions.execute_common(header, &mut self.row) {
+            Ok(executed) => executed,
+            Err(e) => {
+                self.instructions = instructions;
+                return Err(e);
+            }
+        };
+        match executed {
+            Executed::No => self.execute_one(),
+            Executed::Row => {
+                self.instructions = instructions;
+                Ok(RowStep::Made)
+            }
+            _ => self.execute_more(instructions),
+        }
+    }
+
+    /// Executes common instructions from their bytes, up to the first that makes a row or is
+    /// another one, and that one too. What is read from stands in a variable of its own over the
+    /// loop, so that it stays in the processor's registers.
+    #[inline(always)]
+    fn execute_more(&mut self, start: LineInstructions<R>) -> Result<RowStep>
+        ensures { StepsTo (record self.old { unread = start }) self.new result }
+    {
+        let mut instructions = start;
         'common: loop {
             let header = self.program.header();
             let executed = match instructions.execute_common(header, &mut self.row) {

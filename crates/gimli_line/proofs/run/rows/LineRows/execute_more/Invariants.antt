@@ -1,12 +1,12 @@
 use Rattle.std.specs.Prelude.{◌≡◌}
 use Rattle.gimli_line.proofs.Common.{length, ReadsOn}
 use Rattle.gimli_line.proofs.Steps.{with_rest}
-use Rattle.gimli_line.proofs.run.rows.LineRows.execute_some.Given as goal
+use Rattle.gimli_line.proofs.run.rows.LineRows.execute_more.Given as goal
 
 abbrev pub invariant-common : goal.invariant-common
 invariant-common g l = record {
   program : l.self-inside.program ≡ l.initial.self-inside.program;
-  reads : ReadsOn l.fn.self (with_rest l.fn.self l.self-inside.row l.instructions);
+  reads : ReadsOn (record l.fn.self { unread = l.fn.start }) (with_rest l.fn.self l.self-inside.row l.instructions);
 }
 
 abbrev pub decreases-common : goal.decreases-common
