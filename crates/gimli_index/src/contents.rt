@@ -80,7 +80,7 @@ pub struct Contents<'a> {
 }
 
 /// Appends a number of two bytes.
-fn put_half(out: &mut Vec<u8>, n: u16) -> Result<(), AllocError>
+fn put_uhalf(out: &mut Vec<u8>, n: u16) -> Result<(), AllocError>
     ensures { OnOk result (out.new.items ≡ out.old.items ++ le_bytes 2 n) }
 {
     out.extend_from_slice(&n.to_le_bytes())
@@ -330,8 +330,8 @@ fn put_sizes(
     ensures { OnOk result (out.new.items ≡ out.old.items
         ++ (le_bytes 2 address_size ++ le_bytes 2 (size_of size) ++ le_bytes 8 base)) }
 {
-    put_half(out, address_size)?;
-    put_half(out, bytes_of_start(size))?;
+    put_uhalf(out, address_size)?;
+    put_uhalf(out, bytes_of_start(size))?;
     put_long(out, base)
 }
 

@@ -5,7 +5,7 @@ ghost use Rattle.gimli_index.specs.Header.{header_at, fields_at, size_of, addres
 ghost use Rattle.gimli_index.specs.Header.{start_size_of, base_of, highest_base};
 
 use crate::error::IndexError;
-use crate::number::{half, long, word};
+use crate::number::{long, uhalf, word};
 
 /// The bytes that each index begins with.
 pub(crate) const MAGIC: [u8; 8] = [b'L', b'I', b'N', b'E', b'I', b'D', b'X', 0];
@@ -122,8 +122,8 @@ impl Header {
         ensures fields { result ≡ fields_at bytes.now }
         ensures low { IfOk result (λ header. header.base ≤ highest_base header.start_size) }
     {
-        let address_size = address_size_of(half(bytes, 12))?;
-        let start_size = start_size_of(half(bytes, 14))?;
+        let address_size = address_size_of(uhalf(bytes, 12))?;
+        let start_size = start_size_of(uhalf(bytes, 14))?;
         let base = start_size.base_of(long(bytes, 16))?;
         Ok(Header {
             address_size,

@@ -6,7 +6,7 @@ ghost use Rattle.gimli_index.specs.Numbers.{number_at};
 use gimli_core::{Endianity, LittleEndian};
 
 /// The number of two bytes at an offset.
-pub(crate) fn half(bytes: &[u8], offset: usize) -> u16
+pub(crate) fn uhalf(bytes: &[u8], offset: usize) -> u16
     requires { offset + 2 ≤ length bytes.now }
     ensures { result ≡ number_at 2 offset bytes.now }
 {
