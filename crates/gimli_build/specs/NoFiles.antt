@@ -15,5 +15,4 @@ pub record DefinesNoFile (a : RunState) : Type 0 where
 
 -- rows at the start of the program of a header
 abbrev pub program_started : Bool → Header → HeaderSource → RunState
-program_started appends h source =
-    start_of_run appends h source (whole_program h source.layout)
+program_started appends h source = start_of_run appends h source (whole_program h source.layout)

@@ -58,8 +58,7 @@ item_trap p base begins (End offset op_index) others =
 -- that of the first of these items, after others, the nearest first
 abbrev pub first_trap : Built → List BuiltItem → List BuiltItem → Option Trap
 first_trap p past [] = None
-first_trap p past (item ∷ others) =
-    item_trap p (base_of past) (begins_unset past) item others
+first_trap p past (item ∷ others) = item_trap p (base_of past) (begins_unset past) item others
 
 -- that of the item at an index
 abbrev pub trap_at : Built → ℕ → Option Trap

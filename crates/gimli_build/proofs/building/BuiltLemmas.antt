@@ -48,8 +48,7 @@ stands_at e position (End o i ∷ items) can so built = stands_at e (0, 0) items
 -- the previous row stands at a position
 pub previous_stands : (e : LineEncoding) (items : List BuiltItem) → CanEncode e → AreBuilt e (0, 0) items
     → IsPosition e (previous_position items).0 (previous_position items).1
-previous_stands e items can built =
-    subst (λ position. IsPosition e position.0 position.1) (reached_last items)
+previous_stands e items can built = subst (λ position. IsPosition e position.0 position.1) (reached_last items)
     (stands_at e _ _ can (start_position e can) built)
 
 -- an item is built after others

@@ -15,8 +15,7 @@ also {x = x} {y = y} first rest = Decides-and x y first rest
 
 module _ (a b : LineRow) where
   abbrev Registers : Type 0
-  Registers =
-      (a.address_offset ≡ b.address_offset)
+  Registers = (a.address_offset ≡ b.address_offset)
       × ((a.op_index ≡ b.op_index)
       × ((a.file ≡ b.file) × ((a.line ≡ b.line) × ((a.column ≡ b.column) × ((a.discriminator ≡ b.discriminator)
       × ((a.is_statement ≡ b.is_statement)
@@ -28,37 +27,21 @@ module _ (a b : LineRow) where
     address_offset,
     (
       op_index,
-      (
-        file,
-        (
-          line,
-          (
-            column,
-            (
-              discriminator,
-              (
-                is_statement,
-                (basic_block, (prologue_end, (epilogue_begin, (isa)))),
-              ),
-            ),
-          ),
-        ),
-      ),
+      (file, (line, (column, (discriminator, (is_statement, (basic_block, (prologue_end, (epilogue_begin, (isa))))))))),
     ),
-  ) =
-      λ i. record {
-        address_offset = address_offset i;
-        op_index = op_index i;
-        file = file i;
-        line = line i;
-        column = column i;
-        discriminator = discriminator i;
-        is_statement = is_statement i;
-        basic_block = basic_block i;
-        prologue_end = prologue_end i;
-        epilogue_begin = epilogue_begin i;
-        isa = isa i;
-      }
+  ) = λ i. record {
+    address_offset = address_offset i;
+    op_index = op_index i;
+    file = file i;
+    line = line i;
+    column = column i;
+    discriminator = discriminator i;
+    is_statement = is_statement i;
+    basic_block = basic_block i;
+    prologue_end = prologue_end i;
+    epilogue_begin = epilogue_begin i;
+    isa = isa i;
+  }
 
   same_registers : a ≡ b → Registers
   same_registers same = (
@@ -77,13 +60,7 @@ module _ (a b : LineRow) where
                 ap (λ r. r.is_statement) same,
                 (
                   ap (λ r. r.basic_block) same,
-                  (
-                    ap (λ r. r.prologue_end) same,
-                    (
-                      ap (λ r. r.epilogue_begin) same,
-                      (ap (λ r. r.isa) same),
-                    ),
-                  ),
+                  (ap (λ r. r.prologue_end) same, (ap (λ r. r.epilogue_begin) same, (ap (λ r. r.isa) same))),
                 ),
               ),
             ),
@@ -94,9 +71,7 @@ module _ (a b : LineRow) where
   )
 
   pub row-Decides : Decides (rows.eq a b) (a ≡ b)
-  row-Decides =
-      Decides-like _ same_row same_registers
-      (also (Decides-eqb a.address_offset b.address_offset)
+  row-Decides = Decides-like _ same_row same_registers (also (Decides-eqb a.address_offset b.address_offset)
       (also (Decides-eqb a.op_index b.op_index) (also (Decides-eqb a.file b.file)
       (also (Decides-eqb a.line b.line)
       (also (Decides-eqb a.column b.column) (also (Decides-eqb a.discriminator b.discriminator)

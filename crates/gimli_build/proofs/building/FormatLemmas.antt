@@ -35,6 +35,5 @@ due_more formats i d lt =
 -- two that are there, and four that may be
 pub six_due : {A : Type 0} (a b : A) (t s m o : List A)
     → a ∷ b ∷ (t ++ (s ++ (m ++ (o ++ [])))) ≡ a ∷ b ∷ t ++ s ++ m ++ o
-six_due a b t s m o =
-    ap (λ l. a ∷ b ∷ (t ++ (s ++ (m ++ l)))) (append-nil o)
+six_due a b t s m o = ap (λ l. a ∷ b ∷ (t ++ (s ++ (m ++ l)))) (append-nil o)
     ∙ ap (λ l. a ∷ b ∷ l) (sym (append_assoc (t ++ s) m o ∙ append_assoc t s (m ++ o)))

@@ -44,8 +44,7 @@ module _ (files : List File) (i : ℕ) where
       → f.1.source ≡ Some t
       → text_form t ≡ first_form (sources files)
   unfolding found
-  source_found f t at so is =
-      sym
+  source_found f t at so is = sym
       (ap first_form (sources_next f at so ∙ ap (λ (o : Option LineText). found o (sources (drop (i + 1) files))) is))
 
   -- a file without one
@@ -77,8 +76,7 @@ if-some P Q f None p = tt
 
 -- a program that could be written can be written then
 pub can-write-after : (p : Built) (texts : StringTables) → CanWrite p texts → CanWrite p (texts_after p texts)
-can-write-after p texts can =
-    grind (arith, within_after, if-some)
+can-write-after p texts can = grind (arith, within_after, if-some)
 
 -- ---- where it is needed
 
@@ -96,5 +94,4 @@ any-at test (y ∷ xs) (suc i) x lt at is = ap (λ b. test y || b) (any-at test 
 pub needs-empty : (p : Built) (f : File) → 5 ≤ p.encoding.version → Contains p.files f → p.file_has_source ≡ true
     → f.1.source ≡ None
     → needs_empty p ≡ true
-needs-empty p f new there has without =
-    grind (arith, le-leb, any-at)
+needs-empty p f new there has without = grind (arith, le-leb, any-at)

@@ -62,8 +62,7 @@ any-directories k (x ∷ xs) = λ i. line_eq k x i || any-directories k xs i
 
 pub directories_insert : (ks : List LineString) (k : LineString)
     → directories_of (insert_key ghosts.eq ks k) ≡ with_directory (directories_of ks) (line_text k)
-directories_insert ks k =
-    by _
+directories_insert ks k = by _
     ∙ ap (λ b. if b then directories_of ks else directories_of ks ++ line_text k ∷ []) (any-directories k _)
   where
     by : (b : Bool)
@@ -84,14 +83,12 @@ with_directory-AreTables ds ks t so clean = by _ refl
     by : (b : Bool) → list_any (line_text_eq t) ds ≡ b → AreTables (if b then ds else ds ++ t ∷ []) ks
     by true h = so
     by false h = record {
-      distinct_directories =
-          all_pairs_push (λ s u. s ≢ u) ds t so.distinct_directories (λ k d short same.
+      distinct_directories = all_pairs_push (λ s u. s ≢ u) ds t so.distinct_directories (λ k d short same.
           true≢false (sym (list_any_at (line_text_eq t) _ k d short (line_text_eq-same _ t same)) ∙ h));
       directories_end = All-push HasNoZero _ t so.directories_end clean;
       distinct_files = so.distinct_files;
       paths_end = so.paths_end;
-      in_directories =
-          grind (arith, length-append);
+      in_directories = grind (arith, length-append);
     }
 
 -- ---- files
@@ -110,8 +107,7 @@ key_eq-same k l e = grind (arith, line_text_eq-self, nat_eq_equiv)
 pub files_insert : (es : List ((LineString × ℕ) × FileInfo)) (k : LineString × ℕ) (v : FileInfo)
     → files_of (insert_entry pair_eq es k v) ≡ with_file (files_of es) (key k) (Some (details v))
 files_insert [] k v = refl
-files_insert (e ∷ es) k v =
-    by _
+files_insert (e ∷ es) k v = by _
     ∙ (λ i.
     if pair_eq-is k e.0 i then (key e.0, details v) ∷ files_of es else (key e.0, details e.1) ∷ files_insert es k v i)
     ∙ joined _ _
@@ -126,8 +122,7 @@ files_insert (e ∷ es) k v =
     one : (n : ℕ)
         → with_details ((key e.0, details e.1) ∷ files_of es) (1 + n) (details v)
         ≡ (key e.0, details e.1) ∷ with_details (files_of es) n (details v)
-    one n =
-        grind arith
+    one n = grind arith
 
     joined : (b there : Bool)
         → (if b then (key e.0, details v) ∷ files_of es
@@ -166,8 +161,7 @@ with_file-kept files k h = grind arith
 -- a new file has no details, where none are handed
 pub with_file-new : (files : List File) (k : FileKey) → has_file files k ≡ false
     → with_file files k (Some no_details) ≡ with_file files k None
-with_file-new files k h =
-    grind arith
+with_file-new files k h = grind arith
 
 pub keys-with_details : (files : List File) (i : ℕ) (d : Details) → keys_of (with_details files i d) ≡ keys_of files
 keys-with_details [] i d = refl
@@ -188,8 +182,7 @@ with_file-AreTables ds files k d so clean within = by _ refl
     by false h = rw (map-append (λ f. f.0) files _) (record {
       distinct_directories = so.distinct_directories;
       directories_end = so.directories_end;
-      distinct_files =
-          all_pairs_push (λ l m. l ≢ m) _ k so.distinct_files (λ i l short same.
+      distinct_files = all_pairs_push (λ l m. l ≢ m) _ k so.distinct_files (λ i l short same.
           true≢false (sym (list_any_at (key_eq k) _ i l short (key_eq-same _ k same)) ∙ absent h));
       paths_end = All-push (λ l. HasNoZero l.0) _ k so.paths_end clean;
       in_directories = All-push (λ l. l.1 < length ds) _ k so.in_directories within;
@@ -222,8 +215,7 @@ pub numbered_more : (es : List ((LineString × ℕ) × FileInfo)) (i j : ℕ) (e
     → with_indexes j (drop i (files_of es))
     ≡ (j, line_text e.0.0, e.0.1) ∷ with_indexes (j + 1) (drop (i + 1) (files_of es))
 numbered_more [] i j e h = cc
-numbered_more (x ∷ xs) zero j e h =
-    grind arith
+numbered_more (x ∷ xs) zero j e h = grind arith
 numbered_more (x ∷ xs) (suc n) j e h = rw suc_add (numbered_more xs n j e h)
 
 -- ---- clones
@@ -288,8 +280,7 @@ found_there eq tells (y ∷ xs) x h = at (eq x y) refl (found_there eq tells xs 
         → (b || list_any (eq x) xs) ≡ true
         → slice_get (y ∷ xs) (cond (not b) (1 + position_or_len (eq x) xs) 0) ≡ Some x
     at true e rest h = grind arith
-    at false e rest h =
-        grind (arith, slice_get)
+    at false e rest h = grind (arith, slice_get)
 
 found_new : {A : Type 0} (eq : A → A → Bool) (xs : List A) (x : A) → list_any (eq x) xs ≡ false
     → slice_get (xs ++ x ∷ []) (position_or_len (eq x) xs) ≡ Some x
@@ -300,8 +291,7 @@ found_new eq (y ∷ xs) x h = at (eq x y) (found_new eq xs x) h
         → (b || list_any (eq x) xs) ≡ false
         → slice_get (y ∷ xs ++ x ∷ []) (cond (not b) (1 + position_or_len (eq x) xs) 0) ≡ Some x
     at true rest h = cc
-    at false rest h =
-        grind (arith, slice_get)
+    at false rest h = grind (arith, slice_get)
 
 found : {A : Type 0} (eq : A → A → Bool) → ((x y : A) → eq x y ≡ true → x ≡ y) → (xs : List A) (x : A)
     → slice_get (if list_any (eq x) xs then xs else xs ++ x ∷ []) (position_or_len (eq x) xs) ≡ Some x

@@ -26,13 +26,11 @@ table_found section placed texts i has = by (slice_get texts i) refl
         let long = length-table_bytes texts in
         let short = offset_within texts i in (
           rest ++ has.after,
-          ap (λ n. drop n section) (has.counted offset)
-              ∙ ap (drop (length has.before + offset)) has.whole
+          ap (λ n. drop n section) (has.counted offset) ∙ ap (drop (length has.before + offset)) has.whole
               ∙ sym (drop-drop offset (length has.before) (has.before ++ (table ++ has.after)))
               ∙ ap (drop offset) (drop_at has.before (table ++ has.after) (length has.before) refl)
               ∙ drop-append-le offset table has.after (omega (arith, long, short))
-              ∙ ap (λ l. l ++ has.after) (table_bytes-at texts i text is)
-              ∙ append_assoc text (0 ∷ rest) has.after,
+              ∙ ap (λ l. l ++ has.after) (table_bytes-at texts i text is) ∙ append_assoc text (0 ∷ rest) has.after,
         )
 
 pub placed-found : (at : Placement) (sections : Sections) (texts : StringTables)

@@ -58,11 +58,9 @@ module _ (at : Placement) (is_big : Bool) (p : Built) (texts : StringTables) whe
   text_plain : TextsBeginAtZero at → (t : LineText) → OffsetFits at p.encoding.format texts t
       → IsAlike (placed at) plain is_big p texts t
   text_plain zero (Inline text) fits = refl
-  text_plain zero (InStrings i) fits =
-      text_counted (InStrings i) fits
+  text_plain zero (InStrings i) fits = text_counted (InStrings i) fits
       ∙ ap (λ m. section_word is_big m (word_size p.encoding.format)) (zero.strings _)
-  text_plain zero (InLineStrings i) fits =
-      text_counted (InLineStrings i) fits
+  text_plain zero (InLineStrings i) fits = text_counted (InLineStrings i) fits
       ∙ ap (λ m. section_word is_big m (word_size p.encoding.format)) (zero.line_strings _)
 
 -- ---- units
@@ -71,8 +69,7 @@ unit_alike : (h k : Hand) (is_big : Bool) (unit : Encoding) (p q : Built) (texts
     → q.encoding ≡ p.encoding
     → whole_bytes h is_big p (texts_after p texts) ≡ whole_bytes k is_big q (texts_after q texts)
     → unit_bytes h is_big unit p texts ≡ unit_bytes k is_big unit q texts
-unit_alike h k is_big unit p q texts encoding same =
-    grind arith
+unit_alike h k is_big unit p q texts encoding same = grind arith
 
 module _ (at : Placement) (is_big : Bool) (unit : Encoding) (p : Built) (texts : StringTables)
     (fit : SumsFit at p (texts_after p texts)) where
@@ -84,8 +81,7 @@ module _ (at : Placement) (is_big : Bool) (unit : Encoding) (p : Built) (texts :
       → ((t : LineText) → OffsetFits at p.encoding.format (texts_after p texts) t
       → IsAlike (placed at) hand is_big p (texts_after p texts) t)
       → unit_bytes (placed at) is_big unit p texts ≡ unit_bytes hand is_big unit (placed_program at p) texts
-  placed_by hand numbers alike =
-      unit_alike (placed at) hand _ unit p (placed_program at p) texts refl
+  placed_by hand numbers alike = unit_alike (placed at) hand _ unit p (placed_program at p) texts refl
       (whole-alike (placed at) hand is_big p (texts_after p texts) (map (placed_item at) p.items)
       (λ new. All-weaker _ _ (λ t fits. alike t.1 fits) _ (fit.offsets new))
       (program_placed ∙ numbers))
@@ -103,8 +99,7 @@ module _ (at : Placement) (is_big : Bool) (unit : Encoding) (p : Built) (texts :
   -- 64 bits hold what the offsets of texts become
   pub placed-short : 5 ≤ p.encoding.version
       → All (λ t. IsOffsetHeld (2 ^ 64) at (texts_after p texts) t.1) (emitted_texts p (texts_after p texts))
-  placed-short new =
-      All-weaker (λ t. OffsetFits at p.encoding.format (texts_after p texts) t.1) _
+  placed-short new = All-weaker (λ t. OffsetFits at p.encoding.format (texts_after p texts) t.1) _
       (λ t fits. text_short p.encoding.format t.1 fits.1) _ (fit.offsets new)
     where
       wide : (format : Format) (n : ℕ) → n < 256 ^ word_size format → n < 2 ^ 64

@@ -17,8 +17,7 @@ concat_alike : {A : Type 0} (P : A → Type 0) (f g : A → Result (List ℕ) Er
     → (xs : List A) → All P xs
     → result_concat f xs ≡ result_concat g xs
 concat_alike P f g same [] all = refl
-concat_alike P f g same (x ∷ xs) all =
-    ap (λ r. result_append r (result_concat f xs)) (same x (All-head P x _ all))
+concat_alike P f g same (x ∷ xs) all = ap (λ r. result_append r (result_concat f xs)) (same x (All-head P x _ all))
     ∙ ap (λ r. result_append (g x) r) (concat_alike P f g same xs (All-tail P x _ all))
 
 -- where it is due
@@ -67,8 +66,7 @@ module _ (h k : Hand) (is_big : Bool) (p : Built) (texts : StringTables) where
 
   files_alike : All (IsOfFile IsAlike p texts) p.files
       → file_table_bytes h is_big p.encoding.format texts p ≡ file_table_bytes k is_big p.encoding.format texts p
-  files_alike all =
-      ap (λ r. result_append (Ok (formats_bytes (file_formats p) ++ uleb (length p.files))) r)
+  files_alike all = ap (λ r. result_append (Ok (formats_bytes (file_formats p) ++ uleb (length p.files))) r)
       (concat_alike _ _ _
       file_alike _ all)
 
@@ -80,13 +78,11 @@ module _ (h k : Hand) (is_big : Bool) (p : Built) (texts : StringTables) where
       old = result_append (directories_bytes p.directories) (files_bytes p.files)
 
       new : Hand → Result (List ℕ) Error
-      new hand =
-          result_append (directory_table_bytes hand is_big p.encoding.format texts p)
+      new hand = result_append (directory_table_bytes hand is_big p.encoding.format texts p)
           (file_table_bytes hand is_big p.encoding.format texts p)
 
       new_alike : AreOfTables IsAlike p texts → new h ≡ new k
-      new_alike parts =
-          ap (λ r. result_append r (file_table_bytes h is_big p.encoding.format texts p))
+      new_alike parts = ap (λ r. result_append r (file_table_bytes h is_big p.encoding.format texts p))
           (directories_alike parts.directories)
           ∙ ap (λ r. result_append (directory_table_bytes k is_big p.encoding.format texts p) r)
           (files_alike parts.files)
@@ -104,8 +100,7 @@ module _ (h k : Hand) (is_big : Bool) (p : Built) (texts : StringTables) where
       let size : ℕ → Result (List ℕ) Error = λ n. format_word is_big p.encoding.format n in
       let whole : ℕ → Result (List ℕ) Error = λ n.
       result_append (Ok (escape_bytes is_big p.encoding.format)) (length_word is_big p.encoding.format n) in
-      let header : header_bytes h is_big p texts ≡ header_bytes k is_big p texts =
-      ap (λ r.
+      let header : header_bytes h is_big p texts ≡ header_bytes k is_big p texts = ap (λ r.
       after_length size
       (result_append (line_encoding_bytes p.encoding.version p.line_encoding) (result_append (Ok opcode_bytes) r)))
       (tables_alike all) in

@@ -32,8 +32,7 @@ module _ (P : LineText → Type 0) (p : Built) (texts : StringTables) where
 
   of-directories : (form : ℕ) (ts : List LineText) → All IsEmitted (map (λ t. (form, t)) ts) → All P ts
   of-directories form [] all = All-nil P
-  of-directories form (t ∷ ts) all =
-      All-cons P t _ (All-head IsEmitted _ _ all)
+  of-directories form (t ∷ ts) all = All-cons P t _ (All-head IsEmitted _ _ all)
       (of-directories form ts (All-tail IsEmitted _ _ all))
 
   of-file : (f : File) → All IsEmitted (file_texts p texts f) → IsOfFile f
@@ -41,10 +40,7 @@ module _ (P : LineText → Type 0) (p : Built) (texts : StringTables) where
       let path : ℕ × LineText = (first_form (path_texts p.files), f.0.0) in
       let source : ℕ × LineText = (first_form (sources p.files), source_of p texts f) in
       let last : List (ℕ × LineText) = if p.file_has_source then source ∷ [] else [] in
-      record {
-        path = All-head IsEmitted _ _ all;
-        source = by _ _ (All-tail IsEmitted _ _ all);
-      }
+      record { path = All-head IsEmitted _ _ all; source = by _ _ (All-tail IsEmitted _ _ all) }
     where
       by : (has : Bool) (t : ℕ × LineText) → All IsEmitted (if has then t ∷ [] else []) → has ≡ true → P t.1
       by true t all is = All-head IsEmitted t [] all

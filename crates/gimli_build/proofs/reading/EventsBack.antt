@@ -35,8 +35,7 @@ spelled_under : (layout : OrderAndLimit) (h : Header) (encoding : Encoding) (e :
     → items_bytes plain layout.is_big encoding e (initial_row encoding.version e.default_is_stmt) items ≡ Ok bytes
     → Each (SpellsInstruction layout h) bytes
     (items_instructions encoding.version e (initial_row encoding.version e.default_is_stmt) items)
-spelled_under layout h encoding e items bytes same base wide can built fit written =
-    subst (λ x. AreFit x.version items
+spelled_under layout h encoding e items bytes same base wide can built fit written = subst (λ x. AreFit x.version items
     → items_bytes plain layout.is_big x e (initial_row x.version e.default_is_stmt) items ≡ Ok bytes
     → Each (SpellsInstruction layout h) bytes
     (items_instructions x.version e (initial_row x.version e.default_is_stmt) items))
@@ -52,9 +51,7 @@ pub cut-back : (layout : OrderAndLimit) (h : Header) (p : Built) → IsBuilt p �
     (items_instructions p.encoding.version p.line_encoding
     (initial_row p.encoding.version p.line_encoding.default_is_stmt) p.items)
     None
-cut-back layout h p built wide parameters written =
-    cut_whole _ h _
-    _
+cut-back layout h p built wide parameters written = cut_whole _ h _ _
     (spelled_under _ h _ _ _ _ (ap (λ r. r.encoding) parameters)
     (ap (λ r. r.opcode_base) parameters) wide built.is.lines built.is.items_built built.items_fit written)
 
@@ -85,8 +82,7 @@ rows_given parameters encoding e items same known can version built held =
     let list = items_instructions encoding.version e first items in
     sym (items-run encoding e known can version 0 first items (start_position e can) (lit< tt) built held)
     ∙ sym (ap (λ (r : ReadRow). run (built_rules encoding e) r list) (start-is encoding e version))
-    ∙ starts (built_rules encoding e) list
-    ∙ ap (λ (r : Parameters). events_after r [] list None) (sym same)
+    ∙ starts (built_rules encoding e) list ∙ ap (λ (r : Parameters). events_after r [] list None) (sym same)
 
 -- the rows of a written program, where addresses hold its items and none is a tombstone
 pub rows-back : (layout : OrderAndLimit) (h : Header) (p : Built) → IsBuilt p → p.encoding.version ≤ 5
@@ -101,8 +97,7 @@ rows-back layout h p built known wide parameters written held =
         list = items_instructions p.encoding.version p.line_encoding first p.items;
         end = None;
         decoding = cut-back layout h p built wide parameters written;
-        given =
-            rows_given h.parameters p.encoding p.line_encoding p.items parameters (built.is.address_size refl)
+        given = rows_given h.parameters p.encoding p.line_encoding p.items parameters (built.is.address_size refl)
             built.is.lines known built.is.items_built held;
       },
       same_rows p.encoding.version p.line_encoding [] first p.items,

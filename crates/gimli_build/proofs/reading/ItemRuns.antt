@@ -29,8 +29,7 @@ module _ (encoding : Encoding) (e : LineEncoding) (known : IsTrue (is_address_si
       ∙ items-run (address_value a) next items (start_position e can) line built.1 held.2
   items-run base previous (Row r ∷ items) position line built held =
       row-runs encoding e _ previous r known can position built.0.0 line built.0.1 held.0
-      (items_instructions encoding.version e r items)
-      ∙ ap (λ events. row (read_row encoding.version base r) ∷ events)
+      (items_instructions encoding.version e r items) ∙ ap (λ events. row (read_row encoding.version base r) ∷ events)
       (items-run base r items built.0.0.position built.0.1 built.1 held.1)
   items-run base previous (End o i ∷ items) position line built held =
       let next : LineRow = initial_row encoding.version e.default_is_stmt in
@@ -39,6 +38,5 @@ module _ (encoding : Encoding) (e : LineEncoding) (known : IsTrue (is_address_si
       ∙ ap
       (λ r. row (read_end encoding.version base previous o i)
       ∷ run (built_rules encoding e) r (items_instructions encoding.version e next items))
-      (start-is encoding e version)
-      ∙ ap (λ events. row (read_end encoding.version base previous o i) ∷ events)
+      (start-is encoding e version) ∙ ap (λ events. row (read_end encoding.version base previous o i) ∷ events)
       (items-run 0 next items (start_position e can) (lit< tt) built.1 held.1)

@@ -31,21 +31,14 @@ none_when false i none = All-nil NoFile
 
 four_when : (a b c d : Bool) (i j k l : Ins) → NoFile i → NoFile j → NoFile k → NoFile l
     → All NoFile (when a i ++ when b j ++ when c k ++ when d l)
-four_when a b c d i j k l p q r s =
-    All-append NoFile _ _
-    (All-append NoFile _ _
+four_when a b c d i j k l p q r s = All-append NoFile _ _ (All-append NoFile _ _
     (All-append NoFile _ _ (none_when a i p) (none_when b j q)) (none_when c k r)) (none_when d l s)
 
 marks_none : (r : LineRow) → All NoFile (marks r)
-marks_none r =
-    four_when _ _ _ _
-    _ _ _ _ refl refl refl refl
+marks_none r = four_when _ _ _ _ _ _ _ _ refl refl refl refl
 
 changes_none : (version : ℕ) (previous r : LineRow) → All NoFile (changes version previous r)
-changes_none version previous r =
-    four_when _ _ _
-    _
-    _ _ _ _ refl refl refl refl
+changes_none version previous r = four_when _ _ _ _ _ _ _ _ refl refl refl refl
 
 line_none : (e : LineEncoding) (d : ℤ) → All NoFile (line_part e d)
 line_none e d = by (is_special_advance e d)
@@ -62,8 +55,7 @@ maker_none e s = by (nat_eq s (still_opcode e))
     by false = refl
 
 operation_none : (e : LineEncoding) (s n : ℕ) → All NoFile (operation_part e s n)
-operation_none e s n =
-    by (nat_le (s + n * e.line_range) 255) (nat_le (s + (n - constant_advance e) * e.line_range) 255)
+operation_none e s n = by (nat_le (s + n * e.line_range) 255) (nat_le (s + (n - constant_advance e) * e.line_range) 255)
     (row_maker e (s + n * e.line_range)) (row_maker e (s + (n - constant_advance e) * e.line_range)) (row_maker e s)
     (maker_none e (s + n * e.line_range)) (maker_none e (s + (n - constant_advance e) * e.line_range)) (maker_none e s)
   where
@@ -156,8 +148,7 @@ goes-none a b events none p =
 no_memory : (a b : RunState) → DefinesNoFile a → WantsMemory a b → ⊥
 no_memory a b none wants =
     let position = goes-none a wants.point [] none wants.passed in
-    let rest =
-    rest_decoded wants.point.unread.layout wants.point.fixed wants.point.unread.bytes wants.front wants.rest
+    let rest = rest_decoded wants.point.unread.layout wants.point.fixed wants.point.unread.bytes wants.front wants.rest
     position.list (wants.definition ∷ [])
     position.decoding wants.parts
     (wants.front, [], sym (append-nil wants.front), wants.spelled, refl) in
@@ -170,8 +161,7 @@ only_overflow : (appends : Bool) (parameters : Parameters) (r : ReadRow) (files 
     → given_of (made_from appends parameters r files list None) ≡ record { event = fault e; files = seen } ∷ rest
     → e ≡ AddressOverflow
 only_overflow appends parameters r files seen [] rest e is = absurd cc
-only_overflow appends parameters r files seen (i ∷ list) rest e is =
-    by (is_refused parameters i r) (makes_row i)
+only_overflow appends parameters r files seen (i ∷ list) rest e is = by (is_refused parameters i r) (makes_row i)
     (only_overflow appends parameters (next_registers parameters i r) (files_after appends i files) seen list rest e) is
   where
     later : List EventWithFiles

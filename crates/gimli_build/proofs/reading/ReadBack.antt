@@ -33,8 +33,7 @@ reads-back : (at : Placement) (layout : OrderAndLimit) (unit_entry : UnitEntry) 
 reads-back at layout unit_entry sections is_big unit_encoding p old_texts unit small built can are_texts are_line_texts
     short is well =
     let texts = texts_after p old_texts in
-    let h =
-    header-back at layout unit_entry sections is_big unit_encoding p old_texts unit small built can are_texts
+    let h = header-back at layout unit_entry sections is_big unit_encoding p old_texts unit small built can are_texts
     are_line_texts short is well in
     let whole = whole_written at is_big unit_encoding p old_texts unit is in
     let known = unit_known at is_big p texts unit whole in

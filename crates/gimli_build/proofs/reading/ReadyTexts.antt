@@ -48,8 +48,7 @@ within_more texts more s l (InLineStrings i) within = omega (arith, l, within)
 -- a text that was within the tables is within them once a program is written
 pub within_after : (p : Built) (texts : StringTables) (t : LineText) → IsWithin texts t
     → IsWithin (texts_after p texts) t
-within_after p texts t within =
-    grind (arith, within_more, grows)
+within_after p texts t within = grind (arith, within_more, grows)
 
 -- ---- the empty text in a form
 
@@ -73,16 +72,10 @@ empty_is form texts has has_line = by (nat_eq form 0x0e) refl (nat_eq form 0x1f)
         else (if c then InLineStrings (index_of_text texts.line_strings []) else Inline []))
     by true s c l =
         let found = empty_there texts.strings (has s) in
-        record {
-          ready = grind (arith, slice_get_within);
-          none = grind arith;
-        }
+        record { ready = grind (arith, slice_get_within); none = grind arith }
     by false s true l =
         let found = empty_there texts.line_strings (has_line l) in
-        record {
-          ready = grind (arith, slice_get_within);
-          none = grind arith;
-        }
+        record { ready = grind (arith, slice_get_within); none = grind arith }
     by false s false l = grind arith
 
 -- ---- what is read back of a program

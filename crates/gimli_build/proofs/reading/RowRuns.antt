@@ -36,8 +36,7 @@ one_operation e n p = record { address = p.address + e.minimum_instruction_lengt
 
 abbrev more_operations : LineEncoding → ℕ → OperationPointer → OperationPointer
 more_operations e n p = record {
-  address =
-      p.address
+  address = p.address
       + e.minimum_instruction_length * ((p.op_index + n) % 2 ^ 64 / e.maximum_operations_per_instruction) % 2 ^ 64;
   op_index = (p.op_index + n) % 2 ^ 64 % e.maximum_operations_per_instruction;
 }
@@ -46,8 +45,7 @@ more_operations e n p = record {
 pub record HasRoom (parameters : Parameters) (p : OperationPointer) (n : ℕ) : Type 0 where
   pub within : p.op_index < parameters.line_encoding.maximum_operations_per_instruction
   pub count : p.op_index + n < 2 ^ 64
-  pub address : p.address
-      + parameters.line_encoding.minimum_instruction_length
+  pub address : p.address + parameters.line_encoding.minimum_instruction_length
       * ((p.op_index + n) / parameters.line_encoding.maximum_operations_per_instruction)
       < address_limit parameters
   pub limit : address_limit parameters ≤ 2 ^ 64
@@ -60,16 +58,13 @@ on-ahead parameters p n room = grind (arith, nat_eq)
     by : (b : Bool) → nat_eq parameters.line_encoding.maximum_operations_per_instruction 1 ≡ b
         → (if b then one_operation parameters.line_encoding n p else more_operations parameters.line_encoding n p)
         ≡ ahead parameters.line_encoding n p
-    by true h =
-        grind (arith, nat_tests, div-one, mod-eq_of_lt)
-    by false h =
-        grind (arith, mod-eq_of_lt)
+    by true h = grind (arith, nat_tests, div-one, mod-eq_of_lt)
+    by false h = grind (arith, mod-eq_of_lt)
 
 -- an address holds it
 pub not_exceeding : (parameters : Parameters) (p : OperationPointer) (n : ℕ) → HasRoom parameters p n
     → is_too_large parameters (ahead parameters.line_encoding n p) ≡ false
-not_exceeding parameters p n room =
-    grind (arith, lt-leb)
+not_exceeding parameters p n room = grind (arith, lt-leb)
 
 -- one advance after the other
 pub ahead-ahead : (e : LineEncoding) (p : OperationPointer) (q n : ℕ) → 1 ≤ e.maximum_operations_per_instruction
@@ -83,28 +78,24 @@ ahead-ahead e p q n pk =
     ≡ (x % k + n) / k + x / k = rw split (add-mul-div_right (x % k + n) (x / k) (omega arith)) in
     let rest : (p.op_index + (q + n)) % k ≡ (x % k + n) % k = rw split (add-mul-mod_self_right (x % k + n) (x / k) k) in
     let address : p.address + m * (x / k) + m * ((x % k + n) / k)
-    ≡ p.address
-    + m
+    ≡ p.address + m
     * ((p.op_index + (q + n)) / k) = rw division (let h = mul-add m ((x % k + n) / k) (x / k) in omega (arith, h)) in
     λ j. record { address = address j; op_index = sym rest j }
 
 -- no operations
 pub ahead-none : (e : LineEncoding) (p : OperationPointer) → p.op_index < e.maximum_operations_per_instruction
     → ahead e 0 p ≡ p
-ahead-none e p lt =
-    grind (arith, add-zero, div-eq_of_lt, mod-eq_of_lt)
+ahead-none e p lt = grind (arith, add-zero, div-eq_of_lt, mod-eq_of_lt)
 
 -- fewer operations need no more room
 pub less_room : (parameters : Parameters) (p : OperationPointer) (q n : ℕ) → q ≤ n → HasRoom parameters p n
     → HasRoom parameters p q
-less_room parameters p q n le room =
-    grind (arith, div-mul-le_self, le-div, mul-le-mul_left)
+less_room parameters p q n le room = grind (arith, div-mul-le_self, le-div, mul-le-mul_left)
 
 -- the rest of the operations has its room
 pub rest_room : (parameters : Parameters) (p : OperationPointer) (q n : ℕ) → q ≤ n → HasRoom parameters p n
     → HasRoom parameters (ahead parameters.line_encoding q p) (n - q)
-rest_room parameters p q n le room =
-    grind (arith, ahead-ahead, mod-lt, mod-le)
+rest_room parameters p q n le room = grind (arith, ahead-ahead, mod-lt, mod-le)
 
 -- ---- parts of a run
 
@@ -160,8 +151,7 @@ module _ (encoding : Encoding) (e : LineEncoding) where
         prologue_end = built.prologue_end;
         epilogue_begin = built.epilogue_begin;
       })
-  goes-marks r built d0 b0 p0 e0 =
-      grind (arith, nat_eq, keep, same_from_test, goes_then)
+  goes-marks r built d0 b0 p0 e0 = grind (arith, nat_eq, keep, same_from_test, goes_then)
 
   -- what lasts from row to row
   goes-changes : (r : ReadRow) (version : ℕ) (previous built : LineRow) → r.is_stmt ≡ previous.is_statement
@@ -169,12 +159,7 @@ module _ (encoding : Encoding) (e : LineEncoding) where
       → r.column ≡ previous.column → r.isa ≡ previous.isa
       → Goes r (changes version previous built)
       (record
-      r {
-        is_stmt = built.is_statement;
-        file = file_number version built.file;
-        column = built.column;
-        isa = built.isa;
-      })
+      r { is_stmt = built.is_statement; file = file_number version built.file; column = built.column; isa = built.isa })
   goes-changes r version previous built hs hf hc hi =
       grind (arith, nat_eq, keep, turned, stays, same_from_test, goes_then)
 
@@ -186,16 +171,14 @@ module _ (encoding : Encoding) (e : LineEncoding) where
 
   goes-constant : (r : ReadRow) → r.tombstone ≡ false → HasRoom parameters (pointer_of r) (constant_advance e)
       → Goes r (ConstAddPc ∷ []) (moved_on e (constant_advance e) r)
-  goes-constant r shown room list =
-      grind (arith, on-ahead, not_exceeding)
+  goes-constant r shown room list = grind (arith, on-ahead, not_exceeding)
 
   -- a special opcode of this line advance above the base, and of so many operations
   makes-special : (r : ReadRow) (u n : ℕ) → 1 ≤ e.line_range → u < e.line_range → r.tombstone ≡ false
       → HasRoom parameters (pointer_of r) n
       → Makes r (Special (13 + u + n * e.line_range) ∷ [])
       (record (moved_on e n r) { line = advanced_line (e.line_base +ℤ pos u) r.line })
-  makes-special r u n some lt shown room list =
-      grind (arith, special_parts, on-ahead, not_exceeding)
+  makes-special r u n some lt shown room list = grind (arith, special_parts, on-ahead, not_exceeding)
 
   -- the line after the advance to another line
   advance_to : (l to : ℕ) (z : ℤ) → pos to ≡ pos l +ℤ z → to < 2 ^ 64 → advanced_line z l ≡ to
@@ -245,8 +228,7 @@ module _ (encoding : Encoding) (e : LineEncoding) where
       by : (b : Bool) → nat_le (13 + u + n * e.line_range) 255 ≡ b → (c : Bool)
           → run parameters r ((if b then row_maker e (13 + u + n * e.line_range) ∷ []
           else (if c then ConstAddPc ∷ row_maker e (13 + u + (n - constant_advance e) * e.line_range) ∷ []
-          else AdvancePc n ∷ row_maker e (13 + u) ∷ []))
-          ++ list)
+          else AdvancePc n ∷ row_maker e (13 + u) ∷ [])) ++ list)
           ≡ row (made u n r) ∷ run parameters (reset_row parameters (made u n r)) list
       by true h c = makes-row r u n can lt shown small room list
       by false h true =
@@ -257,8 +239,7 @@ module _ (encoding : Encoding) (e : LineEncoding) where
           let enough : q ≤ n = enough_of g u n q some lt over (div-mul-le_self 242 g) in
           let back : q + (n - q) ≡ n = omega arith in
           let there : ahead e (n - q) (ahead e q (pointer_of r))
-          ≡ ahead e n (pointer_of r) = ahead-ahead e _ q _ can.operations
-          ∙ ap (λ x. ahead e x (pointer_of r)) back in
+          ≡ ahead e n (pointer_of r) = ahead-ahead e _ q _ can.operations ∙ ap (λ x. ahead e x (pointer_of r)) back in
           let s : ReadRow = moved_on e q r in
           let same : made u (n - q) s ≡ made u n r = λ j.
           record (at_pointer (there j) r) { line = advanced_line (e.line_base +ℤ pos u) r.line } in
@@ -290,8 +271,7 @@ module _ (encoding : Encoding) (e : LineEncoding) where
       by : (b : Bool) → is_special_advance e d ≡ b
           → run parameters r
           (((if b then [] else AdvanceLine d ∷ [])
-          ++ operation_part e (if b then 13 + unsigned_abs (d -ℤ e.line_base) else still_opcode e) n)
-          ++ list)
+          ++ operation_part e (if b then 13 + unsigned_abs (d -ℤ e.line_base) else still_opcode e) n) ++ list)
           ≡ row (record (moved_on e n r) { line = to })
           ∷ run parameters (reset_row parameters (record (moved_on e n r) { line = to })) list
       by true t =
@@ -326,8 +306,7 @@ module _ (encoding : Encoding) (e : LineEncoding) where
 
   -- addresses have at most eight bytes
   limit_small : IsTrue (is_address_size encoding.address_size) → address_limit parameters ≤ 2 ^ 64
-  limit_small known =
-      grind (arith, nat_tests, pow-le-pow_right)
+  limit_small known = grind (arith, nat_tests, pow-le-pow_right)
 
   -- where the operations to a position that can follow lead
   record Reaches (base p j o i : ℕ) : Type 0 where
@@ -392,8 +371,7 @@ module _ (encoding : Encoding) (e : LineEncoding) where
       let apart : pos built.line ≡ pos previous.line +ℤ d = omega (arith, ints) in
       let ends = reaches _ _ _ _ _ known can position follows held in
       let s3 = makes-move _ d n _ can refl (omega arith) (omega arith) apart ends.room in
-      let s4 : Makes r2 (line_part e d ++ operation_part e (line_opcode e d) n) (read_row version base built) =
-      λ list.
+      let s4 : Makes r2 (line_part e d ++ operation_part e (line_opcode e d) n) (read_row version base built) = λ list.
       s3 list
       ∙ ap
       (λ p. row (record (at_pointer p r2) { line = built.line })
@@ -403,8 +381,7 @@ module _ (encoding : Encoding) (e : LineEncoding) where
       λ list.
       ap (λ is. run parameters r0 (is ++ list))
       (append_assoc (marks built ++ changes version previous built) (line_part e d)
-      (operation_part e (line_opcode e d) n))
-      ∙ makes_then r0 _ _ (marks built ++ changes version previous built)
+      (operation_part e (line_opcode e d) n)) ∙ makes_then r0 _ _ (marks built ++ changes version previous built)
       (line_part e d ++ operation_part e (line_opcode e d) n)
       s12 s4 list
 
@@ -433,8 +410,7 @@ module _ (encoding : Encoding) (e : LineEncoding) where
       → a < 2 ^ (8 * encoding.address_size) - 2
       → Goes (registers_after_row encoding.version base previous) (SetAddress a ∷ [])
       (registers_after_row encoding.version a (record previous { address_offset = 0; op_index = 0 }))
-  set-address-runs base a previous le lt list =
-      grind (arith, nat_lt, le-ltb, nat_le, lt-leb, add-zero)
+  set-address-runs base a previous le lt list = grind (arith, nat_lt, le-ltb, nat_le, lt-leb, add-zero)
 
   -- a sequence starts after its initial row
   pub start-is : encoding.version ≤ 5
@@ -445,7 +421,5 @@ module _ (encoding : Encoding) (e : LineEncoding) where
           → initial parameters
           ≡ registers_after_row encoding.version 0
           (record (initial_row encoding.version e.default_is_stmt) { file = if b then 1 else 0 })
-      by true h =
-          grind (arith, nat_le, lt-leb, nat_tests)
-      by false h =
-          grind (arith, nat_le, le-leb, nat_tests)
+      by true h = grind (arith, nat_le, lt-leb, nat_tests)
+      by false h = grind (arith, nat_le, le-leb, nat_tests)

@@ -22,8 +22,7 @@ use Rattle.gimli_build.proofs.spellings.Version5TableSpellings.{new-files-back}
 
 -- the directories from index 0 on: up to version 4 the one that was handed is the first
 abbrev from_zero : Built → UnitEntry → List Value → List Value
-from_zero p unit_entry directories =
-    if nat_le p.encoding.version 4
+from_zero p unit_entry directories = if nat_le p.encoding.version 4
     then option_to_list (option_map String (handed_value p.encoding unit_entry.directory)) ++ directories
     else directories
 
@@ -46,8 +45,7 @@ pub record TablesBack (layout : OrderAndLimit) (unit_entry : UnitEntry) (section
   pub directory_formats_are : nat_le p.encoding.version 4 ≡ false
       → directory_formats ≡ map read_format (formats_of_directories p)
   pub file_formats_are : nat_le p.encoding.version 4 ≡ false → file_formats ≡ map read_format (formats_of_files p)
-  pub directories_spelled : (directory_table layout p.encoding).Spells directory_bytes
-      (directory_formats, directories)
+  pub directories_spelled : (directory_table layout p.encoding).Spells directory_bytes (directory_formats, directories)
   pub files_spelled : (file_table layout p.encoding).Spells file_bytes (file_formats, files)
   pub directories_back : OneByOne (IsDirectory sections texts) (from_zero p unit_entry directories) p.directories
   pub files_back : OneByOne (IsFile sections p texts) files p.files
@@ -79,8 +77,7 @@ module _ (sections : Sections) (texts : StringTables) where
 
   file_back : (p : Built) (f : File) → nat_le p.encoding.version 4 ≡ true
       → IsFile sections p texts (read_file texts f) f
-  file_back p f old =
-      grind (arith, stored_old)
+  file_back p f old = grind (arith, stored_old)
 
   files_back : (p : Built) (fs : List File) → nat_le p.encoding.version 4 ≡ true
       → OneByOne (IsFile sections p texts) (map (read_file texts) fs) fs
@@ -95,8 +92,7 @@ module _ (at : Placement) (layout : OrderAndLimit) (unit_entry : UnitEntry) (sec
         ([], map String (map (bytes_in texts) (drop 1 p.directories)))
     old_directories_spelled bytes is =
         let clean = All-drop HasNoZero 1 _ built.tables.directories_end in
-        let spelled =
-        directories-spelled texts p.directories _
+        let spelled = directories-spelled texts p.directories _
         (built.is.directories_not_empty (leb-true p.encoding.version 4 old)) clean is in
         first-chosen _ _ _ _ _ old
         (map (bytes_in texts) (drop 1 p.directories), bytes, [], sym (append-nil bytes), spelled, (refl, refl))
@@ -165,8 +161,7 @@ module _ (at : Placement) (layout : OrderAndLimit) (unit_entry : UnitEntry) (sec
 
     new_back : OneByOne (IsDirectory sections texts)
         (from_zero p unit_entry (map path_of (map (directory_entry at texts) p.directories))) p.directories
-    new_back =
-        rw new (new-directories-back at sections p texts are_texts are_line_texts _ ready.directories
+    new_back = rw new (new-directories-back at sections p texts are_texts are_line_texts _ ready.directories
         found.directories)
 
     new_tables : (bytes : List ℕ) → length bytes < 2 ^ 64
@@ -175,8 +170,7 @@ module _ (at : Placement) (layout : OrderAndLimit) (unit_entry : UnitEntry) (sec
         ≡ Ok bytes
         → TablesBack layout unit_entry sections p texts bytes
     new_tables bytes small is =
-        let b =
-        both_written (directory_table_bytes (counted at) layout.is_big p.encoding.format texts p)
+        let b = both_written (directory_table_bytes (counted at) layout.is_big p.encoding.format texts p)
         (file_table_bytes (counted at) layout.is_big p.encoding.format texts p) bytes
         is in
         let whole = ap length b.whole ∙ length-append b.first b.rest in
@@ -193,8 +187,7 @@ module _ (at : Placement) (layout : OrderAndLimit) (unit_entry : UnitEntry) (sec
           directories_spelled = new_directories_spelled b.first b.first_is (omega (arith, whole, small));
           files_spelled = new_files_spelled b.rest b.rest_is (omega (arith, whole, small));
           directories_back = new_back;
-          files_back =
-              new-files-back at sections p texts are_texts are_line_texts p.files new ready.files found.files;
+          files_back = new-files-back at sections p texts are_texts are_line_texts p.files new ready.files found.files;
         }
 
   -- ---- any version

@@ -35,8 +35,7 @@ pub whole_written : (at : Placement) (is_big : Bool) (unit_encoding : Encoding) 
     (unit : List ℕ)
     → unit_bytes (counted at) is_big unit_encoding p old_texts ≡ Ok unit
     → whole_bytes (counted at) is_big p (texts_after p old_texts) ≡ Ok unit
-whole_written at is_big unit_encoding p old_texts unit is =
-    by _ _ is
+whole_written at is_big unit_encoding p old_texts unit is = by _ _ is
   where
     by : (b : Bool) (r : Result (List ℕ) Error)
         → (let s : Result (List ℕ) Error = if b then Err IncompatibleLineProgramEncoding else r in s) ≡ Ok unit
@@ -56,12 +55,10 @@ module _ (at : Placement) (layout : OrderAndLimit) (unit_entry : UnitEntry) (sec
       let inside = inside-short (counted at) layout.is_big p texts unit w in
       let fields = fields-short (counted at) layout.is_big p texts unit w in
       let tables = tables-short (counted at) layout.is_big p texts w.fields v in
-      let t =
-      tables-back at layout unit_entry sections p texts built v.tables well
+      let t = tables-back at layout unit_entry sections p texts built v.tables well
       (omega (arith, inside, fields, tables, small)) v.tables_are in
       record {
-        header =
-            header_of (counted at) layout unit_entry sections p texts built v.tables t (length w.inside)
+        header = header_of (counted at) layout unit_entry sections p texts built v.tables t (length w.inside)
             (length w.fields) w.program;
         is_unit = unit-is (counted at) layout unit_entry sections p texts built unit w v t same holds small;
         parameters = refl;

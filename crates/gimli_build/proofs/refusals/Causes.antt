@@ -49,16 +49,13 @@ opening-refusal : (is_big : Bool) (encoding : Encoding)
     ≡ cause_if (not (nat_le 2 encoding.version && nat_le encoding.version 5)) (UnsupportedVersion encoding.version)
 opening-refusal is_big encoding =
     let version = encoding.version in
-    joined-refusal _ _
-    ∙ first_before_none _
-    ∙ tested-refusal _ _ _
+    joined-refusal _ _ ∙ first_before_none _ ∙ tested-refusal _ _ _
 
 -- ---- what the header length counts
 
 operations-refusal : (version operations : ℕ)
     → refusal (operations_bytes version operations) ≡ operations_cause version operations
-operations-refusal version operations =
-    by _ _
+operations-refusal version operations = by _ _
     ∙ ap (λ b. cause_if (b && not (nat_eq operations 1)) (NeedVersion 4)) (sym below)
   where
     by : (fourth one : Bool)
@@ -81,8 +78,7 @@ line_encoding-refusal version e =
     let operations = operations_bytes version e.maximum_operations_per_instruction in
     let numbers = flag_byte e.default_is_stmt ∷ base_byte e.line_base ∷ e.line_range ∷ [] in
     joined-refusal (Ok (e.minimum_instruction_length ∷ [])) (result_append operations (Ok numbers))
-    ∙ joined-refusal operations (Ok numbers)
-    ∙ first_before_none _
+    ∙ joined-refusal operations (Ok numbers) ∙ first_before_none _
     ∙ operations-refusal version e.maximum_operations_per_instruction
 
 -- ---- items
@@ -96,9 +92,7 @@ item-refusal : (is_big : Bool) (encoding : Encoding) (e : LineEncoding) (previou
     → IsTrue (is_address_size encoding.address_size)
     → (item : BuiltItem)
     → refusal (item_bytes plain is_big encoding e previous item) ≡ item_cause encoding.address_size item
-item-refusal is_big encoding e previous known (SetAddress (Constant a)) =
-    seen-refusal _ _
-    ∙ address-refusal _ a _ known
+item-refusal is_big encoding e previous known (SetAddress (Constant a)) = seen-refusal _ _ ∙ address-refusal _ a _ known
 item-refusal is_big encoding e previous known (SetAddress (Symbol symbol addend)) = refl
 item-refusal is_big encoding e previous known (Row r) = refl
 item-refusal is_big encoding e previous known (End offset op_index) = refl
@@ -112,8 +106,7 @@ items-refusal is_big encoding e known previous [] = refl
 items-refusal is_big encoding e known previous (item ∷ items) =
     let size = encoding.address_size in
     let next = next_previous encoding.version e.default_is_stmt previous item in
-    joined-refusal _ _
-    ∙ ap (λ c. or_first c (refusal (items_bytes plain is_big encoding e next items)))
+    joined-refusal _ _ ∙ ap (λ c. or_first c (refusal (items_bytes plain is_big encoding e next items)))
     (item-refusal is_big encoding e previous known item)
     ∙ ap (λ c. or_first (item_cause size item) c) (items-refusal is_big encoding e known next items)
     ∙ sym (first_apart (item_cause size item) (map (item_cause size) items))
@@ -157,8 +150,7 @@ module _ (is_big : Bool) (p : Built) (texts : StringTables) where
         joined-refusal (opening_bytes is_big p.encoding) rest
         ∙ ap (λ (c : Option Error). or_first c (refusal rest)) (opening-refusal is_big p.encoding)
         ∙ ap (λ (c : Option Error). or_first (version_cause p) c)
-        (joined-refusal header program
-        ∙ ap (λ (c : Option Error). or_first c (refusal program)) header-refusal
+        (joined-refusal header program ∙ ap (λ (c : Option Error). or_first c (refusal program)) header-refusal
         ∙ ap (λ (c : Option Error). or_first first_causes c)
         (items-refusal is_big p.encoding p.line_encoding known first p.items))
 
@@ -182,8 +174,7 @@ cause-is is_big unit p texts known =
     let bar = cause_if barred IncompatibleLineProgramEncoding in
     let after = texts_after p texts in
     seven_causes bar (version_cause p) (encoding_cause p) (texts_cause p after) (header_cause p after) (items_cause p)
-    (unit_cause is_big p after)
-    ∙ ap (λ (c : Option Error). or_first bar c) (sym (whole-refusal is_big p after known))
+    (unit_cause is_big p after) ∙ ap (λ (c : Option Error). or_first bar c) (sym (whole-refusal is_big p after known))
     ∙ sym (barred-refusal barred IncompatibleLineProgramEncoding (whole_bytes plain is_big p after))
 
 -- ---- what a call knows

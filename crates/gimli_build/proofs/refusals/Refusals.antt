@@ -40,16 +40,13 @@ causes_append cause [] ys = refl
 causes_append cause (x ∷ xs) ys =
     let first = first_of (map cause xs) in
     let last = first_of (map cause ys) in
-    first_apart (cause x) (map cause (xs ++ ys))
-    ∙ ap (λ c. or_first (cause x) c) (causes_append cause xs ys)
-    ∙ sym (or_first_apart (cause x) first last)
-    ∙ ap (λ c. or_first c last) (sym (first_apart (cause x) (map cause xs)))
+    first_apart (cause x) (map cause (xs ++ ys)) ∙ ap (λ c. or_first (cause x) c) (causes_append cause xs ys)
+    ∙ sym (or_first_apart (cause x) first last) ∙ ap (λ c. or_first c last) (sym (first_apart (cause x) (map cause xs)))
 
 pub causes_map : {A B : Type 0} (cause : B → Option Error) (f : A → B) (xs : List A)
     → first_of (map cause (map f xs)) ≡ first_of (map (λ (x : A). cause (f x)) xs)
 causes_map cause f [] = refl
-causes_map {A = A} cause f (x ∷ xs) =
-    first_apart (cause (f x)) (map cause (map f xs))
+causes_map {A = A} cause f (x ∷ xs) = first_apart (cause (f x)) (map cause (map f xs))
     ∙ ap (λ c. or_first (cause (f x)) c) (causes_map cause f xs)
     ∙ sym (first_apart (cause (f x)) (map (λ (y : A). cause (f y)) xs))
 
@@ -58,8 +55,7 @@ pub causes_flat : {A B : Type 0} (cause : B → Option Error) (f : A → List B)
 causes_flat cause f [] = refl
 causes_flat {A = A} cause f (x ∷ xs) =
     let first = first_of (map cause (f x)) in
-    causes_append cause (f x) (flat_map f xs)
-    ∙ ap (λ c. or_first first c) (causes_flat cause f xs)
+    causes_append cause (f x) (flat_map f xs) ∙ ap (λ c. or_first first c) (causes_flat cause f xs)
     ∙ sym (first_apart first (map (λ (y : A). first_of (map cause (f y))) xs))
 
 -- ---- refusals
@@ -74,18 +70,15 @@ pub parts-refusal : {A : Type 0} (part : A → Result (List ℕ) Error) (cause :
     → ((x : A) → refusal (part x) ≡ cause x)
     → (xs : List A) → refusal (result_concat part xs) ≡ first_of (map cause xs)
 parts-refusal part cause each [] = refl
-parts-refusal part cause each (x ∷ xs) =
-    joined-refusal _ _
+parts-refusal part cause each (x ∷ xs) = joined-refusal _ _
     ∙ ap (λ c. or_first c (refusal (result_concat part xs))) (each x)
-    ∙ ap (λ c. or_first (cause x) c) (parts-refusal part cause each xs)
-    ∙ sym (first_apart (cause x) (map cause xs))
+    ∙ ap (λ c. or_first (cause x) c) (parts-refusal part cause each xs) ∙ sym (first_apart (cause x) (map cause xs))
 
 -- a length is refused where nothing before it is
 pub after-refusal : (length_of : ℕ → Result (List ℕ) Error) (counted : Result (List ℕ) Error) (cause : Option Error)
     → ((bytes : List ℕ) → counted ≡ Ok bytes → refusal (length_of (length bytes)) ≡ cause)
     → refusal (after_length length_of counted) ≡ or_first (refusal counted) cause
-after-refusal length_of (Ok bytes) cause refused =
-    grind (arith, joined-refusal, first_before_none)
+after-refusal length_of (Ok bytes) cause refused = grind (arith, joined-refusal, first_before_none)
 after-refusal length_of (Err e) cause refused = refl
 
 -- bytes that are written where a test holds
@@ -127,23 +120,20 @@ not_below m n = grind (arith, nat_le)
 -- the word of a header length or an offset
 pub word-refusal : (is_big : Bool) (format : Format) (n : ℕ)
     → refusal (format_word is_big format n) ≡ word_cause format n
-word-refusal is_big Dwarf32 n =
-    grind (arith, tested-refusal, not_below)
+word-refusal is_big Dwarf32 n = grind (arith, tested-refusal, not_below)
 word-refusal is_big Dwarf64 n = refl
 
 -- the word of a unit length
 pub length-refusal : (is_big : Bool) (format : Format) (n : ℕ)
     → refusal (length_word is_big format n) ≡ unit_length_cause format n
-length-refusal is_big Dwarf32 n =
-    grind (arith, not_below, nat_le)
+length-refusal is_big Dwarf32 n = grind (arith, not_below, nat_le)
   where
     by : (keeps_bytes held : Bool) → nat_lt n 0xffff_fff0 ≡ keeps_bytes → nat_lt n (2 ^ 32) ≡ held
         → refusal (if keeps_bytes then Ok (number_bytes is_big 4 n)
         else (if held then Err InitialLengthOverflow else Err ValueTooLarge))
         ≡ first_of (cause_if (not held) ValueTooLarge ∷ cause_if (not keeps_bytes) InitialLengthOverflow ∷ [])
     by true true h k = refl
-    by true false h k =
-        grind (arith, ltb-true, ltb-false)
+    by true false h k = grind (arith, ltb-true, ltb-false)
     by false true h k = refl
     by false false h k = refl
 length-refusal is_big Dwarf64 n = refl
@@ -158,5 +148,4 @@ known_size false false false four eight h = h
 
 pub address-refusal : (is_big : Bool) (a size : ℕ) → IsTrue (is_address_size size)
     → refusal (udata is_big a size) ≡ cause_if (nat_le (256 ^ size) a) ValueTooLarge
-address-refusal is_big a size known =
-    grind (arith, known_size, nat_eq, tested-refusal, not_below)
+address-refusal is_big a size known = grind (arith, known_size, nat_eq, tested-refusal, not_below)

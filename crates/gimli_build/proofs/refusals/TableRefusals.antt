@@ -31,22 +31,14 @@ module _ (format : Format) (texts : StringTables) where
 
   directories-refusal : (directories : List LineText)
       → refusal (directories_bytes directories) ≡ first_of (map name_cause (drop 1 directories))
-  directories-refusal directories =
-      joined-refusal _ _
-      ∙ first_before_none _
+  directories-refusal directories = joined-refusal _ _ ∙ first_before_none _
       ∙ parts-refusal _ _ name-refusal (drop 1 directories)
 
   file-refusal : (f : File) → refusal (file_bytes f) ≡ name_cause f.0.0
-  file-refusal f =
-      joined-refusal _ _
-      ∙ first_before_none _
-      ∙ name-refusal _
+  file-refusal f = joined-refusal _ _ ∙ first_before_none _ ∙ name-refusal _
 
   files-refusal : (files : List File) → refusal (files_bytes files) ≡ first_of (map name_cause (path_texts files))
-  files-refusal files =
-      joined-refusal _ _
-      ∙ first_before_none _
-      ∙ parts-refusal _ _ file-refusal files
+  files-refusal files = joined-refusal _ _ ∙ first_before_none _ ∙ parts-refusal _ _ file-refusal files
       ∙ sym (causes_map name_cause (λ (f : File). f.0.0) files)
 
   old-refusal : (directories : List LineText) (files : List File)
@@ -55,8 +47,7 @@ module _ (format : Format) (texts : StringTables) where
   old-refusal directories files =
       let named = drop 1 directories in
       let paths = path_texts files in
-      joined-refusal _ _
-      ∙ ap (λ c. or_first c (refusal (files_bytes files))) (directories-refusal directories)
+      joined-refusal _ _ ∙ ap (λ c. or_first c (refusal (files_bytes files))) (directories-refusal directories)
       ∙ ap (λ c. or_first (first_of (map name_cause named)) c) (files-refusal files)
       ∙ sym (causes_append name_cause named paths)
       ∙ sym (causes_map cause_of (λ (t : LineText). (0x08, t)) (named ++ paths))
@@ -137,8 +128,7 @@ module _ (is_big : Bool) (p : Built) (texts : StringTables) where
       let own = file_texts p texts in
       after-refusal (formats_bytes (file_formats p) ++ uleb (length p.files)) _
       _
-      (parts-refusal _ _ entry-refusal _
-      ∙ sym (causes_flat own_cause own p.files))
+      (parts-refusal _ _ entry-refusal _ ∙ sym (causes_flat own_cause own p.files))
 
   new-refusal : refusal (result_append (directory_table_bytes plain is_big p.encoding.format texts p)
       (file_table_bytes plain is_big p.encoding.format texts p))
@@ -149,8 +139,7 @@ module _ (is_big : Bool) (p : Built) (texts : StringTables) where
       let files = file_table_bytes plain is_big p.encoding.format texts p in
       let named = map (λ (t : LineText). (first_form p.directories, t)) p.directories in
       let filed = flat_map (file_texts p texts) p.files in
-      joined-refusal directories files
-      ∙ ap (λ (c : Option Error). or_first c (refusal files)) directory_table-refusal
+      joined-refusal directories files ∙ ap (λ (c : Option Error). or_first c (refusal files)) directory_table-refusal
       ∙ ap (λ (c : Option Error). or_first (first_of (map own_cause named)) c) file_table-refusal
       ∙ sym (causes_append own_cause named filed)
 

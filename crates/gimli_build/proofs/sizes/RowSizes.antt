@@ -19,8 +19,7 @@ when_short true i = lit≤ tt
 when_short false i = lit≤ tt
 
 four_short : (a b c d : Bool) (i j k l : Ins) → length (when a i ++ when b j ++ when c k ++ when d l) ≤ 4
-four_short a b c d i j k l =
-    grind (arith, length-append, when_short)
+four_short a b c d i j k l = grind (arith, length-append, when_short)
 
 line_short : (e : LineEncoding) (d : ℤ) → length (line_part e d) ≤ 1
 line_short e d = grind arith
@@ -30,8 +29,7 @@ line_short e d = grind arith
     by false = lit≤ tt
 
 operations_short : (e : LineEncoding) (s n : ℕ) → length (operation_part e s n) ≤ 2
-operations_short e s n =
-    grind (arith, nat_le)
+operations_short e s n = grind (arith, nat_le)
   where
     by : (b c : Bool) → length {A = Ins} (if b then row_maker e (s + n * e.line_range) ∷ []
         else (if c then ConstAddPc ∷ row_maker e (s + (n - constant_advance e) * e.line_range) ∷ []
@@ -44,8 +42,7 @@ operations_short e s n =
 -- eleven at most
 pub row_short : (version : ℕ) (e : LineEncoding) (previous built : LineRow)
     → length (row_instructions version e previous built) ≤ 11
-row_short version e previous built =
-    grind (arith, pos, four_short, nat_eq, line_short, operations_short, length-append)
+row_short version e previous built = grind (arith, pos, four_short, nat_eq, line_short, operations_short, length-append)
 
 -- ---- bytes
 
@@ -59,8 +56,7 @@ not_turned false b h = rw (← h) refl
 -- a row that only moves says nothing outright
 silent : (version : ℕ) (previous built : LineRow) → OnlyMoves previous built
     → marks built ++ changes version previous built ≡ []
-silent version previous built only =
-    grind (arith, not_due, not_turned)
+silent version previous built only = grind (arith, not_due, not_turned)
 
 maker_bytes : (e : LineEncoding) (s : ℕ) → length (instruction_bytes (row_maker e s)) ≡ 1
 maker_bytes e s = grind (arith, nat_eq)
@@ -81,13 +77,11 @@ some_same x y e = cc
 
 parts_of : (encoding : Encoding) (e : LineEncoding) (d : ℤ) (n : ℕ) → CanEncode e
     → HasSpecial (built_rules encoding e) d n → Parts e d n
-parts_of encoding e d n can has =
-    grind (arith, ints, pos, some_same, div-add-mod', mod-lt)
+parts_of encoding e d n can has = grind (arith, ints, pos, some_same, div-add-mod', mod-lt)
 
 -- what is due for the line
 special_line : (e : LineEncoding) (d : ℤ) (n : ℕ) (p : Parts e d n) → is_special_advance e d ≡ true
-special_line e d n p =
-    grind (arith, ints, pos)
+special_line e d n p = grind (arith, ints, pos)
 
 -- the bytes of a row that only moves, where special opcodes have its line advance
 module _ (encoding : Encoding) (e : LineEncoding) (previous built : LineRow) (can : CanEncode e)
@@ -101,8 +95,7 @@ module _ (encoding : Encoding) (e : LineEncoding) (previous built : LineRow) (ca
   -- what is left of the row's instructions
   left : (u : ℕ) → is_special_advance e advance ≡ true → u ≡ unsigned_abs (advance -ℤ e.line_base)
       → row_instructions encoding.version e previous built ≡ operation_part e (13 + u) count
-  left u t same =
-      grind (arith, silent)
+  left u t same = grind (arith, silent)
 
   -- the line advance above the base
   above_is : (n : ℕ) (p : Parts e advance n) → p.above ≡ unsigned_abs (advance -ℤ e.line_base)
@@ -142,5 +135,4 @@ module _ (encoding : Encoding) (e : LineEncoding) (previous built : LineRow) (ca
           else AdvancePc count ∷ row_maker e (13 + u) ∷ [])))
           ≤ 2
       by u room true = grind arith
-      by u room false =
-          grind arith
+      by u room false = grind arith

@@ -8,20 +8,18 @@ use Rattle.std.proofs.lemmas.Nat.{div-add-mod', le-div}
 
 -- two multiples of m that differ are at least m apart
 apart_by : (m p o : ℕ) → p % m ≡ 0 → o % m ≡ 0 → p < o → m ≤ o - p
-apart_by m p o hp ho lt =
-    grind (arith, div-add-mod', cases_lt, mul-le-mul_right)
+apart_by m p o hp ho lt = grind (arith, div-add-mod', cases_lt, mul-le-mul_right)
 
 -- the operations from a position to a later one aren't fewer than those of the first in its own instruction
 pub operations_above : (m k p j o i : ℕ) → 0 < m → p % m ≡ 0 → o % m ≡ 0 → p ≤ o → (o ≡ p → j ≤ i) → j < k
     → j ≤ (o - p) / m * k + i
-operations_above m k p j o i pm hp ho le same jk =
-    elim (cases_lt p o) [
-      | inl below ↦
-          (let h0 = apart_by m p o hp ho below in
-          let one : 1 ≤ (o - p) / m = le-div 1 _ m pm (omega (arith, h0)) in
-          let h : 1 * k ≤ (o - p) / m * k = mul-le-mul_right k one in omega (arith, h))
-      | inr above ↦ (let h = same (omega arith) in omega (arith, h))
-    ]
+operations_above m k p j o i pm hp ho le same jk = elim (cases_lt p o) [
+  | inl below ↦
+      (let h0 = apart_by m p o hp ho below in
+      let one : 1 ≤ (o - p) / m = le-div 1 _ m pm (omega (arith, h0)) in
+      let h : 1 * k ≤ (o - p) / m * k = mul-le-mul_right k one in omega (arith, h))
+  | inr above ↦ (let h = same (omega arith) in omega (arith, h))
+]
 
 -- whole instructions between two positions
 pub whole_steps : (m p o : ℕ) → 1 ≤ m → p % m ≡ 0 → o % m ≡ 0 → p ≤ o → m * ((o - p) / m) + p ≡ o
@@ -40,18 +38,15 @@ whole_steps m p o pm hp ho le =
 
 -- the operations of whole instructions and a part of one, taken apart again
 pub taken_apart : (k t i : ℕ) → i < k → ((t * k + i) / k ≡ t) × ((t * k + i) % k ≡ i)
-taken_apart k t i lt =
-    grind (arith, add-mul-div_right, div-eq_of_lt, add-mul-mod_self_right, mod-eq_of_lt)
+taken_apart k t i lt = grind (arith, add-mul-div_right, div-eq_of_lt, add-mul-mod_self_right, mod-eq_of_lt)
 
 -- a special opcode by its parts
 pub special_parts : (g u n : ℕ) → 1 ≤ g → u < g → ((13 + u + n * g - 13) % g ≡ u) × ((13 + u + n * g - 13) / g ≡ n)
-special_parts g u n pg lt =
-    grind (arith, add-mul-mod_self_right, mod-eq_of_lt, add-mul-div_right, div-eq_of_lt)
+special_parts g u n pg lt = grind (arith, add-mul-mod_self_right, mod-eq_of_lt, add-mul-div_right, div-eq_of_lt)
 
 -- where one special opcode doesn't do, there are as many operations as const_add_pc has
 pub enough_of : (g u n q : ℕ) → 1 ≤ g → u < g → 255 < 13 + u + n * g → q * g ≤ 242 → q ≤ n
-enough_of g u n q pg lt over le =
-    grind (arith, cases_lt, mul-le-mul_right, add-mul)
+enough_of g u n q pg lt over le = grind (arith, cases_lt, mul-le-mul_right, add-mul)
 
 -- the special opcode that advances nothing is no sum of a line advance and operations
 pub none_of : (n u g b : ℕ) → u + n * g ≡ b → b < g → n ≡ 0

@@ -40,16 +40,14 @@ size_either false first second m n one other = other
 
 pub size_joined : (first rest : Result (List ℕ) Error) (m n : ℕ) → HasSize first m → HasSize rest n
     → HasSize (result_append first rest) (m + n)
-size_joined (Ok a) (Ok b) m n first rest bytes is =
-    grind (arith, length-append)
+size_joined (Ok a) (Ok b) m n first rest bytes is = grind (arith, length-append)
 size_joined (Ok a) (Err e) m n first rest bytes is = absurd cc
 size_joined (Err e) written m n first rest bytes is = absurd cc
 
 pub size_parts : {A : Type 0} (part : A → Result (List ℕ) Error) (size : A → ℕ) → ((x : A) → HasSize (part x) (size x))
     → (xs : List A) → HasSize (result_concat part xs) (sum_by size xs)
 size_parts part size each [] = size_of_ok _
-size_parts part size each (x ∷ xs) =
-    size_as _ _ _ (sym (sum_by-cons size x xs))
+size_parts part size each (x ∷ xs) = size_as _ _ _ (sym (sum_by-cons size x xs))
     (size_joined _ _ _ _ (each x) (size_parts part size each xs))
 
 pub size_after : (length_of : ℕ → Result (List ℕ) Error) (counted : Result (List ℕ) Error) (m n : ℕ)
@@ -63,31 +61,25 @@ size_after length_of (Err e) m n before counted = size_of_none e _
 -- a word of a format
 pub format_word_size : (is_big : Bool) (format : Format) (n : ℕ)
     → HasSize (format_word is_big format n) (word_size format)
-format_word_size is_big Dwarf32 n =
-    size_as _ _ 4 (length-number _ 4 n)
-    (size_tested _ _ _)
-format_word_size is_big Dwarf64 n =
-    size_as _ _ 8 (length-number _ 8 n) (size_of_ok _)
+format_word_size is_big Dwarf32 n = size_as _ _ 4 (length-number _ 4 n) (size_tested _ _ _)
+format_word_size is_big Dwarf64 n = size_as _ _ 8 (length-number _ 8 n) (size_of_ok _)
 
 -- ---- how many bytes a unit is, where it is written
 
 -- ---- up to version 4
 
 name_size : (format : Format) (t : LineText) → HasSize (name_bytes t) (text_size format t)
-name_size format (Inline text) =
-    grind (arith, size_as, length-append, size_of_ok)
+name_size format (Inline text) = grind (arith, size_as, length-append, size_of_ok)
 name_size format (InStrings i) = size_of_none _ _
 name_size format (InLineStrings i) = size_of_none _ _
 
 directories_size : (format : Format) (directories : List LineText)
     → HasSize (directories_bytes directories) (sum_by (text_size format) (drop 1 directories) + 1)
-directories_size format directories =
-    size_joined _ _ _ 1
+directories_size format directories = size_joined _ _ _ 1
     (size_parts _ _ (name_size format) (drop 1 directories)) (size_of_ok (0 ∷ []))
 
 three_lengths : (a b c : List ℕ) (n : ℕ) → n + length (a ++ b ++ c) ≡ n + length a + length b + length c
-three_lengths a b c n =
-    grind (arith, length-append)
+three_lengths a b c n = grind (arith, length-append)
 
 one_file_size : (format : Format) (f : File) → HasSize (file_bytes f) (file_size format f)
 one_file_size format f =
@@ -97,9 +89,7 @@ one_file_size format f =
     (size_joined _ _ _ _ (name_size _ _) (size_of_ok _))
 
 files_size : (format : Format) (files : List File) → HasSize (files_bytes files) (sum_by (file_size format) files + 1)
-files_size format files =
-    size_joined _ _ _ 1
-    (size_parts _ _ (one_file_size format) files) (size_of_ok (0 ∷ []))
+files_size format files = size_joined _ _ _ 1 (size_parts _ _ (one_file_size format) files) (size_of_ok (0 ∷ []))
 
 -- ---- texts of version 5
 
@@ -125,8 +115,7 @@ module _ (is_big : Bool) (format : Format) (texts : StringTables) where
   source_size : (has : Bool) (form : ℕ) (t : LineText)
       → HasSize (if has then text_in_form plain is_big format texts form t else Ok [])
       (sum_by (λ (s : ℕ × LineText). text_size format s.1) (if has then (form, t) ∷ [] else []))
-  source_size true form t =
-      grind (arith, size_as, nothing_first, formed_size)
+  source_size true form t = grind (arith, size_as, nothing_first, formed_size)
   source_size false form t = size_of_ok _
 
 -- ---- tables of version 5
@@ -134,8 +123,7 @@ module _ (is_big : Bool) (format : Format) (texts : StringTables) where
 -- formats and a number, and what stands after them
 prefixed_size : (formats number : List ℕ) (rest : Result (List ℕ) Error) (n : ℕ) → HasSize rest n
     → HasSize (result_append (Ok (formats ++ number)) rest) (length formats + length number + n)
-prefixed_size formats number rest n size =
-    grind (arith, size_as, length-append, size_joined, size_of_ok)
+prefixed_size formats number rest n size = grind (arith, size_as, length-append, size_joined, size_of_ok)
 
 path_first : (path details source : ℕ) → path + (details + source) ≡ (path + source) + details
 path_first path details source = omega arith
@@ -186,11 +174,9 @@ module _ (is_big : Bool) (p : Built) (texts : StringTables) where
       let format = p.encoding.format in
       let old_directories = sum_by (text_size format) (drop 1 p.directories) + 1 in
       let old_files = sum_by (file_size format) p.files + 1 in
-      let directories =
-      length (formats_bytes (directory_formats p)) + length (uleb (length p.directories))
+      let directories = length (formats_bytes (directory_formats p)) + length (uleb (length p.directories))
       + sum_by (text_size format) p.directories in
-      let files =
-      length (formats_bytes (file_formats p)) + length (uleb (length p.files))
+      let files = length (formats_bytes (file_formats p)) + length (uleb (length p.files))
       + sum_by (entry_size p texts) p.files in
       let directory_table = directory_table_bytes plain is_big format texts p in
       let file_table = file_table_bytes plain is_big format texts p in
@@ -206,9 +192,7 @@ module _ (is_big : Bool) (p : Built) (texts : StringTables) where
 -- ---- the version and what stands with it
 
 version_size : (is_big : Bool) (version : ℕ) → HasSize (version_bytes is_big version) 2
-version_size is_big version =
-    size_as _ _ 2 (length-number _ 2 _)
-    (size_tested _ _ _)
+version_size is_big version = size_as _ _ 2 (length-number _ 2 _) (size_tested _ _ _)
 
 opened_size : (old : Bool) (version : Result (List ℕ) Error) (address_size : ℕ) → HasSize version 2
     → HasSize (result_append version (Ok (if old then [] else address_size ∷ 0 ∷ []))) (if old then 2 else 4)
@@ -217,8 +201,7 @@ opened_size false version address_size size = size_joined _ _ 2 2 size (size_of_
 
 opening_size : (is_big : Bool) (encoding : Encoding)
     → HasSize (opening_bytes is_big encoding) (if nat_le encoding.version 4 then 2 else 4)
-opening_size is_big encoding =
-    grind (arith, opened_size, version_size)
+opening_size is_big encoding = grind (arith, opened_size, version_size)
 
 -- ---- what the header length counts
 
@@ -234,8 +217,7 @@ encoding_count false = refl
 
 line_encoding_size : (version : ℕ) (e : LineEncoding)
     → HasSize (line_encoding_bytes version e) (if nat_le 4 version then 5 else 4)
-line_encoding_size version e =
-    grind (arith, nat_le, size_as, encoding_count, size_joined, size_of_ok, operations_size)
+line_encoding_size version e = grind (arith, nat_le, size_as, encoding_count, size_joined, size_of_ok, operations_size)
 
 three_parts : (a b c : ℕ) → a + (b + c) ≡ a + b + c
 three_parts a b c = omega arith

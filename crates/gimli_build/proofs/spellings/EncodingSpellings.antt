@@ -22,8 +22,7 @@ use Rattle.gimli_build.proofs.writing.WrittenParts.{same_written, after_written,
 -- ---- lines
 
 pub positive-spelled : (n : ℕ) (d : ReadError) → 0 < n → (positive d).Spells (n ∷ []) n
-positive-spelled n d some =
-    grind (arith, ne_eqb)
+positive-spelled n d some = grind (arith, ne_eqb)
 
 pub first-chosen : {A : Type 0} (b : Bool) (l m : Production A) (bytes : List ℕ) (x : A) → b ≡ true → l.Spells bytes x
     → (choose b l m).Spells bytes x
@@ -106,10 +105,8 @@ operations_spelled version n bytes some is = grind arith
         → (let r : Result (List ℕ) Error = if b then Ok (n ∷ []) else (if one then Ok [] else Err (NeedVersion 4)) in r)
         ≡ Ok bytes
         → (operations_line version).Spells bytes n
-    by true high one t is =
-        grind (arith, leb-true, lt-leb, same_written, positive-spelled)
-    by false low true t is =
-        grind (arith, leb-false, eqb-true, first-chosen, le-leb, same_written)
+    by true high one t is = grind (arith, leb-true, lt-leb, same_written, positive-spelled)
+    by false low true t is = grind (arith, leb-false, eqb-true, first-chosen, le-leb, same_written)
     by false low false t is = absurd cc
 
 pub encoding-spelled : (version : ℕ) (e : LineEncoding) (bytes : List ℕ) → CanEncode e
@@ -117,8 +114,7 @@ pub encoding-spelled : (version : ℕ) (e : LineEncoding) (bytes : List ℕ) →
     → (line_encoding_production version).Spells bytes e
 encoding-spelled version e bytes can is =
     let last = flag_byte e.default_is_stmt ∷ base_byte e.line_base ∷ e.line_range ∷ [] in
-    let a =
-    after_written (e.minimum_instruction_length ∷ []) _ _ is in
+    let a = after_written (e.minimum_instruction_length ∷ []) _ _ is in
     let b = before_written _ _ _ a.rest_is in
     let minimum = positive-spelled _ MinimumInstructionLengthZero can.instruction_length in
     let operations = operations_spelled _ _ _ can.operations b.front_is in (
@@ -157,8 +153,7 @@ version_written is_big version bytes is = grind arith
 
 pub version-known : (is_big : Bool) (version : ℕ) (bytes : List ℕ) → version_bytes is_big version ≡ Ok bytes
     → version ≤ 5
-version-known is_big version bytes is =
-    grind (arith, leb-true, both_true, version_written)
+version-known is_big version bytes is = grind (arith, leb-true, both_true, version_written)
 
 pub version-spelled : (is_big : Bool) (version : ℕ) (bytes : List ℕ) → version_bytes is_big version ≡ Ok bytes
     → (version_production is_big).Spells bytes version
@@ -227,8 +222,7 @@ word_spelled is_big Dwarf64 n bytes small is = grind (arith, same_written, numbe
 -- a word has bytes
 pub word-long : (is_big : Bool) (format : Format) (n : ℕ) (bytes : List ℕ) → format_word is_big format n ≡ Ok bytes
     → 0 < length bytes
-word-long is_big format n bytes is =
-    grind (arith, format_word_size)
+word-long is_big format n bytes is = grind (arith, format_word_size)
   where
     word_some : (f : Format) → 0 < word_size f
     word_some Dwarf32 = lit< tt
@@ -259,8 +253,7 @@ initial_spelled is_big Dwarf32 n word small is = grind arith
         r)
         ≡ Ok word
         → SpellsNumber is_big 4 word n × (n < 0xffff_fff0)
-    by true t c is =
-        grind (arith, ltb-true, same_written, number_spelled)
+    by true t c is = grind (arith, ltb-true, same_written, number_spelled)
     by false t true is = absurd cc
     by false t false is = absurd cc
 initial_spelled is_big Dwarf64 n word small is = grind (arith, number_spelled, same_written)

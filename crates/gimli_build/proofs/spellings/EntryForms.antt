@@ -38,8 +38,7 @@ file-read time size has_digest source path directory timestamp bytes md5 text wh
         → file_with t s true o path directory timestamp bytes
         (elim (digest (Block md5)) [ Some x ↦ x | None ↦ replicate 16 0 ]) text
         ≡ file_with t s true o path directory timestamp bytes md5 text
-    digested t s o =
-        ap (λ n. file_with t s true o path directory timestamp bytes
+    digested t s o = ap (λ n. file_with t s true o path directory timestamp bytes
         (elim (if nat_eq n 16 then Some md5 else None) [ Some x ↦ x | None ↦ replicate 16 0 ]) text) whole
 
     by : (t s d o : Bool) → file_of_entry (entry_of t s d o path directory timestamp bytes md5 text)
@@ -114,10 +113,8 @@ module _ (layout : OrderAndLimit) (format : Format) where
       → (source ≡ true → SpellsForm layout format source_form source_bytes text)
       → (source ≡ false → source_bytes ≡ [])
       → IsSpelled (formats_of time size has_digest source path_form source_form)
-      (path_bytes
-      ++ ((uleb directory ++ (if time then uleb timestamp else []) ++ (if size then uleb count else [])
-      ++ (if has_digest then md5 else []))
-      ++ source_bytes))
+      (path_bytes ++ ((uleb directory ++ (if time then uleb timestamp else []) ++ (if size then uleb count else [])
+      ++ (if has_digest then md5 else [])) ++ source_bytes))
       (entry_of time size has_digest source path directory timestamp count md5 text)
   entry-spelled time size has_digest source path_form source_form path directory timestamp count md5 text path_bytes
       source_bytes path_own d t s m source_own
@@ -134,17 +131,14 @@ module _ (layout : OrderAndLimit) (format : Format) where
       let second_bytes = (if size then uleb count else []) ++ third_bytes in
       let first_bytes = (if time then uleb timestamp else []) ++ second_bytes in
       let fourth = source_spelled source source_form source_bytes text source_own source_none in
-      let third =
-      when_spelled has_digest 0x0005 0x1e md5 (Block md5) fourth_formats source_bytes fourth_entry
+      let third = when_spelled has_digest 0x0005 0x1e md5 (Block md5) fourth_formats source_bytes fourth_entry
       (digest_spelled md5 m) fourth in
-      let second =
-      when_spelled size 0x0004 0x0f (uleb count) (Udata count) third_formats third_bytes third_entry
+      let second = when_spelled size 0x0004 0x0f (uleb count) (Udata count) third_formats third_bytes third_entry
       (udata_spelled count s) third in
       let first =
       when_spelled time 0x0003 0x0f (uleb timestamp) (Udata timestamp) second_formats second_bytes second_entry
       (udata_spelled timestamp t) second in
-      let index =
-      value-spelled 0x0002 0x0f (uleb directory) (Udata directory) first_formats first_bytes first_entry
+      let index = value-spelled 0x0002 0x0f (uleb directory) (Udata directory) first_formats first_bytes first_entry
       (udata_spelled directory d) first in
       let whole =
       value-spelled 0x0001 path_form path_bytes path ((0x0002, 0x0f) ∷ first_formats) (uleb directory ++ first_bytes)

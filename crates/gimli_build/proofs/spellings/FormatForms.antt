@@ -53,8 +53,7 @@ AreSpelled formats =
     (times (length formats) format_production).Spells (flat_map one_bytes formats) (map read_format formats)
 
 more_spelled : (f : ℕ × ℕ) (formats : List (ℕ × ℕ)) → IsFormat f → AreSpelled formats → AreSpelled (f ∷ formats)
-more_spelled f formats is rest =
-    grind (arith, one_spelled, map, append-nil)
+more_spelled f formats is rest = grind (arith, one_spelled, map, append-nil)
 
 when_spelled : (due : Bool) (f : ℕ × ℕ) (formats : List (ℕ × ℕ)) → IsFormat f → AreSpelled formats
     → AreSpelled (when due f ++ formats)
@@ -69,8 +68,7 @@ last_spelled false f is = (refl, refl)
 formats_spelled : (formats : List (ℕ × ℕ)) → AreSpelled formats
     → count_by (is_content 0x0001) (map read_format formats) ≡ 1
     → SpellsFormats (formats_bytes formats) (map read_format formats)
-formats_spelled formats spelled one =
-    grind (arith, map, append-nil)
+formats_spelled formats spelled one = grind (arith, map, append-nil)
 
 -- ---- the tables
 
@@ -94,8 +92,7 @@ directory-formats p =
 
 -- the formats of files, where the flags are these
 abbrev pub formats_of : (time size digest source : Bool) (path_form source_form : ℕ) → List (ℕ × ℕ)
-formats_of time size digest source path_form source_form =
-    (0x0001, path_form) ∷ (0x0002, 0x0f)
+formats_of time size digest source path_form source_form = (0x0001, path_form) ∷ (0x0002, 0x0f)
     ∷ (when time (0x0003, 0x0f)
     ++ (when size (0x0004, 0x0f) ++ (when digest (0x0005, 0x1e) ++ when source (0x2001, source_form))))
 
@@ -107,8 +104,7 @@ pub formats-same : (p : Built)
     → file_formats p
     ≡ formats_of p.file_has_timestamp p.file_has_size p.file_has_md5 p.file_has_source (first_form (path_texts p.files))
     (first_form (sources p.files))
-formats-same p =
-    grind (arith, nested)
+formats-same p = grind (arith, nested)
 
 one_path : (time size digest source : Bool) (path_form source_form : ℕ)
     → count_by (is_content 0x0001) (map read_format (formats_of time size digest source path_form source_form)) ≡ 1

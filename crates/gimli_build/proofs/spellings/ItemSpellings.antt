@@ -39,8 +39,7 @@ module _ (layout : OrderAndLimit) (h : Header) (base : h.parameters.opcode_base 
   items-spelled previous [] bytes line built fit is = same_bytes [] bytes is
   items-spelled previous (SetAddress (Constant a) ∷ items) bytes line built fit is =
       let next : LineRow = record previous { address_offset = 0; op_index = 0 } in
-      let p =
-      joined_ok (item_bytes plain layout.is_big h.parameters.encoding e previous (SetAddress (Constant a)))
+      let p = joined_ok (item_bytes plain layout.is_big h.parameters.encoding e previous (SetAddress (Constant a)))
       (items_bytes plain layout.is_big h.parameters.encoding e next items) bytes is in
       each_joined p.0 p.1 bytes (read.SetAddress a ∷ []) (items_instructions h.parameters.encoding.version e next items)
       p.4
@@ -49,12 +48,10 @@ module _ (layout : OrderAndLimit) (h : Header) (base : h.parameters.opcode_base 
   items-spelled previous (SetAddress (Symbol s d) ∷ items) bytes line built fit is = absurd cc
   items-spelled previous (Row r ∷ items) bytes line built fit is =
       let version = h.parameters.encoding.version in
-      let p =
-      joined_ok (item_bytes plain layout.is_big h.parameters.encoding e previous (Row r))
+      let p = joined_ok (item_bytes plain layout.is_big h.parameters.encoding e previous (Row r))
       (items_bytes plain layout.is_big h.parameters.encoding e r items) bytes
       is in
-      let own =
-      each-spelled layout h base wide (row_instructions version e previous r)
+      let own = each-spelled layout h base wide (row_instructions version e previous r)
       (all_row version e previous r can built.0.0 line fit.0) in
       each_joined p.0 p.1 bytes (row_instructions version e previous r) (items_instructions version e r items) p.4
       (rw (same_bytes (instructions_bytes (row_instructions version e previous r)) p.0 p.2) own)
@@ -62,8 +59,7 @@ module _ (layout : OrderAndLimit) (h : Header) (base : h.parameters.opcode_base 
   items-spelled previous (End o i ∷ items) bytes line built fit is =
       let version = h.parameters.encoding.version in
       let next : LineRow = initial_row version e.default_is_stmt in
-      let p =
-      joined_ok (item_bytes plain layout.is_big h.parameters.encoding e previous (End o i))
+      let p = joined_ok (item_bytes plain layout.is_big h.parameters.encoding e previous (End o i))
       (items_bytes plain layout.is_big h.parameters.encoding e next items)
       bytes
       is in
@@ -81,8 +77,7 @@ pub items-spelled-under : (layout : OrderAndLimit) (h : Header) (encoding : Enco
     → AreBuilt e (previous.address_offset, previous.op_index) items
     → AreFit encoding.version items → items_bytes plain layout.is_big encoding e previous items ≡ Ok bytes
     → Each (SpellsInstruction layout h) bytes (items_instructions encoding.version e previous items)
-items-spelled-under layout h encoding e previous items bytes same base wide can line built fit written =
-    subst (λ x.
+items-spelled-under layout h encoding e previous items bytes same base wide can line built fit written = subst (λ x.
     AreFit x.version items → items_bytes plain layout.is_big x e previous items ≡ Ok bytes
     → Each (SpellsInstruction layout h) bytes (items_instructions x.version e previous items))
     same (items-spelled layout h base wide e can _ _ _ line built) fit written

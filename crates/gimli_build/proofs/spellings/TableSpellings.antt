@@ -93,8 +93,7 @@ module _ (texts : StringTables) where
   each_file_spelled [] bytes some clean fits is = same_written _ _ is
   each_file_spelled (f ∷ fs) bytes some clean fits is =
       let b = both_written _ _ _ is in
-      let own =
-      file_spelled f _ (All-head (λ k. IsNotEmpty k.0) _ _ some) (All-head (λ k. HasNoZero k.0) _ _ clean)
+      let own = file_spelled f _ (All-head (λ k. IsNotEmpty k.0) _ _ some) (All-head (λ k. HasNoZero k.0) _ _ clean)
       (All-head FitsFile f _ fits) b.first_is in
       let rest =
       each_file_spelled fs b.rest (All-tail (λ k. IsNotEmpty k.0) _ _ some) (All-tail (λ k. HasNoZero k.0) _ _ clean)

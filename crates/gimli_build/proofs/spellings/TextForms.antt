@@ -38,8 +38,7 @@ pub record IsReady (texts : StringTables) (t : LineText) : Type 0 where
 
 -- an offset that a reader and 64 bits hold
 abbrev pub IsHeld : ℕ → Format → Placement → StringTables → LineText → Type 0
-IsHeld limit format at texts t =
-    (format ≡ Dwarf64 → IsOffsetHeld limit at texts t) × IsOffsetHeld (2 ^ 64) at texts t
+IsHeld limit format at texts t = (format ≡ Dwarf64 → IsOffsetHeld limit at texts t) × IsOffsetHeld (2 ^ 64) at texts t
 
 module _ (at : Placement) (layout : OrderAndLimit) (format : Format) (texts : StringTables) where
   text_spelled : (t : LineText) (bytes : List ℕ) → HasNoZero t → IsHeld layout.limit format at texts t
@@ -101,8 +100,7 @@ text_long at is_big format texts (InLineStrings i) bytes is =
     word-long is_big format (at.section DebugLineStr (offset_of texts.line_strings i)) _ is
 
 pub text-long : (at : Placement) (is_big : Bool) (format : Format) (texts : StringTables) (form : ℕ) (t : LineText)
-    (bytes : List ℕ)
-    → text_in_form (counted at) is_big format texts form t ≡ Ok bytes → 0 < length bytes
+    (bytes : List ℕ) → text_in_form (counted at) is_big format texts form t ≡ Ok bytes → 0 < length bytes
 text-long at is_big format texts form t bytes is = by (nat_eq (text_form t) form) is
   where
     by : (b : Bool)

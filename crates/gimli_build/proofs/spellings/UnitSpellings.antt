@@ -44,8 +44,7 @@ front_in_two whole front rest first second is parts = grind arith
 rest_in_three : (whole first rest header size fields last : List ℕ) → whole ≡ first ++ rest → rest ≡ header ++ last
     → header ≡ size ++ fields
     → whole ≡ first ++ ((size ++ fields) ++ last)
-rest_in_three whole first rest header size fields last is parts inner =
-    grind arith
+rest_in_three whole first rest header size fields last is parts inner = grind arith
 
 pub unit_written : (hand : Hand) (is_big : Bool) (p : Built) (texts : StringTables) (unit : List ℕ)
     → whole_bytes hand is_big p texts ≡ Ok unit → UnitWritten hand is_big p texts unit
@@ -86,8 +85,7 @@ pub fields_written : (hand : Hand) (is_big : Bool) (p : Built) (texts : StringTa
     → fields_bytes hand is_big p texts ≡ Ok fields
     → FieldsWritten hand is_big p texts fields
 fields_written hand is_big p texts fields is =
-    let a =
-    both_written _ _ _ is in
+    let a = both_written _ _ _ is in
     let b = after_written opcode_bytes _ _ a.rest_is in
     record {
       encoding = a.first;
@@ -100,8 +98,7 @@ fields_written hand is_big p texts fields is =
 
 -- what is written of a unit is no longer than the unit
 pub inside-short : (hand : Hand) (is_big : Bool) (p : Built) (texts : StringTables) (unit : List ℕ)
-    (w : UnitWritten hand is_big p texts unit)
-    → length w.inside ≤ length unit
+    (w : UnitWritten hand is_big p texts unit) → length w.inside ≤ length unit
 inside-short hand is_big p texts unit w =
     let whole = ap (λ l. length l) w.whole in
     omega (arith, whole, length-append (escape_bytes is_big p.encoding.format ++ w.length_bytes) w.inside)
@@ -111,8 +108,7 @@ length_wide : (is_big : Bool) (format : Format) (n : ℕ) (word : List ℕ) → 
     → length_word is_big format n ≡ Ok word
     → length (escape_bytes is_big format ++ word) ≡ 12
 length_wide is_big Dwarf32 n word wide is = absurd cc
-length_wide is_big Dwarf64 n word wide is =
-    grind (arith, length-append, size_4, same_written, size_8)
+length_wide is_big Dwarf64 n word wide is = grind (arith, length-append, size_4, same_written, size_8)
 
 inside-wide : (hand : Hand) (is_big : Bool) (p : Built) (texts : StringTables) (unit : List ℕ)
     (w : UnitWritten hand is_big p texts unit)
@@ -124,8 +120,7 @@ inside-wide hand is_big p texts unit w wide =
     omega (arith, whole, front, length-append (escape_bytes is_big p.encoding.format ++ w.length_bytes) w.inside)
 
 pub fields-short : (hand : Hand) (is_big : Bool) (p : Built) (texts : StringTables) (unit : List ℕ)
-    (w : UnitWritten hand is_big p texts unit)
-    → length w.fields ≤ length w.inside
+    (w : UnitWritten hand is_big p texts unit) → length w.fields ≤ length w.inside
 fields-short hand is_big p texts unit w =
     let whole = ap (λ l. length l) w.inside_is in
     omega (
@@ -138,8 +133,7 @@ fields-short hand is_big p texts unit w =
 
 -- the tables are no longer than the fields
 pub tables-short : (hand : Hand) (is_big : Bool) (p : Built) (texts : StringTables) (fields : List ℕ)
-    (w : FieldsWritten hand is_big p texts fields)
-    → length w.tables ≤ length fields
+    (w : FieldsWritten hand is_big p texts fields) → length w.tables ≤ length fields
 tables-short hand is_big p texts fields w =
     let whole = ap (λ l. length l) w.whole in
     omega (
@@ -266,8 +260,7 @@ module _ (hand : Hand) (layout : OrderAndLimit) (unit_entry : UnitEntry) (sectio
         omega (arith, rest, lt)) in
         let fields_held : p.encoding.format ≡ Dwarf64 → length w.fields < layout.limit = λ wide.
         (let lt = inside_held wide in omega (arith, fields, lt)) in
-        let length_spelled =
-        length-spelled _ _ _ _ inside_held (omega (arith, inside, small)) w.length_is in
+        let length_spelled = length-spelled _ _ _ _ inside_held (omega (arith, inside, small)) w.length_is in
         let opened =
         opening_spelled _ _ _ same fields_held (omega (arith, inside, fields, small)) w.opening_is w.size_is in
         let parted : w.inside ≡ (w.opening ++ (w.size ++ w.fields)) ++ w.program = w.inside_is
@@ -302,9 +295,7 @@ module _ (hand : Hand) (layout : OrderAndLimit) (unit_entry : UnitEntry) (sectio
         let inner : w.inside ≡ ((w.opening ++ w.size) ++ w.fields) ++ w.program =
         w.inside_is ∙ sym (append_assoc w.opening (w.size ++ w.fields) w.program)
         ∙ ap (λ l. l ++ w.program) (sym (append_assoc w.opening w.size w.fields)) in
-        w.whole
-        ∙ ap (λ l. front ++ l) inner
-        ∙ sym (append_assoc front ((w.opening ++ w.size) ++ w.fields) w.program)
+        w.whole ∙ ap (λ l. front ++ l) inner ∙ sym (append_assoc front ((w.opening ++ w.size) ++ w.fields) w.program)
         ∙ ap (λ l. l ++ w.program) (sym (append_assoc front (w.opening ++ w.size) w.fields))
 
     pub unit-is : IsUnit layout unit_entry unit (header_of v.tables t (length w.inside) (length w.fields) w.program)

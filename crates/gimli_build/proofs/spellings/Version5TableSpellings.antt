@@ -84,8 +84,7 @@ abbrev pub directory_entry : Placement → StringTables → LineText → TableEn
 directory_entry at texts t = (0x0001, read_text at texts t) ∷ []
 
 abbrev pub file_entry : Placement → Built → StringTables → File → TableEntry
-file_entry at p texts f =
-    entry_of p.file_has_timestamp p.file_has_size p.file_has_md5 p.file_has_source
+file_entry at p texts f = entry_of p.file_has_timestamp p.file_has_size p.file_has_md5 p.file_has_source
     (read_text at texts f.0.0) f.0.1 f.1.timestamp f.1.size f.1.md5 (read_text at texts (source_of p texts f))
 
 module _ (at : Placement) (layout : OrderAndLimit) (p : Built) (texts : StringTables) (ready : AreReady p texts)
@@ -161,8 +160,7 @@ module _ (at : Placement) (layout : OrderAndLimit) (p : Built) (texts : StringTa
       → 0 < length bytes
   file_long f bytes is =
       let form = first_form (path_texts p.files) in
-      let a =
-      both_written (text_written form f.0.0)
+      let a = both_written (text_written form f.0.0)
       (result_append (Ok (detail_bytes p f)) (source_bytes (counted at) layout.is_big p.encoding.format texts p f))
       bytes
       is in
@@ -175,8 +173,7 @@ module _ (at : Placement) (layout : OrderAndLimit) (p : Built) (texts : StringTa
       → length bytes < 2 ^ 64
       → (table_production layout p.encoding.format).Spells bytes
       (map read_format (file_formats p), map (file_entry at p texts) p.files)
-  new-files-spelled bytes is small =
-      table_spelled layout p.encoding.format (file_formats p) IsFileReadable
+  new-files-spelled bytes is small = table_spelled layout p.encoding.format (file_formats p) IsFileReadable
       (file_entry_bytes (counted at) layout.is_big p.encoding.format texts p)
       (file_entry at p texts)
       file_spelled file_long p.files bytes (file-formats p)
@@ -216,8 +213,7 @@ module _ (at : Placement) (sections : Sections) (p : Built) (texts : StringTable
   source_back false v text own = tt
 
   abbrev file_seen : File → ReadFile
-  file_seen f =
-      file_with p.file_has_timestamp p.file_has_size p.file_has_md5 p.file_has_source
+  file_seen f = file_with p.file_has_timestamp p.file_has_size p.file_has_md5 p.file_has_source
       (read_text at texts f.0.0) f.0.1 f.1.timestamp f.1.size f.1.md5 (read_text at texts (source_of p texts f))
 
   seen_back : (f : File) → nat_le p.encoding.version 4 ≡ false → IsFileReady p texts f
@@ -231,18 +227,14 @@ module _ (at : Placement) (sections : Sections) (p : Built) (texts : StringTable
         timestamp = sym (ap (λ s. s.timestamp) same);
         size = sym (ap (λ s. s.size) same);
         md5 = sym (ap (λ s. s.md5) same);
-        source =
-            rw (ap (λ s. s.source) same)
-            (source_back _ _ _
+        source = rw (ap (λ s. s.source) same) (source_back _ _ _
             (λ flag. rw (← own.source_bytes flag) (text_back _ (own.source flag) (found.source flag))));
       }
 
   file_back : (f : File) → nat_le p.encoding.version 4 ≡ false → IsFileReady p texts f
       → IsOfFile IsFoundHere p texts f
       → IsFile sections p texts (file_of_entry (file_entry at p texts f)) f
-  file_back f new own found =
-      subst (λ r. IsFile sections p texts r f)
-      (sym (file-read _ _ _ _
+  file_back f new own found = subst (λ r. IsFile sections p texts r f) (sym (file-read _ _ _ _
       _ _ _ _ _ _ own.fits.md5))
       (seen_back f new own found)
 

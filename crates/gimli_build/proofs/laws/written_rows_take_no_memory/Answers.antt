@@ -4,8 +4,7 @@ use Rattle.gimli_build.proofs.laws.written_rows_take_no_memory.Goals as goal
 
 pub returns : goal.returns
 returns c = record {
-  start = λ source h p decodes appends.
-      starts-none _ h appends _ decodes
+  start = λ source h p decodes appends. starts-none _ h appends _ decodes
       (items-none p.encoding.version p.line_encoding (initial_row p.encoding.version p.line_encoding.default_is_stmt)
       p.items);
   goes = goes-none;

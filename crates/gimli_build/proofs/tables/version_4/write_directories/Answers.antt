@@ -9,6 +9,5 @@ returns-in_err-write_names g c =
     (first_unwritten _ (rw c.others.ensures at c.in_err-write_names.ensures))
 
 pub returns : goal.returns
-returns g c =
-    rw (drop-map line_text 1 c.args.directories.now)
+returns g c = rw (drop-map line_text 1 c.args.directories.now)
     (joins (rw c.others.ensures at c.in_ok-write_names.ensures) c.write_byte.ensures)

@@ -22,11 +22,9 @@ loop-index-preserved g c =
     let so = rw (next_at _ i _ c.file-directory.ensures) at c.loop-index.invariant.so in
     record {
       so = one_written so c.in_ok-write_file.ensures.writes;
-      fit =
-          rw (taken_at _ i _ c.file-directory.ensures)
+      fit = rw (taken_at _ i _ c.file-directory.ensures)
           (All-push FitsFile _ _ c.loop-index.invariant.fit c.in_ok-write_file.ensures.fit);
     }
 
 pub returns-clause-fit : goal.returns-clause-fit
-returns-clause-fit g c =
-    grind (arith, take_all)
+returns-clause-fit g c = grind (arith, take_all)

@@ -20,7 +20,6 @@ loop-name-preserved g c =
     let i = c.loop-name.name-index in
     let lt : i < length names = omega arith in
     record {
-      so =
-          one_written (rw (next_seen line_text _ i _ lt c.name-item.is) at c.loop-name.invariant.so)
+      so = one_written (rw (next_seen line_text _ i _ lt c.name-item.is) at c.loop-name.invariant.so)
           c.in_ok-write_name.ensures;
     }

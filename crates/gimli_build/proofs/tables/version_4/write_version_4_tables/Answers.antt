@@ -7,6 +7,5 @@ returns-clause-writes g c =
     joins first c.write_files.ensures.writes
 
 pub returns-in_err-write_directories-clause-writes : goal.returns-in_err-write_directories-clause-writes
-returns-in_err-write_directories-clause-writes g c =
-    passed_on c.from_residual.ensures.1
+returns-in_err-write_directories-clause-writes g c = passed_on c.from_residual.ensures.1
     (first_unwritten _ (rw c.directories.ensures at c.in_err-write_directories.ensures))

@@ -16,8 +16,7 @@ loop-index-preserved c =
     let file : File = ((line_text c.file.result.0.now, c.file.result.1), details c.file.result.2.now) in
     let is : is_none c.file.result.2.now.source ≡ false = search rules in
     record {
-      left =
-          any_passed (λ f. is_none f.1.source) c.args.tables.now.files c.loop-index.index _ c.file.ensures
+      left = any_passed (λ f. is_none f.1.source) c.args.tables.now.files c.loop-index.index _ c.file.ensures
           c.loop-index.invariant.left
           (none_seen _ _ ∙ is);
     }

@@ -10,8 +10,7 @@ returns-in_err-write_formats g c =
     ∙ c.tables.ensures.directories ∙ ap (λ q. q.directories) c.program.ensures.program in
     let form : c.directory_form-form.result.0 ≡ first_form list = c.directory_form-form.ensures ∙ ap first_form same in
     let count : length c.directories-directories.result.now
-    ≡ length list = sym (length-map c.directories-directories.result.now line_text)
-    ∙ ap length same in
+    ≡ length list = sym (length-map c.directories-directories.result.now line_text) ∙ ap length same in
     passed_on c.from_residual.ensures.1 (bytes_unwritten (rw (form, count) at c.in_err-write_formats.ensures))
 
 pub returns : goal.returns
@@ -22,8 +21,7 @@ returns g c =
     let form : c.directory_form-form.result.0 ≡ first_form p.directories = c.directory_form-form.ensures
     ∙ ap first_form same in
     let count : length c.directories-directories.result.now
-    ≡ length p.directories = sym (length-map c.directories-directories.result.now line_text)
-    ∙ ap length same in
+    ≡ length p.directories = sym (length-map c.directories-directories.result.now line_text) ∙ ap length same in
     let first = rw (form, count) at c.in_ok-write_formats.ensures in
     let second = rw (first.ordered, form, same) at c.write_texts.ensures in
     joins first second

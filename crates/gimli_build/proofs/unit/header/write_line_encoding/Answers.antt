@@ -19,6 +19,5 @@ pub returns-in_err-write_byte : goal.returns-in_err-write_byte
 returns-in_err-write_byte g c = passed_on c.from_residual.ensures.1 (first_unwritten _ c.in_err-write_byte.ensures)
 
 pub returns-in_err-write_operation_count : goal.returns-in_err-write_operation_count
-returns-in_err-write_operation_count g c =
-    passed_on c.from_residual-in_err-write_operation_count.ensures.1
+returns-in_err-write_operation_count g c = passed_on c.from_residual-in_err-write_operation_count.ensures.1
     (joins c.in_ok-write_byte.ensures (first_unwritten _ c.in_err-write_operation_count.ensures))

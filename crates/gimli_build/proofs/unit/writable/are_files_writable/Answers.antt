@@ -10,7 +10,6 @@ loop-index-preserved c =
     let i = c.loop-index.index in
     let file : File = ((line_text c.file.result.0.now, c.file.result.1), details c.file.result.2.now) in
     record {
-      left =
-          all_passed (λ f. IsFileWritable c.args.writes_sources texts f.0.0 f.1) files i file
+      left = all_passed (λ f. IsFileWritable c.args.writes_sources texts f.0.0 f.1) files i file
           (next_at _ i _ c.file.ensures) (c.if-not-is_file_writable.ensures.0 refl) c.loop-index.invariant.left;
     }

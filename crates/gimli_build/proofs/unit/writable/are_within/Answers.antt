@@ -15,5 +15,4 @@ returns-then-not-is_within c =
     )
 
 pub loop-text-preserved : goal.loop-text-preserved
-loop-text-preserved c =
-    grind (arith, all_passed, map, next_seen)
+loop-text-preserved c = grind (arith, all_passed, map, next_seen)

@@ -9,15 +9,13 @@ pub returns : goal.returns
 returns c = (
   (
     refl,
-    λ w.
-        rw (← c.self.view_is, ← c.id.view_is) (ap (λ fs.
+    λ w. rw (← c.self.view_is, ← c.id.view_is) (ap (λ fs.
         record { directories = directories_of c.self.inside.directories.keys; files = fs })
         (files_with _ _ w)),
   ),
   record {
     lends = tt;
-    value =
-        rw (← c.self.view_is, ← c.id.view_is) (details_at c.self.inside.files.entries c.id.inside.0 _
+    value = rw (← c.self.view_is, ← c.id.view_is) (details_at c.self.inside.files.entries c.id.inside.0 _
         (sym (ap option_copied_mut c.unwrap.ensures) ∙ c.get_index_mut.ensures.value));
   },
 )

@@ -20,8 +20,7 @@ at_item : (p : Built) (items : List BuiltItem) (i : ℕ) (item : BuiltItem) (bas
 at_item p items i item base begins same lt is base_is begins_is = grind (arith, next_left)
 
 none_more : (p : Built) (from i : ℕ) → HaveNoTrap p from i → (from ≤ i → trap_at p i ≡ None) → HaveNoTrap p from (i + 1)
-none_more p from i before here k low high =
-    grind (arith, below_more)
+none_more p from i before here k low high = grind (arith, below_more)
 
 pub loop-index-preserved : goal.loop-index-preserved
 loop-index-preserved c =
