@@ -1,7 +1,16 @@
 -- A run that defines no file.
 use Rattle.std.specs.Prelude.{◌≡◌}
-use Rattle.gimli_build.specs.Prelude.{Bool, false, List, None, All, Header, Ins, defines_file}
-use Rattle.gimli_build.specs.Prelude.{Decodes}
+use Rattle.gimli_build.specs.Prelude.{
+  Bool,
+  false,
+  List,
+  None,
+  All,
+  Header,
+  Ins,
+  defines_file,
+  Decodes,
+}
 use Rattle.gimli_line.specs.header.Orders.{HeaderSource}
 use Rattle.gimli_line.specs.run.RunState.{RunState}
 use Rattle.gimli_line.specs.run.Rows.{start_of_run}

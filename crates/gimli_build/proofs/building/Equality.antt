@@ -5,8 +5,9 @@ use Common.{Bool, sym, ap, true≢false, Decides-eqb, Decides-like, Decides-and,
 use Rattle.std.specs.Bool.{Decides}
 use Rattle.std.specs.Cmp.{booleans_Decides}
 use Rattle.gimli_bytes.proofs.Equality.{address-Decides}
-use Rattle.gimli_build.specs.contracts.built.row.LineRowPartialEq.TheImpl.{ghosts as rows}
-use Rattle.gimli_build.specs.contracts.built.items.BuiltItemPartialEq.TheImpl.{ghosts as items}
+use Rattle.gimli_build.specs
+use specs.contracts.built.row.LineRowPartialEq.TheImpl.{ghosts as rows}
+use specs.contracts.built.items.BuiltItemPartialEq.TheImpl.{ghosts as items}
 
 -- ---- rows and items
 

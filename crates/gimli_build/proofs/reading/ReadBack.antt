@@ -1,15 +1,138 @@
--- What is read of a written unit: its header, its decoding, and its rows together.
-use Rattle.std.specs.Prelude.{◌≡◌, ◌<◌, ◌≤◌, ◌^◌, ◌∷◌, if◌then◌else◌}
-use Rattle.gimli_build.proofs.Common
-use Common.{ℕ, Bool, List, [], length, Ok, ap, ◌∙◌, arith, length-append, nat_le, OrderAndLimit, Encoding, Placement}
-use Common.{counted, AreTexts, StringTables, Appends, AppendsThat, UnitEntry, Built, CanWrite, IsBuilt, Sections}
-use Common.{texts_after, ReadsBack, ReadsBackAt, IsReadWell, whole_bytes, unit_bytes}
-use Rattle.gimli_build.proofs.writing.Joined.{appended_bytes}
-use Rattle.gimli_build.proofs.writing.WrittenParts.{before_written}
-use Rattle.gimli_build.proofs.spellings.EncodingSpellings.{version-known}
-use Rattle.gimli_build.proofs.spellings.UnitSpellings.{unit_written}
-use Rattle.gimli_build.proofs.reading.UnitHeader.{AreShort, whole_written, header-back}
-use Rattle.gimli_build.proofs.reading.EventsBack.{cut-back, rows-back}
+-- What is read of the header of a written unit.
+use Rattle.std.specs.Prelude.{◌≡◌, ◌-◌, ◌<◌, ◌≤◌, ◌^◌, if◌then◌else◌, ◌∷◌}
+use Rattle.gimli_build.proofs
+use proofs.Common
+use Common.{ℕ, Bool, true, false, List, length, Ok, refl, ap, ◌∙◌, arith, sym, Result, Err, nat_le, All, leb-true}
+use Common.{leb-false, OrderAndLimit, Encoding, Dwarf64, Placement, plain, counted, AreTexts, StringTables, Error}
+use Common.{IncompatibleLineProgramEncoding, Header, UnitEntry, Sections, OneByOne, Built, CanWrite, IsBuilt}
+use Common.{built_rules, texts_after, AreFormats, IsUnit, directories_from_zero, IsDirectory, IsFile, IsReadWell}
+use Common.{IsOffsetHeld, IsFound, emitted_texts, operand_counts, program_bytes, whole_bytes, unit_bytes, []}
+use Common.{length-append, Appends, AppendsThat, ReadsBack, ReadsBackAt}
+use proofs.reading.ReadyTexts.{tables-ready, of-tables}
+use proofs.linking.PlacedUnits.{items-plain}
+use proofs.spellings.TextForms.{IsHeld}
+use proofs.reading.TablesBack.{AreReadWell, tables-back}
+use proofs.spellings.UnitSpellings.{
+  UnitWritten,
+  unit_written,
+  fields_written,
+  inside-short,
+  fields-short,
+  tables-short,
+  header_of,
+  unit-is,
+}
+use proofs.writing.Joined.{appended_bytes}
+use proofs.writing.WrittenParts.{before_written}
+use proofs.spellings.EncodingSpellings.{version-known}
+use proofs.reading.EventsBack.{cut-back, rows-back}
+
+-- the bytes are a unit, and its header is what was built; its program is what was written of the items
+pub record HeaderBack (layout : OrderAndLimit) (unit_entry : UnitEntry) (sections : Sections) (p : Built)
+    (texts : StringTables) (unit : List ℕ) : Type 0 where
+  pub header : Header
+  pub is_unit : IsUnit layout unit_entry unit header
+  pub parameters : header.parameters ≡ built_rules p.encoding p.line_encoding
+  pub counts : header.operand_counts ≡ operand_counts
+  pub formats : nat_le p.encoding.version 4 ≡ false → AreFormats p header
+  pub directories : OneByOne (IsDirectory sections texts) (directories_from_zero header) p.directories
+  pub files : OneByOne (IsFile sections p texts) header.files p.files
+  pub program : program_bytes plain layout.is_big p ≡ Ok header.program
+
+-- 64 bits hold what the offsets of its texts become
+abbrev pub AreShort : Placement → Built → StringTables → Type 0
+AreShort at p texts = 5 ≤ p.encoding.version → All (λ t. IsOffsetHeld (2 ^ 64) at texts t.1) (emitted_texts p texts)
+
+-- a unit that is written is written whole
+pub whole_written : (at : Placement) (is_big : Bool) (unit_encoding : Encoding) (p : Built) (old_texts : StringTables)
+    (unit : List ℕ)
+    → unit_bytes (counted at) is_big unit_encoding p old_texts ≡ Ok unit
+    → whole_bytes (counted at) is_big p (texts_after p old_texts) ≡ Ok unit
+whole_written at is_big unit_encoding p old_texts unit is = by _ _ is
+  where
+    by : (b : Bool) (r : Result (List ℕ) Error)
+        → (let s : Result (List ℕ) Error = if b then Err IncompatibleLineProgramEncoding else r in s) ≡ Ok unit
+        → r ≡ Ok unit
+    by true r is = absurd cc
+    by false r is = is
+
+module _ (at : Placement) (layout : OrderAndLimit) (unit_entry : UnitEntry) (sections : Sections) (p : Built)
+    (built : IsBuilt p) where
+  whole_back : (texts : StringTables) (unit : List ℕ) → AreReadWell at layout unit_entry sections p texts built
+      → unit_entry.address_size ≡ p.encoding.address_size
+      → (p.encoding.format ≡ Dwarf64 → length unit - 12 < layout.limit) → length unit < 2 ^ 64
+      → UnitWritten (counted at) layout.is_big p texts unit
+      → HeaderBack layout unit_entry sections p texts unit
+  whole_back texts unit well same holds small w =
+      let v = fields_written (counted at) layout.is_big p texts w.fields w.fields_are in
+      let inside = inside-short (counted at) layout.is_big p texts unit w in
+      let fields = fields-short (counted at) layout.is_big p texts unit w in
+      let tables = tables-short (counted at) layout.is_big p texts w.fields v in
+      let t = tables-back at layout unit_entry sections p texts built v.tables well
+      (omega (arith, inside, fields, tables, small)) v.tables_are in
+      record {
+        header = header_of (counted at) layout unit_entry sections p texts built v.tables t (length w.inside)
+            (length w.fields) w.program;
+        is_unit = unit-is (counted at) layout unit_entry sections p texts built unit w v t same holds small;
+        parameters = refl;
+        counts = refl;
+        formats = λ new. record { directories = t.directory_formats_are new; files = t.file_formats_are new };
+        directories = t.directories_back;
+        files = t.files_back;
+        program = sym (items-plain at layout.is_big p.encoding p.line_encoding _ p.items) ∙ w.program_is;
+      }
+
+  -- how the unit is read, the tables are
+  read_well : (old_texts : StringTables) (unit : List ℕ) → CanWrite p old_texts
+      → AreTexts (texts_after p old_texts).strings
+      → AreTexts (texts_after p old_texts).line_strings
+      → AreShort at p (texts_after p old_texts)
+      → IsReadWell at layout unit_entry sections layout.is_big p (texts_after p old_texts) unit
+      → AreReadWell at layout unit_entry sections p (texts_after p old_texts) built
+  read_well old_texts unit can are_texts are_line_texts short well = record {
+    directory = λ old. well.directory (leb-true p.encoding.version 4 old);
+    ready = λ new. tables-ready p old_texts new built can;
+    are_texts = are_texts;
+    are_line_texts = are_line_texts;
+    held = λ new. of-tables (IsHeld layout.limit p.encoding.format at (texts_after p old_texts)) p _ new
+        (λ i d lt. (λ wide. well.texts_held (late new) wide i d lt, short (late new) i d lt));
+    found = λ new. of-tables (IsFound sections at (texts_after p old_texts)) p _ new (well.texts_found (late new));
+  }
+    where
+      late : nat_le p.encoding.version 4 ≡ false → 5 ≤ p.encoding.version
+      late new = let above = leb-false p.encoding.version 4 new in omega (arith, above)
+
+-- a unit whose length 64 bits hold
+pub header-back : (at : Placement) (layout : OrderAndLimit) (unit_entry : UnitEntry) (sections : Sections)
+    (is_big : Bool)
+    (unit_encoding : Encoding) (p : Built)
+    (old_texts : StringTables) (unit : List ℕ)
+    → length unit < 2 ^ 64 → IsBuilt p → CanWrite p old_texts → AreTexts (texts_after p old_texts).strings
+    → AreTexts (texts_after p old_texts).line_strings
+    → AreShort at p (texts_after p old_texts)
+    → unit_bytes (counted at) is_big unit_encoding p old_texts ≡ Ok unit
+    → IsReadWell at layout unit_entry sections is_big p (texts_after p old_texts) unit
+    → HeaderBack layout unit_entry sections p (texts_after p old_texts) unit
+header-back at layout unit_entry sections is_big unit_encoding p old_texts unit small built can are_texts are_line_texts
+    short is well =
+    let texts = texts_after p old_texts in
+    let whole : whole_bytes (counted at) layout.is_big p texts ≡ Ok unit =
+    ap (λ (b : Bool). whole_bytes (counted at) b p texts) well.order
+    ∙ whole_written at is_big unit_encoding p old_texts unit is in
+    let same : IsReadWell at layout unit_entry sections layout.is_big p texts unit = record {
+      order = refl;
+      address_size = well.address_size;
+      directory = well.directory;
+      texts_found = well.texts_found;
+      instructions_held = well.instructions_held;
+      length_held = well.length_held;
+      texts_held = well.texts_held;
+    } in
+    whole_back at layout unit_entry sections p built texts unit
+    (read_well at layout unit_entry sections p built old_texts unit can are_texts are_line_texts short same)
+    same.address_size same.length_held small (unit_written (counted at) layout.is_big p texts unit whole)
+
+-- ---- what is read of a written unit: its header, its decoding, and its rows together
 
 -- a unit that is written has a known version
 unit_known : (at : Placement) (is_big : Bool) (p : Built) (texts : StringTables) (unit : List ℕ)

@@ -1,14 +1,16 @@
 -- The texts of a program of version 5 can be read back, with the tables as they are once it is written.
 use Rattle.std.specs.Prelude.{◌≡◌, ◌≢◌, ◌≤◌, ◌∷◌, ◌++◌, ◌||◌, if◌then◌else◌, ◌&&◌}
-use Rattle.gimli_build.proofs.Common
+use Rattle.gimli_build.proofs
+use proofs.Common
 use Common.{ℕ, Bool, true, false, List, [], length, map, get_or, Option, Some, None, refl, sym, ap, ◌∙◌, arith}
 use Common.{length-append, nat_eq, nat_le, slice_get, unwrap_or, All, IfSome, bytes_eq, is_none, option_map_or}
 use Common.{list_any, leb-false, le-leb, All-nil, All-cons, All-head, All-tail, slice_get_within, with_text}
 use Common.{index_of_text, StringTables, LineText, Inline, InStrings, InLineStrings, IsWithin, HasNoZero, bytes_in}
 use Common.{File, FitsFile, Built, CanWrite, IsBuilt, first_form, sources, needs_empty, empty_text, texts_after}
+use Common.{flat_map, path_texts, file_texts, emitted_texts}
 use Rattle.std.proofs.lemmas.List.Folds.{list_any_at, list_any-append}
 use Rattle.gimli_bytes.proofs.TextLemmas.{with_text-there, with_text-found}
-use Rattle.gimli_build.proofs.spellings.TextForms.{IsReady}
+use proofs.spellings.TextForms.{IsReady}
 
 -- ---- tables that gain the empty text
 
@@ -173,3 +175,63 @@ module _ (p : Built) (old_texts : StringTables) (new : nat_le p.encoding.version
         (λ flag. can.sources_end late flag i d lt)
         (λ none. list_any_at (λ f. is_none f.1.source) p.files i d lt (ap is_none none));
   }
+
+-- ---- what is true of each text that is emitted, directory by directory and file by file
+
+module _ (P : LineText → Type 0) (p : Built) (texts : StringTables) where
+  -- of those of a file
+  pub record IsOfFile (f : File) : Type 0 where
+    pub path : P f.0.0
+    pub source : p.file_has_source ≡ true → P (source_of p texts f)
+
+  -- of those of a program of version 5
+  pub record AreOfTables : Type 0 where
+    pub directories : All P p.directories
+    pub files : All IsOfFile p.files
+
+  -- ---- parts of a list
+
+  abbrev IsEmitted : ℕ × LineText → Type 0
+  IsEmitted t = P t.1
+
+  first_part : (ts us : List (ℕ × LineText)) → All IsEmitted (ts ++ us) → All IsEmitted ts
+  first_part [] us all = All-nil IsEmitted
+  first_part (t ∷ ts) us all =
+      All-cons IsEmitted t _ (All-head IsEmitted t _ all) (first_part ts us (All-tail IsEmitted t _ all))
+
+  last_part : (ts us : List (ℕ × LineText)) → All IsEmitted (ts ++ us) → All IsEmitted us
+  last_part [] us all = all
+  last_part (t ∷ ts) us all = last_part ts us (All-tail IsEmitted t _ all)
+
+  of-directories : (form : ℕ) (ts : List LineText) → All IsEmitted (map (λ t. (form, t)) ts) → All P ts
+  of-directories form [] all = All-nil P
+  of-directories form (t ∷ ts) all = All-cons P t _ (All-head IsEmitted _ _ all)
+      (of-directories form ts (All-tail IsEmitted _ _ all))
+
+  of-file : (f : File) → All IsEmitted (file_texts p texts f) → IsOfFile f
+  of-file f all =
+      let path : ℕ × LineText = (first_form (path_texts p.files), f.0.0) in
+      let source : ℕ × LineText = (first_form (sources p.files), source_of p texts f) in
+      let last : List (ℕ × LineText) = if p.file_has_source then source ∷ [] else [] in
+      record { path = All-head IsEmitted _ _ all; source = by _ _ (All-tail IsEmitted _ _ all) }
+    where
+      by : (has : Bool) (t : ℕ × LineText) → All IsEmitted (if has then t ∷ [] else []) → has ≡ true → P t.1
+      by true t all is = All-head IsEmitted t [] all
+      by false t all is = absurd cc
+
+  of-files : (fs : List File) → All IsEmitted (flat_map (file_texts p texts) fs) → All IsOfFile fs
+  of-files [] all = All-nil IsOfFile
+  of-files (f ∷ fs) all =
+      let own = file_texts p texts in
+      All-cons IsOfFile f _ (of-file f (first_part (own f) (flat_map own fs) all))
+      (of-files fs (last_part (own f) _ all))
+
+  -- ---- all that is emitted
+
+  pub of-tables : nat_le p.encoding.version 4 ≡ false → All IsEmitted (emitted_texts p texts) → AreOfTables
+  of-tables new all =
+      let form = first_form p.directories in
+      let named = map (λ t. (form, t)) p.directories in
+      let filed = flat_map (file_texts p texts) p.files in
+      let emitted : All IsEmitted (named ++ filed) = rw new at all in
+      record { directories = of-directories _ _ (first_part _ _ emitted); files = of-files _ (last_part _ _ emitted) }

@@ -1,7 +1,8 @@
 -- The machine over the instructions of a row, and of an end.
 use Rattle.std.specs.Prelude.{◌≡◌, ◌+◌, ◌-◌, ◌*◌, ◌/◌, ◌%◌, ◌^◌, ◌<◌, ◌≤◌, ◌∷◌, ◌++◌, if◌then◌else◌, ◌+ℤ◌, ◌-ℤ◌, ◌<ℤ◌}
 use Rattle.std.specs.Prelude.{◌≤ℤ◌}
-use Rattle.gimli_build.proofs.Common
+use Rattle.gimli_build.proofs
+use proofs.Common
 use Common.{ℕ, Bool, true, false, not, List, [], refl, sym, ap, ◌∙◌, arith, nat_eq, nat_le, ℤ, pos, nat_lt, add-zero}
 use Common.{append_assoc, unsigned_abs, IsTrue, ints, and_parts, lt-leb, le-leb, le-ltb, nat_tests, is_address_size}
 use Common.{Encoding, LineEncoding, ReadRow, Special, Copy, AdvancePc, AdvanceLine, SetFile, SetColumn, NegateStatement}
@@ -11,16 +12,25 @@ use Common.{operations, when, marks, changes, differ, line_part, line_opcode, is
 use Common.{row_instructions, row_maker, still_opcode, constant_advance, end_instructions, file_number, initial_row}
 use Common.{built_rules, read_row, registers_after_row, read_end}
 use Rattle.std.specs.Int.Signed.{lt_z, le_z}
-use Rattle.std.proofs.Math.Nat.{mod-eq_of_lt, div-eq_of_lt, div-one, div-mul-le_self, mod-lt, mod-le, pow-le-pow_right}
-use Rattle.std.proofs.Math.Nat.{add-mul-div_right}
-use Rattle.std.proofs.Math.Nat.{add-mul-mod_self_right, mul-add, mul-le-mul_left}
+use Rattle.std.proofs.Math.Nat.{
+  mod-eq_of_lt,
+  div-eq_of_lt,
+  div-one,
+  div-mul-le_self,
+  mod-lt,
+  mod-le,
+  pow-le-pow_right,
+  add-mul-div_right,
+  add-mul-mod_self_right,
+  mul-add,
+  mul-le-mul_left,
+}
 use Rattle.std.proofs.lemmas.Nat.{div-add-mod', le-div}
 use Rattle.gimli_line.specs.declared.run.instruction.LineInstruction.TheVariants.{SetAddress}
 use Rattle.gimli_line.specs.run.Registers.{advanced_line}
 use Rattle.gimli_line.specs.run.OperationPointer.{OperationPointer, advanced_by, is_too_large, address_limit}
 use Rattle.gimli_line.specs.run.Events.{row}
-use Rattle.gimli_build.proofs.sizes.Steps.{operations_above, whole_steps, taken_apart, special_parts, enough_of}
-use Rattle.gimli_build.proofs.sizes.Steps.{none_of}
+use proofs.sizes.Steps.{operations_above, whole_steps, taken_apart, special_parts, enough_of, none_of}
 
 -- ---- pointers
 

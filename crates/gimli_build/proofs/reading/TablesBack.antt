@@ -1,6 +1,7 @@
 -- The tables of a written unit: their bytes spell them, and what is read of them stands for what was built.
 use Rattle.std.specs.Prelude.{◌≡◌, ◌<◌, ◌^◌, ◌∷◌, ◌++◌, if◌then◌else◌}
-use Rattle.gimli_build.proofs.Common
+use Rattle.gimli_build.proofs
+use proofs.Common
 use Common.{ℕ, Bool, true, false, List, [], length, drop, map, option_map, Option, None, slice_get, Ok, refl, sym, ap}
 use Common.{◌∙◌, arith, length-append, Result, nat_le, replicate, option_to_list, leb-true, append-nil, All-drop}
 use Common.{OrderAndLimit, Value, String, Placement, counted, AreTexts, StringTables, Error, UnitEntry, ReadFile}
@@ -9,16 +10,20 @@ use Common.{IsDirectory, IsFile, IsFound, result_append, directories_bytes, file
 use Common.{file_formats, directory_table_bytes, file_table_bytes, tables_bytes}
 use Rattle.gimli_line.specs.header.HeaderGrammar.{path_of, file_of_entry, handed_value, directory_table, file_table}
 use Rattle.gimli_build.specs.Stored.{Stored, stored_details}
-use Rattle.gimli_build.proofs.writing.WrittenParts.{both_written}
-use Rattle.gimli_build.proofs.spellings.TableSpellings.{read_file, directories-spelled, files-spelled}
-use Rattle.gimli_build.proofs.spellings.EncodingSpellings.{first-chosen, second-chosen}
-use Rattle.gimli_build.proofs.spellings.FormatForms.{read_format}
-use Rattle.gimli_build.proofs.reading.ReadyTexts.{AreReady}
-use Rattle.gimli_build.proofs.reading.EmittedTexts.{AreOfTables}
-use Rattle.gimli_build.proofs.spellings.TextForms.{IsHeld}
-use Rattle.gimli_build.proofs.spellings.Version5TableSpellings.{directory_entry, file_entry, new-directories-spelled}
-use Rattle.gimli_build.proofs.spellings.Version5TableSpellings.{new-files-spelled, new-directories-back}
-use Rattle.gimli_build.proofs.spellings.Version5TableSpellings.{new-files-back}
+use proofs.writing.WrittenParts.{both_written}
+use proofs.spellings.TableSpellings.{read_file, directories-spelled, files-spelled}
+use proofs.spellings.EncodingSpellings.{first-chosen, second-chosen}
+use proofs.spellings.Version5TableSpellings.{
+  read_format,
+  directory_entry,
+  file_entry,
+  new-directories-spelled,
+  new-files-spelled,
+  new-directories-back,
+  new-files-back,
+}
+use proofs.reading.ReadyTexts.{AreReady, AreOfTables}
+use proofs.spellings.TextForms.{IsHeld}
 
 -- the directories from index 0 on: up to version 4 the one that was handed is the first
 abbrev from_zero : Built → UnitEntry → List Value → List Value

@@ -1,9 +1,17 @@
 -- How many operations one position is after another.
 use Rattle.std.specs.Prelude.{◌≡◌, ◌+◌, ◌-◌, ◌*◌, ◌/◌, ◌%◌, ◌<◌, ◌≤◌}
 use Rattle.gimli_build.proofs.Common.{ℕ, zero, suc, arith, ap, ◌∙◌, inl, inr, refl, cases_lt}
-use Rattle.std.proofs.Math.Nat.{mul-le-mul_right, mod-eq_of_lt, div-eq_of_lt, mul-div_cancel, add-mul-div_right}
-use Rattle.std.proofs.Math.Nat.{add-mul-mod_self_right, add-mul, mul_comm}
-use Rattle.std.proofs.Math.Nat.{div-mul-le_self}
+use Rattle.std.proofs.Math.Nat.{
+  mul-le-mul_right,
+  mod-eq_of_lt,
+  div-eq_of_lt,
+  mul-div_cancel,
+  add-mul-div_right,
+  add-mul-mod_self_right,
+  add-mul,
+  mul_comm,
+  div-mul-le_self,
+}
 use Rattle.std.proofs.lemmas.Nat.{div-add-mod', le-div}
 
 -- two multiples of m that differ are at least m apart

@@ -1,6 +1,7 @@
 -- The bytes of the fixed fields of a unit spell them.
 use Rattle.std.specs.Prelude.{◌≡◌, ◌<◌, ◌≤◌, ◌^◌, ◌∷◌, ◌++◌, ◌&&◌, if◌then◌else◌}
-use Rattle.gimli_build.proofs.Common
+use Rattle.gimli_build.proofs
+use proofs.Common
 use Common.{ℕ, Bool, true, false, List, [], length, Ok, Err, refl, sym, arith, lit<, Result, not, nat_eq, nat_le}
 use Common.{nat_lt, ℤ, FitsSigned, IsTrue, rules, ints, to_z-of_z, ltb-true, leb-true, leb-false, lt-ltb, lt-leb}
 use Common.{le-leb, ne_eqb, eqb-true, append-nil, OrderAndLimit, SpellsNumber, SpellsInitialLength, number_bytes}
@@ -11,13 +12,17 @@ use Common.{flag_byte, line_encoding_bytes, escape_bytes}
 use Rattle.std.specs.Int.{w8, cast_signed}
 use Rattle.gimli_core.specs.Production.{unit_length}
 use Rattle.gimli_core.specs.declared.error.Error.{Error as ReadError}
-use Rattle.gimli_core.specs.declared.error.Error.TheVariants.{UnsupportedAddressSize, UnsupportedSegmentSize}
-use Rattle.gimli_core.specs.declared.error.Error.TheVariants.{MinimumInstructionLengthZero}
-use Rattle.gimli_core.specs.declared.error.Error.TheVariants.{MaximumOperationsPerInstructionZero, LineRangeZero}
+use Rattle.gimli_core.specs.declared.error.Error.TheVariants.{
+  UnsupportedAddressSize,
+  UnsupportedSegmentSize,
+  MinimumInstructionLengthZero,
+  MaximumOperationsPerInstructionZero,
+  LineRangeZero,
+}
 use Rattle.gimli_line.specs.header.HeaderGrammar.{version_production, address_size_production, line_encoding_production}
 use Rattle.gimli_build.specs.Unit.{base_byte}
-use Rattle.gimli_build.proofs.sizes.UnitSizes.{format_word_size}
-use Rattle.gimli_build.proofs.writing.WrittenParts.{same_written, after_written, before_written}
+use proofs.sizes.UnitSizes.{format_word_size}
+use proofs.writing.WrittenParts.{same_written, after_written, before_written}
 
 -- ---- lines
 

@@ -1,12 +1,13 @@
 -- The bytes of built items spell their instructions.
 use Rattle.std.specs.Prelude.{◌≡◌, ◌<◌, ◌^◌, ◌∷◌, ◌++◌}
-use Rattle.gimli_build.proofs.Common
+use Rattle.gimli_build.proofs
+use proofs.Common
 use Common.{ℕ, List, [], Ok, Err, refl, sym, subst, ap, ◌∙◌, append_assoc, lit<, Result, IfOk, append-nil}
 use Common.{OrderAndLimit, Each, Encoding, LineEncoding, plain, Constant, Symbol, Error, Header, Ins, SpellsInstruction}
 use Common.{LineRow, BuiltItem, SetAddress, Row, End, CanEncode, AreBuilt, initial_row, row_instructions}
 use Common.{end_instructions, instructions_bytes, result_append, item_bytes, items_bytes, items_instructions, AreFit}
 use Rattle.gimli_line.specs.declared.run.instruction.LineInstruction.TheVariants as read
-use Rattle.gimli_build.proofs.spellings.Spellings.{each-spelled, all_row, all_end, address-spelled}
+use proofs.spellings.Spellings.{each-spelled, all_row, all_end, address-spelled}
 
 -- both parts were written
 joined_ok : (r s : Result (List ℕ) Error) (bytes : List ℕ) → result_append r s ≡ Ok bytes

@@ -1,13 +1,14 @@
 -- The bytes of the tables of a unit up to version 4 spell them.
 use Rattle.std.specs.Prelude.{◌≡◌, ◌≢◌, ◌<◌, ◌^◌, ◌∷◌, ◌++◌}
-use Rattle.gimli_build.proofs.Common
+use Rattle.gimli_build.proofs
+use proofs.Common
 use Common.{ℕ, List, [], drop, map, Ok, refl, sym, append_assoc, All, append-nil, All-head, All-tail}
 use Common.{recursion_from_All, Production, ◌>>=◌, Each, SpellsUleb128, uleb, uleb_shortest, StringTables, path_text}
 use Common.{plain_file, ReadFile, SpellsPaths, SpellsFiles, LineText, Inline, InStrings, InLineStrings, bytes_in}
 use Common.{HasNoZero, IsNotEmpty, File, keys_of, FitsFile, result_concat, name_bytes, directories_bytes, file_bytes}
 use Common.{files_bytes}
 use Rattle.gimli_line.specs.header.HeaderGrammar.{file_production}
-use Rattle.gimli_build.proofs.writing.WrittenParts.{same_written, both_written, before_written}
+use proofs.writing.WrittenParts.{same_written, both_written, before_written}
 
 unsigned_spelled : (n : ℕ) → n < 2 ^ 64 → SpellsUleb128 64 (uleb n) n
 unsigned_spelled n lt = (uleb_shortest n lt).spells

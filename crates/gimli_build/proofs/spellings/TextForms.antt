@@ -1,6 +1,7 @@
 -- The texts of a table of version 5 as values: their bytes spell these, and these stand for the texts.
 use Rattle.std.specs.Prelude.{◌≡◌, ◌≢◌, ◌<◌, ◌^◌, ◌∷◌, if◌then◌else◌}
-use Rattle.gimli_build.proofs.Common
+use Rattle.gimli_build.proofs
+use proofs.Common
 use Common.{ℕ, Bool, true, false, List, [], length, get_or, Some, Ok, refl, sym, ap, ◌∙◌, subst, arith, length-append}
 use Common.{Result, Err, nat_eq, slice_get, unwrap_or, eqb-true, append-nil, recursion_from_All, slice_get-get_or}
 use Common.{OrderAndLimit, Value, SpellsForm, Format, Dwarf64, DebugStr, DebugLineStr, String, DebugStrRef}
@@ -8,8 +9,8 @@ use Common.{DebugLineStrRef, Placement, counted, AreTexts, offset_of, StringTabl
 use Common.{LineText, Inline, InStrings, InLineStrings, IsWithin, HasNoZero, bytes_in, Sections, IsTextAt, IsText}
 use Common.{text_form, text_bytes, text_in_form, IsOffsetHeld, IsTextFound, IsFound}
 use Rattle.gimli_core.specs.Form.{form_production}
-use Rattle.gimli_build.proofs.writing.WrittenParts.{same_written}
-use Rattle.gimli_build.proofs.spellings.EncodingSpellings.{offset-spelled, word-long}
+use proofs.writing.WrittenParts.{same_written}
+use proofs.spellings.EncodingSpellings.{offset-spelled, word-long}
 
 -- ---- a text of a table
 

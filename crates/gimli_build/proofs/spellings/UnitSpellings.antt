@@ -1,6 +1,7 @@
 -- The bytes of a unit spell a header.
 use Rattle.std.specs.Prelude.{◌≡◌, ◌+◌, ◌-◌, ◌<◌, ◌≤◌, ◌^◌, ◌∷◌, ◌++◌, if◌then◌else◌}
-use Rattle.gimli_build.proofs.Common
+use Rattle.gimli_build.proofs
+use proofs.Common
 use Common.{ℕ, Bool, List, [], length, option_map, Ok, refl, sym, ap, ◌∙◌, arith, append_assoc, Result, nat_le}
 use Common.{append-nil, OrderAndLimit, Format, Dwarf32, Dwarf64, Hand, length_word, Error, StringTables, Header}
 use Common.{UnitEntry, plain_file, Built, IsBuilt, Sections, built_rules, IsUnit, format_word, result_append}
@@ -8,15 +9,25 @@ use Common.{opening_bytes, line_encoding_bytes, operand_counts, opcode_bytes, ta
 use Common.{escape_bytes, whole_bytes}
 use Rattle.std.proofs.lemmas.List.{length-append}
 use Rattle.gimli_core.specs.declared.error.Error.TheVariants.{OpcodeBaseZero}
-use Rattle.gimli_line.specs.header.HeaderGrammar.{HeaderOpening, handed_value, parameters_production}
-use Rattle.gimli_line.specs.header.HeaderGrammar.{opening_production}
-use Rattle.gimli_line.specs.header.HeaderGrammar.{fields_production, header_production}
-use Rattle.gimli_build.proofs.writing.Frames.{size_4, size_8}
-use Rattle.gimli_build.proofs.writing.WrittenParts.{same_written, both_written, after_written, before_written}
-use Rattle.gimli_build.proofs.writing.WrittenParts.{counted_written}
-use Rattle.gimli_build.proofs.spellings.EncodingSpellings.{positive-spelled, encoding-spelled, version-spelled}
-use Rattle.gimli_build.proofs.spellings.EncodingSpellings.{address-spelled, offset-spelled, length-spelled}
-use Rattle.gimli_build.proofs.reading.TablesBack.{TablesBack}
+use Rattle.gimli_line.specs.header.HeaderGrammar.{
+  HeaderOpening,
+  handed_value,
+  parameters_production,
+  opening_production,
+  fields_production,
+  header_production,
+}
+use proofs.writing.Frames.{size_4, size_8}
+use proofs.writing.WrittenParts.{same_written, both_written, after_written, before_written, counted_written}
+use proofs.spellings.EncodingSpellings.{
+  positive-spelled,
+  encoding-spelled,
+  version-spelled,
+  address-spelled,
+  offset-spelled,
+  length-spelled,
+}
+use proofs.reading.TablesBack.{TablesBack}
 
 -- ---- a unit that was written, and its parts
 

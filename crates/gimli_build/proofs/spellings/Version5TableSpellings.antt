@@ -1,24 +1,321 @@
--- The bytes of the tables of version 5 spell them, and what is read of them stands for what was built.
-use Rattle.std.specs.Prelude.{◌≡◌, ◌<◌, ◌≤◌, ◌^◌, ◌∷◌, ◌++◌, if◌then◌else◌}
-use Rattle.gimli_build.proofs.Common
-use Common.{ℕ, Bool, true, false, List, [], length, map, Some, None, Ok, refl, sym, ap, ◌∙◌, subst, append_assoc, arith}
-use Common.{length-append, Result, nat_le, replicate, All, option_map_or, append-nil, All-head, All-tail, OrderAndLimit}
-use Common.{Value, times, Format, Placement, uleb, counted, AreTexts, StringTables, Error, uleb_shortest, ReadFile}
-use Common.{SpellsFormats, LineText, bytes_in, File, Details, Sections, IsText, IsOptionalText, OneByOne, result_append}
-use Common.{result_concat, Built, IsDirectory, IsFile, IsFound, first_form, path_texts, sources, formats_bytes}
-use Common.{directory_formats, file_formats, detail_bytes, text_in_form, directory_table_bytes, source_bytes}
-use Common.{file_entry_bytes, file_table_bytes}
-use Rattle.gimli_line.specs.header.HeaderGrammar.{TableEntry, entry_production, table_production, path_of}
-use Rattle.gimli_line.specs.header.HeaderGrammar.{file_of_entry}
+-- The formats of a table of version 5: their bytes spell them, and one of them is a path.
+use Rattle.std.specs.Prelude.{◌≡◌, ◌<◌, ◌^◌, ◌∷◌, ◌++◌, if◌then◌else◌, ◌≤◌}
+use Rattle.gimli_build.proofs
+use proofs.Common
+use Common.{ℕ, Bool, true, false, List, [], length, map, refl, sym, ◌∙◌, subst, append_assoc, arith, lit<, min}
+use Common.{flat_map, count_by, lt-ltb, append-nil, times, SpellsUleb128, uleb_shortest, SpellsFormats, FileEntryFormat}
+use Common.{LineText, Inline, InStrings, InLineStrings, when, text_form, first_form, path_texts, sources, formats_bytes}
+use Common.{directory_formats, file_formats, Built, Some, None, ap, nat_eq, replicate, OrderAndLimit, Value, SpellsForm}
+use Common.{Format, Block, Udata, uleb, ReadFile, Ok, length-append, Result, nat_le, All, option_map_or, All-head}
+use Common.{All-tail, Placement, counted, AreTexts, StringTables, Error, bytes_in, File, Details, Sections, IsText}
+use Common.{IsOptionalText, OneByOne, result_append, result_concat, IsDirectory, IsFile, IsFound, detail_bytes}
+use Common.{text_in_form, directory_table_bytes, source_bytes, file_entry_bytes, file_table_bytes}
+use Rattle.gimli_bytes.specs.Number.{uleb}
+use Rattle.gimli_line.specs.header.HeaderGrammar.{
+  format_production,
+  is_content,
+  TableEntry,
+  entry_production,
+  digest,
+  file_of_entry,
+  table_production,
+  path_of,
+}
 use Rattle.gimli_build.specs.Stored.{stored_details}
-use Rattle.gimli_build.proofs.writing.WrittenParts.{same_written, both_written, after_written}
-use Rattle.gimli_build.proofs.spellings.TextForms.{read_text, IsReady, IsHeld, text-spelled, text-long, text-back}
-use Rattle.gimli_build.proofs.spellings.FormatForms.{read_format, formats_of, formats-same, directory-formats}
-use Rattle.gimli_build.proofs.spellings.FormatForms.{file-formats}
-use Rattle.gimli_build.proofs.spellings.EntryForms.{entry_of, file_with, file-read, IsSpelled, last-spelled}
-use Rattle.gimli_build.proofs.spellings.EntryForms.{entry-spelled}
-use Rattle.gimli_build.proofs.reading.ReadyTexts.{source_of, IsFileReady, AreReady}
-use Rattle.gimli_build.proofs.reading.EmittedTexts.{IsOfFile, AreOfTables}
+use proofs.writing.WrittenParts.{same_written, both_written, after_written}
+use proofs.spellings.TextForms.{read_text, IsReady, IsHeld, text-spelled, text-long, text-back}
+use proofs.reading.ReadyTexts.{source_of, IsFileReady, AreReady, IsOfFile, AreOfTables}
+
+-- a content type and a form as they are read
+abbrev pub read_format : ℕ × ℕ → FileEntryFormat
+read_format f = record { content_type = record { 0 = f.0 }; form = record { 0 = f.1 } }
+
+-- ---- one format
+
+-- a content type that two bytes hold, and a form that is one byte
+record IsFormat (f : ℕ × ℕ) : Type 0 where
+  fits : f.0 < 2 ^ 64
+  content : min f.0 0xffff ≡ f.0
+  form : f.1 < 128
+
+-- a number below 128 is its own LEB128
+small_bytes : (n : ℕ) → n < 128 → uleb n ≡ n ∷ []
+unfolding uleb
+small_bytes n small = rw (lt-ltb n 128 small) refl
+
+small_spelled : (n : ℕ) → n < 128 → SpellsUleb128 16 (uleb n) n
+small_spelled n small =
+    rw (small_bytes n small) (record { groups = (small, refl); short = lit< tt; fits = omega (arith, small) })
+
+abbrev one_bytes : ℕ × ℕ → List ℕ
+one_bytes f = uleb f.0 ++ uleb f.1
+
+one_spelled : (f : ℕ × ℕ) → IsFormat f → format_production.Spells (one_bytes f) (read_format f)
+one_spelled f is = (
+  f.0,
+  uleb f.0,
+  uleb f.1,
+  refl,
+  (uleb_shortest _ is.fits).spells,
+  (f.1, uleb f.1, [], sym (append-nil (uleb f.1)), small_spelled _ is.form, (refl, whole _ _ is.content)),
+)
+  where
+    whole : (content least : ℕ) → least ≡ content
+        → read_format (content, f.1) ≡ record { content_type = record { 0 = least }; form = record { 0 = f.1 } }
+    whole content least same = rw same refl
+
+-- ---- some formats
+
+abbrev AreSpelled : List (ℕ × ℕ) → Type 0
+AreSpelled formats =
+    (times (length formats) format_production).Spells (flat_map one_bytes formats) (map read_format formats)
+
+more_spelled : (f : ℕ × ℕ) (formats : List (ℕ × ℕ)) → IsFormat f → AreSpelled formats → AreSpelled (f ∷ formats)
+more_spelled f formats is rest = grind (arith, one_spelled, map, append-nil)
+
+when_spelled : (due : Bool) (f : ℕ × ℕ) (formats : List (ℕ × ℕ)) → IsFormat f → AreSpelled formats
+    → AreSpelled (when due f ++ formats)
+when_spelled true f formats is rest = more_spelled f _ is rest
+when_spelled false f formats is rest = rest
+
+last_spelled : (due : Bool) (f : ℕ × ℕ) → IsFormat f → AreSpelled (when due f)
+last_spelled true f is = more_spelled f [] is (refl, refl)
+last_spelled false f is = (refl, refl)
+
+-- formats one of which is a path, after their number
+formats_spelled : (formats : List (ℕ × ℕ)) → AreSpelled formats
+    → count_by (is_content 0x0001) (map read_format formats) ≡ 1
+    → SpellsFormats (formats_bytes formats) (map read_format formats)
+formats_spelled formats spelled one = grind (arith, map, append-nil)
+
+-- ---- the tables
+
+text_form_small : (t : LineText) → text_form t < 128
+text_form_small (Inline text) = lit< tt
+text_form_small (InStrings i) = lit< tt
+text_form_small (InLineStrings i) = lit< tt
+
+first_form_small : (texts : List LineText) → first_form texts < 128
+first_form_small [] = lit< tt
+first_form_small (t ∷ texts) = text_form_small t
+
+is_format : (content form : ℕ) → content < 2 ^ 64 → min content 0xffff ≡ content → form < 128 → IsFormat (content, form)
+is_format content form fits held small = grind arith
+
+pub directory-formats : (p : Built)
+    → SpellsFormats (formats_bytes (directory_formats p)) (map read_format (directory_formats p))
+directory-formats p =
+    let path = is_format 0x0001 (first_form p.directories) (lit< tt) refl (first_form_small p.directories) in
+    formats_spelled (directory_formats p) (more_spelled (0x0001, first_form p.directories) [] path (refl, refl)) refl
+
+-- the formats of files, where the flags are these
+abbrev pub formats_of : (time size digest source : Bool) (path_form source_form : ℕ) → List (ℕ × ℕ)
+formats_of time size digest source path_form source_form = (0x0001, path_form) ∷ (0x0002, 0x0f)
+    ∷ (when time (0x0003, 0x0f)
+    ++ (when size (0x0004, 0x0f) ++ (when digest (0x0005, 0x1e) ++ when source (0x2001, source_form))))
+
+-- four parts one after the other
+pub nested : {A : Type 0} (a b c d : List A) → a ++ b ++ c ++ d ≡ a ++ (b ++ (c ++ d))
+nested a b c d = grind (arith, append_assoc)
+
+pub formats-same : (p : Built)
+    → file_formats p
+    ≡ formats_of p.file_has_timestamp p.file_has_size p.file_has_md5 p.file_has_source (first_form (path_texts p.files))
+    (first_form (sources p.files))
+formats-same p = grind (arith, nested)
+
+one_path : (time size digest source : Bool) (path_form source_form : ℕ)
+    → count_by (is_content 0x0001) (map read_format (formats_of time size digest source path_form source_form)) ≡ 1
+one_path true true true true a b = refl
+one_path true true true false a b = refl
+one_path true true false true a b = refl
+one_path true true false false a b = refl
+one_path true false true true a b = refl
+one_path true false true false a b = refl
+one_path true false false true a b = refl
+one_path true false false false a b = refl
+one_path false true true true a b = refl
+one_path false true true false a b = refl
+one_path false true false true a b = refl
+one_path false true false false a b = refl
+one_path false false true true a b = refl
+one_path false false true false a b = refl
+one_path false false false true a b = refl
+one_path false false false false a b = refl
+
+of_spelled : (time size digest source : Bool) (path_form source_form : ℕ) → path_form < 128 → source_form < 128
+    → AreSpelled (formats_of time size digest source path_form source_form)
+of_spelled time size digest source path_form source_form path_small source_small =
+    let sources = when source (0x2001, source_form) in
+    let digests = when digest (0x0005, 0x1e) ++ sources in
+    let sizes = when size (0x0004, 0x0f) ++ digests in
+    let times = when time (0x0003, 0x0f) ++ sizes in
+    let last = last_spelled source (0x2001, source_form) (is_format 0x2001 source_form (lit< tt) refl source_small) in
+    let third = when_spelled digest (0x0005, 0x1e) sources (is_format 0x0005 0x1e (lit< tt) refl (lit< tt)) last in
+    let second = when_spelled size (0x0004, 0x0f) digests (is_format 0x0004 0x0f (lit< tt) refl (lit< tt)) third in
+    let first = when_spelled time (0x0003, 0x0f) sizes (is_format 0x0003 0x0f (lit< tt) refl (lit< tt)) second in
+    let index = more_spelled (0x0002, 0x0f) times (is_format 0x0002 0x0f (lit< tt) refl (lit< tt)) first in
+    more_spelled (0x0001, path_form) ((0x0002, 0x0f) ∷ times) (is_format 0x0001 path_form (lit< tt) refl path_small)
+    index
+
+pub file-formats : (p : Built) → SpellsFormats (formats_bytes (file_formats p)) (map read_format (file_formats p))
+file-formats p =
+    let path_form = first_form (path_texts p.files) in
+    let source_form = first_form (sources p.files) in
+    let list = formats_of p.file_has_timestamp p.file_has_size p.file_has_md5 p.file_has_source path_form source_form in
+    subst (λ (l : List (ℕ × ℕ)). SpellsFormats (formats_bytes l) (map read_format l)) (sym (formats-same p))
+    (formats_spelled list
+    (of_spelled p.file_has_timestamp p.file_has_size p.file_has_md5 p.file_has_source path_form source_form
+    (first_form_small (path_texts p.files))
+    (first_form_small (sources p.files)))
+    (one_path p.file_has_timestamp p.file_has_size p.file_has_md5 p.file_has_source path_form source_form))
+
+-- ---- an entry of the files of version 5: its bytes spell it, and a file is read of it
+
+-- ---- what is read
+
+-- an entry with these values, where the flags are these
+abbrev pub entry_of : (time size has_digest source : Bool) → Value → ℕ → ℕ → ℕ → List ℕ → Value → TableEntry
+entry_of time size has_digest source path directory timestamp bytes md5 text =
+    (0x0001, path) ∷ (0x0002, Udata directory)
+    ∷ (when time (0x0003, Udata timestamp)
+    ++ (when size (0x0004, Udata bytes) ++ (when has_digest (0x0005, Block md5) ++ when source (0x2001, text))))
+
+abbrev pub file_with : (time size has_digest source : Bool) → Value → ℕ → ℕ → ℕ → List ℕ → Value → ReadFile
+file_with time size has_digest source path directory timestamp bytes md5 text = record {
+  path_name = path;
+  directory_index = directory;
+  timestamp = if time then timestamp else 0;
+  size = if size then bytes else 0;
+  md5 = if has_digest then md5 else replicate 16 0;
+  source = if source then Some text else None;
+}
+
+-- a digest of sixteen bytes is read as it is
+pub file-read : (time size has_digest source : Bool) (path : Value) (directory timestamp bytes : ℕ) (md5 : List ℕ)
+    (text : Value)
+    → length md5 ≡ 16
+    → file_of_entry (entry_of time size has_digest source path directory timestamp bytes md5 text)
+    ≡ file_with time size has_digest source path directory timestamp bytes md5 text
+file-read time size has_digest source path directory timestamp bytes md5 text whole = by time size has_digest source
+  where
+    digested : (t s o : Bool)
+        → file_with t s true o path directory timestamp bytes
+        (elim (digest (Block md5)) [ Some x ↦ x | None ↦ replicate 16 0 ]) text
+        ≡ file_with t s true o path directory timestamp bytes md5 text
+    digested t s o = ap (λ n. file_with t s true o path directory timestamp bytes
+        (elim (if nat_eq n 16 then Some md5 else None) [ Some x ↦ x | None ↦ replicate 16 0 ]) text) whole
+
+    by : (t s d o : Bool) → file_of_entry (entry_of t s d o path directory timestamp bytes md5 text)
+        ≡ file_with t s d o path directory timestamp bytes md5 text
+    by true true true true = digested true true true
+    by true true true false = digested true true false
+    by true true false true = refl
+    by true true false false = refl
+    by true false true true = digested true false true
+    by true false true false = digested true false false
+    by true false false true = refl
+    by true false false false = refl
+    by false true true true = digested false true true
+    by false true true false = digested false true false
+    by false true false true = refl
+    by false true false false = refl
+    by false false true true = digested false false true
+    by false false true false = digested false false false
+    by false false false true = refl
+    by false false false false = refl
+
+-- ---- what spells it
+
+-- bytes in five parts
+regrouped : (a b c d e : List ℕ) → (a ++ b ++ c ++ d) ++ e ≡ a ++ (b ++ (c ++ (d ++ e)))
+regrouped a b c d e = append_assoc (a ++ b ++ c) d e ∙ nested a b c _
+
+module _ (layout : OrderAndLimit) (format : Format) where
+  udata_spelled : (n : ℕ) → n < 2 ^ 64 → SpellsForm layout format 0x0f (uleb n) (Udata n)
+  udata_spelled n lt = (n, uleb n, [], sym (append-nil (uleb n)), (uleb_shortest n lt).spells, (refl, refl))
+
+  digest_spelled : (md5 : List ℕ) → length md5 ≡ 16 → SpellsForm layout format 0x1e md5 (Block md5)
+  digest_spelled md5 whole = (md5, md5, [], sym (append-nil md5), (whole, refl), (refl, refl))
+
+  abbrev pub IsSpelled : List (ℕ × ℕ) → List ℕ → TableEntry → Type 0
+  IsSpelled formats bytes entry = (entry_production layout format (map read_format formats)).Spells bytes entry
+
+  -- a value, and the values after it
+  pub value-spelled : (content form : ℕ) (bytes : List ℕ) (v : Value) (formats : List (ℕ × ℕ)) (rest : List ℕ)
+      (entry : TableEntry)
+      → SpellsForm layout format form bytes v → IsSpelled formats rest entry
+      → IsSpelled ((content, form) ∷ formats) (bytes ++ rest) ((content, v) ∷ entry)
+  value-spelled content form bytes v formats rest entry own after =
+      (v, bytes, rest, refl, own, (entry, rest, [], sym (append-nil rest), after, (refl, refl)))
+
+  -- a value where a flag asks for it
+  value_when : (due : Bool) (content form : ℕ) (bytes : List ℕ) (v : Value) (formats : List (ℕ × ℕ)) (rest : List ℕ)
+      (entry : TableEntry)
+      → SpellsForm layout format form bytes v → IsSpelled formats rest entry
+      → IsSpelled (when due (content, form) ++ formats) ((if due then bytes else []) ++ rest)
+      (when due (content, v) ++ entry)
+  value_when true content form bytes v formats rest entry own after = value-spelled _ form _ v _ _ _ own after
+  value_when false content form bytes v formats rest entry own after = after
+
+  -- a value alone
+  pub last-spelled : (content form : ℕ) (bytes : List ℕ) (v : Value) → SpellsForm layout format form bytes v
+      → IsSpelled ((content, form) ∷ []) bytes ((content, v) ∷ [])
+  last-spelled content form bytes v own =
+      (v, bytes, [], sym (append-nil bytes), own, ([], [], [], refl, (refl, refl), (refl, refl)))
+
+  source_spelled : (due : Bool) (form : ℕ) (bytes : List ℕ) (v : Value)
+      → (due ≡ true → SpellsForm layout format form bytes v) → (due ≡ false → bytes ≡ [])
+      → IsSpelled (when due (0x2001, form)) bytes (when due (0x2001, v))
+  source_spelled true form bytes v own none = last-spelled _ form _ v (own refl)
+  source_spelled false form bytes v own none = (none refl, refl)
+
+  pub entry-spelled : (time size has_digest source : Bool) (path_form source_form : ℕ) (path : Value)
+      (directory timestamp count : ℕ) (md5 : List ℕ)
+      (text : Value) (path_bytes source_bytes : List ℕ)
+      → SpellsForm layout format path_form path_bytes path → directory < 2 ^ 64 → timestamp < 2 ^ 64 → count < 2 ^ 64
+      → length md5 ≡ 16
+      → (source ≡ true → SpellsForm layout format source_form source_bytes text)
+      → (source ≡ false → source_bytes ≡ [])
+      → IsSpelled (formats_of time size has_digest source path_form source_form)
+      (path_bytes ++ ((uleb directory ++ (if time then uleb timestamp else []) ++ (if size then uleb count else [])
+      ++ (if has_digest then md5 else [])) ++ source_bytes))
+      (entry_of time size has_digest source path directory timestamp count md5 text)
+  entry-spelled time size has_digest source path_form source_form path directory timestamp count md5 text path_bytes
+      source_bytes path_own d t s m source_own
+      source_none =
+      let fourth_formats = when source (0x2001, source_form) in
+      let third_formats = when has_digest (0x0005, 0x1e) ++ fourth_formats in
+      let second_formats = when size (0x0004, 0x0f) ++ third_formats in
+      let first_formats = when time (0x0003, 0x0f) ++ second_formats in
+      let fourth_entry = when source (0x2001, text) in
+      let third_entry = when has_digest (0x0005, Block md5) ++ fourth_entry in
+      let second_entry = when size (0x0004, Udata count) ++ third_entry in
+      let first_entry = when time (0x0003, Udata timestamp) ++ second_entry in
+      let third_bytes = (if has_digest then md5 else []) ++ source_bytes in
+      let second_bytes = (if size then uleb count else []) ++ third_bytes in
+      let first_bytes = (if time then uleb timestamp else []) ++ second_bytes in
+      let fourth = source_spelled source source_form source_bytes text source_own source_none in
+      let third = value_when has_digest 0x0005 0x1e md5 (Block md5) fourth_formats source_bytes fourth_entry
+      (digest_spelled md5 m) fourth in
+      let second = value_when size 0x0004 0x0f (uleb count) (Udata count) third_formats third_bytes third_entry
+      (udata_spelled count s) third in
+      let first =
+      value_when time 0x0003 0x0f (uleb timestamp) (Udata timestamp) second_formats second_bytes second_entry
+      (udata_spelled timestamp t) second in
+      let index = value-spelled 0x0002 0x0f (uleb directory) (Udata directory) first_formats first_bytes first_entry
+      (udata_spelled directory d) first in
+      let whole =
+      value-spelled 0x0001 path_form path_bytes path ((0x0002, 0x0f) ∷ first_formats) (uleb directory ++ first_bytes)
+      ((0x0002, Udata directory) ∷ first_entry) path_own index in
+      subst (λ (l : List ℕ).
+      IsSpelled (formats_of time size has_digest source path_form source_form) (path_bytes ++ l)
+      (entry_of time size has_digest source path directory timestamp count md5 text))
+      (sym (regrouped (uleb directory) (if time then uleb timestamp else []) (if size then uleb count else [])
+      (if has_digest then md5 else []) source_bytes))
+      whole
+
+-- ---- the bytes of the tables of version 5 spell them, and what is read of them stands for what was built
 
 -- ---- a table of entries
 

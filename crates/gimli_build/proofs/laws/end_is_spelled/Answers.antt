@@ -1,5 +1,6 @@
-use Rattle.gimli_build.proofs.spellings.Spellings.{each-spelled, all_end}
-use Rattle.gimli_build.proofs.laws.end_is_spelled.Goals as goal
+use Rattle.gimli_build.proofs
+use proofs.spellings.Spellings.{each-spelled, all_end}
+use proofs.laws.end_is_spelled.Goals as goal
 
 pub returns : goal.returns
 returns c = λ u here o i follows.

@@ -1,5 +1,6 @@
-use Rattle.gimli_build.proofs.reading.RowRuns.{end-runs}
-use Rattle.gimli_build.proofs.laws.end_runs.Goals as goal
+use Rattle.gimli_build.proofs
+use proofs.reading.RowRuns.{end-runs}
+use proofs.laws.end_runs.Goals as goal
 
 pub returns : goal.returns
 returns c = λ here o i way next.

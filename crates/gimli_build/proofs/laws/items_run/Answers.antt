@@ -1,5 +1,6 @@
-use Rattle.gimli_build.proofs.reading.ItemRuns.{items-run}
-use Rattle.gimli_build.proofs.laws.items_run.Goals as goal
+use Rattle.gimli_build.proofs
+use proofs.reading.EventsBack.{items-run}
+use proofs.laws.items_run.Goals as goal
 
 pub returns : goal.returns
 returns c = λ here items way next.

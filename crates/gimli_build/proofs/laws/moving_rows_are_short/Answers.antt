@@ -1,5 +1,6 @@
-use Rattle.gimli_build.proofs.sizes.RowSizes.{one_byte, two_bytes}
-use Rattle.gimli_build.proofs.laws.moving_rows_are_short.Goals as goal
+use Rattle.gimli_build.proofs
+use proofs.sizes.RowSizes.{one_byte, two_bytes}
+use proofs.laws.moving_rows_are_short.Goals as goal
 
 pub returns : goal.returns
 returns c = record {

@@ -1,8 +1,9 @@
-use Rattle.gimli_build.proofs.Common.{ap, ◌∙◌, lit<, run, initial_row, built_rules}
+use Rattle.gimli_build.proofs
+use proofs.Common.{ap, ◌∙◌, lit<, run, initial_row, built_rules}
 use Rattle.gimli_build.specs.Runs.{program_instructions}
-use Rattle.gimli_build.proofs.reading.RowRuns.{start-is}
-use Rattle.gimli_build.proofs.reading.ItemRuns.{items-run, start_position}
-use Rattle.gimli_build.proofs.laws.program_runs.Goals as goal
+use proofs.reading.RowRuns.{start-is}
+use proofs.reading.EventsBack.{items-run, start_position}
+use proofs.laws.program_runs.Goals as goal
 
 pub returns : goal.returns
 returns c = λ p can.

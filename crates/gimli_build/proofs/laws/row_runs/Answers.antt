@@ -1,5 +1,6 @@
-use Rattle.gimli_build.proofs.reading.RowRuns.{row-runs}
-use Rattle.gimli_build.proofs.laws.row_runs.Goals as goal
+use Rattle.gimli_build.proofs
+use proofs.reading.RowRuns.{row-runs}
+use proofs.laws.row_runs.Goals as goal
 
 pub returns : goal.returns
 returns c = λ here r way next.

@@ -1,6 +1,7 @@
-use Rattle.gimli_build.proofs.Common.{initial_row}
-use Rattle.gimli_build.proofs.reading.NoFiles.{items-none, starts-none, goes-none, refused-none}
-use Rattle.gimli_build.proofs.laws.written_rows_take_no_memory.Goals as goal
+use Rattle.gimli_build.proofs
+use proofs.Common.{initial_row}
+use proofs.reading.NoFiles.{items-none, starts-none, goes-none, refused-none}
+use proofs.laws.written_rows_take_no_memory.Goals as goal
 
 pub returns : goal.returns
 returns c = record {

@@ -1,6 +1,7 @@
-use Rattle.gimli_build.proofs.Common.{err_from_is_err_and, drop-map, line_text}
-use Rattle.gimli_build.proofs.writing.Writes.{first_unwritten, joins}
-use Rattle.gimli_build.proofs.tables.version_4.write_directories.Goals as goal
+use Rattle.gimli_build.proofs
+use proofs.Common.{err_from_is_err_and, drop-map, line_text}
+use proofs.writing.Writes.{first_unwritten, joins}
+use proofs.tables.version_4.write_directories.Goals as goal
 
 pub returns-in_err-write_names : goal.returns-in_err-write_names
 returns-in_err-write_names g c =

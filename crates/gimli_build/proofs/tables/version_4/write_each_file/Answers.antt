@@ -1,8 +1,9 @@
 use Rattle.std.specs.Prelude.{◌≤◌}
-use Rattle.gimli_build.proofs.Common.{arith, take_all, All-push, line_text, File, FitsFile, details}
-use Rattle.gimli_build.proofs.writing.Joined.{next_at, taken_at}
-use Rattle.gimli_build.proofs.writing.Writes.{one_written, one_unwritten, passed_on}
-use Rattle.gimli_build.proofs.tables.version_4.write_each_file.Goals as goal
+use Rattle.gimli_build.proofs
+use proofs.Common.{arith, take_all, All-push, line_text, File, FitsFile, details}
+use proofs.writing.Joined.{next_at, taken_at}
+use proofs.writing.Writes.{one_written, one_unwritten, passed_on}
+use proofs.tables.version_4.write_each_file.Goals as goal
 
 pub returns-in_err-write_file-clause-writes : goal.returns-in_err-write_file-clause-writes
 returns-in_err-write_file-clause-writes g c =

@@ -1,8 +1,9 @@
 use Rattle.std.specs.Prelude.{◌<◌}
-use Rattle.gimli_build.proofs.Common.{length, arith, line_text}
-use Rattle.gimli_build.proofs.writing.Joined.{next_seen}
-use Rattle.gimli_build.proofs.writing.Writes.{one_written, one_unwritten, passed_on}
-use Rattle.gimli_build.proofs.tables.version_4.write_names.Goals as goal
+use Rattle.gimli_build.proofs
+use proofs.Common.{length, arith, line_text}
+use proofs.writing.Joined.{next_seen}
+use proofs.writing.Writes.{one_written, one_unwritten, passed_on}
+use proofs.tables.version_4.write_names.Goals as goal
 
 pub returns-in_err-write_name : goal.returns-in_err-write_name
 returns-in_err-write_name g c =

@@ -1,6 +1,7 @@
-use Rattle.gimli_build.proofs.Common.{List, ap, ◌∙◌, when, File, first_form, path_texts, sources}
-use Rattle.gimli_build.proofs.building.FormatLemmas.{six_due}
-use Rattle.gimli_build.proofs.tables.version_5.file_formats.Goals as goal
+use Rattle.gimli_build.proofs
+use proofs.Common.{List, ap, ◌∙◌, when, File, first_form, path_texts, sources}
+use proofs.building.FormatLemmas.{six_due}
+use proofs.tables.version_5.file_formats.Goals as goal
 
 pub returns : goal.returns
 returns c =

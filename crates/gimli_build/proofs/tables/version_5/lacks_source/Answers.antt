@@ -1,7 +1,8 @@
 use Rattle.std.specs.Prelude.{◌≡◌}
-use Rattle.gimli_build.proofs.Common.{rules, true, false, sym, ◌∙◌, is_none, line_text, File, details}
-use Rattle.gimli_build.proofs.building.SourceLemmas.{any_found, any_passed, none_seen}
-use Rattle.gimli_build.proofs.tables.version_5.lacks_source.Goals as goal
+use Rattle.gimli_build.proofs
+use proofs.Common.{rules, true, false, sym, ◌∙◌, is_none, line_text, File, details}
+use proofs.building.SourceLemmas.{any_found, any_passed, none_seen}
+use proofs.tables.version_5.lacks_source.Goals as goal
 
 pub returns-then-is_none : goal.returns-then-is_none
 returns-then-is_none c =

@@ -1,6 +1,7 @@
 use Rattle.std.specs.Prelude.{◌≡◌}
-use Rattle.gimli_build.proofs.Common.{drop, is_none, list_any, File}
-use Rattle.gimli_build.proofs.tables.version_5.lacks_source.Given as goal
+use Rattle.gimli_build.proofs
+use proofs.Common.{drop, is_none, list_any, File}
+use proofs.tables.version_5.lacks_source.Given as goal
 
 abbrev pub invariant-loop-index : goal.invariant-loop-index
 invariant-loop-index l = record {

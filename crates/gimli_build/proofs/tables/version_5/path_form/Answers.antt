@@ -1,6 +1,7 @@
-use Rattle.gimli_build.proofs.Common.{◌∙◌, line_text, File, details}
-use Rattle.gimli_build.proofs.building.SourceLemmas.{first_path}
-use Rattle.gimli_build.proofs.tables.version_5.path_form.Goals as goal
+use Rattle.gimli_build.proofs
+use proofs.Common.{◌∙◌, line_text, File, details}
+use proofs.building.SourceLemmas.{first_path}
+use proofs.tables.version_5.path_form.Goals as goal
 
 pub returns : goal.returns
 returns c =

@@ -1,7 +1,8 @@
 use Rattle.std.specs.Prelude.{◌≡◌}
-use Rattle.gimli_build.proofs.Common.{length, map, ap, sym, ◌∙◌, length-map, line_text, first_form}
-use Rattle.gimli_build.proofs.writing.Writes.{bytes_unwritten, joins, passed_on}
-use Rattle.gimli_build.proofs.tables.version_5.write_directory_table.Goals as goal
+use Rattle.gimli_build.proofs
+use proofs.Common.{length, map, ap, sym, ◌∙◌, length-map, line_text, first_form}
+use proofs.writing.Writes.{bytes_unwritten, joins, passed_on}
+use proofs.tables.version_5.write_directory_table.Goals as goal
 
 pub returns-in_err-write_formats : goal.returns-in_err-write_formats
 returns-in_err-write_formats g c =

@@ -1,7 +1,8 @@
-use Rattle.gimli_build.proofs.Common.{ap, take_all}
-use Rattle.gimli_build.proofs.building.FormatLemmas.{due_bytes, due_more}
-use Rattle.gimli_build.proofs.writing.Writes.{joins, passed_on, same_bytes, unwritten}
-use Rattle.gimli_build.proofs.tables.version_5.write_due_formats.Goals as goal
+use Rattle.gimli_build.proofs
+use proofs.Common.{ap, take_all}
+use proofs.building.FormatLemmas.{due_bytes, due_more}
+use proofs.writing.Writes.{joins, passed_on, same_bytes, unwritten}
+use proofs.tables.version_5.write_due_formats.Goals as goal
 
 pub loop-index-preserved : goal.loop-index-preserved
 loop-index-preserved g c = record {

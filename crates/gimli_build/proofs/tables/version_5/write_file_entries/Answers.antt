@@ -1,10 +1,10 @@
 use Rattle.std.specs.Prelude.{◌≡◌, ◌≤◌}
-use Rattle.gimli_build.proofs.Common
+use Rattle.gimli_build.proofs
+use proofs.Common
 use Common.{slice_get, Some, sym, ap, ◌∙◌, arith, List, take_all, All-nil, All-push, line_text, File, FitsFile, details}
-use Rattle.gimli_build.proofs.writing.Joined.{next_at, taken_at}
-use Rattle.gimli_build.proofs.writing.Writes.{none_written, one_written, one_unwritten, passed_on}
-use Rattle.gimli_build.proofs.writing.Joined.{contains-at}
-use Rattle.gimli_build.proofs.tables.version_5.write_file_entries.Goals as goal
+use proofs.writing.Joined.{next_at, taken_at, contains-at}
+use proofs.writing.Writes.{none_written, one_written, one_unwritten, passed_on}
+use proofs.tables.version_5.write_file_entries.Goals as goal
 
 pub write_file_entry-requires-clause-there : goal.write_file_entry-requires-clause-there
 write_file_entry-requires-clause-there g c = grind (arith, slice_get, contains-at)

@@ -1,7 +1,8 @@
-use Rattle.gimli_build.proofs.Common.{ap, ◌∙◌, List, All-contains, IsWithin, IfSome, File, first_form, path_texts}
-use Rattle.gimli_build.proofs.building.SourceLemmas.{needs-empty}
-use Rattle.gimli_build.proofs.writing.Writes.{first_unwritten, joins, passed_on}
-use Rattle.gimli_build.proofs.tables.version_5.write_file_entry.Goals as goal
+use Rattle.gimli_build.proofs
+use proofs.Common.{ap, ◌∙◌, List, All-contains, IsWithin, IfSome, File, first_form, path_texts}
+use proofs.building.SourceLemmas.{needs-empty}
+use proofs.writing.Writes.{first_unwritten, joins, passed_on}
+use proofs.tables.version_5.write_file_entry.Goals as goal
 
 pub write_line_string-requires : goal.write_line_string-requires
 write_line_string-requires g c =

@@ -1,5 +1,6 @@
-use Rattle.gimli_build.proofs.writing.Writes.{bytes_unwritten, joins, passed_on, unwritten, writes}
-use Rattle.gimli_build.proofs.tables.version_5.write_formats.Goals as goal
+use Rattle.gimli_build.proofs
+use proofs.writing.Writes.{bytes_unwritten, joins, passed_on, unwritten, writes}
+use proofs.tables.version_5.write_formats.Goals as goal
 
 pub returns-in_err-write_byte : goal.returns-in_err-write_byte
 returns-in_err-write_byte g c = passed_on c.from_residual.ensures.1 (bytes_unwritten c.in_err-write_byte.ensures)

@@ -1,8 +1,9 @@
 use Rattle.std.specs.Prelude.{◌<◌}
-use Rattle.gimli_build.proofs.Common.{length, arith, line_text, IsWithin}
-use Rattle.gimli_build.proofs.writing.Joined.{next_seen, all_seen}
-use Rattle.gimli_build.proofs.writing.Writes.{one_written, one_unwritten, passed_on}
-use Rattle.gimli_build.proofs.tables.version_5.write_texts.Goals as goal
+use Rattle.gimli_build.proofs
+use proofs.Common.{length, arith, line_text, IsWithin}
+use proofs.writing.Joined.{next_seen, all_seen}
+use proofs.writing.Writes.{one_written, one_unwritten, passed_on}
+use proofs.tables.version_5.write_texts.Goals as goal
 
 pub write_line_string-requires : goal.write_line_string-requires
 write_line_string-requires g c =

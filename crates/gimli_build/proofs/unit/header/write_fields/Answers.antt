@@ -1,6 +1,7 @@
-use Rattle.gimli_build.proofs.Common.{◌∙◌}
-use Rattle.gimli_build.proofs.writing.Writes.{first_unwritten, joins, writes, passed_on}
-use Rattle.gimli_build.proofs.unit.header.write_fields.Goals as goal
+use Rattle.gimli_build.proofs
+use proofs.Common.{◌∙◌}
+use proofs.writing.Writes.{first_unwritten, joins, writes, passed_on}
+use proofs.unit.header.write_fields.Goals as goal
 
 pub returns-clause-writes : goal.returns-clause-writes
 returns-clause-writes g c =

@@ -1,8 +1,9 @@
 use Rattle.std.specs.Prelude.{◌≡◌, ◌∷◌}
-use Rattle.gimli_build.proofs.Common.{[], rules, flag_byte}
+use Rattle.gimli_build.proofs
+use proofs.Common.{[], rules, flag_byte}
 use Rattle.gimli_build.specs.Unit.{base_byte}
-use Rattle.gimli_build.proofs.writing.Writes.{first_unwritten, joins, writes, passed_on}
-use Rattle.gimli_build.proofs.unit.header.write_line_encoding.Goals as goal
+use proofs.writing.Writes.{first_unwritten, joins, writes, passed_on}
+use proofs.unit.header.write_line_encoding.Goals as goal
 
 pub returns : goal.returns
 unfolding base_byte

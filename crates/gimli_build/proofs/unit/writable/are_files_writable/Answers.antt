@@ -1,7 +1,7 @@
-use Rattle.gimli_build.proofs.Common.{refl, texts_in, line_text, File, details, IsFileWritable}
-use Rattle.gimli_build.proofs.writing.Joined.{next_at}
-use Rattle.gimli_build.proofs.writing.Joined.{all_passed}
-use Rattle.gimli_build.proofs.unit.writable.are_files_writable.Goals as goal
+use Rattle.gimli_build.proofs
+use proofs.Common.{refl, texts_in, line_text, File, details, IsFileWritable}
+use proofs.writing.Joined.{next_at, all_passed}
+use proofs.unit.writable.are_files_writable.Goals as goal
 
 pub loop-index-preserved : goal.loop-index-preserved
 loop-index-preserved c =

@@ -1,10 +1,7 @@
-use Rattle.gimli_build.proofs.Common.{◌∙◌, ap, directories_of, files_of}
-use Rattle.gimli_build.proofs.building.TableLemmas.{
-  directories_insert,
-  index_of_equal_directory,
-  with_directory-AreTables,
-}
-use Rattle.gimli_build.proofs.built.files.FileTable.add_directory.Goals as goal
+use Rattle.gimli_build.proofs
+use proofs.Common.{◌∙◌, ap, directories_of, files_of}
+use proofs.building.TableLemmas.{directories_insert, index_of_equal_directory, with_directory-AreTables}
+use proofs.built.files.FileTable.add_directory.Goals as goal
 
 pub invariant_of-self-2 : goal.invariant_of-self-2
 invariant_of-self-2 c =

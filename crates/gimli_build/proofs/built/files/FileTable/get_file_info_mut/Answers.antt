@@ -1,6 +1,7 @@
-use Rattle.gimli_build.proofs.Common.{◌∙◌, ap, refl, sym, option_copied_mut, directories_of}
-use Rattle.gimli_build.proofs.building.TableLemmas.{files_with, written-AreTables, details_at}
-use Rattle.gimli_build.proofs.built.files.FileTable.get_file_info_mut.Goals as goal
+use Rattle.gimli_build.proofs
+use proofs.Common.{◌∙◌, ap, refl, sym, option_copied_mut, directories_of}
+use proofs.building.TableLemmas.{files_with, written-AreTables, details_at}
+use proofs.built.files.FileTable.get_file_info_mut.Goals as goal
 
 pub invariant_of-self-lent : goal.invariant_of-self-lent
 invariant_of-self-lent c = λ w. written-AreTables _ _ _ w c.self.invariant

@@ -1,11 +1,18 @@
 use Rattle.std.specs.Prelude.{◌<◌}
-use Rattle.gimli_build.proofs.Common
+use Rattle.gimli_build.proofs
+use proofs.Common
 use Common.{◌∙◌, ap, Some, sym, length, subst, with_file, details, key, directories_of, files_of}
 use Rattle.gimli_bytes.proofs.TextLemmas.{index_found}
-use Rattle.gimli_build.proofs.building.TableLemmas.{files_insert, index_of_equal_file, pair_eq, file_found}
-use Rattle.gimli_build.proofs.building.TableLemmas.{with_file-AreTables, with_file-kept}
-use Rattle.gimli_build.proofs.building.TableLemmas.{with_file-new}
-use Rattle.gimli_build.proofs.built.files.FileTable.keep_file.Goals as goal
+use proofs.building.TableLemmas.{
+  files_insert,
+  index_of_equal_file,
+  pair_eq,
+  file_found,
+  with_file-AreTables,
+  with_file-kept,
+  with_file-new,
+}
+use proofs.built.files.FileTable.keep_file.Goals as goal
 
 pub returns-in-Some-clause-ok : goal.returns-in-Some-clause-ok
 returns-in-Some-clause-ok c =

@@ -1,7 +1,8 @@
 use Rattle.std.specs.Prelude.{◌<◌}
-use Rattle.gimli_build.proofs.Common.{◌∙◌, ap, length, sym, subst, details, directories_of, files_of}
-use Rattle.gimli_build.proofs.building.TableLemmas.{files_insert, index_of_equal_file, with_file-AreTables}
-use Rattle.gimli_build.proofs.built.files.FileTable.set_file.Goals as goal
+use Rattle.gimli_build.proofs
+use proofs.Common.{◌∙◌, ap, length, sym, subst, details, directories_of, files_of}
+use proofs.building.TableLemmas.{files_insert, index_of_equal_file, with_file-AreTables}
+use proofs.built.files.FileTable.set_file.Goals as goal
 
 pub invariant_of-self-2 : goal.invariant_of-self-2
 invariant_of-self-2 c =

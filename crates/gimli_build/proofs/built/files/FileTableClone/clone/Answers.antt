@@ -1,5 +1,6 @@
-use Rattle.gimli_build.proofs.building.TableLemmas.{directories_cloned, files_cloned}
-use Rattle.gimli_build.proofs.built.files.FileTableClone.clone.Goals as goal
+use Rattle.gimli_build.proofs
+use proofs.building.TableLemmas.{directories_cloned, files_cloned}
+use proofs.built.files.FileTableClone.clone.Goals as goal
 
 pub invariant_of-result : goal.invariant_of-result
 invariant_of-result c = rw (

@@ -1,9 +1,9 @@
 use Rattle.std.specs.Prelude.{◌≡◌, ◌≤◌}
-use Rattle.gimli_build.proofs.Common
+use Rattle.gimli_build.proofs
+use proofs.Common
 use Common.{false, sym, subst, ap, ◌∙◌, slice_get, line_text, IsNotEmpty, keys_of, Keeps, with_directory, IsProgram}
-use Rattle.gimli_build.proofs.building.TableLemmas.{directory_found, directory_keeps, some_within}
-use Rattle.gimli_build.proofs.building.BuiltLemmas.{directory_added}
-use Rattle.gimli_build.proofs.built.line_program.LineProgram.add_directory.Goals as goal
+use proofs.building.TableLemmas.{directory_found, directory_keeps, some_within, directory_added}
+use proofs.built.line_program.LineProgram.add_directory.Goals as goal
 
 pub invariant_of-self-2 : goal.invariant_of-self-2
 invariant_of-self-2 c =

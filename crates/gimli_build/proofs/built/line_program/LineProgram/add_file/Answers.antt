@@ -1,10 +1,10 @@
 use Rattle.std.specs.Prelude.{◌≤◌}
-use Rattle.gimli_build.proofs.Common
+use Rattle.gimli_build.proofs
+use proofs.Common
 use Common.{sym, subst, ◌∙◌, option_map, slice_get, arith, length-map, line_text, IsNotEmpty, File, FileKey, keys_of}
 use Common.{Keeps, IsProgram}
-use Rattle.gimli_build.proofs.building.TableLemmas.{file_found_at, file_keeps, file_others, some_within}
-use Rattle.gimli_build.proofs.building.BuiltLemmas.{file_added}
-use Rattle.gimli_build.proofs.built.line_program.LineProgram.add_file.Goals as goal
+use proofs.building.TableLemmas.{file_found_at, file_keeps, file_others, some_within, file_added}
+use proofs.built.line_program.LineProgram.add_file.Goals as goal
 
 pub invariant_of-self-2 : goal.invariant_of-self-2
 invariant_of-self-2 c =

@@ -1,9 +1,10 @@
 use Rattle.std.specs.Prelude.{◌≡◌, ◌&&◌}
-use Rattle.gimli_build.proofs.Common
+use Rattle.gimli_build.proofs
+use proofs.Common
 use Common.{ℕ, Some, sym, ap, ◌∙◌, rules, false, nat_eq, nat_le, slice_get, Format, texts_in, line_text, IsWithin}
 use Common.{first_form, text_cause, wanted_form}
-use Rattle.gimli_build.proofs.refusals.FirstCauses.{mapped_at, all_at, directory_there}
-use Rattle.gimli_build.proofs.built.line_program.LineProgram.directory_cause.Goals as goal
+use proofs.refusals.FirstCauses.{mapped_at, all_at, directory_there}
+use proofs.built.line_program.LineProgram.directory_cause.Goals as goal
 
 pub text_cause-cause-requires : goal.text_cause-cause-requires
 text_cause-cause-requires c =

@@ -1,12 +1,13 @@
 use Rattle.std.specs.Prelude.{◌≡◌, ◌+◌, ◌<◌, ◌≤◌, ◌∷◌}
-use Rattle.gimli_build.proofs.Common
+use Rattle.gimli_build.proofs
+use proofs.Common
 use Common.{ℕ, Bool, None, List, [], length, get_or, take, drop, reverse, ◌∙◌, arith, below_more, reverse-append}
 use Common.{take_rest, Built, base_of, BuiltItem}
 use Rattle.gimli_build.specs.Traps.{begins_unset, item_trap, trap_at, HaveNoTrap}
-use Rattle.gimli_build.proofs.writing.ItemsWritten.{taken_next}
-use Rattle.gimli_build.proofs.writing.Joined.{next_left}
-use Rattle.gimli_build.proofs.built.line_program.LineProgram.next_trap.Goals as goal
-use Rattle.gimli_build.proofs.built.line_program.LineProgram.next_trap.Goals.{in-Some+else-index-from, in_default}
+use proofs.writing.ItemsWritten.{taken_next}
+use proofs.writing.Joined.{next_left}
+use proofs.built.line_program.LineProgram.next_trap.Goals as goal
+use proofs.built.line_program.LineProgram.next_trap.Goals.{in-Some+else-index-from, in_default}
 
 past_more : (items : List BuiltItem) (i : ℕ) (item : BuiltItem) → i < length items → item ≡ get_or items i item
     → reverse (take (i + 1) items) ≡ item ∷ reverse (take i items)

@@ -1,15 +1,16 @@
 use Rattle.std.specs.Prelude.{◌≡◌}
-use Rattle.gimli_build.proofs.Common
+use Rattle.gimli_build.proofs
+use proofs.Common
 use Common.{rules, false, subst, plain, unplaced, Appends, texts_in, texts_after, placed, counted, unit_bytes}
 use Common.{is_incompatible, err_from_is_err_and}
 use Rattle.gimli_build.specs.Linked.{placed_program, SumsFit}
-use Rattle.gimli_build.proofs.building.SourceLemmas.{can-write-after}
-use Rattle.gimli_build.proofs.reading.ReadBack.{appended-back}
-use Rattle.gimli_build.proofs.linking.PlacedUnits.{placed-counted, placed-short, is-built, can-write}
-use Rattle.gimli_build.proofs.linking.FoundTexts.{written-held}
-use Rattle.gimli_build.proofs.writing.Writes.{refused_or_memory}
-use Rattle.gimli_build.proofs.refusals.Causes.{cause-is}
-use Rattle.gimli_build.proofs.built.line_program.LineProgram.write.Goals as goal
+use proofs.building.SourceLemmas.{can-write-after}
+use proofs.reading.ReadBack.{appended-back}
+use proofs.linking.PlacedUnits.{placed-counted, placed-short, is-built, can-write}
+use proofs.linking.FoundTexts.{written-held}
+use proofs.writing.Writes.{refused_or_memory}
+use proofs.refusals.Causes.{cause-is}
+use proofs.built.line_program.LineProgram.write.Goals as goal
 
 pub new-input-requires-clause-can : goal.new-input-requires-clause-can
 new-input-requires-clause-can g c = rw (c.in_ok-empty.ensures.tables.strings, c.in_ok-empty.ensures.tables.line_strings)
