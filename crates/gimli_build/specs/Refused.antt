@@ -2,7 +2,7 @@
 use Rattle.std.specs.Prelude.{◌≡◌, ◌<◌, ◌&&◌, if◌then◌else◌, ◌∷◌}
 use Rattle.gimli_build.specs
 use specs.Prelude
-use Prelude.{ℕ, Bool, nat_eq, nat_le, [], Option, Some, None, slice_get, option_map_or}
+use Prelude.{ℕ, nat_eq, nat_le, [], Option, Some, None, slice_get, option_map_or}
 use Prelude.{option_and_then, Error, StringTables}
 use Rattle.gimli_core.specs.FormNumbers.{DW_FORM_string}
 use specs.LineText.{LineText}

@@ -1,11 +1,10 @@
 -- The first source of files, and whether one has none, looked for from the first file on.
-use Rattle.std.specs.Prelude.{◌≡◌, ◌+◌, ◌||◌, ◌∷◌, ◌≤◌, ◌<◌, ◌&&◌}
+use Rattle.std.specs.Prelude.{◌≡◌, ◌+◌, ◌||◌, ◌∷◌, ◌≤◌, ◌<◌}
 use Rattle.gimli_build.proofs
 use proofs.Common
 use Common.{ℕ, Bool, true, false, List, [], drop, slice_get, refl, sym, ap, ◌∙◌, Option, Some, None, option_map, zero}
-use Common.{suc, length, arith, is_none, list_any, LineText, IsWithin, File, text_form, first_form, path_texts, sources}
-use Common.{needs_empty, texts_after, IfSome, Contains, slice_index_or, le-leb, All-weaker, StringTables, Built}
-use Common.{CanWrite}
+use Common.{suc, length, arith, is_none, list_any, LineText, File, text_form, first_form, path_texts, sources}
+use Common.{needs_empty, texts_after, IfSome, Contains, slice_index_or, le-leb, StringTables, Built, CanWrite}
 use proofs.writing.Joined.{next_at}
 use proofs.reading.ReadyTexts.{within_after}
 

@@ -22,7 +22,7 @@ use Rattle.indexmap.specs.IndexMap.{insert_entry, set_value_at}
 use Rattle.gimli_bytes.proofs.TextLemmas.{any-map}
 use Rattle.gimli_build.specs
 use specs.declared.built.line_string.LineString.{LineString}
-use specs.declared.built.line_string.LineString.TheVariants.{String, StringRef, LineStringRef}
+use specs.declared.built.line_string.LineString.TheVariants.{String, StringRef}
 use specs.declared.built.files.FileInfo.{FileInfo}
 use specs.contracts.built.line_string.LineStringPartialEq.TheImpl.{ghosts}
 use proofs.reading.EventsBack.{start_position}

@@ -5,13 +5,13 @@ use proofs.Common
 use Common.{ℕ, Bool, true, false, List, [], length, Ok, Err, refl, ap, ◌∙◌, Result, All, nat_eq, nat_le, leb-false}
 use Common.{All-head, All-tail, Encoding, LineEncoding, Hand, Placement, plain, counted, uleb, length_word}
 use Common.{StringTables, Error, LineStringFormMismatch, format_word, result_append, result_concat, after_length}
-use Common.{LineText, File, Built, directories_bytes, files_bytes, text_form, first_form, path_texts, sources}
+use Common.{LineText, File, Built, directories_bytes, files_bytes, text_form, first_form, path_texts}
 use Common.{formats_bytes, directory_formats, file_formats, detail_bytes, text_bytes, text_in_form}
 use Common.{directory_table_bytes, source_bytes, file_entry_bytes, file_table_bytes, emitted_texts, line_encoding_bytes}
 use Common.{opcode_bytes, opening_bytes, escape_bytes, tables_bytes, header_bytes, program_bytes, whole_bytes}
 use Common.{item_bytes, items_bytes, next_previous, LineRow, BuiltItem, SetAddress, Row, End, arith, map, sym}
 use Common.{All-weaker, word_size, result_map, Format, Dwarf32, Dwarf64, section_word, placed, placed_offset}
-use Common.{lowest_bytes, address_placed, IncompatibleLineProgramEncoding, Inline, InStrings, InLineStrings}
+use Common.{lowest_bytes, address_placed, Inline, InStrings, InLineStrings}
 use Common.{position_after, initial_row, CanWrite, AreBuilt, instructions_bytes, set_address_bytes, row_instructions}
 use Common.{end_instructions, AreFit, texts_after, IsOffsetHeld, unit_bytes, IsBuilt}
 use Rattle.std.proofs.Math.Nat.{mod-eq_of_lt}
@@ -56,10 +56,7 @@ module _ (h k : Hand) (is_big : Bool) (p : Built) (texts : StringTables) where
 
   source_alike : (f : File) → (p.file_has_source ≡ true → IsAlike (source_of p texts f))
       → source_bytes h is_big p.encoding.format texts p f ≡ source_bytes k is_big p.encoding.format texts p f
-  source_alike f same =
-      let form = first_form (sources p.files) in
-      due_alike _ _
-      _ (λ due. form_alike _ _ (same due))
+  source_alike f same = due_alike _ _ _ (λ due. form_alike _ _ (same due))
 
   file_alike : (f : File) → IsOfFile IsAlike p texts f
       → file_entry_bytes h is_big p.encoding.format texts p f ≡ file_entry_bytes k is_big p.encoding.format texts p f

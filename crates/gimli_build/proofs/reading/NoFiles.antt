@@ -18,6 +18,7 @@ use Rattle.gimli_line.specs.run.RunState.{RunState}
 use Rattle.gimli_line.specs.run.Passing.{with_reset_row, PassesOver}
 use Rattle.gimli_line.specs.run.Rows.{live_events, WantsMemory, FaultIs}
 use Rattle.gimli_line.proofs.InstructionLaws.{is_decoded, one_decoding}
+use Rattle.gimli_build.proofs.spellings.ItemSpellings.{each_append}
 use Rattle.gimli_build.specs.NoFiles.{DefinesNoFile, program_started}
 
 -- ---- the instructions of items
@@ -98,23 +99,9 @@ items-none version e previous (item ∷ items) =
 -- ---- what is left of a program
 
 module _ (layout : OrderAndLimit) (h : Header) where
-  abbrev Spelled : List ℕ → List Ins → Type 0
-  Spelled bytes list = Each (SpellsInstruction layout h) bytes list
-
-  each_joined : (front after : List ℕ) (list more : List Ins) → Spelled front list → Spelled after more
-      → Spelled (front ++ after) (list ++ more)
-  each_joined front after [] more s t = rw s t
-  each_joined front after (i ∷ list) more s t = (
-    s.0,
-    s.1 ++ after,
-    ap (λ xs. xs ++ after) s.2 ∙ append_assoc s.0 s.1 after,
-    s.3,
-    each_joined s.1 after list more s.4 t,
-  )
-
   -- what stands after whole instructions of a program is the rest of it
   pub rest_decoded : (bytes front rest : List ℕ) (list passed : List Ins) → Decodes layout h bytes list None
-      → bytes ≡ front ++ rest → Spelled front passed
+      → bytes ≡ front ++ rest → Each (SpellsInstruction layout h) front passed
       → (more : List Ins) × (list ≡ passed ++ more) × Decodes layout h rest more None
   rest_decoded bytes front rest list passed all parts spelled =
       let more = (decoded_at layout h rest).0 in
@@ -124,7 +111,7 @@ module _ (layout : OrderAndLimit) (h : Header) where
         front = front ++ own.front;
         rest = own.rest;
         parts = parts ∙ ap (λ xs. front ++ xs) own.parts ∙ sym (append_assoc front own.front own.rest);
-        spelled = each_joined _ _ _ _ spelled own.spelled;
+        spelled = each_append layout h _ _ _ _ spelled own.spelled;
         ended = own.ended;
       } in
       let same : (list, None) ≡ (passed ++ more, end) = one_decoding layout h _ _ _ all

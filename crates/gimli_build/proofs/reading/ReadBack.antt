@@ -1,12 +1,12 @@
 -- What is read of the header of a written unit.
-use Rattle.std.specs.Prelude.{◌≡◌, ◌-◌, ◌<◌, ◌≤◌, ◌^◌, if◌then◌else◌, ◌∷◌}
+use Rattle.std.specs.Prelude.{◌≡◌, ◌-◌, ◌<◌, ◌≤◌, ◌^◌, if◌then◌else◌}
 use Rattle.gimli_build.proofs
 use proofs.Common
 use Common.{ℕ, Bool, true, false, List, length, Ok, refl, ap, ◌∙◌, arith, sym, Result, Err, nat_le, All, leb-true}
 use Common.{leb-false, OrderAndLimit, Encoding, Dwarf64, Placement, plain, counted, AreTexts, StringTables, Error}
 use Common.{IncompatibleLineProgramEncoding, Header, UnitEntry, Sections, OneByOne, Built, CanWrite, IsBuilt}
 use Common.{built_rules, texts_after, AreFormats, IsUnit, directories_from_zero, IsDirectory, IsFile, IsReadWell}
-use Common.{IsOffsetHeld, IsFound, emitted_texts, operand_counts, program_bytes, whole_bytes, unit_bytes, []}
+use Common.{IsOffsetHeld, IsFound, emitted_texts, operand_counts, program_bytes, whole_bytes, unit_bytes}
 use Common.{length-append, Appends, AppendsThat, ReadsBack, ReadsBackAt}
 use proofs.reading.ReadyTexts.{tables-ready, of-tables}
 use proofs.linking.PlacedUnits.{items-plain}
@@ -140,7 +140,6 @@ unit_known : (at : Placement) (is_big : Bool) (p : Built) (texts : StringTables)
     → p.encoding.version ≤ 5
 unit_known at is_big p texts unit is =
     let w = unit_written (counted at) _ p texts _ is in
-    let address : List ℕ = if nat_le p.encoding.version 4 then [] else p.encoding.address_size ∷ 0 ∷ [] in
     let b = before_written _ _ _ w.opening_is in
     version-known _ _ _ b.front_is
 

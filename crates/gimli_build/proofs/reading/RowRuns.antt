@@ -5,12 +5,11 @@ use Rattle.gimli_build.proofs
 use proofs.Common
 use Common.{ℕ, Bool, true, false, not, List, [], refl, sym, ap, ◌∙◌, arith, nat_eq, nat_le, ℤ, pos, nat_lt, add-zero}
 use Common.{append_assoc, unsigned_abs, IsTrue, ints, and_parts, lt-leb, le-leb, le-ltb, nat_tests, is_address_size}
-use Common.{Encoding, LineEncoding, ReadRow, Special, Copy, AdvancePc, AdvanceLine, SetFile, SetColumn, NegateStatement}
-use Common.{SetBasicBlock, ConstAddPc, SetPrologueEnd, SetEpilogueBegin, SetIsa, EndSequence, SetDiscriminator}
-use Common.{Parameters, Ins, run, initial, reset_row, pointer_of, at_pointer, LineRow, CanEncode, IsPosition, CanFollow}
-use Common.{operations, when, marks, changes, differ, line_part, line_opcode, is_special_advance, operation_part}
-use Common.{row_instructions, row_maker, still_opcode, constant_advance, end_instructions, file_number, initial_row}
-use Common.{built_rules, read_row, registers_after_row, read_end}
+use Common.{Encoding, LineEncoding, ReadRow, Special, Copy, AdvancePc, AdvanceLine, ConstAddPc, EndSequence, Parameters}
+use Common.{Ins, run, initial, reset_row, pointer_of, at_pointer, LineRow, CanEncode, IsPosition, CanFollow, operations}
+use Common.{when, marks, changes, differ, line_part, line_opcode, is_special_advance, operation_part, row_instructions}
+use Common.{row_maker, still_opcode, constant_advance, end_instructions, file_number, initial_row, built_rules}
+use Common.{read_row, registers_after_row, read_end}
 use Rattle.std.specs.Int.Signed.{lt_z, le_z}
 use Rattle.std.proofs.Math.Nat.{
   mod-eq_of_lt,

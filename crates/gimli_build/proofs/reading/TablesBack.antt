@@ -9,7 +9,7 @@ use Common.{FileEntryFormat, LineText, bytes_in, HasNoZero, File, Details, Secti
 use Common.{IsDirectory, IsFile, IsFound, result_append, directories_bytes, files_bytes, directory_formats}
 use Common.{file_formats, directory_table_bytes, file_table_bytes, tables_bytes}
 use Rattle.gimli_line.specs.header.HeaderGrammar.{path_of, file_of_entry, handed_value, directory_table, file_table}
-use Rattle.gimli_build.specs.Stored.{Stored, stored_details}
+use Rattle.gimli_build.specs.Stored.{stored_details}
 use proofs.writing.WrittenParts.{both_written}
 use proofs.spellings.TableSpellings.{read_file, directories-spelled, files-spelled}
 use proofs.spellings.EncodingSpellings.{first-chosen, second-chosen}

@@ -5,18 +5,17 @@ use proofs.Common
 use Common.{ℕ, Bool, true, false, not, List, [], length, map, Ok, Err, refl, sym, ap, ◌∙◌, arith, nat_le, nat_eq}
 use Common.{Option, Some, None, Result, flat_map, IsTrue, nat_lt, Error, result_append, result_concat, after_length}
 use Common.{cause_if, first_of, refusal, word_cause, unit_length_cause, ltb-true, ltb-false, nat_tests, number_bytes}
-use Common.{is_address_size, Format, Dwarf32, Dwarf64, udata, length_word, ValueTooLarge, UnsupportedWordSize}
-use Common.{InitialLengthOverflow, format_word, drop, unwrap_or, plain, uleb, offset_of, StringTables}
-use Common.{LineStringFormMismatch, LineText, Inline, InStrings, InLineStrings, File, Built, name_bytes}
-use Common.{directories_bytes, file_bytes, files_bytes, text_form, first_form, path_texts, sources, empty_text}
-use Common.{directory_formats, file_formats, formats_bytes, detail_bytes, text_bytes, text_in_form}
-use Common.{directory_table_bytes, source_bytes, file_entry_bytes, file_table_bytes, tables_bytes, offset_cause}
-use Common.{text_cause, file_texts, emitted_texts, inl, inr, result_map, Encoding, LineEncoding, Appends, Constant}
-use Common.{Symbol, IncompatibleLineProgramEncoding, UnsupportedVersion, NeedVersion, LineRow, BuiltItem, SetAddress}
-use Common.{Row, End, initial_row, item_bytes, items_bytes, next_previous, texts_after, opening_bytes, operations_bytes}
-use Common.{line_encoding_bytes, flag_byte, base_byte, opcode_bytes, fields_bytes, header_bytes, program_bytes}
-use Common.{inside_bytes, escape_bytes, whole_bytes, is_incompatible, unit_bytes, item_cause, header_length}
-use Common.{unit_length, first_cause}
+use Common.{is_address_size, Format, Dwarf32, Dwarf64, udata, length_word, ValueTooLarge, InitialLengthOverflow}
+use Common.{format_word, drop, unwrap_or, plain, uleb, offset_of, StringTables, LineStringFormMismatch, LineText}
+use Common.{Inline, InStrings, InLineStrings, File, Built, name_bytes, directories_bytes, file_bytes, files_bytes}
+use Common.{text_form, first_form, path_texts, sources, empty_text, directory_formats, file_formats, formats_bytes}
+use Common.{detail_bytes, text_bytes, text_in_form, directory_table_bytes, source_bytes, file_entry_bytes}
+use Common.{file_table_bytes, tables_bytes, offset_cause, text_cause, file_texts, emitted_texts, inl, inr, result_map}
+use Common.{Encoding, LineEncoding, Appends, Constant, Symbol, IncompatibleLineProgramEncoding, UnsupportedVersion}
+use Common.{NeedVersion, LineRow, BuiltItem, SetAddress, Row, End, initial_row, item_bytes, items_bytes, next_previous}
+use Common.{texts_after, opening_bytes, operations_bytes, line_encoding_bytes, flag_byte, base_byte, opcode_bytes}
+use Common.{fields_bytes, header_bytes, program_bytes, inside_bytes, escape_bytes, whole_bytes, is_incompatible}
+use Common.{unit_bytes, item_cause, header_length, unit_length, first_cause}
 use proofs.writing.Joined.{appended_bytes}
 use proofs.sizes.UnitSizes.{fields_size, inside_size}
 
@@ -267,7 +266,6 @@ module _ (is_big : Bool) (p : Built) (texts : StringTables) where
   directory_table-refusal =
       let format = p.encoding.format in
       let form = first_form p.directories in
-      let text = text_in_form plain is_big format texts form in
       appended-refusal (formats_bytes (directory_formats p) ++ uleb (length p.directories)) _
       _
       (parts-refusal _ _ (formed-refusal format texts is_big form) p.directories
@@ -276,7 +274,6 @@ module _ (is_big : Bool) (p : Built) (texts : StringTables) where
   file_table-refusal : refusal (file_table_bytes plain is_big p.encoding.format texts p)
       ≡ first_of (map own_cause (flat_map (file_texts p texts) p.files))
   file_table-refusal =
-      let entry = file_entry_bytes plain is_big p.encoding.format texts p in
       let own = file_texts p texts in
       appended-refusal (formats_bytes (file_formats p) ++ uleb (length p.files)) _
       _

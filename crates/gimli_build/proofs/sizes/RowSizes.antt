@@ -1,10 +1,9 @@
 -- How many instructions and bytes a row has.
-use Rattle.std.specs.Prelude.{◌≡◌, ◌+◌, ◌-◌, ◌*◌, ◌/◌, ◌%◌, ◌<◌, ◌≤◌, ◌∷◌, ◌++◌, if◌then◌else◌, ◌+ℤ◌, ◌-ℤ◌, ◌≤ℤ◌, ◌<ℤ◌}
+use Rattle.std.specs.Prelude.{◌≡◌, ◌+◌, ◌-◌, ◌*◌, ◌<◌, ◌≤◌, ◌∷◌, ◌++◌, if◌then◌else◌, ◌+ℤ◌, ◌-ℤ◌}
 use Rattle.gimli_build.proofs.Common
-use Common.{ℕ, Bool, true, false, not, List, [], length, refl, ap, ◌∙◌, arith, lit≤, nat_eq, nat_le, ℤ, pos, Some}
+use Common.{ℕ, Bool, true, false, not, [], length, refl, ap, ◌∙◌, arith, lit≤, nat_eq, nat_le, ℤ, pos, Some}
 use Common.{unsigned_abs, ints, le-leb, nat_tests, Encoding, LineEncoding, Special, Copy, AdvancePc, AdvanceLine}
-use Common.{SetFile, SetColumn, NegateStatement, SetBasicBlock, ConstAddPc, SetPrologueEnd, SetEpilogueBegin, SetIsa}
-use Common.{SetDiscriminator, Ins, LineRow, CanEncode, operations, when, marks, changes, differ, line_part}
+use Common.{NegateStatement, ConstAddPc, Ins, LineRow, CanEncode, operations, when, marks, changes, differ, line_part}
 use Common.{is_special_advance, row_maker, constant_advance, operation_part, row_instructions, instruction_bytes}
 use Common.{instructions_bytes, built_rules}
 use Rattle.std.proofs.Math.Nat.{mod-lt, div-add-mod'}

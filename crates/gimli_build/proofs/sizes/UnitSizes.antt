@@ -8,7 +8,7 @@ use Common.{line_encoding_bytes, opcode_bytes, tables_bytes, fields_bytes, heade
 use Common.{tables_size, header_length, size_of, unit_length, text_size, file_size, entry_size, Format, uleb, LineText}
 use Common.{Inline, InStrings, InLineStrings, File, name_bytes, directories_bytes, file_bytes, files_bytes, first_form}
 use Common.{path_texts, sources, empty_text, directory_formats, file_formats, formats_bytes, detail_bytes, text_bytes}
-use Common.{text_in_form, directory_table_bytes, source_bytes, file_entry_bytes, file_table_bytes, Dwarf32, Dwarf64}
+use Common.{text_in_form, directory_table_bytes, file_entry_bytes, file_table_bytes, Dwarf32, Dwarf64}
 use Rattle.gimli_bytes.proofs.RelocationLemmas.{length-number}
 use Rattle.std.proofs.lemmas.List.{length-append}
 use Rattle.std.proofs.lemmas.List.Sums.{sum_by-cons}
@@ -82,11 +82,7 @@ three_lengths : (a b c : List ℕ) (n : ℕ) → n + length (a ++ b ++ c) ≡ n 
 three_lengths a b c n = grind (arith, length-append)
 
 one_file_size : (format : Format) (f : File) → HasSize (file_bytes f) (file_size format f)
-one_file_size format f =
-    let numbers = uleb f.0.1 ++ uleb f.1.timestamp ++ uleb f.1.size in
-    let path = text_size format f.0.0 in
-    size_as _ _ _ (three_lengths _ _ _ _)
-    (size_joined _ _ _ _ (name_size _ _) (size_of_ok _))
+one_file_size format f = size_as _ _ _ (three_lengths _ _ _ _) (size_joined _ _ _ _ (name_size _ _) (size_of_ok _))
 
 files_size : (format : Format) (files : List File) → HasSize (files_bytes files) (sum_by (file_size format) files + 1)
 files_size format files = size_joined _ _ _ 1 (size_parts _ _ (one_file_size format) files) (size_of_ok (0 ∷ []))
@@ -139,7 +135,6 @@ module _ (is_big : Bool) (p : Built) (texts : StringTables) where
       let last = if p.file_has_source then (form, source) ∷ [] else [] in
       let path = text_size format f.0.0 in
       let details = length (detail_bytes p f) in
-      let written = source_bytes plain is_big format texts p f in
       size_as _ _ _
       (path_first path details (sum_by sized last)
       ∙ ap (λ (k : ℕ). k + details) (sym (sum_by-cons sized (first_form (path_texts p.files), f.0.0) last)))
@@ -161,9 +156,7 @@ module _ (is_big : Bool) (p : Built) (texts : StringTables) where
 
   file_table_size : HasSize (file_table_bytes plain is_big p.encoding.format texts p)
       (length (formats_bytes (file_formats p)) + length (uleb (length p.files)) + sum_by (entry_size p texts) p.files)
-  file_table_size =
-      let entry = file_entry_bytes plain is_big p.encoding.format texts p in
-      prefixed_size (formats_bytes (file_formats p)) (uleb (length p.files)) _ _
+  file_table_size = prefixed_size (formats_bytes (file_formats p)) (uleb (length p.files)) _ _
       (size_parts _ _ one_entry_size _)
 
   -- ---- both
@@ -172,14 +165,6 @@ module _ (is_big : Bool) (p : Built) (texts : StringTables) where
   pub tables-size : HasSize (tables_bytes plain is_big p texts) (tables_size p texts)
   tables-size =
       let format = p.encoding.format in
-      let old_directories = sum_by (text_size format) (drop 1 p.directories) + 1 in
-      let old_files = sum_by (file_size format) p.files + 1 in
-      let directories = length (formats_bytes (directory_formats p)) + length (uleb (length p.directories))
-      + sum_by (text_size format) p.directories in
-      let files = length (formats_bytes (file_formats p)) + length (uleb (length p.files))
-      + sum_by (entry_size p texts) p.files in
-      let directory_table = directory_table_bytes plain is_big format texts p in
-      let file_table = file_table_bytes plain is_big format texts p in
       size_either (nat_le p.encoding.version 4) _
       _
       _ _
@@ -234,7 +219,6 @@ module _ (is_big : Bool) (p : Built) (texts : StringTables) where
   pub fields_size : HasSize (fields_bytes plain is_big p texts) (header_length p texts)
   fields_size =
       let encoding = if nat_le 4 p.encoding.version then 5 else 4 in
-      let tables = tables_bytes plain is_big p texts in
       let count = tables_size p texts in
       size_as _ _ _ (three_parts encoding 13 count)
       (size_joined _ _ _ _
@@ -255,7 +239,6 @@ module _ (is_big : Bool) (p : Built) (texts : StringTables) where
       let opening = if nat_le p.encoding.version 4 then 2 else 4 in
       let word = word_size p.encoding.format in
       let program = size_of (program_bytes plain is_big p) in
-      let header = header_bytes plain is_big p texts in
       let counted = header_length p texts in
       size_as _ _ _
       (two_and_two opening word counted program)

@@ -5,7 +5,7 @@ use proofs.Common
 use Common.{ℕ, Bool, true, false, List, [], length, Ok, Err, refl, sym, arith, lit<, Result, not, nat_eq, nat_le}
 use Common.{nat_lt, ℤ, FitsSigned, IsTrue, rules, ints, to_z-of_z, ltb-true, leb-true, leb-false, lt-ltb, lt-leb}
 use Common.{le-leb, ne_eqb, eqb-true, append-nil, OrderAndLimit, SpellsNumber, SpellsInitialLength, number_bytes}
-use Common.{word_size, is_address_size, Production, ◌>>=◌, done, check, choose, byte, offset_word, fits_offset}
+use Common.{word_size, is_address_size, Production, done, check, choose, byte, offset_word, fits_offset}
 use Common.{LineEncoding, Format, Dwarf32, Dwarf64, number_spelled, length_word, Error, NeedVersion, UnsupportedVersion}
 use Common.{ValueTooLarge, InitialLengthOverflow, positive, CanEncode, format_word, version_bytes, operations_bytes}
 use Common.{flag_byte, line_encoding_bytes, escape_bytes}

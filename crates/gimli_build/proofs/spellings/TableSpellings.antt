@@ -3,15 +3,11 @@ use Rattle.std.specs.Prelude.{◌≡◌, ◌≢◌, ◌<◌, ◌^◌, ◌∷◌,
 use Rattle.gimli_build.proofs
 use proofs.Common
 use Common.{ℕ, List, [], drop, map, Ok, refl, sym, append_assoc, All, append-nil, All-head, All-tail}
-use Common.{recursion_from_All, Production, ◌>>=◌, Each, SpellsUleb128, uleb, uleb_shortest, StringTables, path_text}
-use Common.{plain_file, ReadFile, SpellsPaths, SpellsFiles, LineText, Inline, InStrings, InLineStrings, bytes_in}
-use Common.{HasNoZero, IsNotEmpty, File, keys_of, FitsFile, result_concat, name_bytes, directories_bytes, file_bytes}
-use Common.{files_bytes}
+use Common.{recursion_from_All, Production, ◌>>=◌, Each, uleb, uleb_shortest, StringTables, path_text, plain_file}
+use Common.{ReadFile, SpellsPaths, SpellsFiles, LineText, Inline, InStrings, InLineStrings, bytes_in, HasNoZero}
+use Common.{IsNotEmpty, File, keys_of, FitsFile, result_concat, name_bytes, directories_bytes, file_bytes, files_bytes}
 use Rattle.gimli_line.specs.header.HeaderGrammar.{file_production}
 use proofs.writing.WrittenParts.{same_written, both_written, before_written}
-
-unsigned_spelled : (n : ℕ) → n < 2 ^ 64 → SpellsUleb128 64 (uleb n) n
-unsigned_spelled n lt = (uleb_shortest n lt).spells
 
 module _ (texts : StringTables) where
   -- a text in the unit itself is its bytes
@@ -62,14 +58,14 @@ module _ (texts : StringTables) where
     uleb directory,
     uleb time ++ uleb size,
     append_assoc (uleb directory) (uleb time) (uleb size),
-    unsigned_spelled _ d,
+    (uleb_shortest _ d).spells,
     (
       time,
       uleb time,
       uleb size,
       refl,
-      unsigned_spelled _ t,
-      (size, uleb size, [], sym (append-nil (uleb size)), unsigned_spelled _ s, (refl, refl)),
+      (uleb_shortest _ t).spells,
+      (size, uleb size, [], sym (append-nil (uleb size)), (uleb_shortest _ s).spells, (refl, refl)),
     ),
   )
 

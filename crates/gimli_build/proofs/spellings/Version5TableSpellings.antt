@@ -432,7 +432,6 @@ module _ (at : Placement) (layout : OrderAndLimit) (p : Built) (texts : StringTa
   file_spelled f bytes own is =
       let path_form = first_form (path_texts p.files) in
       let source_form = first_form (sources p.files) in
-      let source = source_bytes (counted at) layout.is_big p.encoding.format texts p f in
       let a = both_written _ _ _ is in
       let b = after_written _ _ _ a.rest_is in
       let s = source_written f _ b.rest_is in

@@ -1,4 +1,4 @@
-use Rattle.std.specs.Prelude.{◌≡◌, ◌≤◌}
+use Rattle.std.specs.Prelude.{◌≡◌}
 use Rattle.gimli_build.proofs
 use proofs.Common
 use Common.{slice_get, Some, sym, ap, ◌∙◌, arith, List, take_all, All-nil, All-push, line_text, File, FitsFile, details}

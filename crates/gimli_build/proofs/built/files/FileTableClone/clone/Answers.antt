@@ -6,8 +6,7 @@ pub invariant_of-result : goal.invariant_of-result
 invariant_of-result c = rw (
   directories_cloned _ _ c.in_ok-clone.ensures.cases,
   files_cloned _ _ c.in_ok-clone-2.ensures.cases,
-)
-    c.self.invariant
+) c.self.invariant
 
 pub returns : goal.returns
 returns c = record {

@@ -1,8 +1,7 @@
 use Rattle.std.specs.Prelude.{◌≤◌}
 use Rattle.gimli_build.proofs
 use proofs.Common
-use Common.{sym, subst, ◌∙◌, option_map, slice_get, arith, length-map, line_text, IsNotEmpty, File, FileKey, keys_of}
-use Common.{Keeps, IsProgram}
+use Common.{sym, subst, option_map, slice_get, arith, length-map, line_text, IsNotEmpty, File, keys_of, IsProgram}
 use proofs.building.TableLemmas.{file_found_at, file_keeps, file_others, some_within, file_added}
 use proofs.built.line_program.LineProgram.add_file.Goals as goal
 

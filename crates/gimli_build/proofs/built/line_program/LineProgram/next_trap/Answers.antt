@@ -1,7 +1,7 @@
 use Rattle.std.specs.Prelude.{◌≡◌, ◌+◌, ◌<◌, ◌≤◌, ◌∷◌}
 use Rattle.gimli_build.proofs
 use proofs.Common
-use Common.{ℕ, Bool, None, List, [], length, get_or, take, drop, reverse, ◌∙◌, arith, below_more, reverse-append}
+use Common.{ℕ, Bool, None, List, [], length, get_or, take, drop, reverse, arith, below_more, reverse-append}
 use Common.{take_rest, Built, base_of, BuiltItem}
 use Rattle.gimli_build.specs.Traps.{begins_unset, item_trap, trap_at, HaveNoTrap}
 use proofs.writing.ItemsWritten.{taken_next}
