@@ -54,7 +54,6 @@ pub use specs.Tables.{AreTables, Details, File, FileKey, Keeps, has_file, index_
 pub use specs.Tables.{keys_of, no_details, with_details, with_directory, with_file, with_indexes}
 pub use specs.Texts.{IsOptionalText, IsText, IsTextAt, OneByOne, Sections, StandsAt}
 pub use specs.Unit.{
-  base_byte,
   escape_bytes,
   fields_bytes,
   flag_byte,
@@ -104,7 +103,7 @@ pub use Rattle.gimli_bytes.proofs.LebLemmas.{sleb_one, uleb_one}
 pub use Rattle.gimli_bytes.proofs.ShortestUleb.{uleb_shortest}
 pub use Rattle.gimli_bytes.specs.Hand.{Hand, Placement, plain, section_word, unplaced}
 pub use Rattle.gimli_bytes.specs.Number.{escape_size, length_word, open_length, sleb, udata, uleb}
-pub use Rattle.gimli_bytes.specs.Relocations.{address_placed, counted, lowest_bytes, placed, placed_offset}
+pub use Rattle.gimli_bytes.specs.Relocations.{address_placed, counted, placed, placed_offset}
 pub use Rattle.gimli_bytes.specs.Texts.{
   AreTexts,
   StringTables,
@@ -155,7 +154,6 @@ pub use Rattle.gimli_core.specs.Production.{
   Production,
   below_limit,
   byte,
-  check,
   choose,
   done,
   fits_offset,
@@ -248,7 +246,6 @@ pub use Rattle.std.proofs.Common.{
   length,
   length-append,
   lit<,
-  lit≤,
   map,
   nat_eq,
   negsuc,

@@ -72,20 +72,19 @@ module _ (a b : LineRow) where
   )
 
   pub row-Decides : Decides (rows.eq a b) (a ≡ b)
-  row-Decides = Decides-like _ same_row same_registers (also (Decides-eqb a.address_offset b.address_offset)
-      (also (Decides-eqb a.op_index b.op_index) (also (Decides-eqb a.file b.file)
-      (also (Decides-eqb a.line b.line)
-      (also (Decides-eqb a.column b.column) (also (Decides-eqb a.discriminator b.discriminator)
+  row-Decides = Decides-like _ same_row same_registers (also (Decides-eqb _ _)
+      (also (Decides-eqb _ _) (also (Decides-eqb _ _)
+      (also (Decides-eqb _ _)
+      (also (Decides-eqb _ _) (also (Decides-eqb _ _)
       (also (booleans_Decides a.is_statement b.is_statement) (also (booleans_Decides a.basic_block b.basic_block)
       (also (booleans_Decides a.prologue_end b.prologue_end)
-      (also (booleans_Decides a.epilogue_begin b.epilogue_begin) (Decides-eqb a.isa b.isa)))))))))))
+      (also (booleans_Decides a.epilogue_begin b.epilogue_begin) (Decides-eqb _ _)))))))))))
 
 pub item-Decides : (a b : BuiltItem) → Decides (items.eq a b) (a ≡ b)
 item-Decides (SetAddress a) (SetAddress b) =
     Decides-like _ (λ same. ap SetAddress same) (λ same. cc) (address-Decides a b)
 item-Decides (Row a) (Row b) = Decides-like _ (λ same. ap Row same) (λ same. cc) (row-Decides a b)
-item-Decides (End o k) (End p l) =
-    Decides-like _ (λ same. (let first = same.0 in let second = same.1 in cc)) (λ same. (cc, cc))
+item-Decides (End o k) (End p l) = Decides-like _ (λ same. cc) (λ same. (cc, cc))
     (also (Decides-eqb o p) (Decides-eqb k l))
 item-Decides (SetAddress a) (Row r) = (λ h. absurd (true≢false (sym h)), λ same. absurd cc)
 item-Decides (SetAddress a) (End o k) = (λ h. absurd (true≢false (sym h)), λ same. absurd cc)

@@ -6,7 +6,7 @@ use Common.{All, None, ℤ, pos, append-nil, All-nil, All-cons, All-head, All-ta
 use Common.{LineEncoding, Header, without_files, Parameters, ReadRow, Special, Copy, AdvancePc, AdvanceLine, ConstAddPc}
 use Common.{EndSequence, ReadAddress, Ins, defines_file, makes_row, SpellsInstruction, Decodes, files_after, is_refused}
 use Common.{step_of, next_registers, made_from, LineRow, BuiltItem, SetAddress, Row, End, operations, address_value}
-use Common.{when, marks, changes, is_special_advance, line_opcode, line_part, still_opcode, constant_advance, row_maker}
+use Common.{when, marks, changes, is_special_advance, line_opcode, line_part, constant_advance, row_maker}
 use Common.{operation_part, row_instructions, end_instructions, next_previous, item_instructions, items_instructions}
 use Rattle.gimli_core.specs.declared.error.Error.{Error}
 use Rattle.gimli_core.specs.declared.error.Error.TheVariants.{AddressOverflow}
@@ -27,8 +27,8 @@ abbrev NoFile : Ins → Type 0
 NoFile i = defines_file i ≡ false
 
 none_when : (due : Bool) (i : Ins) → NoFile i → All NoFile (when due i)
-none_when true i none = All-cons NoFile i [] none (All-nil NoFile)
-none_when false i none = All-nil NoFile
+none_when true i none = All-cons NoFile i [] none (All-nil _)
+none_when false i none = All-nil _
 
 four_when : (a b c d : Bool) (i j k l : Ins) → NoFile i → NoFile j → NoFile k → NoFile l
     → All NoFile (when a i ++ when b j ++ when c k ++ when d l)
@@ -46,10 +46,10 @@ line_none e d = by (is_special_advance e d)
   where
     by : (b : Bool) → All NoFile (if b then [] else AdvanceLine d ∷ [])
     by true = All-nil NoFile
-    by false = All-cons NoFile _ [] refl (All-nil NoFile)
+    by false = All-cons NoFile _ [] refl (All-nil _)
 
 maker_none : (e : LineEncoding) (s : ℕ) → NoFile (row_maker e s)
-maker_none e s = by (nat_eq s (still_opcode e))
+maker_none e s = by (nat_eq _ _)
   where
     by : (b : Bool) → NoFile (if b then Copy else Special s)
     by true = refl
@@ -62,9 +62,9 @@ operation_none e s n = by (nat_le (s + n * e.line_range) 255) (nat_le (s + (n - 
   where
     by : (b c : Bool) (i j k : Ins) → NoFile i → NoFile j → NoFile k
         → All NoFile (if b then i ∷ [] else (if c then ConstAddPc ∷ j ∷ [] else AdvancePc n ∷ k ∷ []))
-    by true c i j k p q r = All-cons NoFile i [] p (All-nil NoFile)
-    by false true i j k p q r = All-cons NoFile ConstAddPc (j ∷ []) refl (All-cons NoFile j [] q (All-nil NoFile))
-    by false false i j k p q r = All-cons NoFile (AdvancePc n) (k ∷ []) refl (All-cons NoFile k [] r (All-nil NoFile))
+    by true c i j k p q r = All-cons NoFile i [] p (All-nil _)
+    by false true i j k p q r = All-cons NoFile ConstAddPc (j ∷ []) refl (All-cons NoFile j [] q (All-nil _))
+    by false false i j k p q r = All-cons NoFile (AdvancePc n) (k ∷ []) refl (All-cons NoFile k [] r (All-nil _))
 
 row_none : (version : ℕ) (e : LineEncoding) (previous r : LineRow) → All NoFile (row_instructions version e previous r)
 row_none version e previous r =
@@ -80,11 +80,11 @@ end_none : (e : LineEncoding) (previous : LineRow) (offset op_index : ℕ)
 end_none e previous offset op_index =
     let n = operations e previous.address_offset previous.op_index offset op_index in
     All-append NoFile (when (not (nat_eq n 0)) (AdvancePc n)) (EndSequence ∷ [])
-    (none_when (not (nat_eq n 0)) (AdvancePc n) refl) (All-cons NoFile EndSequence [] refl (All-nil NoFile))
+    (none_when _ _ refl) (All-cons NoFile EndSequence [] refl (All-nil _))
 
 item_none : (version : ℕ) (e : LineEncoding) (previous : LineRow) (item : BuiltItem)
     → All NoFile (item_instructions version e previous item)
-item_none version e previous (SetAddress a) = All-cons NoFile (ReadAddress (address_value a)) [] refl (All-nil NoFile)
+item_none version e previous (SetAddress a) = All-cons NoFile (ReadAddress (address_value a)) [] refl (All-nil _)
 item_none version e previous (Row r) = row_none version e previous r
 item_none version e previous (End offset op_index) = end_none e previous offset op_index
 
@@ -106,7 +106,7 @@ module _ (layout : OrderAndLimit) (h : Header) where
   rest_decoded bytes front rest list passed all parts spelled =
       let more = (decoded_at layout h rest).0 in
       let end = (decoded_at layout h rest).1 in
-      let own = is_decoded layout h _ in
+      let own = is_decoded _ _ _ in
       let joined : Decodes layout h bytes (passed ++ more) end = record {
         front = front ++ own.front;
         rest = own.rest;
@@ -114,9 +114,8 @@ module _ (layout : OrderAndLimit) (h : Header) where
         spelled = each_append layout h _ _ _ _ spelled own.spelled;
         ended = own.ended;
       } in
-      let same : (list, None) ≡ (passed ++ more, end) = one_decoding layout h _ _ _ all
-      ∙ sym (one_decoding layout h _ _ _ joined) in
-      let ended : end ≡ None = sym (ap (λ p. p.1) same) in
+      let same = one_decoding _ _ _ _ _ all ∙ sym (one_decoding _ _ _ _ _ joined) in
+      let ended = sym (ap (λ p. p.1) same) in
       (more, ap (λ p. p.0) same, rw ended at own)
 
 last_none : (passed more : List Ins) → All NoFile (passed ++ more) → All NoFile more
@@ -126,20 +125,19 @@ last_none (i ∷ passed) more all = last_none passed more (All-tail NoFile i _ a
 -- a run that has gone on still defines no file
 pub goes-none : (a b : RunState) (events : List Event) → DefinesNoFile a → PassesOver a b events → DefinesNoFile b
 goes-none a b events none p =
-    let rest = rest_decoded a.unread.layout a.fixed _ _ _ _ _ none.decoding p.parts p.spelled in
-    let all : All NoFile (p.list ++ rest.0) = rw rest.1 at none.none in
+    let rest = rest_decoded _ _ _ _ _ _ _ none.decoding p.parts p.spelled in
+    let all = rw rest.1 at none.none in
     record { list = rest.0; decoding = rw (p.layout, p.fixed) rest.2; none = last_none _ _ all }
 
 -- ---- refusals
 
 no_memory : (a b : RunState) → DefinesNoFile a → WantsMemory a b → ⊥
 no_memory a b none wants =
-    let position = goes-none a wants.point [] none wants.passed in
+    let position = goes-none _ _ _ none wants.passed in
     let rest = rest_decoded wants.point.unread.layout wants.point.fixed wants.point.unread.bytes wants.front wants.rest
-    position.list (wants.definition ∷ [])
-    position.decoding wants.parts
-    (wants.front, [], sym (append-nil wants.front), wants.spelled, refl) in
-    let all : All NoFile (wants.definition ∷ rest.0) = rw rest.1 at position.none in
+    position.list (wants.definition ∷ []) position.decoding wants.parts
+    (wants.front, [], sym (append-nil _), wants.spelled, refl) in
+    let all = rw rest.1 at position.none in
     true≢false (sym wants.defines ∙ All-head NoFile wants.definition rest.0 all)
 
 -- the only fault of whole instructions
@@ -180,7 +178,7 @@ pub refused-none : (a b : RunState) (e : Error) → DefinesNoFile a → FaultIs 
 refused-none a b e none (inl memory) =
     absurd (no_memory _ b (record { list = none.list; decoding = none.decoding; none = none.none }) memory.1)
 refused-none a b e none (inr next) =
-    let same = one_decoding a.unread.layout a.fixed _ _ _ none.decoding in
+    let same = one_decoding _ _ _ _ _ none.decoding in
     let whole =
     ap (λ p. given_of (made_from a.appends a.fixed.parameters (with_reset_row a).row a.files p.0 p.1)) same in
     only_overflow a.appends a.fixed.parameters (with_reset_row a).row a.files _ none.list _ e (whole ∙ next.0)

@@ -1,16 +1,14 @@
 -- What is read of the header of a written unit.
-use Rattle.std.specs.Prelude.{◌≡◌, ◌-◌, ◌<◌, ◌≤◌, ◌^◌, if◌then◌else◌}
+use Rattle.std.specs.Prelude.{◌≡◌, ◌-◌, ◌<◌, ◌≤◌, ◌^◌}
 use Rattle.gimli_build.proofs
 use proofs.Common
-use Common.{ℕ, Bool, true, false, List, length, Ok, refl, ap, ◌∙◌, arith, sym, Result, Err, nat_le, All, leb-true}
-use Common.{leb-false, OrderAndLimit, Encoding, Dwarf64, Placement, plain, counted, AreTexts, StringTables, Error}
-use Common.{IncompatibleLineProgramEncoding, Header, UnitEntry, Sections, OneByOne, Built, CanWrite, IsBuilt}
-use Common.{built_rules, texts_after, AreFormats, IsUnit, directories_from_zero, IsDirectory, IsFile, IsReadWell}
-use Common.{IsOffsetHeld, IsFound, emitted_texts, operand_counts, program_bytes, whole_bytes, unit_bytes}
-use Common.{length-append, Appends, AppendsThat, ReadsBack, ReadsBackAt}
+use Common.{ℕ, Bool, false, List, length, Ok, refl, ap, ◌∙◌, arith, sym, nat_le, All, leb-true, leb-false}
+use Common.{OrderAndLimit, Encoding, Dwarf64, Placement, plain, counted, AreTexts, StringTables, Header, UnitEntry}
+use Common.{Sections, OneByOne, Built, CanWrite, IsBuilt, built_rules, texts_after, AreFormats, IsUnit}
+use Common.{directories_from_zero, IsDirectory, IsFile, IsReadWell, IsOffsetHeld, emitted_texts, operand_counts}
+use Common.{program_bytes, whole_bytes, unit_bytes, length-append, Appends, AppendsThat, ReadsBack, ReadsBackAt}
 use proofs.reading.ReadyTexts.{tables-ready, of-tables}
 use proofs.linking.PlacedUnits.{items-plain}
-use proofs.spellings.TextForms.{IsHeld}
 use proofs.reading.TablesBack.{AreReadWell, tables-back}
 use proofs.spellings.UnitSpellings.{
   UnitWritten,
@@ -48,13 +46,7 @@ pub whole_written : (at : Placement) (is_big : Bool) (unit_encoding : Encoding) 
     (unit : List ℕ)
     → unit_bytes (counted at) is_big unit_encoding p old_texts ≡ Ok unit
     → whole_bytes (counted at) is_big p (texts_after p old_texts) ≡ Ok unit
-whole_written at is_big unit_encoding p old_texts unit is = by _ _ is
-  where
-    by : (b : Bool) (r : Result (List ℕ) Error)
-        → (let s : Result (List ℕ) Error = if b then Err IncompatibleLineProgramEncoding else r in s) ≡ Ok unit
-        → r ≡ Ok unit
-    by true r is = absurd cc
-    by false r is = is
+whole_written at is_big unit_encoding p old_texts unit is = grind arith
 
 module _ (at : Placement) (layout : OrderAndLimit) (unit_entry : UnitEntry) (sections : Sections) (p : Built)
     (built : IsBuilt p) where
@@ -64,12 +56,11 @@ module _ (at : Placement) (layout : OrderAndLimit) (unit_entry : UnitEntry) (sec
       → UnitWritten (counted at) layout.is_big p texts unit
       → HeaderBack layout unit_entry sections p texts unit
   whole_back texts unit well same holds small w =
-      let v = fields_written (counted at) layout.is_big p texts w.fields w.fields_are in
+      let v = fields_written _ _ _ _ _ w.fields_are in
       let inside = inside-short (counted at) layout.is_big p texts unit w in
       let fields = fields-short (counted at) layout.is_big p texts unit w in
       let tables = tables-short (counted at) layout.is_big p texts w.fields v in
-      let t = tables-back at layout unit_entry sections p texts built v.tables well
-      (omega (arith, inside, fields, tables, small)) v.tables_are in
+      let t = tables-back at layout unit_entry sections p texts built v.tables well (omega arith) v.tables_are in
       record {
         header = header_of (counted at) layout unit_entry sections p texts built v.tables t (length w.inside)
             (length w.fields) w.program;
@@ -94,13 +85,13 @@ module _ (at : Placement) (layout : OrderAndLimit) (unit_entry : UnitEntry) (sec
     ready = λ new. tables-ready p old_texts new built can;
     are_texts = are_texts;
     are_line_texts = are_line_texts;
-    held = λ new. of-tables (IsHeld layout.limit p.encoding.format at (texts_after p old_texts)) p _ new
+    held = λ new. of-tables _ _ _ new
         (λ i d lt. (λ wide. well.texts_held (late new) wide i d lt, short (late new) i d lt));
-    found = λ new. of-tables (IsFound sections at (texts_after p old_texts)) p _ new (well.texts_found (late new));
+    found = λ new. of-tables _ _ _ new (well.texts_found (late new));
   }
     where
       late : nat_le p.encoding.version 4 ≡ false → 5 ≤ p.encoding.version
-      late new = let above = leb-false p.encoding.version 4 new in omega (arith, above)
+      late new = let above = leb-false p.encoding.version 4 new in omega arith
 
 -- a unit whose length 64 bits hold
 pub header-back : (at : Placement) (layout : OrderAndLimit) (unit_entry : UnitEntry) (sections : Sections)
@@ -116,8 +107,7 @@ pub header-back : (at : Placement) (layout : OrderAndLimit) (unit_entry : UnitEn
 header-back at layout unit_entry sections is_big unit_encoding p old_texts unit small built can are_texts are_line_texts
     short is well =
     let texts = texts_after p old_texts in
-    let whole : whole_bytes (counted at) layout.is_big p texts ≡ Ok unit =
-    ap (λ (b : Bool). whole_bytes (counted at) b p texts) well.order
+    let whole = ap (λ b. whole_bytes (counted at) b p texts) well.order
     ∙ whole_written at is_big unit_encoding p old_texts unit is in
     let same : IsReadWell at layout unit_entry sections layout.is_big p texts unit = record {
       order = refl;
@@ -130,7 +120,7 @@ header-back at layout unit_entry sections is_big unit_encoding p old_texts unit 
     } in
     whole_back at layout unit_entry sections p built texts unit
     (read_well at layout unit_entry sections p built old_texts unit can are_texts are_line_texts short same)
-    same.address_size same.length_held small (unit_written (counted at) layout.is_big p texts unit whole)
+    same.address_size same.length_held small (unit_written _ _ _ _ _ whole)
 
 -- ---- what is read of a written unit: its header, its decoding, and its rows together
 
@@ -138,10 +128,7 @@ header-back at layout unit_entry sections is_big unit_encoding p old_texts unit 
 unit_known : (at : Placement) (is_big : Bool) (p : Built) (texts : StringTables) (unit : List ℕ)
     → whole_bytes (counted at) is_big p texts ≡ Ok unit
     → p.encoding.version ≤ 5
-unit_known at is_big p texts unit is =
-    let w = unit_written (counted at) _ p texts _ is in
-    let b = before_written _ _ _ w.opening_is in
-    version-known _ _ _ b.front_is
+unit_known at is_big p texts unit is = grind (arith, unit_written, before_written, version-known)
 
 reads-back : (at : Placement) (layout : OrderAndLimit) (unit_entry : UnitEntry) (sections : Sections) (is_big : Bool)
     (unit_encoding : Encoding) (p : Built)
@@ -168,8 +155,8 @@ reads-back at layout unit_entry sections is_big unit_encoding p old_texts unit s
       formats = h.formats;
       directories = h.directories;
       files = h.files;
-      decoding = cut-back layout h.header p built wide h.parameters h.program;
-      rows = rows-back layout h.header p built known wide h.parameters h.program;
+      decoding = cut-back _ _ _ built wide h.parameters h.program;
+      rows = rows-back _ _ _ built known wide h.parameters h.program;
     }
 
 -- what is appended is read back so
@@ -182,7 +169,7 @@ pub appended-back : (at : Placement) (is_big : Bool) (unit_encoding : Encoding) 
     → Appends (unit_bytes (counted at) is_big unit_encoding p old_texts) old new
     → AppendsThat (ReadsBackAt at is_big p (texts_after p old_texts)) old new
 appended-back at is_big unit_encoding p old_texts old new short built can are_texts are_line_texts held written =
-    let a = appended_bytes (unit_bytes (counted at) is_big unit_encoding p old_texts) old new written in
+    let a = appended_bytes _ _ _ written in
     let long = ap length a.2 ∙ length-append old a.0 in
     let small : length a.0 < 2 ^ 64 = omega arith in (
       a.0,

@@ -5,7 +5,7 @@ use proofs.Common
 use Common.{ℕ, List, [], Ok, Err, refl, sym, subst, ap, ◌∙◌, append_assoc, lit<, Result, IfOk, append-nil}
 use Common.{OrderAndLimit, Each, Encoding, LineEncoding, plain, Constant, Symbol, Error, Header, Ins, SpellsInstruction}
 use Common.{LineRow, BuiltItem, SetAddress, Row, End, CanEncode, AreBuilt, initial_row, row_instructions}
-use Common.{end_instructions, instructions_bytes, item_bytes, items_bytes, items_instructions, AreFit}
+use Common.{end_instructions, items_bytes, items_instructions, AreFit}
 use Rattle.gimli_line.specs.declared.run.instruction.LineInstruction.TheVariants as read
 use proofs.writing.WrittenParts.{same_written, both_written}
 use proofs.spellings.Spellings.{each-spelled, all_row, all_end, address-spelled}
@@ -24,34 +24,34 @@ module _ (layout : OrderAndLimit) (h : Header) (base : h.parameters.opcode_base 
       → AreBuilt e (previous.address_offset, previous.op_index) items → AreFit h.parameters.encoding.version items
       → items_bytes plain layout.is_big h.parameters.encoding e previous items ≡ Ok bytes
       → Each (SpellsInstruction layout h) bytes (items_instructions h.parameters.encoding.version e previous items)
-  items-spelled previous [] bytes line built fit is = same_written [] bytes is
+  items-spelled previous [] bytes line built fit is = same_written _ _ is
   items-spelled previous (SetAddress (Constant a) ∷ items) bytes line built fit is =
       let next : LineRow = record previous { address_offset = 0; op_index = 0 } in
-      let p = both_written (item_bytes plain layout.is_big h.parameters.encoding e previous (SetAddress (Constant a)))
-      (items_bytes plain layout.is_big h.parameters.encoding e next items) bytes is in
+      let p = both_written _ _ _ is in
       rw p.whole
-      (each_append layout h _ _ (read.SetAddress a ∷ []) _
-      (p.first, [], sym (append-nil p.first), address-spelled layout h base wide a p.first p.first_is, refl)
+      (each_append layout h p.first p.rest (read.SetAddress a ∷ [])
+      (items_instructions h.parameters.encoding.version e next items)
+      (p.first, [], sym (append-nil _), address-spelled layout h base wide a p.first p.first_is, refl)
       (items-spelled next items p.rest line built.1 fit.1 p.rest_is))
   items-spelled previous (SetAddress (Symbol s d) ∷ items) bytes line built fit is = absurd cc
   items-spelled previous (Row r ∷ items) bytes line built fit is =
       let version = h.parameters.encoding.version in
-      let p = both_written (item_bytes plain layout.is_big h.parameters.encoding e previous (Row r))
-      (items_bytes plain layout.is_big h.parameters.encoding e r items) bytes is in
+      let p = both_written _ _ _ is in
       let own = each-spelled layout h base wide (row_instructions version e previous r)
       (all_row version e previous r can built.0.0 line fit.0) in
       rw p.whole
-      (each_append layout h _ _ (row_instructions version e previous r) _
-      (rw (same_written (instructions_bytes (row_instructions version e previous r)) p.first p.first_is) own)
+      (each_append layout h p.first p.rest (row_instructions version e previous r)
+      (items_instructions version e r items)
+      (rw (same_written _ _ p.first_is) own)
       (items-spelled r items p.rest built.0.1 built.1 fit.1 p.rest_is))
   items-spelled previous (End o i ∷ items) bytes line built fit is =
-      let next : LineRow = initial_row h.parameters.encoding.version e.default_is_stmt in
-      let p = both_written (item_bytes plain layout.is_big h.parameters.encoding e previous (End o i))
-      (items_bytes plain layout.is_big h.parameters.encoding e next items) bytes is in
+      let next = initial_row h.parameters.encoding.version e.default_is_stmt in
+      let p = both_written _ _ _ is in
       let own = each-spelled layout h base wide (end_instructions e previous o i) (all_end e previous o i built.0) in
       rw p.whole
-      (each_append layout h _ _ (end_instructions e previous o i) _
-      (rw (same_written (instructions_bytes (end_instructions e previous o i)) p.first p.first_is) own)
+      (each_append layout h p.first p.rest (end_instructions e previous o i)
+      (items_instructions h.parameters.encoding.version e next items)
+      (rw (same_written _ _ p.first_is) own)
       (items-spelled next items p.rest (lit< tt) built.1 fit.1 p.rest_is))
 
 -- the same where the header has this encoding

@@ -1,5 +1,5 @@
 -- The bytes of the tables of a unit up to version 4 spell them.
-use Rattle.std.specs.Prelude.{◌≡◌, ◌≢◌, ◌<◌, ◌^◌, ◌∷◌, ◌++◌}
+use Rattle.std.specs.Prelude.{◌≡◌, ◌<◌, ◌^◌, ◌∷◌, ◌++◌}
 use Rattle.gimli_build.proofs
 use proofs.Common
 use Common.{ℕ, List, [], drop, map, Ok, refl, sym, append_assoc, All, append-nil, All-head, All-tail}
@@ -13,8 +13,7 @@ module _ (texts : StringTables) where
   -- a text in the unit itself is its bytes
   name_spelled : (t : LineText) (bytes : List ℕ) → IsNotEmpty t → HasNoZero t → name_bytes t ≡ Ok bytes
       → path_text.Spells bytes (bytes_in texts t)
-  name_spelled (Inline text) bytes some clean is =
-      (some, (recursion_from_All (λ b. b ≢ 0) _ clean, same_written _ _ is))
+  name_spelled (Inline text) bytes some clean is = (some, (recursion_from_All _ _ clean, same_written _ _ is))
   name_spelled (InStrings i) bytes some clean is = absurd cc
   name_spelled (InLineStrings i) bytes some clean is = absurd cc
 
@@ -65,7 +64,7 @@ module _ (texts : StringTables) where
       uleb size,
       refl,
       (uleb_shortest _ t).spells,
-      (size, uleb size, [], sym (append-nil (uleb size)), (uleb_shortest _ s).spells, (refl, refl)),
+      (size, uleb size, [], sym (append-nil _), (uleb_shortest _ s).spells, (refl, refl)),
     ),
   )
 

@@ -4,11 +4,11 @@ use Rattle.gimli_build.proofs
 use proofs.Common
 use Common.{ℕ, Bool, true, false, List, [], length, map, refl, sym, ◌∙◌, subst, append_assoc, arith, lit<, min}
 use Common.{flat_map, count_by, lt-ltb, append-nil, times, SpellsUleb128, uleb_shortest, SpellsFormats, FileEntryFormat}
-use Common.{LineText, Inline, InStrings, InLineStrings, when, text_form, first_form, path_texts, sources, formats_bytes}
+use Common.{LineText, when, text_form, first_form, path_texts, sources, formats_bytes}
 use Common.{directory_formats, file_formats, Built, Some, None, ap, nat_eq, replicate, OrderAndLimit, Value, SpellsForm}
 use Common.{Format, Block, Udata, uleb, ReadFile, Ok, length-append, Result, nat_le, All, option_map_or, All-head}
 use Common.{All-tail, Placement, counted, AreTexts, StringTables, Error, bytes_in, File, Details, Sections, IsText}
-use Common.{IsOptionalText, OneByOne, result_append, result_concat, IsDirectory, IsFile, IsFound, detail_bytes}
+use Common.{IsOptionalText, OneByOne, result_append, result_concat, IsDirectory, IsFile, IsFound}
 use Common.{text_in_form, directory_table_bytes, source_bytes, file_entry_bytes, file_table_bytes}
 use Rattle.gimli_bytes.specs.Number.{uleb}
 use Rattle.gimli_line.specs.header.HeaderGrammar.{
@@ -44,8 +44,7 @@ unfolding uleb
 small_bytes n small = rw (lt-ltb n 128 small) refl
 
 small_spelled : (n : ℕ) → n < 128 → SpellsUleb128 16 (uleb n) n
-small_spelled n small =
-    rw (small_bytes n small) (record { groups = (small, refl); short = lit< tt; fits = omega (arith, small) })
+small_spelled n small = grind (arith, small_bytes)
 
 abbrev one_bytes : ℕ × ℕ → List ℕ
 one_bytes f = uleb f.0 ++ uleb f.1
@@ -57,7 +56,7 @@ one_spelled f is = (
   uleb f.1,
   refl,
   (uleb_shortest _ is.fits).spells,
-  (f.1, uleb f.1, [], sym (append-nil (uleb f.1)), small_spelled _ is.form, (refl, whole _ _ is.content)),
+  (f.1, uleb f.1, [], sym (append-nil _), small_spelled _ is.form, (refl, whole _ _ is.content)),
 )
   where
     whole : (content least : ℕ) → least ≡ content
@@ -71,7 +70,7 @@ AreSpelled formats =
     (times (length formats) format_production).Spells (flat_map one_bytes formats) (map read_format formats)
 
 more_spelled : (f : ℕ × ℕ) (formats : List (ℕ × ℕ)) → IsFormat f → AreSpelled formats → AreSpelled (f ∷ formats)
-more_spelled f formats is rest = grind (arith, one_spelled, map, append-nil)
+more_spelled f formats is rest = grind (arith, one_spelled, append-nil)
 
 when_spelled : (due : Bool) (f : ℕ × ℕ) (formats : List (ℕ × ℕ)) → IsFormat f → AreSpelled formats
     → AreSpelled (when due f ++ formats)
@@ -86,18 +85,15 @@ last_spelled false f is = (refl, refl)
 formats_spelled : (formats : List (ℕ × ℕ)) → AreSpelled formats
     → count_by (is_content 0x0001) (map read_format formats) ≡ 1
     → SpellsFormats (formats_bytes formats) (map read_format formats)
-formats_spelled formats spelled one = grind (arith, map, append-nil)
+formats_spelled formats spelled one = grind (arith, append-nil)
 
 -- ---- the tables
 
 text_form_small : (t : LineText) → text_form t < 128
-text_form_small (Inline text) = lit< tt
-text_form_small (InStrings i) = lit< tt
-text_form_small (InLineStrings i) = lit< tt
+text_form_small t = grind arith
 
 first_form_small : (texts : List LineText) → first_form texts < 128
-first_form_small [] = lit< tt
-first_form_small (t ∷ texts) = text_form_small t
+first_form_small texts = grind (arith, text_form_small)
 
 is_format : (content form : ℕ) → content < 2 ^ 64 → min content 0xffff ≡ content → form < 128 → IsFormat (content, form)
 is_format content form fits held small = grind arith
@@ -105,7 +101,7 @@ is_format content form fits held small = grind arith
 pub directory-formats : (p : Built)
     → SpellsFormats (formats_bytes (directory_formats p)) (map read_format (directory_formats p))
 directory-formats p =
-    let path = is_format 0x0001 (first_form p.directories) (lit< tt) refl (first_form_small p.directories) in
+    let path = is_format 0x0001 (first_form p.directories) (lit< tt) refl (first_form_small _) in
     formats_spelled (directory_formats p) (more_spelled (0x0001, first_form p.directories) [] path (refl, refl)) refl
 
 -- the formats of files, where the flags are these
@@ -122,52 +118,32 @@ pub formats-same : (p : Built)
     → file_formats p
     ≡ formats_of p.file_has_timestamp p.file_has_size p.file_has_md5 p.file_has_source (first_form (path_texts p.files))
     (first_form (sources p.files))
-formats-same p = grind (arith, nested)
+formats-same p = grind arith
 
 one_path : (time size digest source : Bool) (path_form source_form : ℕ)
     → count_by (is_content 0x0001) (map read_format (formats_of time size digest source path_form source_form)) ≡ 1
-one_path true true true true a b = refl
-one_path true true true false a b = refl
-one_path true true false true a b = refl
-one_path true true false false a b = refl
-one_path true false true true a b = refl
-one_path true false true false a b = refl
-one_path true false false true a b = refl
-one_path true false false false a b = refl
-one_path false true true true a b = refl
-one_path false true true false a b = refl
-one_path false true false true a b = refl
-one_path false true false false a b = refl
-one_path false false true true a b = refl
-one_path false false true false a b = refl
-one_path false false false true a b = refl
-one_path false false false false a b = refl
+one_path time size digest source a b = grind arith
 
 of_spelled : (time size digest source : Bool) (path_form source_form : ℕ) → path_form < 128 → source_form < 128
     → AreSpelled (formats_of time size digest source path_form source_form)
 of_spelled time size digest source path_form source_form path_small source_small =
-    let sources = when source (0x2001, source_form) in
-    let digests = when digest (0x0005, 0x1e) ++ sources in
-    let sizes = when size (0x0004, 0x0f) ++ digests in
-    let times = when time (0x0003, 0x0f) ++ sizes in
-    let last = last_spelled source (0x2001, source_form) (is_format 0x2001 source_form (lit< tt) refl source_small) in
-    let third = when_spelled digest (0x0005, 0x1e) sources (is_format 0x0005 0x1e (lit< tt) refl (lit< tt)) last in
-    let second = when_spelled size (0x0004, 0x0f) digests (is_format 0x0004 0x0f (lit< tt) refl (lit< tt)) third in
-    let first = when_spelled time (0x0003, 0x0f) sizes (is_format 0x0003 0x0f (lit< tt) refl (lit< tt)) second in
-    let index = more_spelled (0x0002, 0x0f) times (is_format 0x0002 0x0f (lit< tt) refl (lit< tt)) first in
-    more_spelled (0x0001, path_form) ((0x0002, 0x0f) ∷ times) (is_format 0x0001 path_form (lit< tt) refl path_small)
-    index
+    more_spelled _ ((0x0002, 0x0f) ∷ (when time (0x0003, 0x0f)
+    ++ (when size (0x0004, 0x0f) ++ (when digest (0x0005, 0x1e) ++ when source (0x2001, source_form)))))
+    (is_format 0x0001 path_form (lit< tt) refl path_small)
+    (more_spelled _ _ (is_format 0x0002 0x0f (lit< tt) refl (lit< tt))
+    (when_spelled time _ _ (is_format 0x0003 0x0f (lit< tt) refl (lit< tt))
+    (when_spelled size _ _ (is_format 0x0004 0x0f (lit< tt) refl (lit< tt))
+    (when_spelled digest _ _ (is_format 0x0005 0x1e (lit< tt) refl (lit< tt))
+    (last_spelled source _ (is_format 0x2001 source_form (lit< tt) refl source_small))))))
 
 pub file-formats : (p : Built) → SpellsFormats (formats_bytes (file_formats p)) (map read_format (file_formats p))
 file-formats p =
     let path_form = first_form (path_texts p.files) in
     let source_form = first_form (sources p.files) in
-    let list = formats_of p.file_has_timestamp p.file_has_size p.file_has_md5 p.file_has_source path_form source_form in
-    subst (λ (l : List (ℕ × ℕ)). SpellsFormats (formats_bytes l) (map read_format l)) (sym (formats-same p))
-    (formats_spelled list
-    (of_spelled p.file_has_timestamp p.file_has_size p.file_has_md5 p.file_has_source path_form source_form
-    (first_form_small (path_texts p.files))
-    (first_form_small (sources p.files)))
+    subst (λ l. SpellsFormats (formats_bytes l) (map read_format l)) (sym (formats-same p))
+    (formats_spelled
+    (formats_of p.file_has_timestamp p.file_has_size p.file_has_md5 p.file_has_source path_form source_form)
+    (of_spelled _ _ _ _ path_form source_form (first_form_small _) (first_form_small _))
     (one_path p.file_has_timestamp p.file_has_size p.file_has_md5 p.file_has_source path_form source_form))
 
 -- ---- an entry of the files of version 5: its bytes spell it, and a file is read of it
@@ -233,7 +209,7 @@ regrouped a b c d e = append_assoc (a ++ b ++ c) d e ∙ nested a b c _
 
 module _ (layout : OrderAndLimit) (format : Format) where
   udata_spelled : (n : ℕ) → n < 2 ^ 64 → SpellsForm layout format 0x0f (uleb n) (Udata n)
-  udata_spelled n lt = (n, uleb n, [], sym (append-nil (uleb n)), (uleb_shortest n lt).spells, (refl, refl))
+  udata_spelled n lt = (n, uleb n, [], sym (append-nil _), (uleb_shortest _ lt).spells, (refl, refl))
 
   digest_spelled : (md5 : List ℕ) → length md5 ≡ 16 → SpellsForm layout format 0x1e md5 (Block md5)
   digest_spelled md5 whole = (md5, md5, [], sym (append-nil md5), (whole, refl), (refl, refl))
@@ -246,8 +222,7 @@ module _ (layout : OrderAndLimit) (format : Format) where
       (entry : TableEntry)
       → SpellsForm layout format form bytes v → IsSpelled formats rest entry
       → IsSpelled ((content, form) ∷ formats) (bytes ++ rest) ((content, v) ∷ entry)
-  value-spelled content form bytes v formats rest entry own after =
-      (v, bytes, rest, refl, own, (entry, rest, [], sym (append-nil rest), after, (refl, refl)))
+  value-spelled content form bytes v formats rest entry own after = grind (arith, append-nil)
 
   -- a value where a flag asks for it
   value_when : (due : Bool) (content form : ℕ) (bytes : List ℕ) (v : Value) (formats : List (ℕ × ℕ)) (rest : List ℕ)
@@ -261,8 +236,7 @@ module _ (layout : OrderAndLimit) (format : Format) where
   -- a value alone
   pub last-spelled : (content form : ℕ) (bytes : List ℕ) (v : Value) → SpellsForm layout format form bytes v
       → IsSpelled ((content, form) ∷ []) bytes ((content, v) ∷ [])
-  last-spelled content form bytes v own =
-      (v, bytes, [], sym (append-nil bytes), own, ([], [], [], refl, (refl, refl), (refl, refl)))
+  last-spelled content form bytes v own = grind (arith, append-nil)
 
   source_spelled : (due : Bool) (form : ℕ) (bytes : List ℕ) (v : Value)
       → (due ≡ true → SpellsForm layout format form bytes v) → (due ≡ false → bytes ≡ [])
@@ -282,38 +256,17 @@ module _ (layout : OrderAndLimit) (format : Format) where
       ++ (if has_digest then md5 else [])) ++ source_bytes))
       (entry_of time size has_digest source path directory timestamp count md5 text)
   entry-spelled time size has_digest source path_form source_form path directory timestamp count md5 text path_bytes
-      source_bytes path_own d t s m source_own
-      source_none =
-      let fourth_formats = when source (0x2001, source_form) in
-      let third_formats = when has_digest (0x0005, 0x1e) ++ fourth_formats in
-      let second_formats = when size (0x0004, 0x0f) ++ third_formats in
-      let first_formats = when time (0x0003, 0x0f) ++ second_formats in
-      let fourth_entry = when source (0x2001, text) in
-      let third_entry = when has_digest (0x0005, Block md5) ++ fourth_entry in
-      let second_entry = when size (0x0004, Udata count) ++ third_entry in
-      let first_entry = when time (0x0003, Udata timestamp) ++ second_entry in
-      let third_bytes = (if has_digest then md5 else []) ++ source_bytes in
-      let second_bytes = (if size then uleb count else []) ++ third_bytes in
-      let first_bytes = (if time then uleb timestamp else []) ++ second_bytes in
-      let fourth = source_spelled source source_form source_bytes text source_own source_none in
-      let third = value_when has_digest 0x0005 0x1e md5 (Block md5) fourth_formats source_bytes fourth_entry
-      (digest_spelled md5 m) fourth in
-      let second = value_when size 0x0004 0x0f (uleb count) (Udata count) third_formats third_bytes third_entry
-      (udata_spelled count s) third in
-      let first =
-      value_when time 0x0003 0x0f (uleb timestamp) (Udata timestamp) second_formats second_bytes second_entry
-      (udata_spelled timestamp t) second in
-      let index = value-spelled 0x0002 0x0f (uleb directory) (Udata directory) first_formats first_bytes first_entry
-      (udata_spelled directory d) first in
-      let whole =
-      value-spelled 0x0001 path_form path_bytes path ((0x0002, 0x0f) ∷ first_formats) (uleb directory ++ first_bytes)
-      ((0x0002, Udata directory) ∷ first_entry) path_own index in
-      subst (λ (l : List ℕ).
-      IsSpelled (formats_of time size has_digest source path_form source_form) (path_bytes ++ l)
-      (entry_of time size has_digest source path directory timestamp count md5 text))
-      (sym (regrouped (uleb directory) (if time then uleb timestamp else []) (if size then uleb count else [])
-      (if has_digest then md5 else []) source_bytes))
-      whole
+      source_bytes path_own d t s m source_own source_none =
+      rw (regrouped (uleb directory) (if time then uleb timestamp else []) (if size then uleb count else [])
+      (if has_digest then md5 else []) source_bytes)
+      (value-spelled 0x0001 path_form _ path ((0x0002, 0x0f) ∷ (when time (0x0003, 0x0f)
+      ++ (when size (0x0004, 0x0f) ++ (when has_digest (0x0005, 0x1e) ++ when source (0x2001, source_form))))) _ _
+      path_own
+      (value-spelled 0x0002 0x0f _ (Udata directory) _ _ _ (udata_spelled _ d)
+      (value_when time 0x0003 0x0f _ (Udata timestamp) _ _ _ (udata_spelled _ t)
+      (value_when size 0x0004 0x0f _ (Udata count) _ _ _ (udata_spelled _ s)
+      (value_when has_digest 0x0005 0x1e _ (Block md5) _ _ _ (digest_spelled _ m)
+      (source_spelled source source_form _ text source_own source_none))))))
 
 -- ---- the bytes of the tables of version 5 spell them, and what is read of them stands for what was built
 
@@ -334,7 +287,7 @@ module _ (layout : OrderAndLimit) (format : Format) {X : Type 0} (formats : List
         b.rest,
         b.whole,
         spelled x b.first (All-head P x _ all) b.first_is,
-        (map entry xs, b.rest, [], sym (append-nil b.rest), rest, (refl, refl)),
+        (map entry xs, b.rest, [], sym (append-nil _), rest, (refl, refl)),
       )
 
   -- there are no more entries than bytes
@@ -345,7 +298,7 @@ module _ (layout : OrderAndLimit) (format : Format) {X : Type 0} (formats : List
       let whole = ap length b.whole ∙ length-append b.first b.rest in
       let first = long x b.first b.first_is in
       let rest = few xs b.rest b.rest_is in
-      omega (arith, whole, first, rest)
+      omega arith
 
   table_spelled : (xs : List X) (bytes : List ℕ) → SpellsFormats (formats_bytes formats) (map read_format formats)
       → All P xs
@@ -357,9 +310,9 @@ module _ (layout : OrderAndLimit) (format : Format) {X : Type 0} (formats : List
       let count = uleb (length xs) in
       let b = after_written (front ++ count) (result_concat part xs) bytes is in
       let whole = ap length b.whole ∙ length-append (front ++ count) b.rest in
-      let short = few xs b.rest b.rest_is in
-      let number = (uleb_shortest (length xs) (omega (arith, whole, short, small))).spells in
-      let entries = each_spelled xs b.rest all b.rest_is in (
+      let short = few _ _ b.rest_is in
+      let number = (uleb_shortest _ (omega arith)).spells in
+      let entries = each_spelled _ _ all b.rest_is in (
         map read_format formats,
         front,
         count ++ b.rest,
@@ -369,7 +322,7 @@ module _ (layout : OrderAndLimit) (format : Format) {X : Type 0} (formats : List
           map entry xs,
           count ++ b.rest,
           [],
-          sym (append-nil (count ++ b.rest)),
+          sym (append-nil _),
           (length xs, count, b.rest, refl, number, entries),
           (refl, refl),
         ),
@@ -418,13 +371,7 @@ module _ (at : Placement) (layout : OrderAndLimit) (p : Built) (texts : StringTa
       → source_bytes (counted at) layout.is_big p.encoding.format texts p f ≡ Ok bytes
       → (p.file_has_source ≡ true → text_written (first_form (sources p.files)) (source_of p texts f) ≡ Ok bytes)
       × (p.file_has_source ≡ false → bytes ≡ [])
-  source_written f bytes is = by _ _ is
-    where
-      by : (b : Bool) (r : Result (List ℕ) Error)
-          → (let s : Result (List ℕ) Error = if b then r else Ok [] in s) ≡ Ok bytes
-          → (b ≡ true → r ≡ Ok bytes) × (b ≡ false → bytes ≡ [])
-      by true r is = (λ same. is, λ same. absurd cc)
-      by false r is = (λ same. absurd cc, λ same. same_written _ _ is)
+  source_written f bytes is = grind (arith, same_written)
 
   file_spelled : (f : File) (bytes : List ℕ) → IsFileReadable f
       → file_entry_bytes (counted at) layout.is_big p.encoding.format texts p f ≡ Ok bytes
@@ -436,33 +383,22 @@ module _ (at : Placement) (layout : OrderAndLimit) (p : Built) (texts : StringTa
       let b = after_written _ _ _ a.rest_is in
       let s = source_written f _ b.rest_is in
       let spell = text-spelled at layout p.encoding.format texts in
-      let whole : bytes ≡ a.first ++ (detail_bytes p f ++ b.rest) = a.whole ∙ ap (λ l. a.first ++ l) b.whole in
+      let whole = a.whole ∙ ap (λ l. a.first ++ l) b.whole in
       let text = source_of p texts f in
       let list =
       formats_of p.file_has_timestamp p.file_has_size p.file_has_md5 p.file_has_source path_form source_form in
       let entry = file_entry at p texts f in
-      let spelled : IsSpelled layout p.encoding.format list (a.first ++ (detail_bytes p f ++ b.rest)) entry =
-      entry-spelled layout p.encoding.format _ _ _ _ path_form _
-      _ _ _ _ _ _ _ _
+      let spelled = entry-spelled layout p.encoding.format _ _ _ _ path_form _ _ _ _ _ _ _ _ _
       (spell path_form f.0.0 a.first own.0.path own.1.path a.first_is) own.0.fits.directory
       own.0.fits.timestamp own.0.fits.size own.0.fits.md5
       (λ flag. spell source_form text b.rest (own.0.source flag) (own.1.source flag) (s.0 flag)) s.1 in
-      let same : IsSpelled layout p.encoding.format list bytes entry =
-      subst (λ l. IsSpelled layout p.encoding.format list l entry) (sym whole) spelled in
+      let same = subst (λ l. IsSpelled layout p.encoding.format list l entry) (sym whole) spelled in
       subst (λ l. IsSpelled layout p.encoding.format l bytes entry) (sym (formats-same p)) same
 
   file_long : (f : File) (bytes : List ℕ)
       → file_entry_bytes (counted at) layout.is_big p.encoding.format texts p f ≡ Ok bytes
       → 0 < length bytes
-  file_long f bytes is =
-      let form = first_form (path_texts p.files) in
-      let a = both_written (text_written form f.0.0)
-      (result_append (Ok (detail_bytes p f)) (source_bytes (counted at) layout.is_big p.encoding.format texts p f))
-      bytes
-      is in
-      let whole = ap length a.whole ∙ length-append a.first a.rest in
-      let long = text-long at layout.is_big p.encoding.format texts form f.0.0 a.first a.first_is in
-      omega (arith, whole, long)
+  file_long f bytes is = grind (arith, both_written, length-append, text-long)
 
   pub new-files-spelled : (bytes : List ℕ)
       → file_table_bytes (counted at) layout.is_big p.encoding.format texts p ≡ Ok bytes
@@ -472,7 +408,7 @@ module _ (at : Placement) (layout : OrderAndLimit) (p : Built) (texts : StringTa
   new-files-spelled bytes is small = table_spelled layout p.encoding.format (file_formats p) IsFileReadable
       (file_entry_bytes (counted at) layout.is_big p.encoding.format texts p)
       (file_entry at p texts)
-      file_spelled file_long p.files bytes (file-formats p)
+      file_spelled file_long _ _ (file-formats p)
       (λ i d lt. (ready.files i d lt, held.files i d lt)) is small
 
 -- ---- what is read stands for what was built
@@ -505,8 +441,7 @@ module _ (at : Placement) (sections : Sections) (p : Built) (texts : StringTable
 
   source_back : (due : Bool) (v : Value) (text : List ℕ) → (due ≡ true → IsText sections v text)
       → IsOptionalText sections (if due then Some v else None) (if due then Some text else None)
-  source_back true v text own = own refl
-  source_back false v text own = tt
+  source_back due v text own = grind arith
 
   abbrev file_seen : File → ReadFile
   file_seen f = file_with p.file_has_timestamp p.file_has_size p.file_has_md5 p.file_has_source
@@ -515,17 +450,7 @@ module _ (at : Placement) (sections : Sections) (p : Built) (texts : StringTable
   seen_back : (f : File) → nat_le p.encoding.version 4 ≡ false → IsFileReady p texts f
       → IsOfFile IsFoundHere p texts f
       → IsFile sections p texts (file_seen f) f
-  seen_back f new own found =
-      let same = stored_new f.1 new in
-      record {
-        path = text_back _ own.path found.path;
-        directory = refl;
-        timestamp = sym (ap (λ s. s.timestamp) same);
-        size = sym (ap (λ s. s.size) same);
-        md5 = sym (ap (λ s. s.md5) same);
-        source = rw (ap (λ s. s.source) same) (source_back _ _ _
-            (λ flag. rw (← own.source_bytes flag) (text_back _ (own.source flag) (found.source flag))));
-      }
+  seen_back f new own found = grind (arith, stored_new, text_back, source_back)
 
   file_back : (f : File) → nat_le p.encoding.version 4 ≡ false → IsFileReady p texts f
       → IsOfFile IsFoundHere p texts f

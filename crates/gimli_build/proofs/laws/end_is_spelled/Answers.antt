@@ -4,4 +4,4 @@ use proofs.laws.end_is_spelled.Goals as goal
 
 pub returns : goal.returns
 returns c = λ u here o i follows.
-    each-spelled u.layout u.header u.opcode_base u.longest _ (all_end _ here.previous o i follows)
+    each-spelled _ u.header u.opcode_base u.longest _ (all_end _ here.previous _ _ follows)

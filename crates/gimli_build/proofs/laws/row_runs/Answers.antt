@@ -4,6 +4,6 @@ use proofs.laws.row_runs.Goals as goal
 
 pub returns : goal.returns
 returns c = λ here r way next.
-    row-runs here.encoding here.line_encoding _ here.previous r way.accepts.address_size way.accepts.lines way.position
+    row-runs here.encoding _ _ here.previous r way.accepts.address_size way.accepts.lines way.position
     next.follows next.line_before
     next.line next.address

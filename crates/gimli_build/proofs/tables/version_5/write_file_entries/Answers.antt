@@ -10,7 +10,7 @@ pub write_file_entry-requires-clause-there : goal.write_file_entry-requires-clau
 write_file_entry-requires-clause-there g c = grind (arith, slice_get, contains-at)
 
 pub loop-index-init : goal.loop-index-init
-loop-index-init g c = record { so = none_written _ _ _ _; fit = All-nil FitsFile }
+loop-index-init g c = record { so = none_written _ _ _ _; fit = All-nil _ }
 
 pub returns-in_err-write_file_entry-clause-writes : goal.returns-in_err-write_file_entry-clause-writes
 returns-in_err-write_file_entry-clause-writes g c =

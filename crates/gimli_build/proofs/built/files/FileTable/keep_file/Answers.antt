@@ -23,7 +23,7 @@ returns-in-Some-clause-ok c =
 
 pub returns-in-Some-clause-id : goal.returns-in-Some-clause-id
 returns-in-Some-clause-id c = rw (← c.self.view_is)
-    (index_found (pair_eq (c.args.path, c.args.directory)) _ c.in-Some.index c.in-Some.ensures.index
+    (index_found (pair_eq (c.args.path, c.args.directory)) _ _ c.in-Some.ensures.index
     ∙ index_of_equal_file c.self.inside.files.entries (c.args.path, c.args.directory))
 
 pub invariant_of-self-2 : goal.invariant_of-self-2

@@ -9,10 +9,10 @@ use proofs.built.line_program.LineProgram.directory_cause.Goals as goal
 pub text_cause-cause-requires : goal.text_cause-cause-requires
 text_cause-cause-requires c =
     let texts = texts_in c.args.strings.now c.args.line_strings.now in
-    all_at (IsWithin texts) c.args.self.now.directories c.args.index (line_text c.index-directories-index.result)
+    all_at (IsWithin texts) _ _ _
     c.requires.can.directories
-    (mapped_at line_text c.directories-directories.result.now c.args.self.now.directories c.args.index
-    c.index-directories-index.result (c.directories-directories.ensures ∙ c.tables.ensures.directories) c.requires.there
+    (mapped_at _ _ _ _
+    _ (c.directories-directories.ensures ∙ c.tables.ensures.directories) c.requires.there
     c.index-directories-index.is)
 
 pub returns : goal.returns
