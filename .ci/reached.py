@@ -52,9 +52,10 @@ def bound(text):
 
 def uses_of(text):
     """Each name that is imported, as it is written, with where it comes from."""
-    # A path may begin with a module that another line names.
-    for front, name in re.findall(r"^use (Rattle[\w.+]*)\.(\w+)$", text, re.M):
-        text = re.sub(r"^((?:pub )?use )(?=%s\.)" % name, r"\g<1>%s." % front, text, flags=re.M)
+    # A path may begin with a module that another line names, and that line's too.
+    for _ in range(2):
+        for front, name in re.findall(r"^use (Rattle[\w.+]*)\.(\w+)$", text, re.M):
+            text = re.sub(r"^((?:pub )?use )(?=%s\.)" % name, r"\g<1>%s." % front, text, flags=re.M)
     for module, items in USE.findall(text):
         for item in items.split(",") if items else ():
             parts = item.strip().split(" as ")

@@ -7,8 +7,9 @@ use Common.{UnsupportedVersion, NeedVersion, LineStringFormMismatch, ValueTooLar
 use Common.{LineText, Inline, InLineStrings, File, no_details, Built, empty_built, initial_row, texts_after, unit_bytes}
 use Common.{first_cause, BuiltItem, SetAddress, Row, End}
 use Rattle.gimli_bytes.specs.Number.{uleb}
-use Rattle.gimli_build.specs.Unit.{base_byte}
-use Rattle.gimli_build.specs.Linked.{placed_item, placed_program}
+use Rattle.gimli_build.specs
+use specs.Unit.{base_byte}
+use specs.Linked.{placed_item, placed_program}
 
 -- ---- what is built
 

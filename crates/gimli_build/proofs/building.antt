@@ -1,6 +1,5 @@
 -- What builder calls keep, and equality.
 pub mod TableLemmas
-pub mod BuiltLemmas
 pub mod Equality
 pub mod SourceLemmas
 pub mod FormatLemmas

@@ -1,5 +1,4 @@
 -- Units that a linker completes.
 pub mod Lengths
-pub mod SameBytes
 pub mod PlacedUnits
 pub mod FoundTexts

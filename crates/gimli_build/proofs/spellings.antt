@@ -4,7 +4,5 @@ pub mod ItemSpellings
 pub mod TableSpellings
 pub mod EncodingSpellings
 pub mod TextForms
-pub mod FormatForms
-pub mod EntryForms
 pub mod Version5TableSpellings
 pub mod UnitSpellings

@@ -1,15 +1,15 @@
 -- A line program as it was built.
 use Rattle.std.specs.Prelude.{◌-◌, ◌∷◌}
-use Rattle.gimli_build.specs.Prelude
+use Rattle.gimli_build.specs
+use specs.Prelude
 use Prelude.{ℕ, Bool, false, true, List, [], length, slice_get, negsuc, option_map_or, Encoding}
-use Prelude.{Dwarf32, LineEncoding}
-use Prelude.{Address, Constant, Symbol}
-use Rattle.gimli_build.specs.LineText.{LineText}
-use Rattle.gimli_build.specs.Tables.{File}
-use Rattle.gimli_build.specs.Rows.{initial_row}
-use Rattle.gimli_build.specs.declared.built.row.LineRow.{LineRow}
-use Rattle.gimli_build.specs.declared.built.items.BuiltItem.{BuiltItem}
-use Rattle.gimli_build.specs.declared.built.items.BuiltItem.TheVariants.{SetAddress, Row, End}
+use Prelude.{Dwarf32, LineEncoding, Address, Constant, Symbol}
+use specs.LineText.{LineText}
+use specs.Tables.{File}
+use specs.Rows.{initial_row}
+use specs.declared.built.row.LineRow.{LineRow}
+use specs.declared.built.items.BuiltItem.{BuiltItem}
+use specs.declared.built.items.BuiltItem.TheVariants.{SetAddress, Row, End}
 
 pub record Built : Type 0 where
   -- it was made to be no program

@@ -1,8 +1,9 @@
 -- The fields of a line program, as what was built.
-use Rattle.gimli_build.specs.Built.{Built}
-use Rattle.gimli_build.specs.Tables.{keys_of}
-use Rattle.gimli_build.specs.Conditions.{IsProgram}
-use Rattle.gimli_build.specs.declared.built.line_program.LineProgram.TheInside.{Inside}
+use Rattle.gimli_build.specs
+use specs.Built.{Built}
+use specs.Tables.{keys_of}
+use specs.Conditions.{IsProgram}
+use specs.declared.built.line_program.LineProgram.TheInside.{Inside}
 
 abbrev pub built_of : Inside → Built
 built_of a = record {

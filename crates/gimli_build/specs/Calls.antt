@@ -1,14 +1,15 @@
 -- A program after a call of the builder that returns Ok.
 use Rattle.std.specs.Prelude.{◌∷◌, ◌++◌}
-use Rattle.gimli_build.specs.Prelude
+use Rattle.gimli_build.specs
+use specs.Prelude
 use Prelude.{ℕ, true, false, [], Option, option_map, option_to_list, Encoding, LineEncoding}
 use Prelude.{Address}
-use Rattle.gimli_build.specs.LineText.{LineText}
-use Rattle.gimli_build.specs.Tables.{FileKey, Details, Tables, with_directory, with_file}
-use Rattle.gimli_build.specs.Rows.{initial_row, without_marks, row_after_address}
-use Rattle.gimli_build.specs.Built.{Built, empty_built}
-use Rattle.gimli_build.specs.declared.built.row.LineRow.{LineRow}
-use Rattle.gimli_build.specs.declared.built.items.BuiltItem.TheVariants.{SetAddress, Row, End}
+use specs.LineText.{LineText}
+use specs.Tables.{FileKey, Details, Tables, with_directory, with_file}
+use specs.Rows.{initial_row, without_marks, row_after_address}
+use specs.Built.{Built, empty_built}
+use specs.declared.built.row.LineRow.{LineRow}
+use specs.declared.built.items.BuiltItem.TheVariants.{SetAddress, Row, End}
 
 -- after `new`: these tables, and nothing else is built yet
 abbrev pub new_program : Encoding → LineEncoding → Tables → Built

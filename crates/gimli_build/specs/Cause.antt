@@ -1,23 +1,31 @@
 -- Why a unit can't be written: the first cause, in the order of what is written.
 use Rattle.std.specs.Prelude.{◌+◌, ◌^◌, ◌∷◌, ◌++◌, ◌&&◌, if◌then◌else◌}
-use Rattle.gimli_build.specs.Prelude
+use Rattle.gimli_build.specs
+use specs.Prelude
 use Prelude.{ℕ, List, [], length, map, flat_map, drop, sum_by, unwrap_or, Bool, not, nat_eq, nat_le}
-use Prelude.{nat_lt, Option}
-use Prelude.{Some, None, Result, Ok, Err, word_size, Encoding, Format, Dwarf32, Dwarf64, plain}
-use Prelude.{uleb, Constant, Symbol}
-use Prelude.{Error, IncompatibleLineProgramEncoding, UnsupportedVersion, NeedVersion}
-use Prelude.{LineStringFormMismatch}
-use Prelude.{ValueTooLarge, InvalidAddress, InitialLengthOverflow, offset_of, StringTables}
+use Prelude.{nat_lt, Option, Some, None, Result, Ok, Err, word_size, Encoding, Format, Dwarf32}
+use Prelude.{Dwarf64, plain, uleb, Constant, Symbol, Error, IncompatibleLineProgramEncoding}
+use Prelude.{UnsupportedVersion, NeedVersion, LineStringFormMismatch, ValueTooLarge, InvalidAddress}
+use Prelude.{InitialLengthOverflow, offset_of, StringTables}
 use Rattle.gimli_core.specs.FormNumbers.{DW_FORM_string}
-use Rattle.gimli_build.specs.LineText.{LineText, Inline, InStrings, InLineStrings}
-use Rattle.gimli_build.specs.Tables.{File}
-use Rattle.gimli_build.specs.Built.{Built}
-use Rattle.gimli_build.specs.Version5Tables.{text_form, first_form, path_texts, sources, empty_text}
-use Rattle.gimli_build.specs.Version5Tables.{texts_after, directory_formats, file_formats}
-use Rattle.gimli_build.specs.Version5Tables.{formats_bytes, detail_bytes}
-use Rattle.gimli_build.specs.Unit.{is_incompatible, opcode_bytes, program_bytes}
-use Rattle.gimli_build.specs.declared.built.items.BuiltItem.{BuiltItem}
-use Rattle.gimli_build.specs.declared.built.items.BuiltItem.TheVariants.{SetAddress}
+use specs.LineText.{LineText, Inline, InStrings, InLineStrings}
+use specs.Tables.{File}
+use specs.Built.{Built}
+use specs.Version5Tables.{
+  text_form,
+  first_form,
+  path_texts,
+  sources,
+  empty_text,
+  texts_after,
+  directory_formats,
+  file_formats,
+  formats_bytes,
+  detail_bytes,
+}
+use specs.Unit.{is_incompatible, opcode_bytes, program_bytes}
+use specs.declared.built.items.BuiltItem.{BuiltItem}
+use specs.declared.built.items.BuiltItem.TheVariants.{SetAddress}
 
 -- a cause where the test holds
 abbrev pub cause_if : Bool → Error → Option Error

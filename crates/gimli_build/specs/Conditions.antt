@@ -1,15 +1,15 @@
 -- What the calls of a builder ask.
 use Rattle.std.specs.Prelude.{◌≡◌, ◌<◌, ◌≤◌, ◌^◌, ◌∷◌}
-use Rattle.gimli_build.specs.Prelude
+use Rattle.gimli_build.specs
+use specs.Prelude
 use Prelude.{ℕ, Bool, true, false, List, [], length, drop, IsTrue, IfSome, All, is_address_size}
-use Prelude.{Encoding, LineEncoding}
-use Prelude.{StringTables}
-use Rattle.gimli_build.specs.LineText.{LineText, IsWithin, HasNoZero, IsNotEmpty}
-use Rattle.gimli_build.specs.Tables.{FileKey}
-use Rattle.gimli_build.specs.Advance.{CanEncode, CanFollow}
-use Rattle.gimli_build.specs.Built.{Built, position_after, previous_position}
-use Rattle.gimli_build.specs.declared.built.items.BuiltItem.{BuiltItem}
-use Rattle.gimli_build.specs.declared.built.items.BuiltItem.TheVariants.{SetAddress, Row, End}
+use Prelude.{Encoding, LineEncoding, StringTables}
+use specs.LineText.{LineText, IsWithin, HasNoZero, IsNotEmpty}
+use specs.Tables.{FileKey}
+use specs.Advance.{CanEncode, CanFollow}
+use specs.Built.{Built, position_after, previous_position}
+use specs.declared.built.items.BuiltItem.{BuiltItem}
+use specs.declared.built.items.BuiltItem.TheVariants.{SetAddress, Row, End}
 
 -- a program may have these encodings
 pub record Accepts (encoding : Encoding) (line_encoding : LineEncoding) : Type 0 where

@@ -1,38 +1,30 @@
 -- The instructions that a built row or end is written as, from the row before it (DWARF 5, section
 -- 6.2.5).
 use Rattle.std.specs.Prelude.{◌+◌, ◌-◌, ◌*◌, ◌/◌, ◌&&◌, if◌then◌else◌, ◌∷◌, ◌++◌, ◌+ℤ◌, ◌-ℤ◌}
-use Rattle.gimli_build.specs.Prelude
+use Rattle.gimli_build.specs
+use specs.Prelude
 use Prelude.{ℕ, Bool, true, false, not, nat_eq, nat_le, List, [], ℤ, pos, unsigned_abs, int_le}
-use Prelude.{int_lt, LineEncoding}
-use Prelude.{Ins}
+use Prelude.{int_lt, LineEncoding, Ins}
 use Rattle.gimli_line.specs.declared.run.instruction.LineInstruction.TheVariants.{
   Special,
   Copy,
   AdvancePc,
   AdvanceLine,
-}
-use Rattle.gimli_line.specs.declared.run.instruction.LineInstruction.TheVariants.{
   SetFile,
   SetColumn,
   NegateStatement,
-}
-use Rattle.gimli_line.specs.declared.run.instruction.LineInstruction.TheVariants.{
   SetBasicBlock,
   ConstAddPc,
-}
-use Rattle.gimli_line.specs.declared.run.instruction.LineInstruction.TheVariants.{
   SetPrologueEnd,
   SetEpilogueBegin,
-}
-use Rattle.gimli_line.specs.declared.run.instruction.LineInstruction.TheVariants.{
   SetIsa,
   EndSequence,
   SetDiscriminator,
 }
-use Rattle.gimli_build.specs.declared.built.row.LineRow.{LineRow}
-use Rattle.gimli_build.specs.Due.{when}
-use Rattle.gimli_build.specs.FileNumber.{file_number}
-use Rattle.gimli_build.specs.Advance.{operations}
+use specs.declared.built.row.LineRow.{LineRow}
+use specs.Due.{when}
+use specs.FileNumber.{file_number}
+use specs.Advance.{operations}
 
 -- the opcode base of each program that is built: the first special opcode, after the twelve
 -- standard ones

@@ -1,13 +1,12 @@
 -- The tables of a new program.
 use Rattle.std.specs.Prelude.{◌∷◌, if◌then◌else◌}
-use Rattle.gimli_build.specs.Prelude.{ℕ, List, [], nat_le, Option, option_map, unwrap_or}
-use Rattle.gimli_build.specs.Prelude.{option_map_or}
-use Rattle.gimli_build.specs.LineText.{LineText, line_text}
-use Rattle.gimli_build.specs.Tables.{Details, File, Tables, no_details, with_directory}
-use Rattle.gimli_build.specs.Tables.{index_of_directory}
-use Rattle.gimli_build.specs.TableFields.{details}
-use Rattle.gimli_build.specs.declared.built.line_string.LineString.{LineString}
-use Rattle.gimli_build.specs.declared.built.files.FileInfo.{FileInfo}
+use Rattle.gimli_build.specs
+use specs.Prelude.{ℕ, List, [], nat_le, Option, option_map, unwrap_or, option_map_or}
+use specs.LineText.{LineText, line_text}
+use specs.Tables.{Details, File, Tables, no_details, with_directory, index_of_directory}
+use specs.TableFields.{details}
+use specs.declared.built.line_string.LineString.{LineString}
+use specs.declared.built.files.FileInfo.{FileInfo}
 
 -- the working directory, and from version 5 on the directory of the source file, if it is given
 abbrev pub first_directories : ℕ → LineText → Option LineText → List LineText

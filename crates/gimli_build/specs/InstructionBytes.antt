@@ -1,6 +1,7 @@
 -- The bytes of instructions as they are written (DWARF 5, sections 6.2.5.2 and 6.2.5.3).
 use Rattle.std.specs.Prelude.{◌+◌, ◌^◌, ◌<◌, ◌≤◌, ◌∷◌, ◌++◌}
-use Rattle.gimli_build.specs.Prelude
+use Rattle.gimli_build.specs
+use specs.Prelude
 use Prelude.{ℕ, Bool, List, [], length, flat_map, Result, FitsSigned, uleb, sleb, Hand, Address}
 use Prelude.{Error, Ins}
 use Rattle.std.specs.Int.{w64}
@@ -10,34 +11,36 @@ use Rattle.gimli_line.specs.declared.run.instruction.LineInstruction.TheVariants
   Copy,
   AdvancePc,
   AdvanceLine,
-}
-use Rattle.gimli_line.specs.declared.run.instruction.LineInstruction.TheVariants.{
   SetFile,
   SetColumn,
   NegateStatement,
-}
-use Rattle.gimli_line.specs.declared.run.instruction.LineInstruction.TheVariants.{
   SetBasicBlock,
   ConstAddPc,
-}
-use Rattle.gimli_line.specs.declared.run.instruction.LineInstruction.TheVariants.{
   SetPrologueEnd,
   SetEpilogueBegin,
-}
-use Rattle.gimli_line.specs.declared.run.instruction.LineInstruction.TheVariants.{
   SetIsa,
   EndSequence,
   SetDiscriminator,
 }
-use Rattle.gimli_build.specs.declared.built.row.LineRow.{LineRow}
-use Rattle.gimli_line.specs.LineNumbers.{DW_LNE_end_sequence, DW_LNE_set_address}
-use Rattle.gimli_line.specs.LineNumbers.{DW_LNE_set_discriminator, DW_LNS_advance_line}
-use Rattle.gimli_line.specs.LineNumbers.{DW_LNS_advance_pc, DW_LNS_const_add_pc, DW_LNS_copy}
-use Rattle.gimli_line.specs.LineNumbers.{DW_LNS_negate_stmt, DW_LNS_set_basic_block}
-use Rattle.gimli_line.specs.LineNumbers.{DW_LNS_set_column, DW_LNS_set_epilogue_begin}
-use Rattle.gimli_line.specs.LineNumbers.{DW_LNS_set_file, DW_LNS_set_isa, DW_LNS_set_prologue_end}
-use Rattle.gimli_build.specs.FileNumber.{file_number}
-use Rattle.gimli_build.specs.Encode.{built_opcode_base}
+use specs.declared.built.row.LineRow.{LineRow}
+use Rattle.gimli_line.specs.LineNumbers.{
+  DW_LNE_end_sequence,
+  DW_LNE_set_address,
+  DW_LNE_set_discriminator,
+  DW_LNS_advance_line,
+  DW_LNS_advance_pc,
+  DW_LNS_const_add_pc,
+  DW_LNS_copy,
+  DW_LNS_negate_stmt,
+  DW_LNS_set_basic_block,
+  DW_LNS_set_column,
+  DW_LNS_set_epilogue_begin,
+  DW_LNS_set_file,
+  DW_LNS_set_isa,
+  DW_LNS_set_prologue_end,
+}
+use specs.FileNumber.{file_number}
+use specs.Encode.{built_opcode_base}
 
 -- an instruction of a row or an end; no other is written but set addresses
 abbrev pub instruction_bytes : Ins → List ℕ

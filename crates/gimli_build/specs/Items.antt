@@ -1,21 +1,17 @@
 -- The instructions of built items, and the rows that they are read as.
 use Rattle.std.specs.Prelude.{◌+◌, ◌-◌, ◌*◌, ◌^◌, ◌<◌, ◌≤◌, ◌∷◌, ◌++◌}
-use Rattle.gimli_build.specs.Prelude.{ℕ, Bool, List, [], Result, Ok, Encoding, LineEncoding, Hand}
-use Rattle.gimli_build.specs.Prelude.{Error, ReadRow, Ins}
+use Rattle.gimli_build.specs
+use specs.Prelude.{ℕ, Bool, List, [], Result, Ok, Encoding, LineEncoding, Hand, Error, ReadRow, Ins}
 use Rattle.gimli_line.specs.declared.run.instruction.LineInstruction.TheVariants as read
-use Rattle.gimli_build.specs.declared.built.row.LineRow.{LineRow}
-use Rattle.gimli_build.specs.declared.built.items.BuiltItem.{BuiltItem}
-use Rattle.gimli_build.specs.declared.built.items.BuiltItem.TheVariants.{SetAddress, Row, End}
-use Rattle.gimli_build.specs.Built.{address_value, position_after}
-use Rattle.gimli_build.specs.Rows.{initial_row}
-use Rattle.gimli_build.specs.Encode.{row_instructions, end_instructions}
-use Rattle.gimli_build.specs.InstructionBytes.{
-  instructions_bytes,
-  set_address_bytes,
-  FitsInstructions,
-}
-use Rattle.gimli_build.specs.SameRow.{read_row, read_end}
-use Rattle.gimli_build.specs.Joined.{result_append}
+use specs.declared.built.row.LineRow.{LineRow}
+use specs.declared.built.items.BuiltItem.{BuiltItem}
+use specs.declared.built.items.BuiltItem.TheVariants.{SetAddress, Row, End}
+use specs.Built.{address_value, position_after}
+use specs.Rows.{initial_row}
+use specs.Encode.{row_instructions, end_instructions}
+use specs.InstructionBytes.{instructions_bytes, set_address_bytes, FitsInstructions}
+use specs.SameRow.{read_row, read_end}
+use specs.Joined.{result_append}
 
 -- the row that the next item follows: after a set address offsets count anew, after an end a
 -- sequence starts

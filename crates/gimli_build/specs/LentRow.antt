@@ -1,13 +1,14 @@
 -- What a program ends as, once a `&mut` to a part of it has ended.
-use Rattle.gimli_build.specs.Prelude.{ℕ, Lends, MutBor, Fml}
-use Rattle.gimli_build.specs.Built.{Built}
-use Rattle.gimli_build.specs.Tables.{with_details}
-use Rattle.gimli_build.specs.TableFields.{details}
-use Rattle.gimli_build.specs.declared.built.row.LineRow.{LineRow}
-use Rattle.gimli_build.specs.declared.built.files.FileInfo.{FileInfo}
-use Rattle.gimli_build.specs.contracts.built.line_program.LineProgram.{the_row}
-use Rattle.gimli_build.specs.contracts.built.row.LineRow.{the_row as row_row}
-use Rattle.gimli_build.specs.contracts.built.files.FileInfo.{the_row as info_row}
+use Rattle.gimli_build.specs
+use specs.Prelude.{ℕ, Lends, MutBor, Fml}
+use specs.Built.{Built}
+use specs.Tables.{with_details}
+use specs.TableFields.{details}
+use specs.declared.built.row.LineRow.{LineRow}
+use specs.declared.built.files.FileInfo.{FileInfo}
+use specs.contracts.built.line_program.LineProgram.{the_row}
+use specs.contracts.built.row.LineRow.{the_row as row_row}
+use specs.contracts.built.files.FileInfo.{the_row as info_row}
 
 -- the program ends with the row that was last written through r
 abbrev pub lends_row : MutBor Built → MutBor LineRow → Fml

@@ -1,15 +1,11 @@
 -- Texts of a line program, without where they lie in memory.
 use Rattle.std.specs.Prelude.{◌≢◌, ◌<◌, if◌then◌else◌}
-use Rattle.gimli_build.specs.Prelude
+use Rattle.gimli_build.specs
+use specs.Prelude
 use Prelude.{ℕ, Bool, false, List, [], length, slice_get, unwrap_or, bytes_eq, nat_eq, nat_le, All}
-use Prelude.{with_text}
-use Prelude.{index_of_text, StringTables}
-use Rattle.gimli_build.specs.declared.built.line_string.LineString.{LineString}
-use Rattle.gimli_build.specs.declared.built.line_string.LineString.TheVariants.{
-  String,
-  StringRef,
-  LineStringRef,
-}
+use Prelude.{with_text, index_of_text, StringTables}
+use specs.declared.built.line_string.LineString.{LineString}
+use specs.declared.built.line_string.LineString.TheVariants.{String, StringRef, LineStringRef}
 
 -- a text: its bytes, or its index in the table of strings or of line strings
 pub data LineText : Type 0 where

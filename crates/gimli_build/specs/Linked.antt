@@ -1,16 +1,16 @@
 -- A unit whose addresses, and offsets of texts, a linker fills in: the program that it is then.
 use Rattle.std.specs.Prelude.{◌≡◌, ◌+◌, ◌≤◌, ◌^◌, ◌++◌}
-use Rattle.gimli_build.specs.Prelude
+use Rattle.gimli_build.specs
+use specs.Prelude
 use Prelude.{ℕ, List, length, map, All, word_size, Format, DebugStr, DebugLineStr, Placement}
-use Prelude.{unplaced, table_bytes}
-use Prelude.{StringTables}
+use Prelude.{unplaced, table_bytes, StringTables}
 use Rattle.gimli_bytes.specs.Relocations.{AddressOf, CallFits, address_placed}
-use Rattle.gimli_build.specs.LineText.{LineText}
-use Rattle.gimli_build.specs.ReadsBack.{IsOffsetHeld}
-use Rattle.gimli_build.specs.Built.{Built}
-use Rattle.gimli_build.specs.Cause.{emitted_texts}
-use Rattle.gimli_build.specs.declared.built.items.BuiltItem.{BuiltItem}
-use Rattle.gimli_build.specs.declared.built.items.BuiltItem.TheVariants.{SetAddress}
+use specs.LineText.{LineText}
+use specs.ReadsBack.{IsOffsetHeld}
+use specs.Built.{Built}
+use specs.Cause.{emitted_texts}
+use specs.declared.built.items.BuiltItem.{BuiltItem}
+use specs.declared.built.items.BuiltItem.TheVariants.{SetAddress}
 
 -- a set address with its symbol replaced
 abbrev pub placed_item : Placement → BuiltItem → BuiltItem

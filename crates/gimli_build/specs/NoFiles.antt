@@ -1,7 +1,16 @@
 -- A run that defines no file.
 use Rattle.std.specs.Prelude.{◌≡◌}
-use Rattle.gimli_build.specs.Prelude.{Bool, false, List, None, All, Header, Ins, defines_file}
-use Rattle.gimli_build.specs.Prelude.{Decodes}
+use Rattle.gimli_build.specs.Prelude.{
+  Bool,
+  false,
+  List,
+  None,
+  All,
+  Header,
+  Ins,
+  defines_file,
+  Decodes,
+}
 use Rattle.gimli_line.specs.header.Orders.{HeaderSource}
 use Rattle.gimli_line.specs.run.RunState.{RunState}
 use Rattle.gimli_line.specs.run.Rows.{start_of_run}
@@ -15,5 +24,4 @@ pub record DefinesNoFile (a : RunState) : Type 0 where
 
 -- rows at the start of the program of a header
 abbrev pub program_started : Bool → Header → HeaderSource → RunState
-program_started appends h source =
-    start_of_run appends h source (whole_program h source.layout)
+program_started appends h source = start_of_run appends h source (whole_program h source.layout)

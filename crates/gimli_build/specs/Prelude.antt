@@ -1,23 +1,24 @@
 -- What these definitions name of other crates.
 pub use Rattle.gimli_bytes.specs.Hand.{Hand, Placement, plain, section_word, unplaced}
 pub use Rattle.gimli_bytes.specs.Number.{length_word, sleb, uleb}
-pub use Rattle.gimli_bytes.specs.Texts.{StringTables, index_of_text, offset_of, table_bytes}
-pub use Rattle.gimli_bytes.specs.Texts.{with_text}
+pub use Rattle.gimli_bytes.specs.Texts.{
+  StringTables,
+  index_of_text,
+  offset_of,
+  table_bytes,
+  with_text,
+}
 pub use Rattle.gimli_bytes.specs.Written.{Appends, Begins}
 pub use Rattle.gimli_bytes.specs.declared.address.Address.{Address}
 pub use Rattle.gimli_bytes.specs.declared.address.Address.TheVariants.{Constant, Symbol}
 pub use Rattle.gimli_bytes.specs.declared.error.Error.{Error}
-pub use Rattle.gimli_bytes.specs.declared.error.Error.TheVariants.{IncompatibleLineProgramEncoding}
 pub use Rattle.gimli_bytes.specs.declared.error.Error.TheVariants.{
+  IncompatibleLineProgramEncoding,
   InitialLengthOverflow,
   InvalidAddress,
-}
-pub use Rattle.gimli_bytes.specs.declared.error.Error.TheVariants.{
   LineStringFormMismatch,
   NeedVersion,
   OutOfMemory,
-}
-pub use Rattle.gimli_bytes.specs.declared.error.Error.TheVariants.{
   UnsupportedVersion,
   ValueTooLarge,
 }
@@ -28,8 +29,8 @@ pub use Rattle.gimli_core.specs.Values.{Value}
 pub use Rattle.gimli_core.specs.declared.attribute_value.AttributeValue.TheVariants.{
   DebugLineStrRef,
   DebugStrRef,
+  String,
 }
-pub use Rattle.gimli_core.specs.declared.attribute_value.AttributeValue.TheVariants.{String}
 pub use Rattle.gimli_core.specs.declared.common.Encoding.{Encoding}
 pub use Rattle.gimli_core.specs.declared.common.Format.{Format}
 pub use Rattle.gimli_core.specs.declared.common.Format.TheVariants.{Dwarf32, Dwarf64}
@@ -43,11 +44,48 @@ pub use Rattle.gimli_line.specs.run.Instruction.{Ins, defines_file}
 pub use Rattle.gimli_line.specs.run.InstructionGrammar.{Decodes, SpellsInstruction}
 pub use Rattle.std.specs.Borrow.{Bor, Fml, Lends, MutBor}
 pub use Rattle.std.specs.Option.{is_none, option_and_then, option_map_or, option_to_list}
-pub use Rattle.std.specs.Prelude.{All, AllPairs, Bool, Err, FitsSigned, IfErr, IfSome, IsTrue, List}
-pub use Rattle.std.specs.Prelude.{None, Ok, OnOk}
-pub use Rattle.std.specs.Prelude.{Option, Result, Some, [], bytes_eq, drop, false, flat_map, int_le}
-pub use Rattle.std.specs.Prelude.{int_lt, length}
-pub use Rattle.std.specs.Prelude.{map, nat_eq, nat_le, nat_lt, negsuc, not, option_map, pos}
-pub use Rattle.std.specs.Prelude.{replicate, reverse}
-pub use Rattle.std.specs.Prelude.{slice_get, suc, sum_by, take, true, unsigned_abs, unwrap_or, zero}
-pub use Rattle.std.specs.Prelude.{ℕ, ℤ}
+pub use Rattle.std.specs.Prelude.{
+  All,
+  AllPairs,
+  Bool,
+  Err,
+  FitsSigned,
+  IfErr,
+  IfSome,
+  IsTrue,
+  List,
+  None,
+  Ok,
+  OnOk,
+  Option,
+  Result,
+  Some,
+  [],
+  bytes_eq,
+  drop,
+  false,
+  flat_map,
+  int_le,
+  int_lt,
+  length,
+  map,
+  nat_eq,
+  nat_le,
+  nat_lt,
+  negsuc,
+  not,
+  option_map,
+  pos,
+  replicate,
+  reverse,
+  slice_get,
+  suc,
+  sum_by,
+  take,
+  true,
+  unsigned_abs,
+  unwrap_or,
+  zero,
+  ℕ,
+  ℤ,
+}

@@ -1,29 +1,29 @@
 -- What is read of a unit that was built.
 use Rattle.std.specs.Prelude.{◌≡◌, ◌-◌, ◌<◌, ◌≤◌, ◌++◌, if◌then◌else◌}
-use Rattle.gimli_build.specs.Prelude
+use Rattle.gimli_build.specs
+use specs.Prelude
 use Prelude.{ℕ, All, List, [], length, map, slice_get, Bool, false, None, option_map, nat_le}
-use Prelude.{IfSome, option_to_list}
-use Prelude.{OrderAndLimit, Value, Dwarf64, DebugStr, DebugLineStr, String, Header, UnitEntry}
-use Prelude.{Decodes, Events, row}
-use Prelude.{ReadRow, Placement, unplaced, offset_of, StringTables}
+use Prelude.{IfSome, option_to_list, OrderAndLimit, Value, Dwarf64, DebugStr, DebugLineStr, String}
+use Prelude.{Header, UnitEntry, Decodes, Events, row, ReadRow, Placement, unplaced, offset_of}
+use Prelude.{StringTables}
 use Rattle.gimli_line.specs.declared.header.file_entry.FileEntryFormat.{FileEntryFormat}
-use Rattle.gimli_build.specs.Version5Tables.{directory_formats, file_formats}
+use specs.Version5Tables.{directory_formats, file_formats}
 use Rattle.gimli_line.specs.header.HeaderGrammar.{
   HeaderOpening,
   header_production,
   fields_production,
 }
 use Rattle.gimli_line.specs.header.File.{File as ReadFile}
-use Rattle.gimli_build.specs.LineText.{LineText, Inline, InStrings, InLineStrings, bytes_in}
-use Rattle.gimli_build.specs.Tables.{File}
-use Rattle.gimli_build.specs.Texts.{Sections, StandsAt, IsText, IsOptionalText, OneByOne}
-use Rattle.gimli_build.specs.Stored.{stored_details}
-use Rattle.gimli_build.specs.Items.{AddressesFit}
-use Rattle.gimli_build.specs.Runs.{program_instructions}
-use Rattle.gimli_build.specs.SameRow.{built_rules, RowsMatch}
-use Rattle.gimli_build.specs.Built.{Built}
-use Rattle.gimli_build.specs.Unit.{operand_counts}
-use Rattle.gimli_build.specs.Cause.{emitted_texts}
+use specs.LineText.{LineText, Inline, InStrings, InLineStrings, bytes_in}
+use specs.Tables.{File}
+use specs.Texts.{Sections, StandsAt, IsText, IsOptionalText, OneByOne}
+use specs.Stored.{stored_details}
+use specs.Items.{AddressesFit}
+use specs.Runs.{program_instructions}
+use specs.SameRow.{built_rules, RowsMatch}
+use specs.Built.{Built}
+use specs.Unit.{operand_counts}
+use specs.Cause.{emitted_texts}
 
 -- the bytes are a unit with this header and nothing after it, and between the tables and the
 -- program there is nothing

@@ -1,15 +1,15 @@
 -- Where `write` refuses a program: which of its directories, files and items have a cause.
 use Rattle.std.specs.Prelude.{◌≡◌, ◌<◌, ◌&&◌, if◌then◌else◌, ◌∷◌}
-use Rattle.gimli_build.specs.Prelude
-use Prelude.{ℕ, Bool, nat_eq, nat_le, [], Option, Some, None, slice_get, option_map_or}
-use Prelude.{option_and_then, Error}
-use Prelude.{StringTables}
+use Rattle.gimli_build.specs
+use specs.Prelude
+use Prelude.{ℕ, nat_eq, nat_le, [], Option, Some, None, slice_get, option_map_or}
+use Prelude.{option_and_then, Error, StringTables}
 use Rattle.gimli_core.specs.FormNumbers.{DW_FORM_string}
-use Rattle.gimli_build.specs.LineText.{LineText}
-use Rattle.gimli_build.specs.Tables.{File}
-use Rattle.gimli_build.specs.Built.{Built}
-use Rattle.gimli_build.specs.Version5Tables.{first_form, path_texts, sources}
-use Rattle.gimli_build.specs.Cause.{first_of, text_cause, item_cause}
+use specs.LineText.{LineText}
+use specs.Tables.{File}
+use specs.Built.{Built}
+use specs.Version5Tables.{first_form, path_texts, sources}
+use specs.Cause.{first_of, text_cause, item_cause}
 
 -- the answer is the first index that has a cause, with its cause
 abbrev pub FindsFirst : (ℕ → Option Error) → Option (ℕ × Error) → Type 0

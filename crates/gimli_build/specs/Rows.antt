@@ -1,8 +1,9 @@
 -- Rows as they are built.
 use Rattle.std.specs.Prelude.{if◌then◌else◌}
-use Rattle.gimli_build.specs.Prelude.{ℕ, Bool, false}
-use Rattle.gimli_build.specs.FileNumber.{initial_file}
-use Rattle.gimli_build.specs.declared.built.row.LineRow.{LineRow}
+use Rattle.gimli_build.specs
+use specs.Prelude.{ℕ, Bool, false}
+use specs.FileNumber.{initial_file}
+use specs.declared.built.row.LineRow.{LineRow}
 
 -- the row that each sequence starts with (DWARF 5, section 6.2.2)
 abbrev pub initial_row : ℕ → Bool → LineRow

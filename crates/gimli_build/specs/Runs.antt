@@ -1,18 +1,18 @@
 -- A run of the instructions of a built program: where it stands between two items, what can come
 -- next, and what it gives.
 use Rattle.std.specs.Prelude.{◌≡◌, ◌+◌, ◌-◌, ◌*◌, ◌^◌, ◌<◌, ◌≤◌, ◌++◌}
-use Rattle.gimli_build.specs.Prelude.{ℕ, List, map, Encoding, LineEncoding, ReadRow, Parameters}
-use Rattle.gimli_build.specs.Prelude.{Ins, Event, row}
+use Rattle.gimli_build.specs
+use specs.Prelude.{ℕ, List, map, Encoding, LineEncoding, ReadRow, Parameters, Ins, Event, row}
 use Rattle.gimli_line.specs.run.Machine.{run, initial}
-use Rattle.gimli_build.specs.declared.built.row.LineRow.{LineRow}
-use Rattle.gimli_build.specs.declared.built.items.BuiltItem.{BuiltItem}
-use Rattle.gimli_build.specs.Advance.{IsPosition, CanFollow}
-use Rattle.gimli_build.specs.Rows.{initial_row, at_position}
-use Rattle.gimli_build.specs.Encode.{row_instructions, end_instructions}
-use Rattle.gimli_build.specs.SameRow.{built_rules, read_row, registers_after_row, read_end}
-use Rattle.gimli_build.specs.Items.{items_instructions, items_rows, AddressesFit}
-use Rattle.gimli_build.specs.Built.{Built}
-use Rattle.gimli_build.specs.Conditions.{Accepts, AreBuilt}
+use specs.declared.built.row.LineRow.{LineRow}
+use specs.declared.built.items.BuiltItem.{BuiltItem}
+use specs.Advance.{IsPosition, CanFollow}
+use specs.Rows.{initial_row, at_position}
+use specs.Encode.{row_instructions, end_instructions}
+use specs.SameRow.{built_rules, read_row, registers_after_row, read_end}
+use specs.Items.{items_instructions, items_rows, AddressesFit}
+use specs.Built.{Built}
+use specs.Conditions.{Accepts, AreBuilt}
 
 -- where a run stands
 pub record Run : Type 0 where

@@ -1,13 +1,13 @@
 -- A built row or end as the reading half has it (DWARF 5, section 6.2.2).
 use Rattle.std.specs.Prelude.{◌≡◌, ◌+◌, ◌∷◌}
-use Rattle.gimli_build.specs.Prelude.{ℕ, true, false, List, [], Encoding, LineEncoding, ReadRow}
-use Rattle.gimli_build.specs.Prelude.{Parameters}
-use Rattle.gimli_build.specs.declared.built.row.LineRow.{LineRow}
-use Rattle.gimli_build.specs.FileNumber.{file_number}
-use Rattle.gimli_build.specs.Encode.{built_opcode_base}
-use Rattle.gimli_build.specs.Built.{base_of}
-use Rattle.gimli_build.specs.declared.built.items.BuiltItem.{BuiltItem}
-use Rattle.gimli_build.specs.declared.built.items.BuiltItem.TheVariants.{SetAddress, Row, End}
+use Rattle.gimli_build.specs
+use specs.Prelude.{ℕ, true, false, List, [], Encoding, LineEncoding, ReadRow, Parameters}
+use specs.declared.built.row.LineRow.{LineRow}
+use specs.FileNumber.{file_number}
+use specs.Encode.{built_opcode_base}
+use specs.Built.{base_of}
+use specs.declared.built.items.BuiltItem.{BuiltItem}
+use specs.declared.built.items.BuiltItem.TheVariants.{SetAddress, Row, End}
 
 -- what the instructions of a built program are executed by
 abbrev pub built_rules : Encoding → LineEncoding → Parameters

@@ -1,16 +1,17 @@
 -- What a row needs few bytes for (DWARF 5, section 6.2.5.1).
 use Rattle.std.specs.Prelude.{◌≡◌, ◌-◌, ◌≤◌, ◌-ℤ◌}
-use Rattle.gimli_build.specs.Prelude.{ℕ, false, Some, ℤ, pos, length, Parameters}
+use Rattle.gimli_build.specs
+use specs.Prelude.{ℕ, false, Some, ℤ, pos, length, Parameters}
 use Rattle.gimli_line.specs.declared.run.instruction.LineInstruction.TheVariants.{
   Special,
   ConstAddPc,
 }
 use Rattle.gimli_line.specs.run.Registers.{line_advance}
 use Rattle.gimli_line.specs.run.OperationPointer.{operation_advance}
-use Rattle.gimli_build.specs.declared.built.row.LineRow.{LineRow}
-use Rattle.gimli_build.specs.Advance.{CanEncode, operations}
-use Rattle.gimli_build.specs.InstructionBytes.{instructions_bytes}
-use Rattle.gimli_build.specs.Runs.{Run, rules, written_row}
+use specs.declared.built.row.LineRow.{LineRow}
+use specs.Advance.{CanEncode, operations}
+use specs.InstructionBytes.{instructions_bytes}
+use specs.Runs.{Run, rules, written_row}
 
 -- a special opcode advances the line so, and so many operations
 pub record HasSpecial (parameters : Parameters) (d : ℤ) (n : ℕ) : Type 0 where

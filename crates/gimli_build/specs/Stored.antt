@@ -1,11 +1,11 @@
 -- What a file keeps of what is known of it, once it is written (DWARF 5, section 6.2.4.1; DWARF 4,
 -- section 6.2.4).
 use Rattle.std.specs.Prelude.{if◌then◌else◌}
-use Rattle.gimli_build.specs.Prelude.{ℕ, List, [], nat_le, Option, Some, None, replicate}
-use Rattle.gimli_build.specs.Prelude.{option_map_or, StringTables}
-use Rattle.gimli_build.specs.LineText.{bytes_in}
-use Rattle.gimli_build.specs.Tables.{Details}
-use Rattle.gimli_build.specs.Built.{Built}
+use Rattle.gimli_build.specs
+use specs.Prelude.{ℕ, List, [], nat_le, Option, Some, None, replicate, option_map_or, StringTables}
+use specs.LineText.{bytes_in}
+use specs.Tables.{Details}
+use specs.Built.{Built}
 
 pub record Stored : Type 0 where
   pub timestamp : ℕ

@@ -1,9 +1,10 @@
 -- The fields of the tables of a line program, as lists.
-use Rattle.gimli_build.specs.Prelude.{ℕ, option_map, Bor}
-use Rattle.gimli_build.specs.LineText.{LineText, line_text}
-use Rattle.gimli_build.specs.Tables.{Details}
-use Rattle.gimli_build.specs.declared.built.line_string.LineString.{LineString}
-use Rattle.gimli_build.specs.declared.built.files.FileInfo.{FileInfo}
+use Rattle.gimli_build.specs
+use specs.Prelude.{ℕ, option_map, Bor}
+use specs.LineText.{LineText, line_text}
+use specs.Tables.{Details}
+use specs.declared.built.line_string.LineString.{LineString}
+use specs.declared.built.files.FileInfo.{FileInfo}
 
 abbrev pub details : FileInfo → Details
 details i = record {

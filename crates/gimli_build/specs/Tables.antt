@@ -1,11 +1,11 @@
 -- The directories and the files of a line program, as lists.
 use Rattle.std.specs.Prelude.{◌≡◌, ◌≢◌, ◌+◌, ◌<◌, ◌≤◌, ◌&&◌, ◌∷◌, ◌++◌, if◌then◌else◌}
-use Rattle.gimli_build.specs.Prelude
+use Rattle.gimli_build.specs
+use specs.Prelude
 use Prelude.{ℕ, suc, zero, Bool, List, [], length, slice_get, map, replicate, nat_eq, Option, Some}
-use Prelude.{None, unwrap_or}
-use Prelude.{All, AllPairs}
+use Prelude.{None, unwrap_or, All, AllPairs}
 use Rattle.std.specs.List.{list_any, position_or_len}
-use Rattle.gimli_build.specs.LineText.{LineText, line_text_eq, HasNoZero}
+use specs.LineText.{LineText, line_text_eq, HasNoZero}
 
 -- ---- directories
 

@@ -1,16 +1,16 @@
 -- What readers drop or misread of a program that `write` takes.
 use Rattle.std.specs.Prelude.{◌≡◌, ◌+◌, ◌*◌, ◌^◌, ◌<◌, ◌≤◌, ◌&&◌, ◌||◌, if◌then◌else◌, ◌∷◌}
-use Rattle.gimli_build.specs.Prelude
+use Rattle.gimli_build.specs
+use specs.Prelude
 use Prelude.{ℕ, nat_eq, nat_le, nat_lt, Bool, true, false, not, List, [], length, take, drop}
-use Prelude.{reverse, Option, Some}
-use Prelude.{None}
+use Prelude.{reverse, Option, Some, None}
 use Rattle.std.specs.List.{list_all}
-use Rattle.gimli_build.specs.Built.{Built, base_of}
-use Rattle.gimli_build.specs.declared.built.row.LineRow.{LineRow}
-use Rattle.gimli_build.specs.declared.built.items.BuiltItem.{BuiltItem}
-use Rattle.gimli_build.specs.declared.built.items.BuiltItem.TheVariants.{SetAddress, Row, End}
-use Rattle.gimli_build.specs.declared.built.trap.Trap.{Trap}
-use Rattle.gimli_build.specs.declared.built.trap.Trap.TheVariants.{
+use specs.Built.{Built, base_of}
+use specs.declared.built.row.LineRow.{LineRow}
+use specs.declared.built.items.BuiltItem.{BuiltItem}
+use specs.declared.built.items.BuiltItem.TheVariants.{SetAddress, Row, End}
+use specs.declared.built.trap.Trap.{Trap}
+use specs.declared.built.trap.Trap.TheVariants.{
   OpenSequence,
   AddressOverflow,
   MissingFile,
@@ -58,8 +58,7 @@ item_trap p base begins (End offset op_index) others =
 -- that of the first of these items, after others, the nearest first
 abbrev pub first_trap : Built → List BuiltItem → List BuiltItem → Option Trap
 first_trap p past [] = None
-first_trap p past (item ∷ others) =
-    item_trap p (base_of past) (begins_unset past) item others
+first_trap p past (item ∷ others) = item_trap p (base_of past) (begins_unset past) item others
 
 -- that of the item at an index
 abbrev pub trap_at : Built → ℕ → Option Trap

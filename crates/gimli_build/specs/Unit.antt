@@ -1,22 +1,20 @@
 -- The bytes of a unit as it is written, or the first cause why it can't be (DWARF 5, section 6.2.4;
 -- DWARF 4, section 6.2.4).
 use Rattle.std.specs.Prelude.{◌∷◌, ◌&&◌, ◌||◌, if◌then◌else◌}
-use Rattle.gimli_build.specs.Prelude
+use Rattle.gimli_build.specs
+use specs.Prelude
 use Prelude.{ℕ, List, [], Bool, not, nat_eq, nat_le, nat_lt, Result, Ok, Err, ℤ, number_bytes}
-use Prelude.{Encoding, LineEncoding}
-use Prelude.{Format, Dwarf32, Dwarf64, length_word, Hand, Error, IncompatibleLineProgramEncoding}
-use Prelude.{UnsupportedVersion}
-use Prelude.{NeedVersion, StringTables}
+use Prelude.{Encoding, LineEncoding, Format, Dwarf32, Dwarf64, length_word, Hand, Error}
+use Prelude.{IncompatibleLineProgramEncoding, UnsupportedVersion, NeedVersion, StringTables}
 use Rattle.std.specs.Int.{w8, cast_unsigned}
-use Rattle.gimli_build.specs.FormatWord.{format_word}
-use Rattle.gimli_build.specs.Joined.{result_append, after_length}
-use Rattle.gimli_build.specs.Version4Tables.{directories_bytes, files_bytes}
-use Rattle.gimli_build.specs.Version5Tables.{texts_after, directory_table_bytes}
-use Rattle.gimli_build.specs.Version5Tables.{file_table_bytes}
-use Rattle.gimli_build.specs.Rows.{initial_row}
-use Rattle.gimli_build.specs.Encode.{built_opcode_base}
-use Rattle.gimli_build.specs.Items.{items_bytes}
-use Rattle.gimli_build.specs.Built.{Built}
+use specs.FormatWord.{format_word}
+use specs.Joined.{result_append, after_length}
+use specs.Version4Tables.{directories_bytes, files_bytes}
+use specs.Version5Tables.{texts_after, directory_table_bytes, file_table_bytes}
+use specs.Rows.{initial_row}
+use specs.Encode.{built_opcode_base}
+use specs.Items.{items_bytes}
+use specs.Built.{Built}
 
 -- ---- the fixed fields
 

@@ -1,16 +1,17 @@
 -- How the instructions of a built program are spelled in a unit.
 use Rattle.std.specs.Prelude.{◌≡◌, ◌<◌, ◌^◌}
-use Rattle.gimli_build.specs.Prelude
+use Rattle.gimli_build.specs
+use specs.Prelude
 use Prelude.{ℕ, List, Result, OrderAndLimit, plain, Constant, Error, Header, Ins, SpellsInstruction}
 use Rattle.gimli_core.specs.Production.{Each}
-use Rattle.gimli_build.specs.declared.built.row.LineRow.{LineRow}
-use Rattle.gimli_build.specs.declared.built.items.BuiltItem.{BuiltItem}
-use Rattle.gimli_build.specs.Advance.{CanEncode}
-use Rattle.gimli_build.specs.Encode.{built_opcode_base}
-use Rattle.gimli_build.specs.Conditions.{AreBuilt}
-use Rattle.gimli_build.specs.InstructionBytes.{set_address_bytes, FitsInstructions}
-use Rattle.gimli_build.specs.Items.{items_bytes, AreFit}
-use Rattle.gimli_build.specs.Runs.{Run, Follows, position_of}
+use specs.declared.built.row.LineRow.{LineRow}
+use specs.declared.built.items.BuiltItem.{BuiltItem}
+use specs.Advance.{CanEncode}
+use specs.Encode.{built_opcode_base}
+use specs.Conditions.{AreBuilt}
+use specs.InstructionBytes.{set_address_bytes, FitsInstructions}
+use specs.Items.{items_bytes, AreFit}
+use specs.Runs.{Run, Follows, position_of}
 
 -- a reader at a unit: the header has the opcode base of what is built, and the reader's offsets
 -- hold the length of the longest instruction

@@ -1,11 +1,11 @@
 -- The tables of a unit up to version 4 as they are written (DWARF 4, section 6.2.4, parts 11 and
 -- 12).
 use Rattle.std.specs.Prelude.{◌++◌, ◌∷◌}
-use Rattle.gimli_build.specs.Prelude.{ℕ, List, [], drop, Result, Ok, Err, uleb, Error}
-use Rattle.gimli_build.specs.Prelude.{LineStringFormMismatch}
-use Rattle.gimli_build.specs.LineText.{LineText, Inline}
-use Rattle.gimli_build.specs.Tables.{File}
-use Rattle.gimli_build.specs.Joined.{result_append, result_concat}
+use Rattle.gimli_build.specs
+use specs.Prelude.{ℕ, List, [], drop, Result, Ok, Err, uleb, Error, LineStringFormMismatch}
+use specs.LineText.{LineText, Inline}
+use specs.Tables.{File}
+use specs.Joined.{result_append, result_concat}
 
 -- a name in the unit itself; up to version 4 no other table can hold it
 abbrev pub name_bytes : LineText → Result (List ℕ) Error

@@ -1,21 +1,31 @@
 -- The tables of a unit of version 5 as they are written (DWARF 5, section 6.2.4, parts 13 to 20).
 use Rattle.std.specs.Prelude.{◌++◌, ◌∷◌, ◌&&◌, if◌then◌else◌}
-use Rattle.gimli_build.specs.Prelude
+use Rattle.gimli_build.specs
+use specs.Prelude
 use Prelude.{ℕ, List, [], length, map, Bool, nat_eq, nat_le, Some, None, unwrap_or, Result, Ok, Err}
-use Prelude.{is_none, flat_map}
-use Prelude.{word_size, Format, DebugStr, DebugLineStr, uleb, Hand, with_text, index_of_text}
-use Prelude.{offset_of, StringTables}
-use Prelude.{Error, LineStringFormMismatch}
+use Prelude.{is_none, flat_map, word_size, Format, DebugStr, DebugLineStr, uleb, Hand, with_text}
+use Prelude.{index_of_text, offset_of, StringTables, Error, LineStringFormMismatch}
 use Rattle.std.specs.List.{list_any}
-use Rattle.gimli_core.specs.FormNumbers.{DW_FORM_data16, DW_FORM_line_strp, DW_FORM_string}
-use Rattle.gimli_core.specs.FormNumbers.{DW_FORM_strp, DW_FORM_udata}
-use Rattle.gimli_line.specs.LineNumbers.{DW_LNCT_LLVM_source, DW_LNCT_MD5, DW_LNCT_directory_index}
-use Rattle.gimli_line.specs.LineNumbers.{DW_LNCT_path, DW_LNCT_size, DW_LNCT_timestamp}
-use Rattle.gimli_build.specs.Due.{when}
-use Rattle.gimli_build.specs.LineText.{LineText, Inline, InStrings, InLineStrings}
-use Rattle.gimli_build.specs.Tables.{File}
-use Rattle.gimli_build.specs.Joined.{result_append, result_concat}
-use Rattle.gimli_build.specs.Built.{Built}
+use Rattle.gimli_core.specs.FormNumbers.{
+  DW_FORM_data16,
+  DW_FORM_line_strp,
+  DW_FORM_string,
+  DW_FORM_strp,
+  DW_FORM_udata,
+}
+use Rattle.gimli_line.specs.LineNumbers.{
+  DW_LNCT_LLVM_source,
+  DW_LNCT_MD5,
+  DW_LNCT_directory_index,
+  DW_LNCT_path,
+  DW_LNCT_size,
+  DW_LNCT_timestamp,
+}
+use specs.Due.{when}
+use specs.LineText.{LineText, Inline, InStrings, InLineStrings}
+use specs.Tables.{File}
+use specs.Joined.{result_append, result_concat}
+use specs.Built.{Built}
 
 -- ---- forms (DWARF 5, section 7.5.6)
 

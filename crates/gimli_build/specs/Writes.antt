@@ -2,8 +2,7 @@
 use Rattle.std.specs.Prelude.{◌≡◌, ◌⊎◌}
 use Rattle.gimli_build.specs.Prelude
 use Prelude.{ℕ, List, Result, Err, IsTrue, OnOk, IfErr, Hand, Placement, plain, Begins, Appends}
-use Prelude.{Error, OutOfMemory}
-use Prelude.{Ghosts}
+use Prelude.{Error, OutOfMemory, Ghosts}
 
 -- as `IsAppend`, with refusals of its own, and but for those: a part that is wanted late may be
 -- refused, and memory before it

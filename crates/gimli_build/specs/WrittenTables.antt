@@ -1,9 +1,10 @@
 -- What `write` leaves of the two tables of texts that it is handed.
 use Rattle.std.specs.Prelude.{◌≡◌, ◌⊎◌, ◌≤◌}
-use Rattle.gimli_build.specs.Prelude.{IsTrue, Encoding, StringTables}
-use Rattle.gimli_build.specs.Built.{Built}
-use Rattle.gimli_build.specs.Unit.{is_incompatible}
-use Rattle.gimli_build.specs.Version5Tables.{texts_after}
+use Rattle.gimli_build.specs
+use specs.Prelude.{IsTrue, Encoding, StringTables}
+use specs.Built.{Built}
+use specs.Unit.{is_incompatible}
+use specs.Version5Tables.{texts_after}
 
 -- both tables have what the program's unit needs: the empty text more in the one of the form of its
 -- sources, where a source is missing and sources are written

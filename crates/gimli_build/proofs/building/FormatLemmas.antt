@@ -27,14 +27,13 @@ pub due_more : (formats : List (Bool × DwLnct × DwForm)) (i : ℕ) (d : Bool �
 due_more formats i d lt =
     let f = get_or formats i d in
     let taken : take (i + 1) formats ≡ take i formats ++ f ∷ [] = rw add-one (take-suc formats i d lt) in
-    let parts = flat_map-append (λ (g : Bool × DwLnct × DwForm). when g.0 (g.1.0, g.2.0)) (take i formats) (f ∷ []) in
+    let parts = flat_map-append (λ g. when g.0 (g.1.0, g.2.0)) (take i formats) (f ∷ []) in
     sym (ap due_bytes taken ∙ ap (flat_map one_format) parts
     ∙ flat_map-append one_format (due_formats (take i formats)) (due_formats (f ∷ []))
-    ∙ ap (λ l. due_bytes (take i formats) ++ l) (one_due f.0 (f.1.0, f.2.0)))
+    ∙ ap (λ l. due_bytes (take i formats) ++ l) (one_due _ _))
 
 -- two that are there, and four that may be
 pub six_due : {A : Type 0} (a b : A) (t s m o : List A)
     → a ∷ b ∷ (t ++ (s ++ (m ++ (o ++ [])))) ≡ a ∷ b ∷ t ++ s ++ m ++ o
-six_due a b t s m o =
-    ap (λ l. a ∷ b ∷ (t ++ (s ++ (m ++ l)))) (append-nil o)
+six_due a b t s m o = ap (λ l. a ∷ b ∷ (t ++ (s ++ (m ++ l)))) (append-nil o)
     ∙ ap (λ l. a ∷ b ∷ l) (sym (append_assoc (t ++ s) m o ∙ append_assoc t s (m ++ o)))

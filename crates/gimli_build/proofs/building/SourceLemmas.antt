@@ -1,12 +1,12 @@
 -- The first source of files, and whether one has none, looked for from the first file on.
-use Rattle.std.specs.Prelude.{◌≡◌, ◌+◌, ◌||◌, ◌∷◌, ◌≤◌, ◌<◌, ◌&&◌}
-use Rattle.gimli_build.proofs.Common
+use Rattle.std.specs.Prelude.{◌≡◌, ◌+◌, ◌||◌, ◌∷◌, ◌≤◌, ◌<◌}
+use Rattle.gimli_build.proofs
+use proofs.Common
 use Common.{ℕ, Bool, true, false, List, [], drop, slice_get, refl, sym, ap, ◌∙◌, Option, Some, None, option_map, zero}
-use Common.{suc, length, arith, is_none, list_any, LineText, IsWithin, File, text_form, first_form, path_texts, sources}
-use Common.{needs_empty, texts_after, IfSome, Contains, slice_index_or, le-leb, All-weaker, StringTables, Built}
-use Common.{CanWrite}
-use Rattle.gimli_build.proofs.writing.Joined.{next_at}
-use Rattle.gimli_build.proofs.reading.ReadyTexts.{within_after}
+use Common.{suc, length, arith, is_none, list_any, LineText, File, text_form, first_form, path_texts, sources}
+use Common.{needs_empty, texts_after, Contains, slice_index_or, StringTables, Built, CanWrite}
+use proofs.writing.Joined.{next_at}
+use proofs.reading.ReadyTexts.{within_after}
 
 module _ {A : Type 0} (test : A → Bool) (xs : List A) (i : ℕ) where
   any_next : (x : A) → slice_get xs i ≡ Some x → list_any test (drop i xs) ≡ list_any test xs
@@ -31,30 +31,22 @@ module _ (files : List File) (i : ℕ) where
   sources_next : (f : File) → slice_get files i ≡ Some f → sources (drop i files) ≡ sources files
       → sources files ≡ found f.1.source (sources (drop (i + 1) files))
   unfolding found
-  sources_next f at so = sym so ∙ ap sources (next_at files i f at) ∙ by f.1.source
-    where
-      by : (o : Option LineText)
-          → (elim o [ Some t ↦ t ∷ sources (drop (i + 1) files) | None ↦ sources (drop (i + 1) files) ])
-          ≡ found o (sources (drop (i + 1) files))
-      by (Some t) = refl
-      by None = refl
+  sources_next f at so = grind (arith, next_at, found)
 
   -- the first source
   pub source_found : (f : File) (t : LineText) → slice_get files i ≡ Some f → sources (drop i files) ≡ sources files
       → f.1.source ≡ Some t
       → text_form t ≡ first_form (sources files)
   unfolding found
-  source_found f t at so is =
-      sym
-      (ap first_form (sources_next f at so ∙ ap (λ (o : Option LineText). found o (sources (drop (i + 1) files))) is))
+  source_found _ _ at so is = sym
+      (ap first_form (sources_next _ at so ∙ ap (λ o. found o (sources (drop (i + 1) files))) is))
 
   -- a file without one
   pub source_passed : (f : File) → slice_get files i ≡ Some f → sources (drop i files) ≡ sources files
       → f.1.source ≡ None
       → sources (drop (i + 1) files) ≡ sources files
   unfolding found
-  source_passed f at so is =
-      sym (sources_next f at so ∙ ap (λ (o : Option LineText). found o (sources (drop (i + 1) files))) is)
+  source_passed _ at so is = sym (sources_next _ at so ∙ ap (λ o. found o (sources (drop (i + 1) files))) is)
 
 -- the first path
 pub first_path : (files : List File) (f : File) → slice_get files 0 ≡ Some f
@@ -64,21 +56,13 @@ first_path (g ∷ files) f at = grind arith
 
 -- whether a text is none, seen by a function
 pub none_seen : {A B : Type 0} (f : A → B) (o : Option A) → is_none (option_map f o) ≡ is_none o
-none_seen f (Some x) = refl
-none_seen f None = refl
-
--- ---- the empty text that stands for the source of a file that has none, and the tables that have it
+none_seen f o = grind arith
 
 -- ---- what is there stays
 
-if-some : {A : Type 0} (P Q : A → Type 0) → ((x : A) → P x → Q x) → (o : Option A) → IfSome o P → IfSome o Q
-if-some P Q f (Some x) p = f x p
-if-some P Q f None p = tt
-
 -- a program that could be written can be written then
 pub can-write-after : (p : Built) (texts : StringTables) → CanWrite p texts → CanWrite p (texts_after p texts)
-can-write-after p texts can =
-    grind (arith, within_after, if-some)
+can-write-after _ _ can = grind (arith, within_after)
 
 -- ---- where it is needed
 
@@ -96,5 +80,4 @@ any-at test (y ∷ xs) (suc i) x lt at is = ap (λ b. test y || b) (any-at test 
 pub needs-empty : (p : Built) (f : File) → 5 ≤ p.encoding.version → Contains p.files f → p.file_has_source ≡ true
     → f.1.source ≡ None
     → needs_empty p ≡ true
-needs-empty p f new there has without =
-    grind (arith, le-leb, any-at)
+needs-empty p f new there has without = grind (arith, any-at)

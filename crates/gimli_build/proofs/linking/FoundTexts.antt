@@ -10,7 +10,7 @@ use Rattle.gimli_bytes.proofs.TextLemmas.{length-table_bytes, table_bytes-at}
 use Rattle.gimli_build.specs.Linked.{HasTable}
 
 offset_within : (texts : List (List ℕ)) (i : ℕ) → offset_of texts i ≤ byte_count texts
-offset_within texts i = sum_by-take-le (λ (t : List ℕ). length t + 1) texts i
+offset_within texts i = sum_by-take-le (λ t. length t + 1) texts i
 
 -- in a section that has the bytes of a table after others
 table_found : (section : List ℕ) (placed : ℕ → ℕ) (texts : List (List ℕ)) (i : ℕ) → HasTable section placed texts
@@ -26,13 +26,11 @@ table_found section placed texts i has = by (slice_get texts i) refl
         let long = length-table_bytes texts in
         let short = offset_within texts i in (
           rest ++ has.after,
-          ap (λ n. drop n section) (has.counted offset)
-              ∙ ap (drop (length has.before + offset)) has.whole
+          ap (λ n. drop n section) (has.counted offset) ∙ ap (drop (length has.before + offset)) has.whole
               ∙ sym (drop-drop offset (length has.before) (has.before ++ (table ++ has.after)))
               ∙ ap (drop offset) (drop_at has.before (table ++ has.after) (length has.before) refl)
-              ∙ drop-append-le offset table has.after (omega (arith, long, short))
-              ∙ ap (λ l. l ++ has.after) (table_bytes-at texts i text is)
-              ∙ append_assoc text (0 ∷ rest) has.after,
+              ∙ drop-append-le offset table has.after (omega (arith, long))
+              ∙ ap (λ l. l ++ has.after) (table_bytes-at texts i text is) ∙ append_assoc text (0 ∷ rest) has.after,
         )
 
 pub placed-found : (at : Placement) (sections : Sections) (texts : StringTables)
@@ -40,29 +38,23 @@ pub placed-found : (at : Placement) (sections : Sections) (texts : StringTables)
     → HasTable sections.line_strings (at.section DebugLineStr) texts.line_strings
     → (t : LineText) → IsFound sections at texts t
 placed-found at sections texts strings line_strings (Inline text) = tt
-placed-found at sections texts strings line_strings (InStrings i) = table_found _ (at.section DebugStr) _ i strings
-placed-found at sections texts strings line_strings (InLineStrings i) =
-    table_found _ (at.section DebugLineStr) _ i line_strings
+placed-found at sections texts strings line_strings (InStrings i) = table_found _ _ _ _ strings
+placed-found at sections texts strings line_strings (InLineStrings i) = table_found _ _ _ _ line_strings
 
 -- in sections that are as the tables are written
 alone : (section : List ℕ) (texts : List (List ℕ)) → section ≡ table_bytes texts → HasTable section (λ n. n) texts
 alone section texts same = record {
   before = [];
   after = [];
-  whole = same ∙ sym (append-nil (table_bytes texts));
+  whole = same ∙ sym (append-nil _);
   counted = λ n. omega arith;
 }
 
 pub written-found : (sections : Sections) (texts : StringTables) → sections.strings ≡ table_bytes texts.strings
     → sections.line_strings ≡ table_bytes texts.line_strings → (t : LineText) → IsFound sections unplaced texts t
-written-found sections texts strings line_strings =
-    placed-found unplaced sections texts (alone _ _ strings) (alone _ _ line_strings)
+written-found sections texts strings line_strings = grind (arith, placed-found, alone)
 
 -- 64 bits hold offsets in sections whose lengths they hold
 pub written-held : (texts : StringTables) → byte_count texts.strings < 2 ^ 64 → byte_count texts.line_strings < 2 ^ 64
     → (t : LineText) → IsOffsetHeld (2 ^ 64) unplaced texts t
-written-held texts short line_short (Inline text) = tt
-written-held texts short line_short (InStrings i) =
-    let le = offset_within texts.strings i in omega (arith, le, short)
-written-held texts short line_short (InLineStrings i) =
-    let le = offset_within texts.line_strings i in omega (arith, le, line_short)
+written-held texts short line_short t = grind (arith, offset_within)

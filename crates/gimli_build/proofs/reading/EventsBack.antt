@@ -1,16 +1,51 @@
--- The instructions that a written program is decoded into, and the rows that they give.
-use Rattle.std.specs.Prelude.{◌≡◌, ◌<◌, ◌≤◌, ◌∷◌}
-use Rattle.gimli_build.proofs.Common
-use Common.{ℕ, List, [], Ok, refl, sym, ap, ◌∙◌, subst, lit<, map, None, IsTrue, append-nil, OrderAndLimit}
-use Common.{is_address_size, Each, Encoding, LineEncoding, Header, Ins, SpellsInstruction, Decodes, run, Parameters}
-use Common.{ReadRow, plain, LineRow, BuiltItem, SetAddress, Row, End, CanEncode, Built, base_of, AreBuilt, IsBuilt}
-use Common.{items_instructions, items_rows, items_bytes, next_previous, AddressesFit, AreFit, initial_row, built_rules}
-use Common.{RowsMatch, program_bytes}
+-- The machine over the instructions of built items.
+use Rattle.std.specs.Prelude.{◌≡◌, ◌^◌, ◌<◌, ◌≤◌, ◌∷◌}
+use Rattle.gimli_build.proofs
+use proofs.Common
+use Common.{ℕ, List, [], refl, ap, ◌∙◌, arith, lit<, map, IsTrue, is_address_size, Encoding, LineEncoding, run, LineRow}
+use Common.{BuiltItem, SetAddress, Row, End, CanEncode, IsPosition, address_value, AreBuilt, initial_row, built_rules}
+use Common.{registers_after_row, read_row, read_end, items_instructions, items_rows, AddressesFit, Ok, sym, None}
+use Common.{append-nil, OrderAndLimit, Each, Header, Ins, SpellsInstruction, Decodes, Parameters, ReadRow, plain, Built}
+use Common.{base_of, IsBuilt, items_bytes, next_previous, AreFit, RowsMatch, program_bytes}
 use Rattle.gimli_line.specs.run.Events.{row, Events, events_after, program_events}
 use Rattle.gimli_line.proofs.Backwards.{starts}
-use Rattle.gimli_build.proofs.reading.RowRuns.{start-is}
-use Rattle.gimli_build.proofs.reading.ItemRuns.{items-run, start_position}
-use Rattle.gimli_build.proofs.spellings.ItemSpellings.{items-spelled}
+use proofs.reading.RowRuns.{row-runs, end-runs, set-address-runs, start-is}
+use proofs.spellings.ItemSpellings.{items-spelled}
+
+-- where offsets begin to count
+pub start_position : (e : LineEncoding) → CanEncode e → IsPosition e 0 0
+start_position e can = grind arith
+
+module _ (encoding : Encoding) (e : LineEncoding) (known : IsTrue (is_address_size encoding.address_size))
+    (can : CanEncode e)
+    (version : encoding.version ≤ 5) where
+  pub items-run : (base : ℕ) (previous : LineRow) (items : List BuiltItem)
+      → IsPosition e previous.address_offset previous.op_index → previous.line < 2 ^ 63
+      → AreBuilt e (previous.address_offset, previous.op_index) items
+      → AddressesFit encoding.address_size base (previous.address_offset, previous.op_index) items
+      → run (built_rules encoding e) (registers_after_row encoding.version base previous)
+      (items_instructions encoding.version e previous items)
+      ≡ map row (items_rows encoding.version e base previous items)
+  items-run base previous [] position line built held = refl
+  items-run base previous (SetAddress a ∷ items) position line built held =
+      let next : LineRow = record previous { address_offset = 0; op_index = 0 } in
+      set-address-runs encoding e _ _ previous held.0 held.1 (items_instructions encoding.version e next items)
+      ∙ items-run (address_value a) next items (start_position e can) line built.1 held.2
+  items-run base previous (Row r ∷ items) position line built held =
+      row-runs encoding e _ previous r known can position built.0.0 line built.0.1 held.0
+      (items_instructions encoding.version e r items) ∙ ap (λ events. row (read_row encoding.version base r) ∷ events)
+      (items-run base r items built.0.0.position built.0.1 built.1 held.1)
+  items-run base previous (End o i ∷ items) position line built held =
+      let next = initial_row encoding.version e.default_is_stmt in
+      end-runs encoding e _ previous o i known can position built.0 held.0
+      (items_instructions encoding.version e next items)
+      ∙ ap
+      (λ r. row (read_end encoding.version base previous o i)
+      ∷ run (built_rules encoding e) r (items_instructions encoding.version e next items))
+      (start-is encoding e version) ∙ ap (λ events. row (read_end encoding.version base previous o i) ∷ events)
+      (items-run 0 next items (start_position e can) (lit< tt) built.1 held.1)
+
+-- ---- the instructions that a written program is decoded into, and the rows that they give
 
 -- ---- the decoding
 
@@ -21,7 +56,7 @@ cut_whole : (layout : OrderAndLimit) (h : Header) (bytes : List ℕ) (list : Lis
 cut_whole layout h bytes list spelled = record {
   front = bytes;
   rest = [];
-  parts = sym (append-nil bytes);
+  parts = sym (append-nil _);
   spelled = spelled;
   ended = refl;
 }
@@ -35,14 +70,7 @@ spelled_under : (layout : OrderAndLimit) (h : Header) (encoding : Encoding) (e :
     → items_bytes plain layout.is_big encoding e (initial_row encoding.version e.default_is_stmt) items ≡ Ok bytes
     → Each (SpellsInstruction layout h) bytes
     (items_instructions encoding.version e (initial_row encoding.version e.default_is_stmt) items)
-spelled_under layout h encoding e items bytes same base wide can built fit written =
-    subst (λ x. AreFit x.version items
-    → items_bytes plain layout.is_big x e (initial_row x.version e.default_is_stmt) items ≡ Ok bytes
-    → Each (SpellsInstruction layout h) bytes
-    (items_instructions x.version e (initial_row x.version e.default_is_stmt) items))
-    same
-    (items-spelled layout h base wide e can _ _ _ (lit< tt) built)
-    fit written
+spelled_under layout h encoding e items bytes same base wide can built fit written = grind (arith, items-spelled)
 
 -- the instructions of a written program
 pub cut-back : (layout : OrderAndLimit) (h : Header) (p : Built) → IsBuilt p → 11 < layout.limit
@@ -52,9 +80,7 @@ pub cut-back : (layout : OrderAndLimit) (h : Header) (p : Built) → IsBuilt p �
     (items_instructions p.encoding.version p.line_encoding
     (initial_row p.encoding.version p.line_encoding.default_is_stmt) p.items)
     None
-cut-back layout h p built wide parameters written =
-    cut_whole _ h _
-    _
+cut-back layout h p built wide parameters written = cut_whole _ h _ _
     (spelled_under _ h _ _ _ _ (ap (λ r. r.encoding) parameters)
     (ap (λ r. r.opcode_base) parameters) wide built.is.lines built.is.items_built built.items_fit written)
 
@@ -84,9 +110,8 @@ rows_given parameters encoding e items same known can version built held =
     let first = initial_row encoding.version e.default_is_stmt in
     let list = items_instructions encoding.version e first items in
     sym (items-run encoding e known can version 0 first items (start_position e can) (lit< tt) built held)
-    ∙ sym (ap (λ (r : ReadRow). run (built_rules encoding e) r list) (start-is encoding e version))
-    ∙ starts (built_rules encoding e) list
-    ∙ ap (λ (r : Parameters). events_after r [] list None) (sym same)
+    ∙ sym (ap (λ r. run (built_rules encoding e) r list) (start-is encoding e version))
+    ∙ starts (built_rules encoding e) list ∙ ap (λ r. events_after r [] list None) (sym same)
 
 -- the rows of a written program, where addresses hold its items and none is a tombstone
 pub rows-back : (layout : OrderAndLimit) (h : Header) (p : Built) → IsBuilt p → p.encoding.version ≤ 5
@@ -100,9 +125,8 @@ rows-back layout h p built known wide parameters written held =
       record {
         list = items_instructions p.encoding.version p.line_encoding first p.items;
         end = None;
-        decoding = cut-back layout h p built wide parameters written;
-        given =
-            rows_given h.parameters p.encoding p.line_encoding p.items parameters (built.is.address_size refl)
+        decoding = cut-back _ _ _ built wide parameters written;
+        given = rows_given _ _ _ _ parameters (built.is.address_size refl)
             built.is.lines known built.is.items_built held;
       },
       same_rows p.encoding.version p.line_encoding [] first p.items,

@@ -1,26 +1,30 @@
 -- The machine over the instructions of a row, and of an end.
 use Rattle.std.specs.Prelude.{◌≡◌, ◌+◌, ◌-◌, ◌*◌, ◌/◌, ◌%◌, ◌^◌, ◌<◌, ◌≤◌, ◌∷◌, ◌++◌, if◌then◌else◌, ◌+ℤ◌, ◌-ℤ◌, ◌<ℤ◌}
 use Rattle.std.specs.Prelude.{◌≤ℤ◌}
-use Rattle.gimli_build.proofs.Common
-use Common.{ℕ, Bool, true, false, not, List, [], refl, sym, ap, ◌∙◌, arith, nat_eq, nat_le, ℤ, pos, nat_lt, add-zero}
-use Common.{append_assoc, unsigned_abs, IsTrue, ints, and_parts, lt-leb, le-leb, le-ltb, nat_tests, is_address_size}
-use Common.{Encoding, LineEncoding, ReadRow, Special, Copy, AdvancePc, AdvanceLine, SetFile, SetColumn, NegateStatement}
-use Common.{SetBasicBlock, ConstAddPc, SetPrologueEnd, SetEpilogueBegin, SetIsa, EndSequence, SetDiscriminator}
-use Common.{Parameters, Ins, run, initial, reset_row, pointer_of, at_pointer, LineRow, CanEncode, IsPosition, CanFollow}
-use Common.{operations, when, marks, changes, differ, line_part, line_opcode, is_special_advance, operation_part}
-use Common.{row_instructions, row_maker, still_opcode, constant_advance, end_instructions, file_number, initial_row}
-use Common.{built_rules, read_row, registers_after_row, read_end}
-use Rattle.std.specs.Int.Signed.{lt_z, le_z}
-use Rattle.std.proofs.Math.Nat.{mod-eq_of_lt, div-eq_of_lt, div-one, div-mul-le_self, mod-lt, mod-le, pow-le-pow_right}
-use Rattle.std.proofs.Math.Nat.{add-mul-div_right}
-use Rattle.std.proofs.Math.Nat.{add-mul-mod_self_right, mul-add, mul-le-mul_left}
-use Rattle.std.proofs.lemmas.Nat.{div-add-mod', le-div}
+use Rattle.gimli_build.proofs
+use proofs.Common
+use Common.{ℕ, Bool, true, false, not, List, [], refl, sym, ap, ◌∙◌, arith, nat_eq, nat_le, ℤ, pos, add-zero}
+use Common.{append_assoc, unsigned_abs, IsTrue, ints, is_address_size}
+use Common.{Encoding, LineEncoding, ReadRow, Special, Copy, AdvancePc, AdvanceLine, ConstAddPc, EndSequence, Parameters}
+use Common.{Ins, run, initial, reset_row, pointer_of, at_pointer, LineRow, CanEncode, IsPosition, CanFollow, operations}
+use Common.{when, marks, changes, line_part, line_opcode, is_special_advance, operation_part, row_instructions}
+use Common.{row_maker, still_opcode, constant_advance, end_instructions, file_number, initial_row, built_rules}
+use Common.{read_row, registers_after_row, read_end}
+use Rattle.std.proofs.Math.Nat.{
+  mod-eq_of_lt,
+  div-eq_of_lt,
+  div-mul-le_self,
+  add-mul-div_right,
+  add-mul-mod_self_right,
+  mul-add,
+  mul-le-mul_left,
+}
+use Rattle.std.proofs.lemmas.Nat.{div-add-mod'}
 use Rattle.gimli_line.specs.declared.run.instruction.LineInstruction.TheVariants.{SetAddress}
 use Rattle.gimli_line.specs.run.Registers.{advanced_line}
-use Rattle.gimli_line.specs.run.OperationPointer.{OperationPointer, advanced_by, is_too_large, address_limit}
-use Rattle.gimli_line.specs.run.Events.{row}
-use Rattle.gimli_build.proofs.sizes.Steps.{operations_above, whole_steps, taken_apart, special_parts, enough_of}
-use Rattle.gimli_build.proofs.sizes.Steps.{none_of}
+use Rattle.gimli_line.specs.run.OperationPointer.{OperationPointer, address_limit}
+use Rattle.gimli_line.specs.run.Events.{Event, row}
+use proofs.sizes.Steps.{operations_above, whole_steps, taken_apart, special_parts, enough_of, none_of}
 
 -- ---- pointers
 
@@ -31,45 +35,14 @@ ahead e n p = record {
   op_index = (p.op_index + n) % e.maximum_operations_per_instruction;
 }
 
-abbrev one_operation : LineEncoding → ℕ → OperationPointer → OperationPointer
-one_operation e n p = record { address = p.address + e.minimum_instruction_length * n % 2 ^ 64; op_index = 0 }
-
-abbrev more_operations : LineEncoding → ℕ → OperationPointer → OperationPointer
-more_operations e n p = record {
-  address =
-      p.address
-      + e.minimum_instruction_length * ((p.op_index + n) % 2 ^ 64 / e.maximum_operations_per_instruction) % 2 ^ 64;
-  op_index = (p.op_index + n) % 2 ^ 64 % e.maximum_operations_per_instruction;
-}
-
 -- an address holds the pointer n operations further on
 pub record HasRoom (parameters : Parameters) (p : OperationPointer) (n : ℕ) : Type 0 where
   pub within : p.op_index < parameters.line_encoding.maximum_operations_per_instruction
   pub count : p.op_index + n < 2 ^ 64
-  pub address : p.address
-      + parameters.line_encoding.minimum_instruction_length
+  pub address : p.address + parameters.line_encoding.minimum_instruction_length
       * ((p.op_index + n) / parameters.line_encoding.maximum_operations_per_instruction)
       < address_limit parameters
   pub limit : address_limit parameters ≤ 2 ^ 64
-
--- the machine's pointer is this one there
-pub on-ahead : (parameters : Parameters) (p : OperationPointer) (n : ℕ) → HasRoom parameters p n
-    → advanced_by parameters n p ≡ ahead parameters.line_encoding n p
-on-ahead parameters p n room = grind (arith, nat_eq)
-  where
-    by : (b : Bool) → nat_eq parameters.line_encoding.maximum_operations_per_instruction 1 ≡ b
-        → (if b then one_operation parameters.line_encoding n p else more_operations parameters.line_encoding n p)
-        ≡ ahead parameters.line_encoding n p
-    by true h =
-        grind (arith, nat_tests, div-one, mod-eq_of_lt)
-    by false h =
-        grind (arith, mod-eq_of_lt)
-
--- an address holds it
-pub not_exceeding : (parameters : Parameters) (p : OperationPointer) (n : ℕ) → HasRoom parameters p n
-    → is_too_large parameters (ahead parameters.line_encoding n p) ≡ false
-not_exceeding parameters p n room =
-    grind (arith, lt-leb)
 
 -- one advance after the other
 pub ahead-ahead : (e : LineEncoding) (p : OperationPointer) (q n : ℕ) → 1 ≤ e.maximum_operations_per_instruction
@@ -78,33 +51,29 @@ ahead-ahead e p q n pk =
     let k = e.maximum_operations_per_instruction in
     let m = e.minimum_instruction_length in
     let x = p.op_index + q in
-    let split : p.op_index + (q + n) ≡ x % k + n + x / k * k = (let h = div-add-mod' x k in omega (arith, h)) in
+    let split : p.op_index + (q + n) ≡ x % k + n + x / k * k = (let h = div-add-mod' x k in omega arith) in
     let division : (p.op_index + (q + n)) / k
-    ≡ (x % k + n) / k + x / k = rw split (add-mul-div_right (x % k + n) (x / k) (omega arith)) in
-    let rest : (p.op_index + (q + n)) % k ≡ (x % k + n) % k = rw split (add-mul-mod_self_right (x % k + n) (x / k) k) in
+    ≡ (x % k + n) / k + x / k = rw split (add-mul-div_right _ _ (omega arith)) in
+    let rest : (p.op_index + (q + n)) % k ≡ (x % k + n) % k = rw split (add-mul-mod_self_right _ _ _) in
     let address : p.address + m * (x / k) + m * ((x % k + n) / k)
-    ≡ p.address
-    + m
-    * ((p.op_index + (q + n)) / k) = rw division (let h = mul-add m ((x % k + n) / k) (x / k) in omega (arith, h)) in
+    ≡ p.address + m
+    * ((p.op_index + (q + n)) / k) = rw division (let h = mul-add m ((x % k + n) / k) (x / k) in omega arith) in
     λ j. record { address = address j; op_index = sym rest j }
 
 -- no operations
 pub ahead-none : (e : LineEncoding) (p : OperationPointer) → p.op_index < e.maximum_operations_per_instruction
     → ahead e 0 p ≡ p
-ahead-none e p lt =
-    grind (arith, add-zero, div-eq_of_lt, mod-eq_of_lt)
+ahead-none e p lt = grind (arith, div-eq_of_lt)
 
 -- fewer operations need no more room
 pub less_room : (parameters : Parameters) (p : OperationPointer) (q n : ℕ) → q ≤ n → HasRoom parameters p n
     → HasRoom parameters p q
-less_room parameters p q n le room =
-    grind (arith, div-mul-le_self, le-div, mul-le-mul_left)
+less_room _ _ _ _ le room = grind (arith, mul-le-mul_left)
 
 -- the rest of the operations has its room
 pub rest_room : (parameters : Parameters) (p : OperationPointer) (q n : ℕ) → q ≤ n → HasRoom parameters p n
     → HasRoom parameters (ahead parameters.line_encoding q p) (n - q)
-rest_room parameters p q n le room =
-    grind (arith, ahead-ahead, mod-lt, mod-le)
+rest_room _ _ _ _ le room = grind (arith, ahead-ahead)
 
 -- ---- parts of a run
 
@@ -120,10 +89,13 @@ module _ (encoding : Encoding) (e : LineEncoding) where
   abbrev Goes : ReadRow → List Ins → ReadRow → Type 0
   Goes r is s = (list : List Ins) → run parameters r (is ++ list) ≡ run parameters s list
 
+  -- a row, and what instructions give after it
+  abbrev after_row : List Ins → ReadRow → List Event
+  after_row list s = row s ∷ run parameters (reset_row parameters s) list
+
   -- these instructions make one row, their last
   abbrev Makes : ReadRow → List Ins → ReadRow → Type 0
-  Makes r is s =
-      (list : List Ins) → run parameters r (is ++ list) ≡ row s ∷ run parameters (reset_row parameters s) list
+  Makes r is s = (list : List Ins) → run parameters r (is ++ list) ≡ after_row list s
 
   goes_then : (r s t : ReadRow) (is js : List Ins) → Goes r is s → Goes s js t → Goes r (is ++ js) t
   goes_then r s t is js h k list = grind (arith, append_assoc)
@@ -134,20 +106,10 @@ module _ (encoding : Encoding) (e : LineEncoding) where
   -- an instruction that is due or not
   keep : (r s : ReadRow) (due : Bool) (i : Ins) → (due ≡ true → Goes r (i ∷ []) s) → (due ≡ false → r ≡ s)
       → Goes r (when due i) s
-  keep r s true i goes stands list = goes refl list
-  keep r s false i goes stands list = grind arith
+  keep r s due i goes stands list = grind arith
 
   same_from_test : (m n : ℕ) → not (nat_eq m n) ≡ false → m ≡ n
-  same_from_test m n h = grind (arith, nat_tests)
-
-  turned : (a b : Bool) → differ a b ≡ true → not b ≡ a
-  turned true b h = h
-  turned false b h = ap not h
-
-  stays : (a b : Bool) → differ a b ≡ false → b ≡ a
-  stays true true h = refl
-  stays true false h = sym h
-  stays false b h = h
+  same_from_test m n h = grind arith
 
   -- what stands for one row alone
   goes-marks : (r : ReadRow) (built : LineRow) → r.discriminator ≡ 0 → r.basic_block ≡ false → r.prologue_end ≡ false
@@ -160,8 +122,7 @@ module _ (encoding : Encoding) (e : LineEncoding) where
         prologue_end = built.prologue_end;
         epilogue_begin = built.epilogue_begin;
       })
-  goes-marks r built d0 b0 p0 e0 =
-      grind (arith, nat_eq, keep, same_from_test, goes_then)
+  goes-marks _ _ d0 b0 p0 e0 = grind arith
 
   -- what lasts from row to row
   goes-changes : (r : ReadRow) (version : ℕ) (previous built : LineRow) → r.is_stmt ≡ previous.is_statement
@@ -169,38 +130,29 @@ module _ (encoding : Encoding) (e : LineEncoding) where
       → r.column ≡ previous.column → r.isa ≡ previous.isa
       → Goes r (changes version previous built)
       (record
-      r {
-        is_stmt = built.is_statement;
-        file = file_number version built.file;
-        column = built.column;
-        isa = built.isa;
-      })
-  goes-changes r version previous built hs hf hc hi =
-      grind (arith, nat_eq, keep, turned, stays, same_from_test, goes_then)
+      r { is_stmt = built.is_statement; file = file_number version built.file; column = built.column; isa = built.isa })
+  goes-changes _ _ _ _ hs hf hc hi = grind (arith, same_from_test)
 
   -- ---- advances
 
   goes-advance : (r : ReadRow) (n : ℕ) → r.tombstone ≡ false → HasRoom parameters (pointer_of r) n
       → Goes r (AdvancePc n ∷ []) (moved_on e n r)
-  goes-advance r n shown room list = grind (arith, on-ahead, not_exceeding)
+  goes-advance r n shown room list = grind arith
 
   goes-constant : (r : ReadRow) → r.tombstone ≡ false → HasRoom parameters (pointer_of r) (constant_advance e)
       → Goes r (ConstAddPc ∷ []) (moved_on e (constant_advance e) r)
-  goes-constant r shown room list =
-      grind (arith, on-ahead, not_exceeding)
+  goes-constant r shown room list = grind arith
 
   -- a special opcode of this line advance above the base, and of so many operations
   makes-special : (r : ReadRow) (u n : ℕ) → 1 ≤ e.line_range → u < e.line_range → r.tombstone ≡ false
       → HasRoom parameters (pointer_of r) n
       → Makes r (Special (13 + u + n * e.line_range) ∷ [])
       (record (moved_on e n r) { line = advanced_line (e.line_base +ℤ pos u) r.line })
-  makes-special r u n some lt shown room list =
-      grind (arith, special_parts, on-ahead, not_exceeding)
+  makes-special r u n some lt shown room list = grind (arith, special_parts)
 
   -- the line after the advance to another line
   advance_to : (l to : ℕ) (z : ℤ) → pos to ≡ pos l +ℤ z → to < 2 ^ 64 → advanced_line z l ≡ to
-  advance_to l to (pos n) h small = grind (arith, ints, mod-eq_of_lt)
-  advance_to l to _ h small = omega (arith, ints)
+  advance_to l to z h small = grind (arith, mod-eq_of_lt)
 
   -- the registers that a special opcode of this line advance above the base makes, and so many operations
   abbrev made : ℕ → ℕ → ReadRow → ReadRow
@@ -213,27 +165,24 @@ module _ (encoding : Encoding) (e : LineEncoding) where
   makes-row : (r : ReadRow) (u n : ℕ) → CanEncode e → u < e.line_range → r.tombstone ≡ false → r.line < 2 ^ 64
       → HasRoom parameters (pointer_of r) n
       → Makes r (row_maker e (13 + u + n * e.line_range) ∷ []) (made u n r)
-  makes-row r u n can lt shown small room list = by (nat_eq (13 + u + n * e.line_range) (still_opcode e)) refl
+  makes-row r u n can lt shown small room list = by (nat_eq _ _) refl
     where
       by : (b : Bool) → nat_eq (13 + u + n * e.line_range) (still_opcode e) ≡ b
           → run parameters r ((if b then Copy else Special (13 + u + n * e.line_range)) ∷ list)
-          ≡ row (made u n r) ∷ run parameters (reset_row parameters (made u n r)) list
-      by false t = makes-special r u n (omega (arith, lt)) lt shown room list
+          ≡ after_row list (made u n r)
+      by false t = makes-special r u n (omega arith) lt shown room list
       by true t =
           let g = e.line_range in
-          let same : 13 + u + n * g ≡ still_opcode e = grind (arith, nat_tests) in
-          let idle : n
-          ≡ 0 = none_of n u g (unsigned_abs e.line_base) (omega (arith, same))
-          (omega (arith, ints, can.base, can.above)) in
+          let same : 13 + u + n * g ≡ still_opcode e = grind arith in
+          let idle = none_of n u g (unsigned_abs e.line_base) (omega arith) (omega (arith, ints)) in
           let product = ap (λ x. x * g) idle in
-          let low : u ≡ unsigned_abs e.line_base = omega (arith, same, product) in
-          let flat : e.line_base +ℤ pos u ≡ pos 0 = omega (arith, ints, low, can.base) in
+          let low : u ≡ unsigned_abs e.line_base = omega arith in
+          let flat : e.line_base +ℤ pos u ≡ pos 0 = omega (arith, ints) in
           let line : advanced_line (e.line_base +ℤ pos u) r.line
-          ≡ r.line = rw flat (ap (λ l. l % 2 ^ 64) (add-zero r.line) ∙ mod-eq_of_lt small) in
-          let there : ahead e n (pointer_of r) ≡ pointer_of r = ap (λ x. ahead e x (pointer_of r)) idle
-          ∙ ahead-none e _ room.within in
+          ≡ r.line = rw flat (ap (λ l. l % 2 ^ 64) (add-zero _) ∙ mod-eq_of_lt small) in
+          let there = ap (λ x. ahead e x (pointer_of r)) idle ∙ ahead-none e _ room.within in
           let stands : r ≡ made u n r = λ j. record (at_pointer (sym there j) r) { line = sym line j } in
-          makes-copy r shown list ∙ ap (λ s. row s ∷ run parameters (reset_row parameters s) list) stands
+          makes-copy r shown list ∙ ap (after_row list) stands
 
   -- the operations of a row, and the row
   makes-operations : (r : ReadRow) (u n : ℕ) → CanEncode e → u < e.line_range → r.tombstone ≡ false → r.line < 2 ^ 64
@@ -245,40 +194,36 @@ module _ (encoding : Encoding) (e : LineEncoding) where
       by : (b : Bool) → nat_le (13 + u + n * e.line_range) 255 ≡ b → (c : Bool)
           → run parameters r ((if b then row_maker e (13 + u + n * e.line_range) ∷ []
           else (if c then ConstAddPc ∷ row_maker e (13 + u + (n - constant_advance e) * e.line_range) ∷ []
-          else AdvancePc n ∷ row_maker e (13 + u) ∷ []))
-          ++ list)
-          ≡ row (made u n r) ∷ run parameters (reset_row parameters (made u n r)) list
+          else AdvancePc n ∷ row_maker e (13 + u) ∷ [])) ++ list)
+          ≡ after_row list (made u n r)
       by true h c = makes-row r u n can lt shown small room list
       by false h true =
           let g = e.line_range in
           let q = constant_advance e in
-          let over : 255 < 13 + u + n * g = grind (arith, nat_tests) in
-          let some : 1 ≤ g = omega (arith, lt) in
-          let enough : q ≤ n = enough_of g u n q some lt over (div-mul-le_self 242 g) in
+          let over : 255 < 13 + u + n * g = grind arith in
+          let some : 1 ≤ g = omega arith in
+          let enough = enough_of g u n q some lt over (div-mul-le_self 242 g) in
           let back : q + (n - q) ≡ n = omega arith in
-          let there : ahead e (n - q) (ahead e q (pointer_of r))
-          ≡ ahead e n (pointer_of r) = ahead-ahead e _ q _ can.operations
-          ∙ ap (λ x. ahead e x (pointer_of r)) back in
-          let s : ReadRow = moved_on e q r in
+          let there = ahead-ahead e _ q _ can.operations ∙ ap (λ x. ahead e x (pointer_of r)) back in
+          let s = moved_on e q r in
           let same : made u (n - q) s ≡ made u n r = λ j.
           record (at_pointer (there j) r) { line = advanced_line (e.line_base +ℤ pos u) r.line } in
           let first =
           goes-constant r shown (less_room _ _ q n enough room) (row_maker e (13 + u + (n - q) * g) ∷ list) in
           let second = makes-row s u _ can lt shown small (rest_room _ _ q n enough room) list in
-          first ∙ second ∙ ap (λ x. row x ∷ run parameters (reset_row parameters x) list) same
+          first ∙ second ∙ ap (after_row list) same
       by false h false =
-          let s : ReadRow = moved_on e n r in
+          let s = moved_on e n r in
           let keeps_bytes : 13 + u ≡ 13 + u + 0 * e.line_range = omega arith in
           let none_left : n - n ≡ 0 = omega arith in
-          let rest : HasRoom parameters (ahead e n (pointer_of r)) (n - n) = rest_room _ _ n n (omega arith) room in
-          let room0 : HasRoom parameters (pointer_of s) 0 = rw none_left at rest in
-          let there : ahead e 0 (ahead e n (pointer_of r)) ≡ ahead e n (pointer_of r) = ahead-none e _ room0.within in
+          let rest = rest_room _ _ n n (omega arith) room in
+          let room0 = rw none_left at rest in
+          let there = ahead-none e _ room0.within in
           let same : made u 0 s ≡ made u n r = λ j.
           record (at_pointer (there j) r) { line = advanced_line (e.line_base +ℤ pos u) r.line } in
           let first = goes-advance r n shown room (row_maker e (13 + u) ∷ list) in
           let second = makes-row s u 0 can lt shown small room0 list in
-          first ∙ ap (λ x. run parameters s (row_maker e x ∷ list)) keeps_bytes ∙ second
-          ∙ ap (λ x. row x ∷ run parameters (reset_row parameters x) list) same
+          first ∙ ap (λ x. run parameters s (row_maker e x ∷ list)) keeps_bytes ∙ second ∙ ap (after_row list) same
 
   -- the line and the operations of a row, and the row
   makes-move : (r : ReadRow) (d : ℤ) (n to : ℕ) → CanEncode e → r.tombstone ≡ false → r.line < 2 ^ 64 → to < 2 ^ 64
@@ -290,44 +235,34 @@ module _ (encoding : Encoding) (e : LineEncoding) where
       by : (b : Bool) → is_special_advance e d ≡ b
           → run parameters r
           (((if b then [] else AdvanceLine d ∷ [])
-          ++ operation_part e (if b then 13 + unsigned_abs (d -ℤ e.line_base) else still_opcode e) n)
-          ++ list)
-          ≡ row (record (moved_on e n r) { line = to })
-          ∷ run parameters (reset_row parameters (record (moved_on e n r) { line = to })) list
+          ++ operation_part e (if b then 13 + unsigned_abs (d -ℤ e.line_base) else still_opcode e) n) ++ list)
+          ≡ after_row list (record (moved_on e n r) { line = to })
       by true t =
-          let two = and_parts (le_z e.line_base d) (lt_z d (e.line_base +ℤ pos e.line_range)) t in
-          let low : e.line_base ≤ℤ d = grind (arith, ints) in
-          let high : d <ℤ (e.line_base +ℤ pos e.line_range) = grind (arith, ints) in
+          let low : e.line_base ≤ℤ d = grind arith in
+          let high : d <ℤ (e.line_base +ℤ pos e.line_range) = grind arith in
           let u = unsigned_abs (d -ℤ e.line_base) in
-          let lt : u < e.line_range = omega (arith, ints, low, high) in
-          let same : e.line_base +ℤ pos u ≡ d = omega (arith, ints, low) in
+          let lt : u < e.line_range = omega (arith, ints) in
+          let same : e.line_base +ℤ pos u ≡ d = omega (arith, ints) in
           let line : advanced_line (e.line_base +ℤ pos u) r.line ≡ to = rw same (advance_to _ _ d there small') in
           makes-operations r u n can lt shown small room list
-          ∙ ap
-          (λ l. row (record (moved_on e n r) { line = l })
-          ∷ run parameters (reset_row parameters (record (moved_on e n r) { line = l })) list)
-          line
+          ∙ ap (λ l. after_row list (record (moved_on e n r) { line = l })) line
       by false t =
           let s : ReadRow = record r { line = advanced_line d r.line } in
           let u = unsigned_abs e.line_base in
           let reached = advance_to _ _ d there small' in
-          let lt : u < e.line_range = omega (arith, ints, can.base, can.above) in
-          let flat : e.line_base +ℤ pos u ≡ pos 0 = omega (arith, ints, can.base) in
+          let lt : u < e.line_range = omega (arith, ints) in
+          let flat : e.line_base +ℤ pos u ≡ pos 0 = omega (arith, ints) in
           let small1 : s.line < 2 ^ 64 = rw reached small' in
           let line : advanced_line (e.line_base +ℤ pos u) s.line
           ≡ to = rw (flat, reached) (ap (λ l. l % 2 ^ 64) (add-zero to) ∙ mod-eq_of_lt small') in
           makes-operations s u n can lt shown small1 room list
-          ∙ ap
-          (λ l. row (record (moved_on e n r) { line = l })
-          ∷ run parameters (reset_row parameters (record (moved_on e n r) { line = l })) list)
-          line
+          ∙ ap (λ l. after_row list (record (moved_on e n r) { line = l })) line
 
   -- ---- rows and ends
 
   -- addresses have at most eight bytes
   limit_small : IsTrue (is_address_size encoding.address_size) → address_limit parameters ≤ 2 ^ 64
-  limit_small known =
-      grind (arith, nat_tests, pow-le-pow_right)
+  limit_small known = grind arith
 
   -- where the operations to a position that can follow lead
   record Reaches (base p j o i : ℕ) : Type 0 where
@@ -346,19 +281,14 @@ module _ (encoding : Encoding) (e : LineEncoding) where
       let above =
       operations_above m k p j o i can.instruction_length position.divides follows.position.divides follows.after
       follows.later position.within in
-      let sum : j + n ≡ t * k + i = omega (arith, above) in
+      let sum : j + n ≡ t * k + i = omega arith in
       let apart = taken_apart k t i follows.position.within in
       let q : (j + n) / k ≡ t = rw sum apart.0 in
       let w : (j + n) % k ≡ i = rw sum apart.1 in
       let whole = whole_steps m p o can.instruction_length position.divides follows.position.divides follows.after in
-      let a : base + p + m * ((j + n) / k) ≡ base + o = rw q (omega (arith, whole)) in
+      let a : base + p + m * ((j + n) / k) ≡ base + o = rw q (omega arith) in
       record {
-        room = record {
-          within = position.within;
-          count = omega (arith, sum, follows.fits);
-          address = rw a held;
-          limit = limit_small known;
-        };
+        room = record { within = position.within; count = omega arith; address = rw a held; limit = limit_small known };
         there = λ x. record { address = a x; op_index = w x };
       }
 
@@ -372,7 +302,7 @@ module _ (encoding : Encoding) (e : LineEncoding) where
       (read_row encoding.version base built)
   row-runs base previous built known can position follows from to held =
       let version = encoding.version in
-      let r0 : ReadRow = registers_after_row version base previous in
+      let r0 = registers_after_row version base previous in
       let d = pos built.line -ℤ pos previous.line in
       let n = operations e previous.address_offset previous.op_index built.address_offset built.op_index in
       let r1 : ReadRow = record r0 {
@@ -392,19 +322,13 @@ module _ (encoding : Encoding) (e : LineEncoding) where
       let apart : pos built.line ≡ pos previous.line +ℤ d = omega (arith, ints) in
       let ends = reaches _ _ _ _ _ known can position follows held in
       let s3 = makes-move _ d n _ can refl (omega arith) (omega arith) apart ends.room in
-      let s4 : Makes r2 (line_part e d ++ operation_part e (line_opcode e d) n) (read_row version base built) =
-      λ list.
-      s3 list
-      ∙ ap
-      (λ p. row (record (at_pointer p r2) { line = built.line })
-      ∷ run parameters (reset_row parameters (record (at_pointer p r2) { line = built.line })) list)
-      ends.there in
+      let s4 : Makes r2 (line_part e d ++ operation_part e (line_opcode e d) n) (read_row version base built) = λ list.
+      s3 list ∙ ap (λ p. after_row list (record (at_pointer p r2) { line = built.line })) ends.there in
       let s12 = goes_then r0 _ _ (marks built) (changes version previous built) s1 s2 in
       λ list.
       ap (λ is. run parameters r0 (is ++ list))
       (append_assoc (marks built ++ changes version previous built) (line_part e d)
-      (operation_part e (line_opcode e d) n))
-      ∙ makes_then r0 _ _ (marks built ++ changes version previous built)
+      (operation_part e (line_opcode e d) n)) ∙ makes_then r0 _ _ (marks built ++ changes version previous built)
       (line_part e d ++ operation_part e (line_opcode e d) n)
       s12 s4 list
 
@@ -416,15 +340,14 @@ module _ (encoding : Encoding) (e : LineEncoding) where
       → Makes (registers_after_row encoding.version base previous) (end_instructions e previous o i)
       (read_end encoding.version base previous o i)
   end-runs base previous o i known can position follows held =
-      let r : ReadRow = registers_after_row encoding.version base previous in
+      let r = registers_after_row encoding.version base previous in
       let n = operations e previous.address_offset previous.op_index o i in
       let ends = reaches _ _ _ o i known can position follows held in
-      let s : ReadRow = at_pointer (record { address = base + o; op_index = i }) r in
-      let first : Goes r (when (not (nat_eq n 0)) (AdvancePc n)) s = keep r s _ _
+      let s = at_pointer (record { address = base + o; op_index = i }) r in
+      let first = keep r s _ _
       (λ h list. goes-advance r n refl ends.room list ∙ ap (λ p. run parameters (at_pointer p r) list) ends.there)
-      (λ h. let idle : n ≡ 0 = same_from_test n 0 h in
-      let there : pointer_of r ≡ record { address = base + o; op_index = i } = sym (ahead-none e _ position.within)
-      ∙ ap (λ x. ahead e x (pointer_of r)) (sym idle) ∙ ends.there in
+      (λ h. let idle = same_from_test n 0 h in
+      let there = sym (ahead-none e _ position.within) ∙ ap (λ x. ahead e x (pointer_of r)) (sym idle) ∙ ends.there in
       λ j. at_pointer (there j) r) in
       makes_then r s _ (when (not (nat_eq n 0)) (AdvancePc n)) (EndSequence ∷ []) first (λ list. refl)
 
@@ -433,19 +356,9 @@ module _ (encoding : Encoding) (e : LineEncoding) where
       → a < 2 ^ (8 * encoding.address_size) - 2
       → Goes (registers_after_row encoding.version base previous) (SetAddress a ∷ [])
       (registers_after_row encoding.version a (record previous { address_offset = 0; op_index = 0 }))
-  set-address-runs base a previous le lt list =
-      grind (arith, nat_lt, le-ltb, nat_le, lt-leb, add-zero)
+  set-address-runs _ _ _ le lt list = grind arith
 
   -- a sequence starts after its initial row
   pub start-is : encoding.version ≤ 5
       → initial parameters ≡ registers_after_row encoding.version 0 (initial_row encoding.version e.default_is_stmt)
-  start-is le = by (nat_eq encoding.version 5) refl
-    where
-      by : (b : Bool) → nat_eq encoding.version 5 ≡ b
-          → initial parameters
-          ≡ registers_after_row encoding.version 0
-          (record (initial_row encoding.version e.default_is_stmt) { file = if b then 1 else 0 })
-      by true h =
-          grind (arith, nat_le, lt-leb, nat_tests)
-      by false h =
-          grind (arith, nat_le, le-leb, nat_tests)
+  start-is le = grind (arith, nat_eq)

@@ -1,29 +1,32 @@
 -- The tables of a written unit: their bytes spell them, and what is read of them stands for what was built.
 use Rattle.std.specs.Prelude.{◌≡◌, ◌<◌, ◌^◌, ◌∷◌, ◌++◌, if◌then◌else◌}
-use Rattle.gimli_build.proofs.Common
-use Common.{ℕ, Bool, true, false, List, [], length, drop, map, option_map, Option, None, slice_get, Ok, refl, sym, ap}
-use Common.{◌∙◌, arith, length-append, Result, nat_le, replicate, option_to_list, leb-true, append-nil, All-drop}
+use Rattle.gimli_build.proofs
+use proofs.Common
+use Common.{ℕ, Bool, true, false, List, [], length, drop, map, option_map, Option, slice_get, Ok, refl, sym, ap}
+use Common.{◌∙◌, arith, length-append, Result, nat_le, option_to_list, leb-true, append-nil, All-drop}
 use Common.{OrderAndLimit, Value, String, Placement, counted, AreTexts, StringTables, Error, UnitEntry, ReadFile}
-use Common.{FileEntryFormat, LineText, bytes_in, HasNoZero, File, Details, Sections, OneByOne, Built, IsBuilt}
+use Common.{FileEntryFormat, LineText, bytes_in, HasNoZero, File, Sections, OneByOne, Built, IsBuilt}
 use Common.{IsDirectory, IsFile, IsFound, result_append, directories_bytes, files_bytes, directory_formats}
 use Common.{file_formats, directory_table_bytes, file_table_bytes, tables_bytes}
 use Rattle.gimli_line.specs.header.HeaderGrammar.{path_of, file_of_entry, handed_value, directory_table, file_table}
-use Rattle.gimli_build.specs.Stored.{Stored, stored_details}
-use Rattle.gimli_build.proofs.writing.WrittenParts.{both_written}
-use Rattle.gimli_build.proofs.spellings.TableSpellings.{read_file, directories-spelled, files-spelled}
-use Rattle.gimli_build.proofs.spellings.EncodingSpellings.{first-chosen, second-chosen}
-use Rattle.gimli_build.proofs.spellings.FormatForms.{read_format}
-use Rattle.gimli_build.proofs.reading.ReadyTexts.{AreReady}
-use Rattle.gimli_build.proofs.reading.EmittedTexts.{AreOfTables}
-use Rattle.gimli_build.proofs.spellings.TextForms.{IsHeld}
-use Rattle.gimli_build.proofs.spellings.Version5TableSpellings.{directory_entry, file_entry, new-directories-spelled}
-use Rattle.gimli_build.proofs.spellings.Version5TableSpellings.{new-files-spelled, new-directories-back}
-use Rattle.gimli_build.proofs.spellings.Version5TableSpellings.{new-files-back}
+use proofs.writing.WrittenParts.{both_written}
+use proofs.spellings.TableSpellings.{read_file, directories-spelled, files-spelled}
+use proofs.spellings.EncodingSpellings.{first-chosen, second-chosen}
+use proofs.spellings.Version5TableSpellings.{
+  read_format,
+  directory_entry,
+  file_entry,
+  new-directories-spelled,
+  new-files-spelled,
+  new-directories-back,
+  new-files-back,
+}
+use proofs.reading.ReadyTexts.{AreReady, AreOfTables}
+use proofs.spellings.TextForms.{IsHeld}
 
 -- the directories from index 0 on: up to version 4 the one that was handed is the first
 abbrev from_zero : Built → UnitEntry → List Value → List Value
-from_zero p unit_entry directories =
-    if nat_le p.encoding.version 4
+from_zero p unit_entry directories = if nat_le p.encoding.version 4
     then option_to_list (option_map String (handed_value p.encoding unit_entry.directory)) ++ directories
     else directories
 
@@ -46,8 +49,7 @@ pub record TablesBack (layout : OrderAndLimit) (unit_entry : UnitEntry) (section
   pub directory_formats_are : nat_le p.encoding.version 4 ≡ false
       → directory_formats ≡ map read_format (formats_of_directories p)
   pub file_formats_are : nat_le p.encoding.version 4 ≡ false → file_formats ≡ map read_format (formats_of_files p)
-  pub directories_spelled : (directory_table layout p.encoding).Spells directory_bytes
-      (directory_formats, directories)
+  pub directories_spelled : (directory_table layout p.encoding).Spells directory_bytes (directory_formats, directories)
   pub files_spelled : (file_table layout p.encoding).Spells file_bytes (file_formats, files)
   pub directories_back : OneByOne (IsDirectory sections texts) (from_zero p unit_entry directories) p.directories
   pub files_back : OneByOne (IsFile sections p texts) files p.files
@@ -68,19 +70,11 @@ module _ (sections : Sections) (texts : StringTables) where
 
   handed_back : (ds : List LineText) → 0 < length ds
       → AreDirectories (with_handed (option_map (bytes_in texts) (slice_get ds 0)) ds) ds
-  handed_back [] some = absurd (omega (arith, some))
-  handed_back (d ∷ ds) some = (refl, texts_back _)
-
-  -- what a file keeps
-  stored_old : (p : Built) (d : Details) → nat_le p.encoding.version 4 ≡ true
-      → stored_details p texts d
-      ≡ record { timestamp = d.timestamp; size = d.size; md5 = replicate 16 0; source = None }
-  stored_old p d old = rw old refl
+  handed_back ds some = grind (arith, texts_back)
 
   file_back : (p : Built) (f : File) → nat_le p.encoding.version 4 ≡ true
       → IsFile sections p texts (read_file texts f) f
-  file_back p f old =
-      grind (arith, stored_old)
+  file_back p f old = grind arith
 
   files_back : (p : Built) (fs : List File) → nat_le p.encoding.version 4 ≡ true
       → OneByOne (IsFile sections p texts) (map (read_file texts) fs) fs
@@ -95,30 +89,29 @@ module _ (at : Placement) (layout : OrderAndLimit) (unit_entry : UnitEntry) (sec
         ([], map String (map (bytes_in texts) (drop 1 p.directories)))
     old_directories_spelled bytes is =
         let clean = All-drop HasNoZero 1 _ built.tables.directories_end in
-        let spelled =
-        directories-spelled texts p.directories _
+        let spelled = directories-spelled texts p.directories _
         (built.is.directories_not_empty (leb-true p.encoding.version 4 old)) clean is in
         first-chosen _ _ _ _ _ old
-        (map (bytes_in texts) (drop 1 p.directories), bytes, [], sym (append-nil bytes), spelled, (refl, refl))
+        (map (bytes_in texts) (drop 1 p.directories), bytes, [], sym (append-nil _), spelled, (refl, refl))
 
     old_files_spelled : (bytes : List ℕ) → files_bytes p.files ≡ Ok bytes
         → (file_table layout p.encoding).Spells bytes ([], map (read_file texts) p.files)
     old_files_spelled bytes is =
         let spelled =
-        files-spelled texts _ _ (built.is.paths_not_empty (leb-true p.encoding.version 4 old)) built.tables.paths_end
+        files-spelled _ _ _ (built.is.paths_not_empty (leb-true p.encoding.version 4 old)) built.tables.paths_end
         built.files_fit is in
         first-chosen _ _ _ _ _ old
-        (map (read_file texts) p.files, bytes, [], sym (append-nil bytes), spelled, (refl, refl))
+        (map (read_file texts) p.files, bytes, [], sym (append-nil _), spelled, (refl, refl))
 
     old_back : unit_entry.directory ≡ option_map (bytes_in texts) (slice_get p.directories 0)
         → OneByOne (IsDirectory sections texts)
         (from_zero p unit_entry (map String (map (bytes_in texts) (drop 1 p.directories)))) p.directories
-    old_back known = rw (old, known) (handed_back sections texts _ (built.is.working_dir refl))
+    old_back known = rw (old, known) (handed_back _ _ _ (built.is.working_dir refl))
 
     old_tables : (bytes : List ℕ) → unit_entry.directory ≡ option_map (bytes_in texts) (slice_get p.directories 0)
         → result_append (directories_bytes p.directories) (files_bytes p.files) ≡ Ok bytes
         → TablesBack layout unit_entry sections p texts bytes
-    old_tables bytes known is =
+    old_tables _ known is =
         let b = both_written _ _ _ is in
         record {
           directory_formats = [];
@@ -133,7 +126,7 @@ module _ (at : Placement) (layout : OrderAndLimit) (unit_entry : UnitEntry) (sec
           directories_spelled = old_directories_spelled _ b.first_is;
           files_spelled = old_files_spelled _ b.rest_is;
           directories_back = old_back known;
-          files_back = files_back sections texts p _ old;
+          files_back = files_back _ _ _ _ old;
         }
 
   -- ---- version 5
@@ -149,8 +142,8 @@ module _ (at : Placement) (layout : OrderAndLimit) (unit_entry : UnitEntry) (sec
     new_directories_spelled bytes is small =
         let entries = map (directory_entry at texts) p.directories in
         let spelled = new-directories-spelled at layout p texts ready held bytes is small in
-        second-chosen (nat_le p.encoding.version 4) _ _ bytes _ new
-        ((map read_format (directory_formats p), entries), bytes, [], sym (append-nil bytes), spelled, (refl, refl))
+        second-chosen _ _ _ _ _ new
+        ((map read_format (directory_formats p), entries), bytes, [], sym (append-nil _), spelled, (refl, refl))
 
     new_files_spelled : (bytes : List ℕ)
         → file_table_bytes (counted at) layout.is_big p.encoding.format texts p ≡ Ok bytes
@@ -160,13 +153,12 @@ module _ (at : Placement) (layout : OrderAndLimit) (unit_entry : UnitEntry) (sec
     new_files_spelled bytes is small =
         let entries = map (file_entry at p texts) p.files in
         let spelled = new-files-spelled at layout p texts ready held bytes is small in
-        second-chosen (nat_le p.encoding.version 4) _ _ bytes _ new
-        ((map read_format (file_formats p), entries), bytes, [], sym (append-nil bytes), spelled, (refl, refl))
+        second-chosen _ _ _ _ _ new
+        ((map read_format (file_formats p), entries), bytes, [], sym (append-nil _), spelled, (refl, refl))
 
     new_back : OneByOne (IsDirectory sections texts)
         (from_zero p unit_entry (map path_of (map (directory_entry at texts) p.directories))) p.directories
-    new_back =
-        rw new (new-directories-back at sections p texts are_texts are_line_texts _ ready.directories
+    new_back = rw new (new-directories-back at sections p texts are_texts are_line_texts _ ready.directories
         found.directories)
 
     new_tables : (bytes : List ℕ) → length bytes < 2 ^ 64
@@ -175,10 +167,7 @@ module _ (at : Placement) (layout : OrderAndLimit) (unit_entry : UnitEntry) (sec
         ≡ Ok bytes
         → TablesBack layout unit_entry sections p texts bytes
     new_tables bytes small is =
-        let b =
-        both_written (directory_table_bytes (counted at) layout.is_big p.encoding.format texts p)
-        (file_table_bytes (counted at) layout.is_big p.encoding.format texts p) bytes
-        is in
+        let b = both_written _ _ _ is in
         let whole = ap length b.whole ∙ length-append b.first b.rest in
         record {
           directory_formats = map read_format (directory_formats p);
@@ -190,11 +179,10 @@ module _ (at : Placement) (layout : OrderAndLimit) (unit_entry : UnitEntry) (sec
           whole = b.whole;
           directory_formats_are = λ _. refl;
           file_formats_are = λ _. refl;
-          directories_spelled = new_directories_spelled b.first b.first_is (omega (arith, whole, small));
-          files_spelled = new_files_spelled b.rest b.rest_is (omega (arith, whole, small));
+          directories_spelled = new_directories_spelled _ b.first_is (omega arith);
+          files_spelled = new_files_spelled _ b.rest_is (omega arith);
           directories_back = new_back;
-          files_back =
-              new-files-back at sections p texts are_texts are_line_texts p.files new ready.files found.files;
+          files_back = new-files-back at sections p texts are_texts are_line_texts p.files new ready.files found.files;
         }
 
   -- ---- any version

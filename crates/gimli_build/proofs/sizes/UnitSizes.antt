@@ -1,14 +1,13 @@
 -- How many bytes the parts of a unit have, its tables, and a unit.
 use Rattle.std.specs.Prelude.{◌≡◌, ◌+◌, ◌∷◌, if◌then◌else◌, ◌++◌}
 use Rattle.gimli_build.proofs.Common
-use Common.{ℕ, Bool, true, false, List, [], Ok, Err, refl, arith, nat_le, length, drop, sym, ap, ◌∙◌, Result, sum_by}
-use Common.{unwrap_or, word_size, Encoding, LineEncoding, plain, Error, NeedVersion, LineStringFormMismatch}
-use Common.{StringTables, Built, format_word, result_append, result_concat, after_length, version_bytes, opening_bytes}
-use Common.{line_encoding_bytes, opcode_bytes, tables_bytes, fields_bytes, header_bytes, program_bytes, inside_bytes}
-use Common.{tables_size, header_length, size_of, unit_length, text_size, file_size, entry_size, Format, uleb, LineText}
-use Common.{Inline, InStrings, InLineStrings, File, name_bytes, directories_bytes, file_bytes, files_bytes, first_form}
-use Common.{path_texts, sources, empty_text, directory_formats, file_formats, formats_bytes, detail_bytes, text_bytes}
-use Common.{text_in_form, directory_table_bytes, source_bytes, file_entry_bytes, file_table_bytes, Dwarf32, Dwarf64}
+use Common.{ℕ, Bool, List, [], Ok, Err, arith, nat_le, length, drop, sym, ap, ◌∙◌, Result, sum_by, unwrap_or, word_size}
+use Common.{Encoding, LineEncoding, plain, Error, LineStringFormMismatch, StringTables, Built, format_word}
+use Common.{result_append, result_concat, after_length, opening_bytes, line_encoding_bytes, opcode_bytes, tables_bytes}
+use Common.{fields_bytes, header_bytes, program_bytes, inside_bytes, tables_size, header_length, size_of, unit_length}
+use Common.{text_size, file_size, entry_size, Format, uleb, LineText, File, name_bytes, directories_bytes, file_bytes}
+use Common.{files_bytes, first_form, path_texts, sources, empty_text, directory_formats, file_formats, formats_bytes}
+use Common.{detail_bytes, text_bytes, text_in_form, directory_table_bytes, file_entry_bytes, file_table_bytes}
 use Rattle.gimli_bytes.proofs.RelocationLemmas.{length-number}
 use Rattle.std.proofs.lemmas.List.{length-append}
 use Rattle.std.proofs.lemmas.List.Sums.{sum_by-cons}
@@ -26,30 +25,26 @@ pub size_of_none : (e : Error) (n : ℕ) → HasSize (Err e) n
 size_of_none e n bytes is = absurd cc
 
 pub size_as : (written : Result (List ℕ) Error) (m n : ℕ) → m ≡ n → HasSize written m → HasSize written n
-size_as written m n same size bytes is = size bytes is ∙ same
+size_as _ _ _ same size bytes is = size bytes is ∙ same
 
 pub size_tested : (test : Bool) (own : List ℕ) (e : Error) → HasSize (if test then Ok own else Err e) (length own)
-size_tested true own e = size_of_ok _
-size_tested false own e = size_of_none e _
+size_tested test own e = grind (arith, size_of_ok, size_of_none)
 
 -- one of two, as a test says
 pub size_either : (test : Bool) (first second : Result (List ℕ) Error) (m n : ℕ) → HasSize first m → HasSize second n
     → HasSize (if test then first else second) (if test then m else n)
-size_either true first second m n one other = one
-size_either false first second m n one other = other
+size_either test first second m n one other = grind arith
 
 pub size_joined : (first rest : Result (List ℕ) Error) (m n : ℕ) → HasSize first m → HasSize rest n
     → HasSize (result_append first rest) (m + n)
-size_joined (Ok a) (Ok b) m n first rest bytes is =
-    grind (arith, length-append)
+size_joined (Ok a) (Ok b) m n first rest bytes is = grind (arith, length-append)
 size_joined (Ok a) (Err e) m n first rest bytes is = absurd cc
 size_joined (Err e) written m n first rest bytes is = absurd cc
 
 pub size_parts : {A : Type 0} (part : A → Result (List ℕ) Error) (size : A → ℕ) → ((x : A) → HasSize (part x) (size x))
     → (xs : List A) → HasSize (result_concat part xs) (sum_by size xs)
 size_parts part size each [] = size_of_ok _
-size_parts part size each (x ∷ xs) =
-    size_as _ _ _ (sym (sum_by-cons size x xs))
+size_parts part size each (x ∷ xs) = size_as _ _ _ (sym (sum_by-cons size x xs))
     (size_joined _ _ _ _ (each x) (size_parts part size each xs))
 
 pub size_after : (length_of : ℕ → Result (List ℕ) Error) (counted : Result (List ℕ) Error) (m n : ℕ)
@@ -63,43 +58,26 @@ size_after length_of (Err e) m n before counted = size_of_none e _
 -- a word of a format
 pub format_word_size : (is_big : Bool) (format : Format) (n : ℕ)
     → HasSize (format_word is_big format n) (word_size format)
-format_word_size is_big Dwarf32 n =
-    size_as _ _ 4 (length-number _ 4 n)
-    (size_tested _ _ _)
-format_word_size is_big Dwarf64 n =
-    size_as _ _ 8 (length-number _ 8 n) (size_of_ok _)
-
--- ---- how many bytes a unit is, where it is written
+format_word_size is_big format n = grind (arith, size_as, length-number, size_tested, size_of_ok)
 
 -- ---- up to version 4
 
 name_size : (format : Format) (t : LineText) → HasSize (name_bytes t) (text_size format t)
-name_size format (Inline text) =
-    grind (arith, size_as, length-append, size_of_ok)
-name_size format (InStrings i) = size_of_none _ _
-name_size format (InLineStrings i) = size_of_none _ _
+name_size format t = grind (arith, size_as, length-append, size_of_ok, size_of_none)
 
 directories_size : (format : Format) (directories : List LineText)
     → HasSize (directories_bytes directories) (sum_by (text_size format) (drop 1 directories) + 1)
-directories_size format directories =
-    size_joined _ _ _ 1
-    (size_parts _ _ (name_size format) (drop 1 directories)) (size_of_ok (0 ∷ []))
+directories_size format directories = size_joined _ _ _ 1
+    (size_parts _ _ (name_size _) (drop 1 directories)) (size_of_ok _)
 
 three_lengths : (a b c : List ℕ) (n : ℕ) → n + length (a ++ b ++ c) ≡ n + length a + length b + length c
-three_lengths a b c n =
-    grind (arith, length-append)
+three_lengths a b c n = grind (arith, length-append)
 
 one_file_size : (format : Format) (f : File) → HasSize (file_bytes f) (file_size format f)
-one_file_size format f =
-    let numbers = uleb f.0.1 ++ uleb f.1.timestamp ++ uleb f.1.size in
-    let path = text_size format f.0.0 in
-    size_as _ _ _ (three_lengths _ _ _ _)
-    (size_joined _ _ _ _ (name_size _ _) (size_of_ok _))
+one_file_size _ _ = size_as _ _ _ (three_lengths _ _ _ _) (size_joined _ _ _ _ (name_size _ _) (size_of_ok _))
 
 files_size : (format : Format) (files : List File) → HasSize (files_bytes files) (sum_by (file_size format) files + 1)
-files_size format files =
-    size_joined _ _ _ 1
-    (size_parts _ _ (one_file_size format) files) (size_of_ok (0 ∷ []))
+files_size format files = size_joined _ _ _ 1 (size_parts _ _ (one_file_size _) files) (size_of_ok _)
 
 -- ---- texts of version 5
 
@@ -108,37 +86,31 @@ nothing_first n = omega arith
 
 module _ (is_big : Bool) (format : Format) (texts : StringTables) where
   stored_size : (t : LineText) → HasSize (text_bytes plain is_big format texts t) (text_size format t)
-  stored_size (Inline text) = name_size format (Inline text)
-  stored_size (InStrings i) = format_word_size _ _ _
-  stored_size (InLineStrings i) = format_word_size _ _ _
+  stored_size t = grind (arith, name_size, format_word_size)
 
   tested_text : (same : Bool) (t : LineText)
       → HasSize (if same then text_bytes plain is_big format texts t else Err LineStringFormMismatch)
       (text_size format t)
-  tested_text true t = stored_size t
-  tested_text false t = size_of_none _ _
+  tested_text same t = grind (arith, stored_size, size_of_none)
 
   formed_size : (form : ℕ) (t : LineText) → HasSize (text_in_form plain is_big format texts form t) (text_size format t)
-  formed_size form t = tested_text _ t
+  formed_size _ _ = tested_text _ _
 
   -- a source that is written, or none
   source_size : (has : Bool) (form : ℕ) (t : LineText)
       → HasSize (if has then text_in_form plain is_big format texts form t else Ok [])
       (sum_by (λ (s : ℕ × LineText). text_size format s.1) (if has then (form, t) ∷ [] else []))
-  source_size true form t =
-      grind (arith, size_as, nothing_first, formed_size)
-  source_size false form t = size_of_ok _
+  source_size has form t = grind (arith, size_as, nothing_first, formed_size, size_of_ok)
 
 -- ---- tables of version 5
 
 -- formats and a number, and what stands after them
 prefixed_size : (formats number : List ℕ) (rest : Result (List ℕ) Error) (n : ℕ) → HasSize rest n
     → HasSize (result_append (Ok (formats ++ number)) rest) (length formats + length number + n)
-prefixed_size formats number rest n size =
-    grind (arith, size_as, length-append, size_joined, size_of_ok)
+prefixed_size _ _ _ _ size = grind (arith, length-append)
 
 path_first : (path details source : ℕ) → path + (details + source) ≡ (path + source) + details
-path_first path details source = omega arith
+path_first _ _ _ = omega arith
 
 module _ (is_big : Bool) (p : Built) (texts : StringTables) where
   one_entry_size : (f : File)
@@ -149,17 +121,14 @@ module _ (is_big : Bool) (p : Built) (texts : StringTables) where
       let source = unwrap_or f.1.source (empty_text form texts) in
       let sized = λ (s : ℕ × LineText). text_size format s.1 in
       let last = if p.file_has_source then (form, source) ∷ [] else [] in
-      let path = text_size format f.0.0 in
       let details = length (detail_bytes p f) in
-      let written = source_bytes plain is_big format texts p f in
       size_as _ _ _
-      (path_first path details (sum_by sized last)
-      ∙ ap (λ (k : ℕ). k + details) (sym (sum_by-cons sized (first_form (path_texts p.files), f.0.0) last)))
+      (path_first _ _ _ ∙ ap (λ k. k + details) (sym (sum_by-cons sized (first_form (path_texts p.files), f.0.0) last)))
       (size_joined _ _ _
       _
-      (formed_size is_big format texts (first_form (path_texts p.files)) f.0.0)
-      (size_joined _ _ _ _ (size_of_ok (detail_bytes p f))
-      (source_size is_big format texts p.file_has_source form source)))
+      (formed_size _ _ _ _ _)
+      (size_joined _ _ _ _ (size_of_ok _)
+      (source_size _ _ _ _ _ _)))
 
   directory_table_size : HasSize (directory_table_bytes plain is_big p.encoding.format texts p)
       (length (formats_bytes (directory_formats p)) + length (uleb (length p.directories))
@@ -173,9 +142,7 @@ module _ (is_big : Bool) (p : Built) (texts : StringTables) where
 
   file_table_size : HasSize (file_table_bytes plain is_big p.encoding.format texts p)
       (length (formats_bytes (file_formats p)) + length (uleb (length p.files)) + sum_by (entry_size p texts) p.files)
-  file_table_size =
-      let entry = file_entry_bytes plain is_big p.encoding.format texts p in
-      prefixed_size (formats_bytes (file_formats p)) (uleb (length p.files)) _ _
+  file_table_size = prefixed_size (formats_bytes (file_formats p)) (uleb (length p.files)) _ _
       (size_parts _ _ one_entry_size _)
 
   -- ---- both
@@ -184,65 +151,30 @@ module _ (is_big : Bool) (p : Built) (texts : StringTables) where
   pub tables-size : HasSize (tables_bytes plain is_big p texts) (tables_size p texts)
   tables-size =
       let format = p.encoding.format in
-      let old_directories = sum_by (text_size format) (drop 1 p.directories) + 1 in
-      let old_files = sum_by (file_size format) p.files + 1 in
-      let directories =
-      length (formats_bytes (directory_formats p)) + length (uleb (length p.directories))
-      + sum_by (text_size format) p.directories in
-      let files =
-      length (formats_bytes (file_formats p)) + length (uleb (length p.files))
-      + sum_by (entry_size p texts) p.files in
-      let directory_table = directory_table_bytes plain is_big format texts p in
-      let file_table = file_table_bytes plain is_big format texts p in
-      size_either (nat_le p.encoding.version 4) _
+      size_either _ _
       _
       _ _
       (size_joined _ _ _ _ (directories_size format p.directories)
       (files_size format p.files))
       (size_joined _ _ _ _ directory_table_size file_table_size)
 
--- ---- how many bytes a unit is, where it is written
-
 -- ---- the version and what stands with it
-
-version_size : (is_big : Bool) (version : ℕ) → HasSize (version_bytes is_big version) 2
-version_size is_big version =
-    size_as _ _ 2 (length-number _ 2 _)
-    (size_tested _ _ _)
-
-opened_size : (old : Bool) (version : Result (List ℕ) Error) (address_size : ℕ) → HasSize version 2
-    → HasSize (result_append version (Ok (if old then [] else address_size ∷ 0 ∷ []))) (if old then 2 else 4)
-opened_size true version address_size size = size_joined _ _ 2 0 size (size_of_ok _)
-opened_size false version address_size size = size_joined _ _ 2 2 size (size_of_ok _)
 
 opening_size : (is_big : Bool) (encoding : Encoding)
     → HasSize (opening_bytes is_big encoding) (if nat_le encoding.version 4 then 2 else 4)
-opening_size is_big encoding =
-    grind (arith, opened_size, version_size)
+opening_size _ _ = grind arith
 
 -- ---- what the header length counts
 
-operations_size : (fourth one : Bool) (operations : ℕ)
-    → HasSize (if fourth then Ok (operations ∷ []) else (if one then Ok [] else Err (NeedVersion 4)))
-    (if fourth then 1 else 0)
-operations_size true one operations = size_of_ok _
-operations_size false one operations = size_tested _ _ _
-
-encoding_count : (fourth : Bool) → 1 + ((if fourth then 1 else 0) + 3) ≡ (if fourth then 5 else 4)
-encoding_count true = refl
-encoding_count false = refl
-
 line_encoding_size : (version : ℕ) (e : LineEncoding)
     → HasSize (line_encoding_bytes version e) (if nat_le 4 version then 5 else 4)
-line_encoding_size version e =
-    grind (arith, nat_le, size_as, encoding_count, size_joined, size_of_ok, operations_size)
+line_encoding_size _ _ = grind arith
 
 three_parts : (a b c : ℕ) → a + (b + c) ≡ a + b + c
 three_parts a b c = omega arith
 
 own_size : (written : Result (List ℕ) Error) → HasSize written (size_of written)
-own_size (Ok own) = size_of_ok _
-own_size (Err e) = size_of_none e 0
+own_size written = grind (arith, size_of_ok, size_of_none)
 
 two_and_two : (a b c d : ℕ) → a + ((b + c) + d) ≡ a + b + c + d
 two_and_two a b c d = omega arith
@@ -252,11 +184,10 @@ module _ (is_big : Bool) (p : Built) (texts : StringTables) where
   pub fields_size : HasSize (fields_bytes plain is_big p texts) (header_length p texts)
   fields_size =
       let encoding = if nat_le 4 p.encoding.version then 5 else 4 in
-      let tables = tables_bytes plain is_big p texts in
       let count = tables_size p texts in
       size_as _ _ _ (three_parts encoding 13 count)
       (size_joined _ _ _ _
-      (line_encoding_size p.encoding.version p.line_encoding)
+      (line_encoding_size _ _)
       (size_joined _ _ _ _ (size_of_ok opcode_bytes) (tables-size is_big p texts)))
 
   -- ---- what the unit length counts
@@ -273,10 +204,9 @@ module _ (is_big : Bool) (p : Built) (texts : StringTables) where
       let opening = if nat_le p.encoding.version 4 then 2 else 4 in
       let word = word_size p.encoding.format in
       let program = size_of (program_bytes plain is_big p) in
-      let header = header_bytes plain is_big p texts in
       let counted = header_length p texts in
       size_as _ _ _
       (two_and_two opening word counted program)
       (size_joined _ _ _ _
       (opening_size is_big p.encoding)
-      (size_joined _ _ _ _ header_size (own_size (program_bytes plain is_big p))))
+      (size_joined _ _ _ _ header_size (own_size _)))

@@ -1,45 +1,41 @@
 -- The bytes of the fixed fields of a unit spell them.
 use Rattle.std.specs.Prelude.{◌≡◌, ◌<◌, ◌≤◌, ◌^◌, ◌∷◌, ◌++◌, ◌&&◌, if◌then◌else◌}
-use Rattle.gimli_build.proofs.Common
-use Common.{ℕ, Bool, true, false, List, [], length, Ok, Err, refl, sym, arith, lit<, Result, not, nat_eq, nat_le}
-use Common.{nat_lt, ℤ, FitsSigned, IsTrue, rules, ints, to_z-of_z, ltb-true, leb-true, leb-false, lt-ltb, lt-leb}
-use Common.{le-leb, ne_eqb, eqb-true, append-nil, OrderAndLimit, SpellsNumber, SpellsInitialLength, number_bytes}
-use Common.{word_size, is_address_size, Production, ◌>>=◌, done, check, choose, byte, offset_word, fits_offset}
-use Common.{LineEncoding, Format, Dwarf32, Dwarf64, number_spelled, length_word, Error, NeedVersion, UnsupportedVersion}
-use Common.{ValueTooLarge, InitialLengthOverflow, positive, CanEncode, format_word, version_bytes, operations_bytes}
-use Common.{flag_byte, line_encoding_bytes, escape_bytes}
+use Rattle.gimli_build.proofs
+use proofs.Common
+use Common.{ℕ, Bool, true, false, List, [], length, Ok, Err, refl, sym, arith, not, nat_eq, nat_le, ℤ, FitsSigned}
+use Common.{IsTrue, rules, ints, to_z-of_z, append-nil, OrderAndLimit, SpellsNumber, SpellsInitialLength, number_bytes}
+use Common.{word_size, is_address_size, Production, ◌>>=◌, done, choose, byte, offset_word, fits_offset, LineEncoding}
+use Common.{Format, Dwarf64, number_spelled, length_word, UnsupportedVersion, positive, CanEncode, format_word}
+use Common.{version_bytes, operations_bytes, flag_byte, line_encoding_bytes, escape_bytes}
 use Rattle.std.specs.Int.{w8, cast_signed}
 use Rattle.gimli_core.specs.Production.{unit_length}
 use Rattle.gimli_core.specs.declared.error.Error.{Error as ReadError}
-use Rattle.gimli_core.specs.declared.error.Error.TheVariants.{UnsupportedAddressSize, UnsupportedSegmentSize}
-use Rattle.gimli_core.specs.declared.error.Error.TheVariants.{MinimumInstructionLengthZero}
-use Rattle.gimli_core.specs.declared.error.Error.TheVariants.{MaximumOperationsPerInstructionZero, LineRangeZero}
+use Rattle.gimli_core.specs.declared.error.Error.TheVariants.{
+  MinimumInstructionLengthZero,
+  MaximumOperationsPerInstructionZero,
+  LineRangeZero,
+}
 use Rattle.gimli_line.specs.header.HeaderGrammar.{version_production, address_size_production, line_encoding_production}
 use Rattle.gimli_build.specs.Unit.{base_byte}
-use Rattle.gimli_build.proofs.sizes.UnitSizes.{format_word_size}
-use Rattle.gimli_build.proofs.writing.WrittenParts.{same_written, after_written, before_written}
+use proofs.writing.WrittenParts.{after_written, before_written}
 
 -- ---- lines
 
 pub positive-spelled : (n : ℕ) (d : ReadError) → 0 < n → (positive d).Spells (n ∷ []) n
-positive-spelled n d some =
-    grind (arith, ne_eqb)
+positive-spelled n d some = grind arith
 
 pub first-chosen : {A : Type 0} (b : Bool) (l m : Production A) (bytes : List ℕ) (x : A) → b ≡ true → l.Spells bytes x
     → (choose b l m).Spells bytes x
-first-chosen true l m bytes x is s = s
-first-chosen false l m bytes x is s = absurd cc
+first-chosen b l m bytes x is s = grind arith
 
 pub second-chosen : {A : Type 0} (b : Bool) (l m : Production A) (bytes : List ℕ) (x : A) → b ≡ false → m.Spells bytes x
     → (choose b l m).Spells bytes x
-second-chosen true l m bytes x is s = absurd cc
-second-chosen false l m bytes x is s = s
+second-chosen b l m bytes x is s = grind arith
 
 -- ---- how lines and operations are encoded
 
 flag_read : (b : Bool) → not (nat_eq (flag_byte b) 0) ≡ b
-flag_read true = refl
-flag_read false = refl
+flag_read b = grind arith
 
 base_read : (base : ℤ) → FitsSigned w8 base → cast_signed w8 (base_byte base) ≡ base
 unfolding base_byte
@@ -66,20 +62,7 @@ rest_spelled e can =
     let some : 0 < e.line_range = omega (arith, ints, can.base, can.above) in
     let fits : FitsSigned w8 e.line_base = search (rules, ints) in
     let flag = flag_byte e.default_is_stmt in
-    let base = base_byte e.line_base in
-    let same : e ≡ record {
-      minimum_instruction_length = e.minimum_instruction_length;
-      maximum_operations_per_instruction = e.maximum_operations_per_instruction;
-      default_is_stmt = not (nat_eq flag 0);
-      line_base = cast_signed w8 base;
-      line_range = e.line_range;
-    } = sym (λ i. record {
-      minimum_instruction_length = e.minimum_instruction_length;
-      maximum_operations_per_instruction = e.maximum_operations_per_instruction;
-      default_is_stmt = flag_read e.default_is_stmt i;
-      line_base = base_read _ fits i;
-      line_range = e.line_range;
-    }) in (
+    let base = base_byte e.line_base in (
       flag,
       flag ∷ [],
       base ∷ e.line_range ∷ [],
@@ -91,7 +74,17 @@ rest_spelled e can =
         e.line_range ∷ [],
         refl,
         refl,
-        (e.line_range, e.line_range ∷ [], [], refl, positive-spelled _ LineRangeZero some, (refl, same)),
+        (
+          e.line_range,
+          e.line_range ∷ [],
+          [],
+          refl,
+          positive-spelled _ LineRangeZero some,
+          (
+            refl,
+            sym (λ i. record e { default_is_stmt = flag_read e.default_is_stmt i; line_base = base_read _ fits i }),
+          ),
+        ),
       ),
     )
 
@@ -101,24 +94,13 @@ operations_line version = choose (nat_le version 3) (done 1) (positive MaximumOp
 operations_spelled : (version n : ℕ) (bytes : List ℕ) → 0 < n → operations_bytes version n ≡ Ok bytes
     → (operations_line version).Spells bytes n
 operations_spelled version n bytes some is = grind arith
-  where
-    by : (b : Bool) → nat_le 4 version ≡ b → (one : Bool) → nat_eq n 1 ≡ one
-        → (let r : Result (List ℕ) Error = if b then Ok (n ∷ []) else (if one then Ok [] else Err (NeedVersion 4)) in r)
-        ≡ Ok bytes
-        → (operations_line version).Spells bytes n
-    by true high one t is =
-        grind (arith, leb-true, lt-leb, same_written, positive-spelled)
-    by false low true t is =
-        grind (arith, leb-false, eqb-true, first-chosen, le-leb, same_written)
-    by false low false t is = absurd cc
 
 pub encoding-spelled : (version : ℕ) (e : LineEncoding) (bytes : List ℕ) → CanEncode e
     → line_encoding_bytes version e ≡ Ok bytes
     → (line_encoding_production version).Spells bytes e
 encoding-spelled version e bytes can is =
     let last = flag_byte e.default_is_stmt ∷ base_byte e.line_base ∷ e.line_range ∷ [] in
-    let a =
-    after_written (e.minimum_instruction_length ∷ []) _ _ is in
+    let a = after_written (e.minimum_instruction_length ∷ []) _ _ is in
     let b = before_written _ _ _ a.rest_is in
     let minimum = positive-spelled _ MinimumInstructionLengthZero can.instruction_length in
     let operations = operations_spelled _ _ _ can.operations b.front_is in (
@@ -132,11 +114,6 @@ encoding-spelled version e bytes can is =
 
 -- ---- the version
 
--- where both tests hold, the second one does
-both_true : (b c : Bool) → (b && c) ≡ true → c ≡ true
-both_true true c is = is
-both_true false c is = absurd cc
-
 -- a version that is written is one, and its bytes spell it
 pub record VersionWritten (is_big : Bool) (version : ℕ) (bytes : List ℕ) : Type 0 where
   pub bytes_are : bytes ≡ number_bytes is_big 2 version
@@ -147,92 +124,50 @@ version_written : (is_big : Bool) (version : ℕ) (bytes : List ℕ) → version
 version_written is_big version bytes is = grind arith
   where
     by : (b : Bool) → (nat_le 2 version && nat_le version 5) ≡ b
-        → (let r : Result (List ℕ) Error = if b then Ok (number_bytes is_big 2 version)
+        → (let r = if b then Ok (number_bytes is_big 2 version)
         else Err (UnsupportedVersion version) in
         r)
         ≡ Ok bytes
         → VersionWritten is_big version bytes
-    by true t is = grind (arith, same_written)
+    by true t is = grind arith
     by false t is = absurd cc
 
 pub version-known : (is_big : Bool) (version : ℕ) (bytes : List ℕ) → version_bytes is_big version ≡ Ok bytes
     → version ≤ 5
-version-known is_big version bytes is =
-    grind (arith, leb-true, both_true, version_written)
+version-known is_big version bytes is = grind arith
 
 pub version-spelled : (is_big : Bool) (version : ℕ) (bytes : List ℕ) → version_bytes is_big version ≡ Ok bytes
     → (version_production is_big).Spells bytes version
 version-spelled is_big version bytes is =
-    let w = version_written is_big version bytes is in
+    let w = version_written _ _ _ is in
     let known = version-known is_big version bytes is in
-    let number : SpellsNumber is_big 2 bytes version =
-    rw w.bytes_are (number_spelled is_big 2 version (omega (arith, known))) in
-    (version, bytes, [], sym (append-nil bytes), number, (tt, [], [], refl, (refl, w.known), (refl, refl)))
+    let number : SpellsNumber is_big 2 bytes version = rw w.bytes_are (number_spelled _ _ _ (omega arith)) in
+    (version, bytes, [], sym (append-nil _), number, (tt, [], [], refl, (refl, w.known), (refl, refl)))
 
 -- ---- the size of an address
 
 -- up to version 4 no byte says it, and it is the one that is handed; in version 5 a byte does, and a 0 stands after it
 pub address-spelled : (version handed size : ℕ) → handed ≡ size → IsTrue (is_address_size size)
     → (address_size_production version handed).Spells (if nat_le version 4 then [] else size ∷ 0 ∷ []) size
-address-spelled version handed size same known = by (nat_le version 4)
-  where
-    own : Production ℕ
-    own = do
-      n ← byte
-      allowed ← check (is_address_size n) (UnsupportedAddressSize n)
-      selector ← byte
-      none ← check (nat_eq selector 0) (UnsupportedSegmentSize selector)
-      done n
-
-    by : (b : Bool) → (choose b (done handed) own).Spells (if b then [] else size ∷ 0 ∷ []) size
-    by true = (refl, sym same)
-    by false = (
-      size,
-      size ∷ [],
-      0 ∷ [],
-      refl,
-      refl,
-      (
-        tt,
-        [],
-        0 ∷ [],
-        refl,
-        (refl, known),
-        (0, 0 ∷ [], [], refl, refl, (tt, [], [], refl, (refl, refl), (refl, refl))),
-      ),
-    )
+address-spelled version handed size same known = grind (arith, nat_eq)
 
 -- ---- lengths
 
 -- an offset of a reader holds any word of the 32-bit format, and one of the 64-bit format that is below its limit
 held : (layout : OrderAndLimit) (format : Format) (n : ℕ) → (format ≡ Dwarf64 → n < layout.limit)
     → fits_offset layout format n ≡ true
-held layout Dwarf32 n lt = refl
-held layout Dwarf64 n lt = grind (arith, lt-ltb)
+held layout format n lt = grind arith
 
 -- eight bytes hold any number of the 64-bit format, which is told by no test
 word_spelled : (is_big : Bool) (format : Format) (n : ℕ) (bytes : List ℕ) → n < 2 ^ 64
     → format_word is_big format n ≡ Ok bytes
     → SpellsNumber is_big (word_size format) bytes n
-word_spelled is_big Dwarf32 n bytes small is = grind arith
-  where
-    by : (b : Bool) → nat_lt n (2 ^ 32) ≡ b
-        → (let r : Result (List ℕ) Error = if b then Ok (number_bytes is_big 4 n) else Err ValueTooLarge in r)
-        ≡ Ok bytes
-        → SpellsNumber is_big 4 bytes n
-    by true t is = grind (arith, same_written, number_spelled, ltb-true)
-    by false t is = absurd cc
-word_spelled is_big Dwarf64 n bytes small is = grind (arith, same_written, number_spelled)
+word_spelled is_big format n bytes small is = grind arith
 
 -- a word has bytes
 pub word-long : (is_big : Bool) (format : Format) (n : ℕ) (bytes : List ℕ) → format_word is_big format n ≡ Ok bytes
     → 0 < length bytes
-word-long is_big format n bytes is =
-    grind (arith, format_word_size)
-  where
-    word_some : (f : Format) → 0 < word_size f
-    word_some Dwarf32 = lit< tt
-    word_some Dwarf64 = lit< tt
+word-long is_big format n bytes is = grind arith
 
 pub offset-spelled : (layout : OrderAndLimit) (format : Format) (n : ℕ) (bytes : List ℕ)
     → (format ≡ Dwarf64 → n < layout.limit) → n < 2 ^ 64
@@ -242,7 +177,7 @@ offset-spelled layout format n bytes lt small is = (
   n,
   bytes,
   [],
-  sym (append-nil bytes),
+  sym (append-nil _),
   word_spelled _ _ n _ small is,
   (tt, [], [], refl, (refl, held layout _ n lt), (refl, refl)),
 )
@@ -251,19 +186,7 @@ offset-spelled layout format n bytes lt small is = (
 initial_spelled : (is_big : Bool) (format : Format) (n : ℕ) (word : List ℕ) → n < 2 ^ 64
     → length_word is_big format n ≡ Ok word
     → SpellsInitialLength is_big (escape_bytes is_big format ++ word) format n
-initial_spelled is_big Dwarf32 n word small is = grind arith
-  where
-    by : (b : Bool) → nat_lt n 0xffff_fff0 ≡ b → (c : Bool)
-        → (let r : Result (List ℕ) Error = if b then Ok (number_bytes is_big 4 n)
-        else (if c then Err InitialLengthOverflow else Err ValueTooLarge) in
-        r)
-        ≡ Ok word
-        → SpellsNumber is_big 4 word n × (n < 0xffff_fff0)
-    by true t c is =
-        grind (arith, ltb-true, same_written, number_spelled)
-    by false t true is = absurd cc
-    by false t false is = absurd cc
-initial_spelled is_big Dwarf64 n word small is = grind (arith, number_spelled, same_written)
+initial_spelled is_big format n word small is = grind arith
 
 pub length-spelled : (layout : OrderAndLimit) (format : Format) (n : ℕ) (word : List ℕ)
     → (format ≡ Dwarf64 → n < layout.limit) → n < 2 ^ 64
@@ -274,7 +197,7 @@ length-spelled layout format n word lt small is =
       (n, format),
       bytes,
       [],
-      sym (append-nil bytes),
+      sym (append-nil _),
       initial_spelled _ _ n _ small is,
       (tt, [], [], refl, (refl, held layout _ n lt), (refl, refl)),
     )

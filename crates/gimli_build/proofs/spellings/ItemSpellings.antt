@@ -1,76 +1,58 @@
 -- The bytes of built items spell their instructions.
 use Rattle.std.specs.Prelude.{◌≡◌, ◌<◌, ◌^◌, ◌∷◌, ◌++◌}
-use Rattle.gimli_build.proofs.Common
+use Rattle.gimli_build.proofs
+use proofs.Common
 use Common.{ℕ, List, [], Ok, Err, refl, sym, subst, ap, ◌∙◌, append_assoc, lit<, Result, IfOk, append-nil}
 use Common.{OrderAndLimit, Each, Encoding, LineEncoding, plain, Constant, Symbol, Error, Header, Ins, SpellsInstruction}
 use Common.{LineRow, BuiltItem, SetAddress, Row, End, CanEncode, AreBuilt, initial_row, row_instructions}
-use Common.{end_instructions, instructions_bytes, result_append, item_bytes, items_bytes, items_instructions, AreFit}
+use Common.{end_instructions, items_bytes, items_instructions, AreFit}
 use Rattle.gimli_line.specs.declared.run.instruction.LineInstruction.TheVariants as read
-use Rattle.gimli_build.proofs.spellings.Spellings.{each-spelled, all_row, all_end, address-spelled}
+use proofs.writing.WrittenParts.{same_written, both_written}
+use proofs.spellings.Spellings.{each-spelled, all_row, all_end, address-spelled}
 
--- both parts were written
-joined_ok : (r s : Result (List ℕ) Error) (bytes : List ℕ) → result_append r s ≡ Ok bytes
-    → (a : List ℕ) × (b : List ℕ) × (r ≡ Ok a) × (s ≡ Ok b) × (bytes ≡ a ++ b)
-joined_ok (Ok a) (Ok b) bytes e = let p : a ++ b ≡ bytes = cc in (a, b, refl, refl, sym p)
-joined_ok (Ok a) (Err d) bytes e = absurd cc
-joined_ok (Err d) s bytes e = absurd cc
+-- parts that are spelled are spelled one after the other
+pub each_append : (layout : OrderAndLimit) (h : Header) (a b : List ℕ) (is js : List Ins)
+    → Each (SpellsInstruction layout h) a is → Each (SpellsInstruction layout h) b js
+    → Each (SpellsInstruction layout h) (a ++ b) (is ++ js)
+each_append layout h a b [] js p q = rw p q
+each_append layout h a b (i ∷ is) js p q =
+    (p.0, p.1 ++ b, ap (λ l. l ++ b) p.2 ∙ append_assoc p.0 p.1 b, p.3, each_append layout h p.1 b is js p.4 q)
 
 module _ (layout : OrderAndLimit) (h : Header) (base : h.parameters.opcode_base ≡ 13) (wide : 11 < layout.limit)
     (e : LineEncoding) (can : CanEncode e) where
-  abbrev Spelled : List ℕ → List Ins → Type 0
-  Spelled bytes is = Each (SpellsInstruction layout h) bytes is
-
-  each_append : (a b : List ℕ) (is js : List Ins) → Spelled a is → Spelled b js → Spelled (a ++ b) (is ++ js)
-  each_append a b [] js p q = rw p q
-  each_append a b (i ∷ is) js p q =
-      (p.0, p.1 ++ b, ap (λ l. l ++ b) p.2 ∙ append_assoc p.0 p.1 b, p.3, each_append p.1 b is js p.4 q)
-
-  each_joined : (a b bytes : List ℕ) (is js : List Ins) → bytes ≡ a ++ b → Spelled a is → Spelled b js
-      → Spelled bytes (is ++ js)
-  each_joined a b bytes is js whole p q = rw whole (each_append a b _ _ p q)
-
-  same_bytes : (a b : List ℕ) → ◌≡◌ {A = Result (List ℕ) Error} (Ok a) (Ok b) → b ≡ a
-  same_bytes a b e = let p : a ≡ b = cc in sym p
-
   pub items-spelled : (previous : LineRow) (items : List BuiltItem) (bytes : List ℕ) → previous.line < 2 ^ 63
       → AreBuilt e (previous.address_offset, previous.op_index) items → AreFit h.parameters.encoding.version items
       → items_bytes plain layout.is_big h.parameters.encoding e previous items ≡ Ok bytes
-      → Spelled bytes (items_instructions h.parameters.encoding.version e previous items)
-  items-spelled previous [] bytes line built fit is = same_bytes [] bytes is
+      → Each (SpellsInstruction layout h) bytes (items_instructions h.parameters.encoding.version e previous items)
+  items-spelled previous [] bytes line built fit is = same_written _ _ is
   items-spelled previous (SetAddress (Constant a) ∷ items) bytes line built fit is =
       let next : LineRow = record previous { address_offset = 0; op_index = 0 } in
-      let p =
-      joined_ok (item_bytes plain layout.is_big h.parameters.encoding e previous (SetAddress (Constant a)))
-      (items_bytes plain layout.is_big h.parameters.encoding e next items) bytes is in
-      each_joined p.0 p.1 bytes (read.SetAddress a ∷ []) (items_instructions h.parameters.encoding.version e next items)
-      p.4
-      (p.0, [], sym (append-nil p.0), address-spelled layout h base wide a p.0 p.2, refl)
-      (items-spelled next items p.1 line built.1 fit.1 p.3)
+      let p = both_written _ _ _ is in
+      rw p.whole
+      (each_append layout h p.first p.rest (read.SetAddress a ∷ [])
+      (items_instructions h.parameters.encoding.version e next items)
+      (p.first, [], sym (append-nil _), address-spelled layout h base wide a p.first p.first_is, refl)
+      (items-spelled next items p.rest line built.1 fit.1 p.rest_is))
   items-spelled previous (SetAddress (Symbol s d) ∷ items) bytes line built fit is = absurd cc
   items-spelled previous (Row r ∷ items) bytes line built fit is =
       let version = h.parameters.encoding.version in
-      let p =
-      joined_ok (item_bytes plain layout.is_big h.parameters.encoding e previous (Row r))
-      (items_bytes plain layout.is_big h.parameters.encoding e r items) bytes
-      is in
-      let own =
-      each-spelled layout h base wide (row_instructions version e previous r)
+      let p = both_written _ _ _ is in
+      let own = each-spelled layout h base wide (row_instructions version e previous r)
       (all_row version e previous r can built.0.0 line fit.0) in
-      each_joined p.0 p.1 bytes (row_instructions version e previous r) (items_instructions version e r items) p.4
-      (rw (same_bytes (instructions_bytes (row_instructions version e previous r)) p.0 p.2) own)
-      (items-spelled r items p.1 built.0.1 built.1 fit.1 p.3)
+      rw p.whole
+      (each_append layout h p.first p.rest (row_instructions version e previous r)
+      (items_instructions version e r items)
+      (rw (same_written _ _ p.first_is) own)
+      (items-spelled r items p.rest built.0.1 built.1 fit.1 p.rest_is))
   items-spelled previous (End o i ∷ items) bytes line built fit is =
-      let version = h.parameters.encoding.version in
-      let next : LineRow = initial_row version e.default_is_stmt in
-      let p =
-      joined_ok (item_bytes plain layout.is_big h.parameters.encoding e previous (End o i))
-      (items_bytes plain layout.is_big h.parameters.encoding e next items)
-      bytes
-      is in
+      let next = initial_row h.parameters.encoding.version e.default_is_stmt in
+      let p = both_written _ _ _ is in
       let own = each-spelled layout h base wide (end_instructions e previous o i) (all_end e previous o i built.0) in
-      each_joined p.0 p.1 bytes (end_instructions e previous o i) (items_instructions version e next items) p.4
-      (rw (same_bytes (instructions_bytes (end_instructions e previous o i)) p.0 p.2) own)
-      (items-spelled next items p.1 (lit< tt) built.1 fit.1 p.3)
+      rw p.whole
+      (each_append layout h p.first p.rest (end_instructions e previous o i)
+      (items_instructions h.parameters.encoding.version e next items)
+      (rw (same_written _ _ p.first_is) own)
+      (items-spelled next items p.rest (lit< tt) built.1 fit.1 p.rest_is))
 
 -- the same where the header has this encoding
 pub items-spelled-under : (layout : OrderAndLimit) (h : Header) (encoding : Encoding) (e : LineEncoding)
@@ -81,8 +63,7 @@ pub items-spelled-under : (layout : OrderAndLimit) (h : Header) (encoding : Enco
     → AreBuilt e (previous.address_offset, previous.op_index) items
     → AreFit encoding.version items → items_bytes plain layout.is_big encoding e previous items ≡ Ok bytes
     → Each (SpellsInstruction layout h) bytes (items_instructions encoding.version e previous items)
-items-spelled-under layout h encoding e previous items bytes same base wide can line built fit written =
-    subst (λ x.
+items-spelled-under layout h encoding e previous items bytes same base wide can line built fit written = subst (λ x.
     AreFit x.version items → items_bytes plain layout.is_big x e previous items ≡ Ok bytes
     → Each (SpellsInstruction layout h) bytes (items_instructions x.version e previous items))
     same (items-spelled layout h base wide e can _ _ _ line built) fit written

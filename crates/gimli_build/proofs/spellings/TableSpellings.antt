@@ -1,23 +1,19 @@
 -- The bytes of the tables of a unit up to version 4 spell them.
-use Rattle.std.specs.Prelude.{◌≡◌, ◌≢◌, ◌<◌, ◌^◌, ◌∷◌, ◌++◌}
-use Rattle.gimli_build.proofs.Common
+use Rattle.std.specs.Prelude.{◌≡◌, ◌<◌, ◌^◌, ◌∷◌, ◌++◌}
+use Rattle.gimli_build.proofs
+use proofs.Common
 use Common.{ℕ, List, [], drop, map, Ok, refl, sym, append_assoc, All, append-nil, All-head, All-tail}
-use Common.{recursion_from_All, Production, ◌>>=◌, Each, SpellsUleb128, uleb, uleb_shortest, StringTables, path_text}
-use Common.{plain_file, ReadFile, SpellsPaths, SpellsFiles, LineText, Inline, InStrings, InLineStrings, bytes_in}
-use Common.{HasNoZero, IsNotEmpty, File, keys_of, FitsFile, result_concat, name_bytes, directories_bytes, file_bytes}
-use Common.{files_bytes}
+use Common.{recursion_from_All, Production, ◌>>=◌, Each, uleb, uleb_shortest, StringTables, path_text, plain_file}
+use Common.{ReadFile, SpellsPaths, SpellsFiles, LineText, Inline, InStrings, InLineStrings, bytes_in, HasNoZero}
+use Common.{IsNotEmpty, File, keys_of, FitsFile, result_concat, name_bytes, directories_bytes, file_bytes, files_bytes}
 use Rattle.gimli_line.specs.header.HeaderGrammar.{file_production}
-use Rattle.gimli_build.proofs.writing.WrittenParts.{same_written, both_written, before_written}
-
-unsigned_spelled : (n : ℕ) → n < 2 ^ 64 → SpellsUleb128 64 (uleb n) n
-unsigned_spelled n lt = (uleb_shortest n lt).spells
+use proofs.writing.WrittenParts.{same_written, both_written, before_written}
 
 module _ (texts : StringTables) where
   -- a text in the unit itself is its bytes
   name_spelled : (t : LineText) (bytes : List ℕ) → IsNotEmpty t → HasNoZero t → name_bytes t ≡ Ok bytes
       → path_text.Spells bytes (bytes_in texts t)
-  name_spelled (Inline text) bytes some clean is =
-      (some, (recursion_from_All (λ b. b ≢ 0) _ clean, same_written _ _ is))
+  name_spelled (Inline text) bytes some clean is = (some, (recursion_from_All _ _ clean, same_written _ _ is))
   name_spelled (InStrings i) bytes some clean is = absurd cc
   name_spelled (InLineStrings i) bytes some clean is = absurd cc
 
@@ -61,14 +57,14 @@ module _ (texts : StringTables) where
     uleb directory,
     uleb time ++ uleb size,
     append_assoc (uleb directory) (uleb time) (uleb size),
-    unsigned_spelled _ d,
+    (uleb_shortest _ d).spells,
     (
       time,
       uleb time,
       uleb size,
       refl,
-      unsigned_spelled _ t,
-      (size, uleb size, [], sym (append-nil (uleb size)), unsigned_spelled _ s, (refl, refl)),
+      (uleb_shortest _ t).spells,
+      (size, uleb size, [], sym (append-nil _), (uleb_shortest _ s).spells, (refl, refl)),
     ),
   )
 
@@ -93,8 +89,7 @@ module _ (texts : StringTables) where
   each_file_spelled [] bytes some clean fits is = same_written _ _ is
   each_file_spelled (f ∷ fs) bytes some clean fits is =
       let b = both_written _ _ _ is in
-      let own =
-      file_spelled f _ (All-head (λ k. IsNotEmpty k.0) _ _ some) (All-head (λ k. HasNoZero k.0) _ _ clean)
+      let own = file_spelled f _ (All-head (λ k. IsNotEmpty k.0) _ _ some) (All-head (λ k. HasNoZero k.0) _ _ clean)
       (All-head FitsFile f _ fits) b.first_is in
       let rest =
       each_file_spelled fs b.rest (All-tail (λ k. IsNotEmpty k.0) _ _ some) (All-tail (λ k. HasNoZero k.0) _ _ clean)

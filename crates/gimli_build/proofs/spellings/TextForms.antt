@@ -1,15 +1,15 @@
 -- The texts of a table of version 5 as values: their bytes spell these, and these stand for the texts.
-use Rattle.std.specs.Prelude.{◌≡◌, ◌≢◌, ◌<◌, ◌^◌, ◌∷◌, if◌then◌else◌}
-use Rattle.gimli_build.proofs.Common
-use Common.{ℕ, Bool, true, false, List, [], length, get_or, Some, Ok, refl, sym, ap, ◌∙◌, subst, arith, length-append}
-use Common.{Result, Err, nat_eq, slice_get, unwrap_or, eqb-true, append-nil, recursion_from_All, slice_get-get_or}
-use Common.{OrderAndLimit, Value, SpellsForm, Format, Dwarf64, DebugStr, DebugLineStr, String, DebugStrRef}
-use Common.{DebugLineStrRef, Placement, counted, AreTexts, offset_of, StringTables, Error, LineStringFormMismatch}
-use Common.{LineText, Inline, InStrings, InLineStrings, IsWithin, HasNoZero, bytes_in, Sections, IsTextAt, IsText}
-use Common.{text_form, text_bytes, text_in_form, IsOffsetHeld, IsTextFound, IsFound}
+use Rattle.std.specs.Prelude.{◌≡◌, ◌<◌, ◌^◌}
+use Rattle.gimli_build.proofs
+use proofs.Common
+use Common.{ℕ, Bool, List, [], length, Ok, refl, arith, length-append, nat_eq, slice_get, unwrap_or, eqb-true}
+use Common.{append-nil, recursion_from_All, slice_get-get_or, OrderAndLimit, Value, SpellsForm, Format, Dwarf64}
+use Common.{DebugStr, DebugLineStr, String, DebugStrRef, DebugLineStrRef, Placement, counted, AreTexts, offset_of}
+use Common.{StringTables, LineText, Inline, InStrings, InLineStrings, IsWithin, HasNoZero, bytes_in, Sections, IsTextAt}
+use Common.{IsText, text_form, text_bytes, text_in_form, IsOffsetHeld, IsTextFound, IsFound}
 use Rattle.gimli_core.specs.Form.{form_production}
-use Rattle.gimli_build.proofs.writing.WrittenParts.{same_written}
-use Rattle.gimli_build.proofs.spellings.EncodingSpellings.{offset-spelled, word-long}
+use proofs.writing.WrittenParts.{same_written}
+use proofs.spellings.EncodingSpellings.{offset-spelled, word-long}
 
 -- ---- a text of a table
 
@@ -18,7 +18,7 @@ text_there : (section : List ℕ) (placed : ℕ → ℕ) (texts : List (List ℕ
     → IsTextFound section placed texts i
     → IsTextAt section (placed (offset_of texts i)) (unwrap_or (slice_get texts i) [])
 text_there section placed texts i are within found =
-    let there : slice_get texts i ≡ Some (get_or texts i []) = slice_get-get_or _ i _ within in
+    let there = slice_get-get_or _ _ _ within in
     let stands = rw there at found in
     rw there (record { rest = stands.0; there = stands.1; no_zero = are.no_zero i [] within })
 
@@ -38,81 +38,32 @@ pub record IsReady (texts : StringTables) (t : LineText) : Type 0 where
 
 -- an offset that a reader and 64 bits hold
 abbrev pub IsHeld : ℕ → Format → Placement → StringTables → LineText → Type 0
-IsHeld limit format at texts t =
-    (format ≡ Dwarf64 → IsOffsetHeld limit at texts t) × IsOffsetHeld (2 ^ 64) at texts t
+IsHeld limit format at texts t = (format ≡ Dwarf64 → IsOffsetHeld limit at texts t) × IsOffsetHeld (2 ^ 64) at texts t
 
 module _ (at : Placement) (layout : OrderAndLimit) (format : Format) (texts : StringTables) where
   text_spelled : (t : LineText) (bytes : List ℕ) → HasNoZero t → IsHeld layout.limit format at texts t
       → text_bytes (counted at) layout.is_big format texts t ≡ Ok bytes
       → (form_production layout format (text_form t)).Spells bytes (read_text at texts t)
-  text_spelled (Inline text) bytes clean held is = (
-    text,
-    bytes,
-    [],
-    sym (append-nil bytes),
-    (recursion_from_All (λ b. b ≢ 0) _ clean, same_written _ _ is),
-    (refl, refl),
-  )
-  text_spelled (InStrings i) bytes clean held is = (
-    at.section DebugStr (offset_of texts.strings i),
-    bytes,
-    [],
-    sym (append-nil bytes),
-    offset-spelled _ _ _ _ held.0 held.1 is,
-    (refl, refl),
-  )
-  text_spelled (InLineStrings i) bytes clean held is = (
-    at.section DebugLineStr (offset_of texts.line_strings i),
-    bytes,
-    [],
-    sym (append-nil bytes),
-    offset-spelled _ _ _ _ held.0 held.1 is,
-    (refl, refl),
-  )
+  text_spelled (Inline text) bytes clean held is = grind (arith, append-nil, recursion_from_All, same_written)
+  text_spelled (InStrings i) bytes clean held is = grind (arith, append-nil, offset-spelled)
+  text_spelled (InLineStrings i) bytes clean held is = grind (arith, append-nil, offset-spelled)
 
   -- a text that has the form of its table
   pub text-spelled : (form : ℕ) (t : LineText) (bytes : List ℕ) → IsReady texts t
       → IsHeld layout.limit format at texts t
       → text_in_form (counted at) layout.is_big format texts form t ≡ Ok bytes
       → SpellsForm layout format form bytes (read_text at texts t)
-  text-spelled form t bytes ready held is = by (nat_eq (text_form t) form) refl is
-    where
-      by : (b : Bool) → nat_eq (text_form t) form ≡ b
-          → (let r : Result (List ℕ) Error = if b then text_bytes (counted at) layout.is_big format texts t
-          else Err LineStringFormMismatch in
-          r)
-          ≡ Ok bytes
-          → SpellsForm layout format form bytes (read_text at texts t)
-      by true same is =
-          subst (λ n. SpellsForm layout format n bytes (read_text at texts t)) (eqb-true (text_form t) form same)
-          (text_spelled t _ ready.clean held is)
-      by false same is = absurd cc
+  text-spelled form t bytes ready held is = grind (arith, nat_eq, eqb-true, text_spelled)
 
 -- at least one byte is written of a text
 text_long : (at : Placement) (is_big : Bool) (format : Format) (texts : StringTables) (t : LineText) (bytes : List ℕ)
     → text_bytes (counted at) is_big format texts t ≡ Ok bytes
     → 0 < length bytes
-text_long at is_big format texts (Inline text) bytes is =
-    let long = ap length (same_written _ _ is) ∙ length-append text (0 ∷ []) in
-    omega (arith, long)
-text_long at is_big format texts (InStrings i) bytes is =
-    word-long is_big format (at.section DebugStr (offset_of texts.strings i)) _ is
-text_long at is_big format texts (InLineStrings i) bytes is =
-    word-long is_big format (at.section DebugLineStr (offset_of texts.line_strings i)) _ is
+text_long = grind (arith, same_written, length-append, word-long)
 
 pub text-long : (at : Placement) (is_big : Bool) (format : Format) (texts : StringTables) (form : ℕ) (t : LineText)
-    (bytes : List ℕ)
-    → text_in_form (counted at) is_big format texts form t ≡ Ok bytes → 0 < length bytes
-text-long at is_big format texts form t bytes is = by (nat_eq (text_form t) form) is
-  where
-    by : (b : Bool)
-        → (let r : Result (List ℕ) Error = if b then text_bytes (counted at) is_big format texts t
-        else Err LineStringFormMismatch in
-        r)
-        ≡ Ok bytes
-        → 0 < length bytes
-    by true is = text_long at _ format _ t _ is
-    by false is = absurd cc
+    (bytes : List ℕ) → text_in_form (counted at) is_big format texts form t ≡ Ok bytes → 0 < length bytes
+text-long at is_big format texts form t bytes is = grind (arith, nat_eq, text_long)
 
 -- ---- back
 
@@ -124,5 +75,4 @@ pub text-back : (at : Placement) (sections : Sections) (texts : StringTables) �
 text-back at sections texts are_texts are_line_texts (Inline text) within found = refl
 text-back at sections texts are_texts are_line_texts (InStrings i) within found =
     text_there _ (at.section DebugStr) _ i are_texts within found
-text-back at sections texts are_texts are_line_texts (InLineStrings i) within found =
-    text_there _ (at.section DebugLineStr) _ i are_line_texts within found
+text-back at sections texts are_texts are_line_texts (InLineStrings i) within found = grind (arith, text_there)

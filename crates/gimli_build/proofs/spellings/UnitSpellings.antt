@@ -1,22 +1,32 @@
 -- The bytes of a unit spell a header.
 use Rattle.std.specs.Prelude.{◌≡◌, ◌+◌, ◌-◌, ◌<◌, ◌≤◌, ◌^◌, ◌∷◌, ◌++◌, if◌then◌else◌}
-use Rattle.gimli_build.proofs.Common
+use Rattle.gimli_build.proofs
+use proofs.Common
 use Common.{ℕ, Bool, List, [], length, option_map, Ok, refl, sym, ap, ◌∙◌, arith, append_assoc, Result, nat_le}
-use Common.{append-nil, OrderAndLimit, Format, Dwarf32, Dwarf64, Hand, length_word, Error, StringTables, Header}
+use Common.{append-nil, OrderAndLimit, Format, Dwarf64, Hand, length_word, Error, StringTables, Header}
 use Common.{UnitEntry, plain_file, Built, IsBuilt, Sections, built_rules, IsUnit, format_word, result_append}
 use Common.{opening_bytes, line_encoding_bytes, operand_counts, opcode_bytes, tables_bytes, fields_bytes, program_bytes}
 use Common.{escape_bytes, whole_bytes}
 use Rattle.std.proofs.lemmas.List.{length-append}
 use Rattle.gimli_core.specs.declared.error.Error.TheVariants.{OpcodeBaseZero}
-use Rattle.gimli_line.specs.header.HeaderGrammar.{HeaderOpening, handed_value, parameters_production}
-use Rattle.gimli_line.specs.header.HeaderGrammar.{opening_production}
-use Rattle.gimli_line.specs.header.HeaderGrammar.{fields_production, header_production}
-use Rattle.gimli_build.proofs.writing.Frames.{size_4, size_8}
-use Rattle.gimli_build.proofs.writing.WrittenParts.{same_written, both_written, after_written, before_written}
-use Rattle.gimli_build.proofs.writing.WrittenParts.{counted_written}
-use Rattle.gimli_build.proofs.spellings.EncodingSpellings.{positive-spelled, encoding-spelled, version-spelled}
-use Rattle.gimli_build.proofs.spellings.EncodingSpellings.{address-spelled, offset-spelled, length-spelled}
-use Rattle.gimli_build.proofs.reading.TablesBack.{TablesBack}
+use Rattle.gimli_line.specs.header.HeaderGrammar.{
+  HeaderOpening,
+  handed_value,
+  parameters_production,
+  opening_production,
+  fields_production,
+  header_production,
+}
+use proofs.writing.WrittenParts.{both_written, after_written, before_written, counted_written}
+use proofs.spellings.EncodingSpellings.{
+  positive-spelled,
+  encoding-spelled,
+  version-spelled,
+  address-spelled,
+  offset-spelled,
+  length-spelled,
+}
+use proofs.reading.TablesBack.{TablesBack}
 
 -- ---- a unit that was written, and its parts
 
@@ -44,8 +54,7 @@ front_in_two whole front rest first second is parts = grind arith
 rest_in_three : (whole first rest header size fields last : List ℕ) → whole ≡ first ++ rest → rest ≡ header ++ last
     → header ≡ size ++ fields
     → whole ≡ first ++ ((size ++ fields) ++ last)
-rest_in_three whole first rest header size fields last is parts inner =
-    grind arith
+rest_in_three whole first rest header size fields last is parts inner = grind arith
 
 pub unit_written : (hand : Hand) (is_big : Bool) (p : Built) (texts : StringTables) (unit : List ℕ)
     → whole_bytes hand is_big p texts ≡ Ok unit → UnitWritten hand is_big p texts unit
@@ -53,7 +62,7 @@ unit_written hand is_big p texts unit is =
     let escape = escape_bytes is_big p.encoding.format in
     let word : ℕ → Result (List ℕ) Error = λ n. length_word is_big p.encoding.format n in
     let a = counted_written (λ n. result_append (Ok escape) (word n)) _ _ is in
-    let b = after_written escape _ _ a.size_is in
+    let b = after_written _ _ _ a.size_is in
     let c = both_written _ _ _ a.inside_is in
     let d = both_written _ _ _ c.rest_is in
     let e = counted_written (λ n. format_word is_big p.encoding.format n) _ _ d.first_is in
@@ -86,8 +95,7 @@ pub fields_written : (hand : Hand) (is_big : Bool) (p : Built) (texts : StringTa
     → fields_bytes hand is_big p texts ≡ Ok fields
     → FieldsWritten hand is_big p texts fields
 fields_written hand is_big p texts fields is =
-    let a =
-    both_written _ _ _ is in
+    let a = both_written _ _ _ is in
     let b = after_written opcode_bytes _ _ a.rest_is in
     record {
       encoding = a.first;
@@ -100,54 +108,29 @@ fields_written hand is_big p texts fields is =
 
 -- what is written of a unit is no longer than the unit
 pub inside-short : (hand : Hand) (is_big : Bool) (p : Built) (texts : StringTables) (unit : List ℕ)
-    (w : UnitWritten hand is_big p texts unit)
-    → length w.inside ≤ length unit
-inside-short hand is_big p texts unit w =
-    let whole = ap (λ l. length l) w.whole in
-    omega (arith, whole, length-append (escape_bytes is_big p.encoding.format ++ w.length_bytes) w.inside)
+    (w : UnitWritten hand is_big p texts unit) → length w.inside ≤ length unit
+inside-short hand is_big p texts unit w = grind (arith, length-append)
 
 -- in the 64-bit format twelve bytes stand before what the unit length counts
 length_wide : (is_big : Bool) (format : Format) (n : ℕ) (word : List ℕ) → format ≡ Dwarf64
     → length_word is_big format n ≡ Ok word
     → length (escape_bytes is_big format ++ word) ≡ 12
-length_wide is_big Dwarf32 n word wide is = absurd cc
-length_wide is_big Dwarf64 n word wide is =
-    grind (arith, length-append, size_4, same_written, size_8)
+length_wide is_big format n word wide is = grind arith
 
 inside-wide : (hand : Hand) (is_big : Bool) (p : Built) (texts : StringTables) (unit : List ℕ)
     (w : UnitWritten hand is_big p texts unit)
     → p.encoding.format ≡ Dwarf64
     → length w.inside + 12 ≡ length unit
-inside-wide hand is_big p texts unit w wide =
-    let whole = ap (λ l. length l) w.whole in
-    let front = length_wide _ _ _ _ wide w.length_is in
-    omega (arith, whole, front, length-append (escape_bytes is_big p.encoding.format ++ w.length_bytes) w.inside)
+inside-wide hand is_big p texts unit w wide = grind (arith, length_wide, length-append)
 
 pub fields-short : (hand : Hand) (is_big : Bool) (p : Built) (texts : StringTables) (unit : List ℕ)
-    (w : UnitWritten hand is_big p texts unit)
-    → length w.fields ≤ length w.inside
-fields-short hand is_big p texts unit w =
-    let whole = ap (λ l. length l) w.inside_is in
-    omega (
-      arith,
-      whole,
-      length-append w.opening ((w.size ++ w.fields) ++ w.program),
-      length-append (w.size ++ w.fields) w.program,
-      length-append w.size w.fields,
-    )
+    (w : UnitWritten hand is_big p texts unit) → length w.fields ≤ length w.inside
+fields-short hand is_big p texts unit w = grind (arith, length-append)
 
 -- the tables are no longer than the fields
 pub tables-short : (hand : Hand) (is_big : Bool) (p : Built) (texts : StringTables) (fields : List ℕ)
-    (w : FieldsWritten hand is_big p texts fields)
-    → length w.tables ≤ length fields
-tables-short hand is_big p texts fields w =
-    let whole = ap (λ l. length l) w.whole in
-    omega (
-      arith,
-      whole,
-      length-append (w.encoding ++ 13 ∷ []) (operand_counts ++ w.tables),
-      length-append operand_counts w.tables,
-    )
+    (w : FieldsWritten hand is_big p texts fields) → length w.tables ≤ length fields
+tables-short hand is_big p texts fields w = grind (arith, length-append)
 
 -- ---- the header
 
@@ -207,7 +190,7 @@ module _ (hand : Hand) (layout : OrderAndLimit) (unit_entry : UnitEntry) (sectio
         t.file_bytes,
         t.whole,
         t.directories_spelled,
-        ((t.file_formats, t.files), t.file_bytes, [], sym (append-nil t.file_bytes), t.files_spelled, (refl, refl)),
+        ((t.file_formats, t.files), t.file_bytes, [], sym (append-nil _), t.files_spelled, (refl, refl)),
       ),
     ),
   )
@@ -220,7 +203,7 @@ module _ (hand : Hand) (layout : OrderAndLimit) (unit_entry : UnitEntry) (sectio
       → (opening_production layout unit_entry.address_size p.encoding.format).Spells (opening ++ (size ++ fields))
       (opening_of fields)
   opening_spelled opening size fields same holds small opening_is size_is =
-      let address : List ℕ = if nat_le p.encoding.version 4 then [] else p.encoding.address_size ∷ 0 ∷ [] in
+      let address = if nat_le p.encoding.version 4 then [] else p.encoding.address_size ∷ 0 ∷ [] in
       let b = before_written _ _ _ opening_is in (
         p.encoding.version,
         b.front,
@@ -239,7 +222,7 @@ module _ (hand : Hand) (layout : OrderAndLimit) (unit_entry : UnitEntry) (sectio
             fields,
             refl,
             offset-spelled _ _ _ _ holds small size_is,
-            (fields, fields, [], sym (append-nil fields), (refl, refl), (refl, refl)),
+            (fields, fields, [], sym (append-nil _), (refl, refl), (refl, refl)),
           ),
         ),
       )
@@ -263,14 +246,12 @@ module _ (hand : Hand) (layout : OrderAndLimit) (unit_entry : UnitEntry) (sectio
         let fields = fields-short hand layout.is_big p texts unit w in
         let inside_held : p.encoding.format ≡ Dwarf64 → length w.inside < layout.limit = λ wide.
         (let rest = inside-wide hand layout.is_big p texts _ w wide in let lt = holds wide in
-        omega (arith, rest, lt)) in
+        omega arith) in
         let fields_held : p.encoding.format ≡ Dwarf64 → length w.fields < layout.limit = λ wide.
-        (let lt = inside_held wide in omega (arith, fields, lt)) in
-        let length_spelled =
-        length-spelled _ _ _ _ inside_held (omega (arith, inside, small)) w.length_is in
-        let opened =
-        opening_spelled _ _ _ same fields_held (omega (arith, inside, fields, small)) w.opening_is w.size_is in
-        let parted : w.inside ≡ (w.opening ++ (w.size ++ w.fields)) ++ w.program = w.inside_is
+        (let lt = inside_held wide in omega (arith, lt)) in
+        let length_spelled = length-spelled _ _ _ _ inside_held (omega arith) w.length_is in
+        let opened = opening_spelled _ _ _ same fields_held (omega arith) w.opening_is w.size_is in
+        let parted = w.inside_is
         ∙ sym (append_assoc w.opening (w.size ++ w.fields) w.program) in (
           (length w.inside, p.encoding.format),
           escape_bytes layout.is_big p.encoding.format ++ w.length_bytes,
@@ -281,7 +262,7 @@ module _ (hand : Hand) (layout : OrderAndLimit) (unit_entry : UnitEntry) (sectio
             w.inside,
             w.inside,
             [],
-            sym (append-nil w.inside),
+            sym (append-nil _),
             (refl, refl),
             (
               (opening_of w.fields, w.program),
@@ -289,7 +270,7 @@ module _ (hand : Hand) (layout : OrderAndLimit) (unit_entry : UnitEntry) (sectio
               [],
               refl,
               (refl, (w.opening ++ (w.size ++ w.fields), parted, opened)),
-              ((header, []), [], [], refl, (refl, (w.fields, sym (append-nil w.fields), unit_fields)), (refl, refl)),
+              ((header, []), [], [], refl, (refl, (w.fields, sym (append-nil _), unit_fields)), (refl, refl)),
             ),
           ),
         )
@@ -297,15 +278,7 @@ module _ (hand : Hand) (layout : OrderAndLimit) (unit_entry : UnitEntry) (sectio
     unit_parts : unit
         ≡ ((escape_bytes layout.is_big p.encoding.format ++ w.length_bytes) ++ (w.opening ++ w.size)) ++ w.fields
         ++ w.program
-    unit_parts =
-        let front = escape_bytes layout.is_big p.encoding.format ++ w.length_bytes in
-        let inner : w.inside ≡ ((w.opening ++ w.size) ++ w.fields) ++ w.program =
-        w.inside_is ∙ sym (append_assoc w.opening (w.size ++ w.fields) w.program)
-        ∙ ap (λ l. l ++ w.program) (sym (append_assoc w.opening w.size w.fields)) in
-        w.whole
-        ∙ ap (λ l. front ++ l) inner
-        ∙ sym (append_assoc front ((w.opening ++ w.size) ++ w.fields) w.program)
-        ∙ ap (λ l. l ++ w.program) (sym (append_assoc front (w.opening ++ w.size) w.fields))
+    unit_parts = grind (arith, append_assoc)
 
     pub unit-is : IsUnit layout unit_entry unit (header_of v.tables t (length w.inside) (length w.fields) w.program)
     unit-is = record {

@@ -5,7 +5,7 @@ use Common.{IsTrue, ℕ, Bool, List, [], Ok, Err, refl, sym, ap, ◌∙◌, appe
 use Common.{append-nil, take-suc, Result, Encoding, LineEncoding, Hand, Placement, plain, Begins, Appends, Error}
 use Common.{Ghosts, LineRow, BuiltItem, SetAddress, Row, End, CanEncode, IsPosition, AreBuilt, result_append, Writes}
 use Common.{item_bytes, items_bytes, next_previous, FitsItem, AreFit}
-use Rattle.gimli_build.proofs.reading.ItemRuns.{start_position}
+use Rattle.gimli_build.proofs.reading.EventsBack.{start_position}
 use Rattle.gimli_build.proofs.writing.Joined.{appended_bytes, joined-joined, begins_self, begins_then}
 
 -- these bytes stand for the items so far, and those are left

@@ -1,10 +1,11 @@
 -- What the calls of a builder ask.
-use Rattle.gimli_build.specs.Prelude.{false, All}
-use Rattle.gimli_build.specs.Tables.{AreTables, keys_of}
-use Rattle.gimli_build.specs.inside.Tables.{FitsFile}
-use Rattle.gimli_build.specs.Built.{Built}
-use Rattle.gimli_build.specs.Items.{AreFit}
-use Rattle.gimli_build.specs.Conditions.{IsProgram}
+use Rattle.gimli_build.specs
+use specs.Prelude.{false, All}
+use specs.Tables.{AreTables, keys_of}
+use specs.inside.Tables.{FitsFile}
+use specs.Built.{Built}
+use specs.Items.{AreFit}
+use specs.Conditions.{IsProgram}
 
 -- what a program is that isn't none, with what its types say
 pub record IsBuilt (p : Built) : Type 0 where

@@ -1,8 +1,9 @@
 -- The formats of a table, where some aren't due.
-use Rattle.gimli_build.specs.Prelude.{ℕ, List, Bool, flat_map}
+use Rattle.gimli_build.specs
+use specs.Prelude.{ℕ, List, Bool, flat_map}
 use Rattle.gimli_core.specs.declared.constants.DwForm.{DwForm}
 use Rattle.gimli_core.specs.declared.constants.DwLnct.{DwLnct}
-use Rattle.gimli_build.specs.Due.{when}
+use specs.Due.{when}
 
 -- a content type and a form, each where it is due
 abbrev pub due_formats : List (Bool × DwLnct × DwForm) → List (ℕ × ℕ)

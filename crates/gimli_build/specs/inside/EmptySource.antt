@@ -1,10 +1,11 @@
 -- What a unit is written from, and the text that stands for the source of a file that has none.
 use Rattle.std.specs.Prelude.{◌≡◌}
-use Rattle.gimli_build.specs.Prelude.{true, StringTables}
-use Rattle.gimli_build.specs.LineText.{LineText, IsWithin}
-use Rattle.gimli_build.specs.Built.{Built}
-use Rattle.gimli_build.specs.Conditions.{CanWrite}
-use Rattle.gimli_build.specs.Version5Tables.{first_form, sources, needs_empty, empty_text}
+use Rattle.gimli_build.specs
+use specs.Prelude.{true, StringTables}
+use specs.LineText.{LineText, IsWithin}
+use specs.Built.{Built}
+use specs.Conditions.{CanWrite}
+use specs.Version5Tables.{first_form, sources, needs_empty, empty_text}
 
 -- it is the empty text in the form of the other sources, and is in these tables
 pub record IsEmptySource (p : Built) (texts : StringTables) (t : LineText) : Type 0 where

@@ -1,10 +1,11 @@
 -- What the tables end as, once a `&mut` to the details of a file has ended.
-use Rattle.gimli_build.specs.Prelude.{ℕ, Lends, MutBor, Fml}
-use Rattle.gimli_build.specs.Tables.{Tables, with_details}
-use Rattle.gimli_build.specs.TableFields.{details}
-use Rattle.gimli_build.specs.declared.built.files.FileInfo.{FileInfo}
-use Rattle.gimli_build.specs.contracts.built.files.FileTable.{the_row}
-use Rattle.gimli_build.specs.contracts.built.files.FileInfo.{the_row as info_row}
+use Rattle.gimli_build.specs
+use specs.Prelude.{ℕ, Lends, MutBor, Fml}
+use specs.Tables.{Tables, with_details}
+use specs.TableFields.{details}
+use specs.declared.built.files.FileInfo.{FileInfo}
+use specs.contracts.built.files.FileTable.{the_row}
+use specs.contracts.built.files.FileInfo.{the_row as info_row}
 
 -- the tables end with the details that were last written through r
 abbrev pub lends_details : MutBor Tables → ℕ → MutBor FileInfo → Fml

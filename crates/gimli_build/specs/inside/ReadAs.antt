@@ -1,8 +1,9 @@
 -- The instructions of the encoder, as the reading half has them.
 use Rattle.gimli_line.specs.declared.run.instruction.LineInstruction.TheVariants as read
-use Rattle.gimli_build.specs.Prelude.{Ins}
-use Rattle.gimli_build.specs.declared.rows.instruction.LineInstruction.{LineInstruction}
-use Rattle.gimli_build.specs.declared.rows.instruction.LineInstruction.TheVariants.{
+use Rattle.gimli_build.specs
+use specs.Prelude.{Ins}
+use specs.declared.rows.instruction.LineInstruction.{LineInstruction}
+use specs.declared.rows.instruction.LineInstruction.TheVariants.{
   Special,
   Copy,
   AdvancePc,

@@ -1,10 +1,11 @@
 -- The fields of the tables of a line program, as lists.
-use Rattle.gimli_build.specs.Prelude.{ℕ, List, map}
-use Rattle.gimli_build.specs.LineText.{LineText, line_text}
-use Rattle.gimli_build.specs.Tables.{FileKey, File}
-use Rattle.gimli_build.specs.declared.built.line_string.LineString.{LineString}
-use Rattle.gimli_build.specs.declared.built.files.FileInfo.{FileInfo}
-use Rattle.gimli_build.specs.TableFields.{details}
+use Rattle.gimli_build.specs
+use specs.Prelude.{ℕ, List, map}
+use specs.LineText.{LineText, line_text}
+use specs.Tables.{FileKey, File}
+use specs.declared.built.line_string.LineString.{LineString}
+use specs.declared.built.files.FileInfo.{FileInfo}
+use specs.TableFields.{details}
 
 abbrev pub key : LineString × ℕ → FileKey
 key k = (line_text k.0, k.1)

@@ -1,7 +1,8 @@
 -- The directories and the files of a line program, as lists.
 use Rattle.std.specs.Prelude.{◌≡◌, ◌<◌, ◌^◌}
-use Rattle.gimli_build.specs.Prelude.{length}
-use Rattle.gimli_build.specs.Tables.{File}
+use Rattle.gimli_build.specs
+use specs.Prelude.{length}
+use specs.Tables.{File}
 
 -- 64 bits hold the numbers of a file, and a digest has sixteen bytes, as in any program
 pub record FitsFile (f : File) : Type 0 where

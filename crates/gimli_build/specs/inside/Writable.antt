@@ -1,7 +1,8 @@
 -- The part of what `write` requires that is asked of each file.
-use Rattle.gimli_build.specs.Prelude.{Bool, IsTrue, IfSome, StringTables}
-use Rattle.gimli_build.specs.LineText.{LineText, IsWithin, HasNoZero}
-use Rattle.gimli_build.specs.Tables.{Details}
+use Rattle.gimli_build.specs
+use specs.Prelude.{Bool, IsTrue, IfSome, StringTables}
+use specs.LineText.{LineText, IsWithin, HasNoZero}
+use specs.Tables.{Details}
 
 -- its path and its source are in these tables, and a source that is written has no zero byte
 pub record IsFileWritable (writes_sources : Bool) (texts : StringTables) (name : LineText)

@@ -2,8 +2,7 @@
 use Rattle.std.specs.Prelude.{◌≡◌, ◌⊎◌}
 use Rattle.gimli_build.specs.Prelude
 use Prelude.{ℕ, List, Result, Err, IsTrue, OnOk, IfErr, Hand, Placement, plain, Begins, Appends}
-use Prelude.{Error, OutOfMemory}
-use Prelude.{Ghosts}
+use Prelude.{Error, OutOfMemory, Ghosts}
 
 -- the same wanted of each hand: bytes that no linker changes
 abbrev pub always : Result (List ℕ) Error → Hand → Result (List ℕ) Error

@@ -1,7 +1,7 @@
-use Rattle.gimli_build.proofs.reading.RowRuns.{end-runs}
-use Rattle.gimli_build.proofs.laws.end_runs.Goals as goal
+use Rattle.gimli_build.proofs
+use proofs.reading.RowRuns.{end-runs}
+use proofs.laws.end_runs.Goals as goal
 
 pub returns : goal.returns
-returns c = λ here o i way next.
-    end-runs here.encoding here.line_encoding _ here.previous o i way.accepts.address_size way.accepts.lines
+returns c = λ here o i way next. end-runs here.encoding _ _ here.previous _ _ way.accepts.address_size way.accepts.lines
     way.position next.follows next.address

@@ -1,8 +1,9 @@
-use Rattle.gimli_build.proofs.reading.ItemRuns.{items-run}
-use Rattle.gimli_build.proofs.laws.items_run.Goals as goal
+use Rattle.gimli_build.proofs
+use proofs.reading.EventsBack.{items-run}
+use proofs.laws.items_run.Goals as goal
 
 pub returns : goal.returns
 returns c = λ here items way next.
-    items-run here.encoding here.line_encoding way.accepts.address_size way.accepts.lines next.version _ _ _
+    items-run here.encoding _ way.accepts.address_size way.accepts.lines next.version _ _ _
     way.position
     next.line_before next.built next.addresses

@@ -1,10 +1,9 @@
-use Rattle.gimli_build.proofs.sizes.RowSizes.{one_byte, two_bytes}
-use Rattle.gimli_build.proofs.laws.moving_rows_are_short.Goals as goal
+use Rattle.gimli_build.proofs
+use proofs.sizes.RowSizes.{one_byte, two_bytes}
+use proofs.laws.moving_rows_are_short.Goals as goal
 
 pub returns : goal.returns
 returns c = record {
-  one = λ here r move has. one_byte here.encoding here.line_encoding here.previous r move.encode move.only has;
-  two =
-      λ here r move has.
-      two_bytes here.encoding here.line_encoding here.previous r move.encode move.only _ has.is has.special;
+  one = λ here r move has. one_byte _ _ here.previous r move.encode move.only has;
+  two = λ here r move has. two_bytes _ _ here.previous r move.encode move.only _ has.is has.special;
 }

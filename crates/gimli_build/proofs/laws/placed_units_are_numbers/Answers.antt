@@ -1,8 +1,6 @@
-use Rattle.gimli_build.proofs.linking.PlacedUnits.{placed-counted, placed-plain}
-use Rattle.gimli_build.proofs.laws.placed_units_are_numbers.Goals as goal
+use Rattle.gimli_build.proofs
+use proofs.linking.PlacedUnits.{placed-counted, placed-plain}
+use proofs.laws.placed_units_are_numbers.Goals as goal
 
 pub returns : goal.returns
-returns c = record {
-  counted = placed-counted;
-  plain = placed-plain;
-}
+returns c = record { counted = placed-counted; plain = placed-plain }

@@ -1,5 +1,6 @@
-use Rattle.gimli_build.proofs.sizes.RowSizes.{row_short}
-use Rattle.gimli_build.proofs.laws.rows_are_short.Goals as goal
+use Rattle.gimli_build.proofs
+use proofs.sizes.RowSizes.{row_short}
+use proofs.laws.rows_are_short.Goals as goal
 
 pub returns : goal.returns
 returns c = λ here r. row_short _ here.line_encoding here.previous r

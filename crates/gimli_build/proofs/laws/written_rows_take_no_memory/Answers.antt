@@ -1,11 +1,11 @@
-use Rattle.gimli_build.proofs.Common.{initial_row}
-use Rattle.gimli_build.proofs.reading.NoFiles.{items-none, starts-none, goes-none, refused-none}
-use Rattle.gimli_build.proofs.laws.written_rows_take_no_memory.Goals as goal
+use Rattle.gimli_build.proofs
+use proofs.Common.{initial_row}
+use proofs.reading.NoFiles.{items-none, starts-none, goes-none, refused-none}
+use proofs.laws.written_rows_take_no_memory.Goals as goal
 
 pub returns : goal.returns
 returns c = record {
-  start = λ source h p decodes appends.
-      starts-none _ h appends _ decodes
+  start = λ source h p decodes appends. starts-none _ _ _ _ decodes
       (items-none p.encoding.version p.line_encoding (initial_row p.encoding.version p.line_encoding.default_is_stmt)
       p.items);
   goes = goes-none;

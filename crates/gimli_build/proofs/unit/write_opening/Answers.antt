@@ -1,5 +1,6 @@
-use Rattle.gimli_build.proofs.writing.Writes.{first_unwritten, passed_on}
-use Rattle.gimli_build.proofs.unit.write_opening.Goals as goal
+use Rattle.gimli_build.proofs
+use proofs.writing.Writes.{first_unwritten, passed_on}
+use proofs.unit.write_opening.Goals as goal
 
 pub returns-in_err-write_version : goal.returns-in_err-write_version
 returns-in_err-write_version g c =

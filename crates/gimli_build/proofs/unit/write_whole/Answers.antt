@@ -1,11 +1,12 @@
 use Rattle.std.specs.Prelude.{◌≡◌, ◌-◌, ◌<◌, ◌^◌, ◌++◌}
-use Rattle.gimli_build.proofs.Common
+use Rattle.gimli_build.proofs
+use proofs.Common
 use Common.{ℕ, List, length, Ok, refl, sym, ap, ◌∙◌, arith, append_assoc, length_word, open_length, result_append}
 use Common.{escape_bytes}
-use Rattle.gimli_build.proofs.writing.Joined.{on_ok}
-use Rattle.gimli_build.proofs.linking.Lengths.{patched_length}
-use Rattle.gimli_build.proofs.writing.Frames.{counted_written, open_word, escape_is, escape_long, length_word_long}
-use Rattle.gimli_build.proofs.unit.write_whole.Goals as goal
+use proofs.writing.Joined.{on_ok}
+use proofs.linking.Lengths.{patched_length}
+use proofs.writing.Frames.{counted_written, open_word, escape_is, escape_long, length_word_long}
+use proofs.unit.write_whole.Goals as goal
 
 pub returns-clause-writes : goal.returns-clause-writes
 returns-clause-writes g c =

@@ -1,6 +1,6 @@
 use Rattle.std.specs.Prelude.{◌≡◌, ◌<◌}
 use Rattle.gimli_build.proofs.Common.{ℕ, ap, length, ◌∙◌, arith, at_position, next_previous}
-use Rattle.gimli_build.proofs.reading.ItemRuns.{start_position}
+use Rattle.gimli_build.proofs.reading.EventsBack.{start_position}
 use Rattle.gimli_build.proofs.writing.ItemsWritten.{taken_next, fit_more, way_on, none_standing, written_more}
 use Rattle.gimli_build.proofs.writing.Joined.{next_left}
 use Rattle.gimli_build.proofs.rows.encode.write_items.Goals as goal

@@ -1,6 +1,7 @@
-use Rattle.gimli_build.proofs.Common.{err_from_is_err_and, drop-map, line_text}
-use Rattle.gimli_build.proofs.writing.Writes.{first_unwritten, joins}
-use Rattle.gimli_build.proofs.tables.version_4.write_directories.Goals as goal
+use Rattle.gimli_build.proofs
+use proofs.Common.{err_from_is_err_and, drop-map, line_text}
+use proofs.writing.Writes.{first_unwritten, joins}
+use proofs.tables.version_4.write_directories.Goals as goal
 
 pub returns-in_err-write_names : goal.returns-in_err-write_names
 returns-in_err-write_names g c =
@@ -9,6 +10,5 @@ returns-in_err-write_names g c =
     (first_unwritten _ (rw c.others.ensures at c.in_err-write_names.ensures))
 
 pub returns : goal.returns
-returns g c =
-    rw (drop-map line_text 1 c.args.directories.now)
+returns g c = rw (drop-map line_text 1 c.args.directories.now)
     (joins (rw c.others.ensures at c.in_ok-write_names.ensures) c.write_byte.ensures)

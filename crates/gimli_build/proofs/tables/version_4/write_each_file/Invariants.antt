@@ -1,6 +1,7 @@
-use Rattle.gimli_build.proofs.Common.{drop, take, All, Hand, FitsFile, file_bytes}
-use Rattle.gimli_build.proofs.writing.Writes.{WritesSoFar}
-use Rattle.gimli_build.proofs.tables.version_4.write_each_file.Given as goal
+use Rattle.gimli_build.proofs
+use proofs.Common.{drop, take, All, Hand, FitsFile, file_bytes}
+use proofs.writing.Writes.{WritesSoFar}
+use proofs.tables.version_4.write_each_file.Given as goal
 
 abbrev pub invariant-loop-index : goal.invariant-loop-index
 invariant-loop-index g l = record {

@@ -1,5 +1,6 @@
-use Rattle.gimli_build.proofs.writing.Writes.{first_unwritten, joins, passed_on}
-use Rattle.gimli_build.proofs.tables.version_4.write_file.Goals as goal
+use Rattle.gimli_build.proofs
+use proofs.writing.Writes.{first_unwritten, joins, passed_on}
+use proofs.tables.version_4.write_file.Goals as goal
 
 pub returns-clause-writes : goal.returns-clause-writes
 returns-clause-writes g c = joins c.in_ok-write_name.ensures c.write_numbers.ensures.writes

@@ -1,5 +1,6 @@
-use Rattle.gimli_build.proofs.writing.Writes.{first_unwritten, joins, passed_on}
-use Rattle.gimli_build.proofs.tables.version_4.write_files.Goals as goal
+use Rattle.gimli_build.proofs
+use proofs.writing.Writes.{first_unwritten, joins, passed_on}
+use proofs.tables.version_4.write_files.Goals as goal
 
 pub returns-in_err-write_each_file-clause-writes : goal.returns-in_err-write_each_file-clause-writes
 returns-in_err-write_each_file-clause-writes g c =

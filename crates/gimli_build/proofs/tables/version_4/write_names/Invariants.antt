@@ -1,6 +1,7 @@
-use Rattle.gimli_build.proofs.Common.{drop, map, Hand, line_text, name_bytes}
-use Rattle.gimli_build.proofs.writing.Writes.{WritesSoFar}
-use Rattle.gimli_build.proofs.tables.version_4.write_names.Given as goal
+use Rattle.gimli_build.proofs
+use proofs.Common.{drop, map, Hand, line_text, name_bytes}
+use proofs.writing.Writes.{WritesSoFar}
+use proofs.tables.version_4.write_names.Given as goal
 
 abbrev pub invariant-loop-name : goal.invariant-loop-name
 invariant-loop-name g l = record {

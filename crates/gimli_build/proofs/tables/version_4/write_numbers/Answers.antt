@@ -1,5 +1,6 @@
-use Rattle.gimli_build.proofs.writing.Writes.{joins, writes}
-use Rattle.gimli_build.proofs.tables.version_4.write_numbers.Goals as goal
+use Rattle.gimli_build.proofs
+use proofs.writing.Writes.{joins, writes}
+use proofs.tables.version_4.write_numbers.Goals as goal
 
 pub returns-clause-writes : goal.returns-clause-writes
 returns-clause-writes g c =

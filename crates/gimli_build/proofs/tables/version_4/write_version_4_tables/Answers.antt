@@ -1,5 +1,6 @@
-use Rattle.gimli_build.proofs.writing.Writes.{first_unwritten, joins, passed_on}
-use Rattle.gimli_build.proofs.tables.version_4.write_version_4_tables.Goals as goal
+use Rattle.gimli_build.proofs
+use proofs.writing.Writes.{first_unwritten, joins, passed_on}
+use proofs.tables.version_4.write_version_4_tables.Goals as goal
 
 pub returns-clause-writes : goal.returns-clause-writes
 returns-clause-writes g c =
@@ -7,6 +8,5 @@ returns-clause-writes g c =
     joins first c.write_files.ensures.writes
 
 pub returns-in_err-write_directories-clause-writes : goal.returns-in_err-write_directories-clause-writes
-returns-in_err-write_directories-clause-writes g c =
-    passed_on c.from_residual.ensures.1
+returns-in_err-write_directories-clause-writes g c = passed_on c.from_residual.ensures.1
     (first_unwritten _ (rw c.directories.ensures at c.in_err-write_directories.ensures))

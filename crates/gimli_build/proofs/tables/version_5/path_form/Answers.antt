@@ -1,8 +1,7 @@
-use Rattle.gimli_build.proofs.Common.{◌∙◌, line_text, File, details}
-use Rattle.gimli_build.proofs.building.SourceLemmas.{first_path}
-use Rattle.gimli_build.proofs.tables.version_5.path_form.Goals as goal
+use Rattle.gimli_build.proofs
+use proofs.Common.{◌∙◌}
+use proofs.building.SourceLemmas.{first_path}
+use proofs.tables.version_5.path_form.Goals as goal
 
 pub returns : goal.returns
-returns c =
-    let file : File = ((line_text c.file.result.0.now, c.file.result.1), details c.file.result.2.now) in
-    c.form.ensures ∙ first_path _ _ c.file.ensures
+returns c = c.form.ensures ∙ first_path _ _ c.file.ensures

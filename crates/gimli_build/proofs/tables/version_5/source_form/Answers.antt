@@ -1,7 +1,8 @@
 use Rattle.std.specs.Prelude.{◌≡◌}
-use Rattle.gimli_build.proofs.Common.{Some, None, option_map, ap, ◌∙◌, line_text, File, details}
-use Rattle.gimli_build.proofs.building.SourceLemmas.{source_found, source_passed}
-use Rattle.gimli_build.proofs.tables.version_5.source_form.Goals as goal
+use Rattle.gimli_build.proofs
+use proofs.Common.{Some, None, option_map, ap, ◌∙◌, line_text, File, details}
+use proofs.building.SourceLemmas.{source_found, source_passed}
+use proofs.tables.version_5.source_form.Goals as goal
 
 pub returns-in-Some : goal.returns-in-Some
 returns-in-Some c =

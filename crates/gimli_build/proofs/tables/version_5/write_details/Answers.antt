@@ -1,5 +1,6 @@
-use Rattle.gimli_build.proofs.writing.Writes.{passed_on, joins, unwritten, writes}
-use Rattle.gimli_build.proofs.tables.version_5.write_details.Goals as goal
+use Rattle.gimli_build.proofs
+use proofs.writing.Writes.{passed_on, joins, unwritten, writes}
+use proofs.tables.version_5.write_details.Goals as goal
 
 pub returns-in_err-write_number_if-clause-writes : goal.returns-in_err-write_number_if-clause-writes
 returns-in_err-write_number_if-clause-writes g c =

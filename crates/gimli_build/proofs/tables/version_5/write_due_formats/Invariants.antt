@@ -1,6 +1,7 @@
-use Rattle.gimli_build.proofs.Common.{take, Ok, Writes, always}
-use Rattle.gimli_build.proofs.building.FormatLemmas.{due_bytes}
-use Rattle.gimli_build.proofs.tables.version_5.write_due_formats.Given as goal
+use Rattle.gimli_build.proofs
+use proofs.Common.{take, Ok, Writes, always}
+use proofs.building.FormatLemmas.{due_bytes}
+use proofs.tables.version_5.write_due_formats.Given as goal
 
 abbrev pub invariant-loop-index : goal.invariant-loop-index
 invariant-loop-index g l = record {

@@ -1,6 +1,7 @@
-use Rattle.gimli_build.proofs.Common.{drop, take, All, Hand, FitsFile, file_entry_bytes}
-use Rattle.gimli_build.proofs.writing.Writes.{WritesSoFar}
-use Rattle.gimli_build.proofs.tables.version_5.write_file_entries.Given as goal
+use Rattle.gimli_build.proofs
+use proofs.Common.{drop, take, All, Hand, FitsFile, file_entry_bytes}
+use proofs.writing.Writes.{WritesSoFar}
+use proofs.tables.version_5.write_file_entries.Given as goal
 
 abbrev pub invariant-loop-index : goal.invariant-loop-index
 invariant-loop-index g l = record {

@@ -1,7 +1,8 @@
-use Rattle.gimli_build.proofs.Common.{ap, ◌∙◌, List, All-contains, IsWithin, IfSome, File, first_form, path_texts}
-use Rattle.gimli_build.proofs.building.SourceLemmas.{needs-empty}
-use Rattle.gimli_build.proofs.writing.Writes.{first_unwritten, joins, passed_on}
-use Rattle.gimli_build.proofs.tables.version_5.write_file_entry.Goals as goal
+use Rattle.gimli_build.proofs
+use proofs.Common.{ap, ◌∙◌, All-contains, IsWithin, IfSome, first_form, path_texts}
+use proofs.building.SourceLemmas.{needs-empty}
+use proofs.writing.Writes.{first_unwritten, joins, passed_on}
+use proofs.tables.version_5.write_file_entry.Goals as goal
 
 pub write_line_string-requires : goal.write_line_string-requires
 write_line_string-requires g c =
@@ -18,7 +19,7 @@ write_source-requires-clause-none g c = needs-empty c.args.input.now.program _ c
 pub returns-clause-writes : goal.returns-clause-writes
 returns-clause-writes g c =
     let files = c.tables.ensures.files ∙ ap (λ q. q.files) c.program-program.ensures.program in
-    let form = c.path_form.ensures ∙ ap (λ (files : List File). first_form (path_texts files)) files in
+    let form = c.path_form.ensures ∙ ap (λ files. first_form (path_texts files)) files in
     let first = rw form at c.in_ok-write_line_string.ensures in
     let second = rw c.program-program.ensures.program at c.in_ok-write_details.ensures.writes in
     let third = rw (second.ordered ∙ first.ordered) at c.write_source.ensures in
@@ -27,7 +28,7 @@ returns-clause-writes g c =
 pub returns-in_err-write_details-clause-writes : goal.returns-in_err-write_details-clause-writes
 returns-in_err-write_details-clause-writes g c =
     let files = c.tables.ensures.files ∙ ap (λ q. q.files) c.program-program.ensures.program in
-    let form = c.path_form.ensures ∙ ap (λ (files : List File). first_form (path_texts files)) files in
+    let form = c.path_form.ensures ∙ ap (λ files. first_form (path_texts files)) files in
     let first = rw form at c.in_ok-write_line_string.ensures in
     passed_on c.from_residual-in_err-write_details.ensures.1
     (joins first (first_unwritten _ (rw c.program-program.ensures.program at c.in_err-write_details.ensures.writes)))

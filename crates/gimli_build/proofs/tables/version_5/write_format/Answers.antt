@@ -1,5 +1,6 @@
-use Rattle.gimli_build.proofs.writing.Writes.{joins, writes}
-use Rattle.gimli_build.proofs.tables.version_5.write_format.Goals as goal
+use Rattle.gimli_build.proofs
+use proofs.writing.Writes.{joins, writes}
+use proofs.tables.version_5.write_format.Goals as goal
 
 pub returns : goal.returns
 returns g c =

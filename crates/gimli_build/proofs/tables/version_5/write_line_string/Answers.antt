@@ -1,6 +1,7 @@
 use Rattle.std.specs.Prelude.{◌≡◌}
-use Rattle.gimli_build.proofs.Common.{rules, true, nat_eq, line_text, text_form}
-use Rattle.gimli_build.proofs.tables.version_5.write_line_string.Goals as goal
+use Rattle.gimli_build.proofs
+use proofs.Common.{rules, true, nat_eq, line_text, text_form}
+use proofs.tables.version_5.write_line_string.Goals as goal
 
 pub returns-in-String : goal.returns-in-String
 returns-in-String g c =

@@ -1,8 +1,9 @@
 use Rattle.std.specs.Prelude.{◌≡◌}
-use Rattle.gimli_build.proofs.Common
+use Rattle.gimli_build.proofs
+use proofs.Common
 use Common.{rules, true, Some, None, refl, ◌∙◌, Option, unwrap_or, IfSome, LineText, line_text, IsWithin, details}
 use Common.{first_form, sources, empty_text}
-use Rattle.gimli_build.proofs.tables.version_5.write_source.Goals as goal
+use proofs.tables.version_5.write_source.Goals as goal
 
 stands : (source : Option LineText) (t e : LineText) → (source ≡ None → t ≡ e) → unwrap_or source t ≡ unwrap_or source e
 stands (Some s) t e same = refl

@@ -1,8 +1,9 @@
 use Rattle.std.specs.Prelude.{◌<◌}
-use Rattle.gimli_build.proofs.Common.{length, arith, line_text, IsWithin}
-use Rattle.gimli_build.proofs.writing.Joined.{next_seen, all_seen}
-use Rattle.gimli_build.proofs.writing.Writes.{one_written, one_unwritten, passed_on}
-use Rattle.gimli_build.proofs.tables.version_5.write_texts.Goals as goal
+use Rattle.gimli_build.proofs
+use proofs.Common.{length, arith, IsWithin}
+use proofs.writing.Joined.{next_seen, all_seen}
+use proofs.writing.Writes.{one_written, one_unwritten, passed_on}
+use proofs.tables.version_5.write_texts.Goals as goal
 
 pub write_line_string-requires : goal.write_line_string-requires
 write_line_string-requires g c =
@@ -17,7 +18,7 @@ returns-in_err-write_line_string g c =
     let text = c.text-item.result in
     let i = c.loop-text.text-index in
     let lt : i < length texts = omega arith in
-    let so = rw (next_seen line_text _ i _ lt c.text-item.is) at c.loop-text.invariant.so in
+    let so = rw (next_seen _ _ _ _ lt c.text-item.is) at c.loop-text.invariant.so in
     let refused = rw c.loop-text.invariant.so.ordered at c.in_err-write_line_string.ensures in
     passed_on c.from_residual.ensures.1 (one_unwritten so refused)
 
@@ -27,5 +28,5 @@ loop-text-preserved g c =
     let text = c.text-item.result in
     let i = c.loop-text.text-index in
     let lt : i < length texts = omega arith in
-    let so = rw (next_seen line_text _ i _ lt c.text-item.is) at c.loop-text.invariant.so in
+    let so = rw (next_seen _ _ _ _ lt c.text-item.is) at c.loop-text.invariant.so in
     record { so = one_written so (rw c.loop-text.invariant.so.ordered at c.in_ok-write_line_string.ensures) }

@@ -1,6 +1,7 @@
-use Rattle.gimli_build.proofs.Common.{drop, map, Hand, line_text, text_in_form}
-use Rattle.gimli_build.proofs.writing.Writes.{WritesSoFar}
-use Rattle.gimli_build.proofs.tables.version_5.write_texts.Given as goal
+use Rattle.gimli_build.proofs
+use proofs.Common.{drop, map, Hand, line_text, text_in_form}
+use proofs.writing.Writes.{WritesSoFar}
+use proofs.tables.version_5.write_texts.Given as goal
 
 abbrev pub invariant-loop-text : goal.invariant-loop-text
 invariant-loop-text g l = record {

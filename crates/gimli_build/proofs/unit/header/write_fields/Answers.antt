@@ -1,11 +1,11 @@
-use Rattle.gimli_build.proofs.Common.{◌∙◌}
-use Rattle.gimli_build.proofs.writing.Writes.{first_unwritten, joins, writes, passed_on}
-use Rattle.gimli_build.proofs.unit.header.write_fields.Goals as goal
+use Rattle.gimli_build.proofs
+use proofs.Common.{◌∙◌}
+use proofs.writing.Writes.{first_unwritten, joins, writes, passed_on}
+use proofs.unit.header.write_fields.Goals as goal
 
 pub returns-clause-writes : goal.returns-clause-writes
 returns-clause-writes g c =
-    let first =
-    rw (c.version.ensures, c.line_encoding.ensures, c.program-program.ensures.program) at
+    let first = rw (c.version.ensures, c.line_encoding.ensures, c.program-program.ensures.program) at
     c.in_ok-write_line_encoding.ensures in
     let put = c.in_ok-write.ensures in
     let second = writes _ put in
@@ -14,7 +14,6 @@ returns-clause-writes g c =
 
 pub returns-in_err-write_line_encoding-clause-writes : goal.returns-in_err-write_line_encoding-clause-writes
 returns-in_err-write_line_encoding-clause-writes g c =
-    let refused =
-    rw (c.version.ensures, c.line_encoding.ensures, c.program-program.ensures.program) at
+    let refused = rw (c.version.ensures, c.line_encoding.ensures, c.program-program.ensures.program) at
     c.in_err-write_line_encoding.ensures in
     passed_on c.from_residual.ensures.1 (first_unwritten _ refused)

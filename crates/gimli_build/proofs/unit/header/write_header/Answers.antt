@@ -1,9 +1,9 @@
 use Rattle.std.specs.Prelude.{◌≡◌, ◌-◌, ◌<◌, ◌^◌, ◌++◌}
-use Rattle.gimli_build.proofs.Common.{ℕ, List, sym, ap, ◌∙◌, arith, Result, append-nil, Error, format_word}
-use Rattle.gimli_build.proofs.writing.Frames.{counted_written, open_word, word_is, zero_word, no_escape}
-use Rattle.gimli_build.proofs.writing.Frames.{header_word_long}
-use Rattle.gimli_build.proofs.writing.Writes.{counted_unwritten, passed_on}
-use Rattle.gimli_build.proofs.unit.header.write_header.Goals as goal
+use Rattle.gimli_build.proofs
+use proofs.Common.{ℕ, List, sym, ap, ◌∙◌, arith, Result, append-nil, Error, format_word}
+use proofs.writing.Frames.{counted_written, open_word, word_is, zero_word, no_escape, header_word_long}
+use proofs.writing.Writes.{counted_unwritten, passed_on}
+use proofs.unit.header.write_header.Goals as goal
 
 pub returns-clause-writes : goal.returns-clause-writes
 returns-clause-writes g c =

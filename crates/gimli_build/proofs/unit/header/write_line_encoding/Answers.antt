@@ -1,8 +1,9 @@
 use Rattle.std.specs.Prelude.{◌≡◌, ◌∷◌}
-use Rattle.gimli_build.proofs.Common.{[], rules, flag_byte}
+use Rattle.gimli_build.proofs
+use proofs.Common.{[], rules, flag_byte}
 use Rattle.gimli_build.specs.Unit.{base_byte}
-use Rattle.gimli_build.proofs.writing.Writes.{first_unwritten, joins, writes, passed_on}
-use Rattle.gimli_build.proofs.unit.header.write_line_encoding.Goals as goal
+use proofs.writing.Writes.{first_unwritten, joins, writes, passed_on}
+use proofs.unit.header.write_line_encoding.Goals as goal
 
 pub returns : goal.returns
 unfolding base_byte
@@ -19,6 +20,5 @@ pub returns-in_err-write_byte : goal.returns-in_err-write_byte
 returns-in_err-write_byte g c = passed_on c.from_residual.ensures.1 (first_unwritten _ c.in_err-write_byte.ensures)
 
 pub returns-in_err-write_operation_count : goal.returns-in_err-write_operation_count
-returns-in_err-write_operation_count g c =
-    passed_on c.from_residual-in_err-write_operation_count.ensures.1
+returns-in_err-write_operation_count g c = passed_on c.from_residual-in_err-write_operation_count.ensures.1
     (joins c.in_ok-write_byte.ensures (first_unwritten _ c.in_err-write_operation_count.ensures))

@@ -1,6 +1,7 @@
 use Rattle.std.specs.Prelude.{◌≡◌}
-use Rattle.gimli_build.proofs.Common.{rules, true, nat_le}
-use Rattle.gimli_build.proofs.unit.header.write_tables.Goals as goal
+use Rattle.gimli_build.proofs
+use proofs.Common.{rules, true, nat_le}
+use proofs.unit.header.write_tables.Goals as goal
 
 pub returns-then-version-le4-clause-writes : goal.returns-then-version-le4-clause-writes
 returns-then-version-le4-clause-writes g c =

@@ -1,7 +1,7 @@
-use Rattle.gimli_build.proofs.Common.{refl, texts_in, line_text, File, details, IsFileWritable}
-use Rattle.gimli_build.proofs.writing.Joined.{next_at}
-use Rattle.gimli_build.proofs.writing.Joined.{all_passed}
-use Rattle.gimli_build.proofs.unit.writable.are_files_writable.Goals as goal
+use Rattle.gimli_build.proofs
+use proofs.Common.{refl, texts_in, line_text, File, details, IsFileWritable}
+use proofs.writing.Joined.{next_at, all_passed}
+use proofs.unit.writable.are_files_writable.Goals as goal
 
 pub loop-index-preserved : goal.loop-index-preserved
 loop-index-preserved c =
@@ -10,7 +10,6 @@ loop-index-preserved c =
     let i = c.loop-index.index in
     let file : File = ((line_text c.file.result.0.now, c.file.result.1), details c.file.result.2.now) in
     record {
-      left =
-          all_passed (λ f. IsFileWritable c.args.writes_sources texts f.0.0 f.1) files i file
+      left = all_passed (λ f. IsFileWritable c.args.writes_sources texts f.0.0 f.1) files i file
           (next_at _ i _ c.file.ensures) (c.if-not-is_file_writable.ensures.0 refl) c.loop-index.invariant.left;
     }

@@ -1,5 +1,6 @@
-use Rattle.gimli_build.proofs.Common.{drop, All, texts_in, File, IsFileWritable}
-use Rattle.gimli_build.proofs.unit.writable.are_files_writable.Given as goal
+use Rattle.gimli_build.proofs
+use proofs.Common.{drop, All, texts_in, File, IsFileWritable}
+use proofs.unit.writable.are_files_writable.Given as goal
 
 abbrev pub invariant-loop-index : goal.invariant-loop-index
 invariant-loop-index l = record {

@@ -1,8 +1,8 @@
 use Rattle.std.specs.Prelude.{◌<◌}
-use Rattle.gimli_build.proofs.Common.{length, map, arith, texts_in, IsWithin}
-use Rattle.gimli_build.proofs.writing.Joined.{next_seen, all_seen}
-use Rattle.gimli_build.proofs.writing.Joined.{all_passed}
-use Rattle.gimli_build.proofs.unit.writable.are_within.Goals as goal
+use Rattle.gimli_build.proofs
+use proofs.Common.{length, map, arith, texts_in, IsWithin}
+use proofs.writing.Joined.{next_seen, all_seen, all_passed}
+use proofs.unit.writable.are_within.Goals as goal
 
 pub returns-then-not-is_within : goal.returns-then-not-is_within
 returns-then-not-is_within c =
@@ -15,5 +15,4 @@ returns-then-not-is_within c =
     )
 
 pub loop-text-preserved : goal.loop-text-preserved
-loop-text-preserved c =
-    grind (arith, all_passed, map, next_seen)
+loop-text-preserved c = grind (arith, all_passed, map, next_seen)

@@ -1,5 +1,6 @@
-use Rattle.gimli_build.proofs.Common.{drop, map, All, texts_in, line_text, IsWithin}
-use Rattle.gimli_build.proofs.unit.writable.are_within.Given as goal
+use Rattle.gimli_build.proofs
+use proofs.Common.{drop, map, All, texts_in, line_text, IsWithin}
+use proofs.unit.writable.are_within.Given as goal
 
 abbrev pub invariant-loop-text : goal.invariant-loop-text
 invariant-loop-text l = record {

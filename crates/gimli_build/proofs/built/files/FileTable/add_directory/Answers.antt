@@ -1,15 +1,11 @@
-use Rattle.gimli_build.proofs.Common.{◌∙◌, ap, directories_of, files_of}
-use Rattle.gimli_build.proofs.building.TableLemmas.{
-  directories_insert,
-  index_of_equal_directory,
-  with_directory-AreTables,
-}
-use Rattle.gimli_build.proofs.built.files.FileTable.add_directory.Goals as goal
+use Rattle.gimli_build.proofs
+use proofs.Common.{◌∙◌, ap, directories_of, files_of}
+use proofs.building.TableLemmas.{directories_insert, index_of_equal_directory, with_directory-AreTables}
+use proofs.built.files.FileTable.add_directory.Goals as goal
 
 pub invariant_of-self-2 : goal.invariant_of-self-2
 invariant_of-self-2 c =
-    let added =
-    ap directories_of c.in_ok-index.ensures.keys
+    let added = ap directories_of c.in_ok-index.ensures.keys
     ∙ directories_insert c.self.inside.directories.keys c.args.directory in
     rw added (with_directory-AreTables _ _
     _ c.self.invariant c.requires)
@@ -20,6 +16,5 @@ returns-clause-ok c =
     (ap directories_of c.in_ok-index.ensures.keys ∙ directories_insert c.self.inside.directories.keys c.args.directory))
 
 pub returns-clause-id : goal.returns-clause-id
-returns-clause-id c =
-    rw (← c.self.view_is)
+returns-clause-id c = rw (← c.self.view_is)
     (c.in_ok-index.ensures.index ∙ index_of_equal_directory c.self.inside.directories.keys c.args.directory)

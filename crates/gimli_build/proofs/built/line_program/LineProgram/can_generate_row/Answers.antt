@@ -1,5 +1,6 @@
-use Rattle.gimli_build.proofs.building.BuiltLemmas.{previous_stands}
-use Rattle.gimli_build.proofs.built.line_program.LineProgram.can_generate_row.Goals as goal
+use Rattle.gimli_build.proofs
+use proofs.building.TableLemmas.{previous_stands}
+use proofs.built.line_program.LineProgram.can_generate_row.Goals as goal
 
 pub can_follow-requires-clause-stands : goal.can_follow-requires-clause-stands
 can_follow-requires-clause-stands c =

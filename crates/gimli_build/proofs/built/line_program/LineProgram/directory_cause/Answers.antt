@@ -1,17 +1,18 @@
 use Rattle.std.specs.Prelude.{◌≡◌, ◌&&◌}
-use Rattle.gimli_build.proofs.Common
+use Rattle.gimli_build.proofs
+use proofs.Common
 use Common.{ℕ, Some, sym, ap, ◌∙◌, rules, false, nat_eq, nat_le, slice_get, Format, texts_in, line_text, IsWithin}
 use Common.{first_form, text_cause, wanted_form}
-use Rattle.gimli_build.proofs.refusals.FirstCauses.{mapped_at, all_at, directory_there}
-use Rattle.gimli_build.proofs.built.line_program.LineProgram.directory_cause.Goals as goal
+use proofs.refusals.FirstCauses.{mapped_at, all_at, directory_there}
+use proofs.built.line_program.LineProgram.directory_cause.Goals as goal
 
 pub text_cause-cause-requires : goal.text_cause-cause-requires
 text_cause-cause-requires c =
     let texts = texts_in c.args.strings.now c.args.line_strings.now in
-    all_at (IsWithin texts) c.args.self.now.directories c.args.index (line_text c.index-directories-index.result)
+    all_at (IsWithin texts) _ _ _
     c.requires.can.directories
-    (mapped_at line_text c.directories-directories.result.now c.args.self.now.directories c.args.index
-    c.index-directories-index.result (c.directories-directories.ensures ∙ c.tables.ensures.directories) c.requires.there
+    (mapped_at _ _ _ _
+    _ (c.directories-directories.ensures ∙ c.tables.ensures.directories) c.requires.there
     c.index-directories-index.is)
 
 pub returns : goal.returns

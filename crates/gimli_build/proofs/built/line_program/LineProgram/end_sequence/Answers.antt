@@ -1,6 +1,7 @@
-use Rattle.gimli_build.proofs.Common.{sym, subst, CanEndSequence}
-use Rattle.gimli_build.proofs.building.BuiltLemmas.{item_pushed}
-use Rattle.gimli_build.proofs.built.line_program.LineProgram.end_sequence.Goals as goal
+use Rattle.gimli_build.proofs
+use proofs.Common.{sym, subst, CanEndSequence}
+use proofs.building.TableLemmas.{item_pushed}
+use proofs.built.line_program.LineProgram.end_sequence.Goals as goal
 
 pub invariant_of-self-2 : goal.invariant_of-self-2
 invariant_of-self-2 c =

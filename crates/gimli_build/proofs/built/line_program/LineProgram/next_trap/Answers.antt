@@ -1,12 +1,13 @@
 use Rattle.std.specs.Prelude.{◌≡◌, ◌+◌, ◌<◌, ◌≤◌, ◌∷◌}
-use Rattle.gimli_build.proofs.Common
-use Common.{ℕ, Bool, None, List, [], length, get_or, take, drop, reverse, ◌∙◌, arith, below_more, reverse-append}
+use Rattle.gimli_build.proofs
+use proofs.Common
+use Common.{ℕ, Bool, None, List, [], length, get_or, take, drop, reverse, arith, below_more, reverse-append}
 use Common.{take_rest, Built, base_of, BuiltItem}
 use Rattle.gimli_build.specs.Traps.{begins_unset, item_trap, trap_at, HaveNoTrap}
-use Rattle.gimli_build.proofs.writing.ItemsWritten.{taken_next}
-use Rattle.gimli_build.proofs.writing.Joined.{next_left}
-use Rattle.gimli_build.proofs.built.line_program.LineProgram.next_trap.Goals as goal
-use Rattle.gimli_build.proofs.built.line_program.LineProgram.next_trap.Goals.{in-Some+else-index-from, in_default}
+use proofs.writing.ItemsWritten.{taken_next}
+use proofs.writing.Joined.{next_left}
+use proofs.built.line_program.LineProgram.next_trap.Goals as goal
+use proofs.built.line_program.LineProgram.next_trap.Goals.{in-Some+else-index-from, in_default}
 
 past_more : (items : List BuiltItem) (i : ℕ) (item : BuiltItem) → i < length items → item ≡ get_or items i item
     → reverse (take (i + 1) items) ≡ item ∷ reverse (take i items)
@@ -20,8 +21,7 @@ at_item : (p : Built) (items : List BuiltItem) (i : ℕ) (item : BuiltItem) (bas
 at_item p items i item base begins same lt is base_is begins_is = grind (arith, next_left)
 
 none_more : (p : Built) (from i : ℕ) → HaveNoTrap p from i → (from ≤ i → trap_at p i ≡ None) → HaveNoTrap p from (i + 1)
-none_more p from i before here k low high =
-    grind (arith, below_more)
+none_more p from i before here k low high = grind (arith, below_more)
 
 pub loop-index-preserved : goal.loop-index-preserved
 loop-index-preserved c =

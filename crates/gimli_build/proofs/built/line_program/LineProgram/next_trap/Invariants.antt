@@ -1,7 +1,8 @@
 use Rattle.std.specs.Prelude.{◌≡◌}
-use Rattle.gimli_build.proofs.Common.{take, reverse, base_of}
+use Rattle.gimli_build.proofs
+use proofs.Common.{take, reverse, base_of}
 use Rattle.gimli_build.specs.Traps.{begins_unset, HaveNoTrap}
-use Rattle.gimli_build.proofs.built.line_program.LineProgram.next_trap.Given as goal
+use proofs.built.line_program.LineProgram.next_trap.Given as goal
 
 abbrev pub invariant-loop-index : goal.invariant-loop-index
 invariant-loop-index l = record {

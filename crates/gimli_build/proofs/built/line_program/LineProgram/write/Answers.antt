@@ -1,19 +1,19 @@
 use Rattle.std.specs.Prelude.{◌≡◌}
-use Rattle.gimli_build.proofs.Common
+use Rattle.gimli_build.proofs
+use proofs.Common
 use Common.{rules, false, subst, plain, unplaced, Appends, texts_in, texts_after, placed, counted, unit_bytes}
 use Common.{is_incompatible, err_from_is_err_and}
 use Rattle.gimli_build.specs.Linked.{placed_program, SumsFit}
-use Rattle.gimli_build.proofs.building.SourceLemmas.{can-write-after}
-use Rattle.gimli_build.proofs.reading.ReadBack.{appended-back}
-use Rattle.gimli_build.proofs.linking.PlacedUnits.{placed-counted, placed-short, is-built, can-write}
-use Rattle.gimli_build.proofs.linking.FoundTexts.{written-held}
-use Rattle.gimli_build.proofs.writing.Writes.{refused_or_memory}
-use Rattle.gimli_build.proofs.refusals.Causes.{cause-is}
-use Rattle.gimli_build.proofs.built.line_program.LineProgram.write.Goals as goal
+use proofs.building.SourceLemmas.{can-write-after}
+use proofs.reading.ReadBack.{appended-back}
+use proofs.linking.PlacedUnits.{placed-counted, placed-short, is-built, can-write}
+use proofs.linking.FoundTexts.{written-held}
+use proofs.writing.Writes.{refused_or_memory}
+use proofs.refusals.Causes.{cause-is}
+use proofs.built.line_program.LineProgram.write.Goals as goal
 
 pub new-input-requires-clause-can : goal.new-input-requires-clause-can
-new-input-requires-clause-can g c =
-    rw (c.in_ok-empty.ensures.tables.strings, c.in_ok-empty.ensures.tables.line_strings)
+new-input-requires-clause-can g c = rw (c.in_ok-empty.ensures.tables.strings, c.in_ok-empty.ensures.tables.line_strings)
     (can-write-after _ _ c.requires)
 
 pub returns-clause-reads_back : goal.returns-clause-reads_back
@@ -30,8 +30,7 @@ returns-clause-reads_back g c = λ keeps_bytes.
     let written =
     rw (c.new-input.ensures.program, c.new-input.ensures.texts, same, line_same) at (whole.writes.ok keeps_bytes) in
     let appended : Appends (unit_bytes plain is_big c.args.encoding p texts) (contents c.args.w.now.0)
-    (contents c.write_whole.new.w) =
-    rw compatible written in
+    (contents c.write_whole.new.w) = rw compatible written in
     rw (same, line_same) (appended-back unplaced is_big c.args.encoding p texts _ _ whole.short
     (rw c.new-input.ensures.program at whole.built) c.requires (rw same at empty.texts)
     (rw line_same at empty.line_texts)
@@ -50,8 +49,7 @@ returns-clause-linked g c = λ at completes is_placed fit.
     let line_same = empty.tables.line_strings in
     let compatible : is_incompatible c.args.encoding p.encoding ≡ false = search rules in
     let sums : SumsFit at p (texts_after p texts) = rw (same, line_same) at fit in
-    let written =
-    rw (c.new-input.ensures.program, c.new-input.ensures.texts, same, line_same, is_placed) at
+    let written = rw (c.new-input.ensures.program, c.new-input.ensures.texts, same, line_same, is_placed) at
     (whole.writes.completed at completes) in
     let by_hand : Appends (unit_bytes (placed at) is_big c.args.encoding p texts) old new = rw compatible written in
     let appended : Appends (unit_bytes (counted at) is_big c.args.encoding (placed_program at p) texts) old new =
