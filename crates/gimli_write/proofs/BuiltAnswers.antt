@@ -1,24 +1,23 @@
 -- What is answered of a unit is what was built.
 use Rattle.std.specs.Prelude.{◌≡◌, ◌<◌, ◌^◌, ◌∷◌, ◌++◌}
 use Rattle.gimli_write.proofs.Common
-use Common.{ℕ, Bool, List, [], length, drop, map, refl, sym, ap, ◌∙◌, subst, Result, Option}
-use Common.{Some, None, IfOk, IfErr, append-nil, IfOk-weaker, MatchResult-weaker, OrderAndLimit, Value, Error}
-use Common.{StringTables}
-use Common.{Header, UnitEntry, SpellsUnit, ReadFile, Event, row, fault, Events, program_events, ReadRow, one_header}
-use Common.{one_decoding, bytes_in, Built, AddressesFit, RowsMatch, Sections, IsText, IsOptionalText, OneByOne}
-use Common.{ConvertError, Read, NoMemory, RoundTrip, FileAnswer, file_answer, built_file, Answers, IsFileAnswer}
-use Common.{AreAnswers, AnswersUnit, AnswersProgram, IsRunRefusal, RefusesUnit, slice_layout, unit_entry_of}
-use Common.{sections_of}
+use Common.{ℕ, Bool, List, [], length, drop, map, refl, sym, ap, ◌∙◌, subst, Result, Option, Some, None, IfOk, IfErr}
+use Common.{append-nil, IfOk-weaker, MatchResult-weaker, OrderAndLimit, Value, Error, StringTables, Header, UnitEntry}
+use Common.{SpellsUnit, ReadFile, Event, row, fault, Events, program_events, ReadRow, one_header, one_decoding}
+use Common.{bytes_in, Built, AddressesFit, RowsMatch, Sections, IsText, IsOptionalText, OneByOne, ConvertError, Read}
+use Common.{NoMemory, RoundTrip, FileAnswer, file_answer, built_file, Answers, IsFileAnswer, AreAnswers, AnswersUnit}
+use Common.{AnswersProgram, IsRunRefusal, RefusesUnit, slice_layout, unit_entry_of, sections_of}
 use Rattle.gimli_build.specs.Tables.{File}
 use Rattle.gimli_build.specs.ReadsBack.{IsUnit, IsFile, ReadsBack, ReadsBackAs}
-use Rattle.gimli_write.proofs.ReadTexts.{text_there}
-use Rattle.gimli_write.proofs.ReadUnits.{read_back, AreShort}
+use Rattle.gimli_write.proofs
+use proofs.ReadTexts.{text_there}
+use proofs.ReadUnits.{read_back, AreShort}
 
 -- ---- one text
 
 -- a value stands for one text
 pub text_same : (s : Sections) (v : Value) (text other : List ℕ) → IsText s v text → IsText s v other → other ≡ text
-text_same s v text other is also = let both = sym (text_there s v _ also) ∙ text_there s v _ is in cc
+text_same s v text other is also = let both = sym (text_there s v also) ∙ text_there s v is in cc
 
 optional_same : (s : Sections) (v : Option Value) (text other : Option (List ℕ)) → IsOptionalText s v text
     → IsOptionalText s v other → other ≡ text
@@ -46,8 +45,7 @@ one_by_one_same IsBuilt IsAnswered f same (x ∷ xs) (y ∷ ys) [] built answere
 -- ---- one file
 
 same_file : (a b : FileAnswer) → a.path ≡ b.path → a.directory_index ≡ b.directory_index → a.timestamp ≡ b.timestamp
-    → a.size ≡ b.size
-    → a.md5 ≡ b.md5 → a.source ≡ b.source → a ≡ b
+    → a.size ≡ b.size → a.md5 ≡ b.md5 → a.source ≡ b.source → a ≡ b
 same_file a b path directory time size md5 source =
     ap (λ x. let f : FileAnswer = record a { path = x } in f) path
     ∙ ap (λ x. let f : FileAnswer = record a { path = b.path; directory_index = x } in f) directory
@@ -56,27 +54,21 @@ same_file a b path directory time size md5 source =
     ∙ ap (λ x. let f : FileAnswer = record b { md5 = x; source = a.source } in f) md5
     ∙ ap (λ x. let f : FileAnswer = record b { source = x } in f) source
 
-file_same : (s : Sections) (p : Built) (texts : StringTables) (read : ReadFile) (built : File) (answer : FileAnswer)
+file_same : (s : Sections) {p : Built} {texts : StringTables} {read : ReadFile} {built : File} {answer : FileAnswer}
     → IsFile s p texts read built → IsFileAnswer s read answer → answer ≡ built_file p texts built
-file_same s p texts read built answer is also =
-    same_file _ _
-    (text_same s _ _ _ is.path also.path)
-    (also.directory_index ∙ is.directory)
-    (also.timestamp ∙ is.timestamp)
-    (also.size ∙ is.size)
-    (also.md5 ∙ is.md5)
+file_same s is also =
+    same_file _ _ (text_same s _ _ _ is.path also.path) (also.directory_index ∙ is.directory)
+    (also.timestamp ∙ is.timestamp) (also.size ∙ is.size) (also.md5 ∙ is.md5)
     (optional_same s _ _ _ is.source also.source)
 
 -- ---- one run
 
 -- a program gives one list of events
-pub events_same : (layout : OrderAndLimit) (h : Header) (bytes : List ℕ) (es fs : List Event) → Events layout h bytes es
+pub events_same : {layout : OrderAndLimit} {h : Header} {bytes : List ℕ} {es fs : List Event} → Events layout h bytes es
     → Events layout h bytes fs → es ≡ fs
-events_same layout h bytes es fs a b =
-    a.given
-    ∙ ap (λ c. program_events h.parameters c.0 c.1)
-    (one_decoding layout h _ _ _ a.decoding ∙ sym (one_decoding layout h _ _ _ b.decoding))
-    ∙ sym b.given
+events_same {layout} {h} a b =
+    a.given ∙ ap (λ c. program_events h.parameters c.0 c.1)
+    (one_decoding layout h _ _ _ a.decoding ∙ sym (one_decoding layout h _ _ _ b.decoding)) ∙ sym b.given
 
 pub rows_same : (rows others : List ReadRow) → map row rows ≡ map row others → rows ≡ others
 rows_same [] [] is = refl
@@ -98,64 +90,56 @@ no_fault_among (r ∷ rows) (s ∷ others) e rest is =
     no_fault_among rows others e rest later
 
 -- a program that gives rows has no first fault, and its rows are answered unless memory is missing
-rows_refused : (layout : OrderAndLimit) (h : Header) (rows : List ReadRow) (e : ConvertError)
-    → Events layout h h.program (map row rows)
-    → IsRunRefusal layout h e → e ≡ NoMemory
-rows_refused layout h rows NoMemory given refused = refl
-rows_refused layout h rows (Read e) given refused =
+rows_refused : {layout : OrderAndLimit} {h : Header} (rows : List ReadRow) (e : ConvertError)
+    → Events layout h h.program (map row rows) → IsRunRefusal layout h e → e ≡ NoMemory
+rows_refused rows NoMemory given refused = refl
+rows_refused {layout} {h} rows (Read e) given refused =
     let whole : Events layout h h.program (program_events h.parameters refused.list refused.end) = record {
       list = refused.list;
       end = refused.end;
       decoding = refused.decoding;
       given = refl;
     } in
-    absurd (no_fault_among _ _ e _
-    (events_same _ h _ _ _ given whole ∙ refused.given))
-rows_refused layout h rows e given refused = absurd refused
+    absurd (no_fault_among _ _ e _ (events_same given whole ∙ refused.given))
+rows_refused rows e given refused = absurd refused
 
 -- ---- a unit
 
 module _ (layout : OrderAndLimit) (unit_entry : UnitEntry) (sections : Sections) (p : Built) (texts : StringTables)
     (unit : List ℕ)
     (back : ReadsBack layout unit_entry sections p texts unit) where
-  begins : (h : Header) → IsUnit layout unit_entry unit h → SpellsUnit layout unit_entry unit h
-  begins h is = (unit, [], sym (append-nil unit), is.spelled)
+  begins : {h : Header} → IsUnit layout unit_entry unit h → SpellsUnit layout unit_entry unit h
+  begins is = (unit, [], sym (append-nil unit), is.spelled)
 
-  header_same : (h : Header) → IsUnit layout unit_entry unit h → h ≡ back.header
-  header_same h is = one_header layout unit_entry _ h _ (begins h is) (begins _ back.is_unit)
+  header_same : {h : Header} → IsUnit layout unit_entry unit h → h ≡ back.header
+  header_same {h} is = one_header layout unit_entry _ h _ (begins is) (begins back.is_unit)
 
-  answered : (a : Answers) → AnswersUnit layout unit_entry sections unit a
-      → AreAnswers layout sections back.header a
-  answered a is = subst (λ h. AreAnswers layout sections h a) (header_same _ is.is_unit) is.answered
+  answered : {a : Answers} → AnswersUnit layout unit_entry sections unit a → AreAnswers layout sections back.header a
+  answered {a} is = subst (λ h. AreAnswers layout sections h a) (header_same is.is_unit) is.answered
 
   directories_built : (a : Answers) → AnswersUnit layout unit_entry sections unit a
       → a.directories ≡ map (bytes_in texts) p.directories
   directories_built a is =
-      one_by_one_same _ _ _
-      (λ v built text is also. text_same _ v _ _ is also)
-      _ _ _ back.directories (answered a is).directories
+      one_by_one_same _ _ _ (λ v built text is also. text_same _ v _ _ is also)
+      _ _ _ back.directories (answered is).directories
 
   files_built : (a : Answers) → AnswersUnit layout unit_entry sections unit a
       → a.files ≡ map (built_file p texts) p.files
   files_built a is =
-      one_by_one_same _ _ _
-      (λ read built answer is also. file_same _ p _ _ _ _ is also)
-      _ _ _ back.files (answered a is).files
+      one_by_one_same _ _ _ (λ read built answer is also. file_same _ is also) _ _ _ back.files (answered is).files
 
   rows_built : (a : Answers) → AnswersUnit layout unit_entry sections unit a
-      → AddressesFit p.encoding.address_size 0 (0, 0) p.items
-      → RowsMatch p.encoding.version [] p.items a.rows
+      → AddressesFit p.encoding.address_size 0 (0, 0) p.items → RowsMatch p.encoding.version [] p.items a.rows
   rows_built a is held =
       let rows = back.rows held in
-      let same = rows_same _ _ (events_same _ _ _ _ _ rows.1 (answered a is).rows) in
+      let same = rows_same _ _ (events_same rows.1 (answered is).rows) in
       subst (λ xs. RowsMatch p.encoding.version [] p.items xs) same rows.2
 
   refused_for_memory : (e : ConvertError) → AddressesFit p.encoding.address_size 0 (0, 0) p.items
       → RefusesUnit layout unit_entry unit e → e ≡ NoMemory
   refused_for_memory e held refused =
       let rows = back.rows held in
-      rows_refused _ _ _ e rows.1
-      (subst (λ h. IsRunRefusal layout h e) (header_same _ refused.1) refused.2)
+      rows_refused _ e rows.1 (subst (λ h. IsRunRefusal layout h e) (header_same refused.1) refused.2)
 
 -- ---- the unit of a program
 

@@ -8,8 +8,9 @@ use Common.{file_added, Handed, tables_of_header, start_of_tables, first_texts, 
 use Common.{offers, file_id, row_in, built_row, row_offered, row_or_end_offered, defines_first, after_definitions}
 use Common.{SourceRow, Row, SourceRun, reading_from, reading_upon, reading_left, final_tables_of_source, final_tables}
 use Common.{Conversion, without_built, IsReadRefusal, file_parts, version_of, source_path}
-use Rattle.gimli_write.specs.declared.convert.rows.ConvertLineRow.TheVariants.{EndSequence}
-use Rattle.gimli_write.specs.convert.TablesAtEnd.{lacks_file, tables_after_row}
+use Rattle.gimli_write.specs
+use specs.declared.convert.rows.ConvertLineRow.TheVariants.{EndSequence}
+use specs.convert.TablesAtEnd.{lacks_file, tables_after_row}
 use Rattle.gimli_write.proofs.MappedFiles.{took, same_ok, is_prepared, all_added_keeps}
 
 -- ---- tables without what is built
@@ -18,8 +19,7 @@ pub plain_file : (s : Sections) (tables : TablesAndTexts) (f : File)
     → file_added s (without_built tables) f ≡ (file_added s tables f >>= λ next. Ok (without_built next))
 plain_file s tables f = by _
   where
-    by : (r : Result FileParts ConvertError)
-        → (r >>= λ parts. Ok (with_parts (without_built tables) f parts))
+    by : (r : Result FileParts ConvertError) → (r >>= λ parts. Ok (with_parts (without_built tables) f parts))
         ≡ ((r >>= λ parts. Ok (with_parts tables f parts)) >>= λ next. Ok (without_built next))
     by (Ok parts) = refl
     by (Err e) = refl
@@ -33,11 +33,10 @@ stops_there sections s e (i ∷ list) end = refl
 
 module _ (sections : Sections) (s : SourceRun) (tables : TablesAndTexts) (f : File) where
   -- after it
-  pub file_taken : (next : TablesAndTexts) → file_added sections tables f ≡ Ok next
+  pub file_taken : {next : TablesAndTexts} → file_added sections tables f ≡ Ok next
       → reading_upon sections s (file_added sections (without_built tables) f)
       ≡ reading_left sections s (without_built next)
-  file_taken next is =
-      ap (reading_upon sections s) (plain_file _ _ f ∙ ap (λ r. r >>= λ n. Ok (without_built n)) is)
+  file_taken is = ap (reading_upon sections s) (plain_file _ _ f ∙ ap (λ r. r >>= λ n. Ok (without_built n)) is)
 
   pub file_refused : (e : ConvertError) → file_added sections tables f ≡ Err e
       → reading_upon sections s (file_added sections (without_built tables) f) ≡ stops e
@@ -46,12 +45,12 @@ module _ (sections : Sections) (s : SourceRun) (tables : TablesAndTexts) (f : Fi
       ∙ stops_there _ s e _ _
 
   -- its refusal, where other files are defined before it
-  pub file_refusal : (now old : Reading) (e : ConvertError)
+  pub file_refusal : {now : Reading} (old : Reading) (e : ConvertError)
       → now ≡ defines (reading_upon sections s (file_added sections (without_built tables) f))
       → after_definitions now ≡ after_definitions old → (defines_first now ≡ true → defines_first old ≡ true)
       → IsRefusedBy (file_added sections tables f) e → IsReadRefusal old e
-  file_refusal now old e here left first (inl memory) = inr (memory, first (ap defines_first here))
-  file_refusal now old e here left first (inr is) =
+  file_refusal old e here left first (inl memory) = inr (memory, first (ap defines_first here))
+  file_refusal old e here left first (inr is) =
       inl (sym left ∙ ap after_definitions (here ∙ ap defines (file_refused e is)))
 
 -- ---- the tables of a header have nothing built
@@ -60,23 +59,19 @@ abbrev IsPlain : TablesAndTexts → Type 0
 IsPlain tables = without_built tables ≡ tables
 
 pub prepared_plain : (sections : Sections) (h : Header) (given : Handed) (line_strings : List (List ℕ))
-    (tables : TablesAndTexts)
+    {tables : TablesAndTexts}
     → tables_of_header sections h given line_strings ≡ Ok tables → without_built tables ≡ tables
-prepared_plain sections h given line_strings tables is =
+prepared_plain sections h given line_strings {tables} is =
     let encoding = encoding_of h given in
-    let p = is_prepared sections h given line_strings tables is in
-    all_added_keeps IsPlain (file_added sections)
-    (λ l n f added plain.
-    let t = took (file_parts (version_of l) sections l.directory_ids f) (λ parts. Ok (with_parts l f parts)) n added in
-    subst IsPlain (same_ok (with_parts l f t.0) n t.2) (ap (λ (x : TablesAndTexts). with_parts x f t.0) plain))
-    h.files p.with_directories tables p.files
-    (all_added_keeps IsPlain (directory_added sections)
-    (λ l n v added plain.
-    let t = took (source_path (version_of l) sections v) (λ path. Ok (with_path l path)) n added in
-    subst IsPlain (same_ok (with_path l t.0) n t.2) (ap (λ (x : TablesAndTexts). with_path x t.0) plain))
-    h.directories
+    let p = is_prepared sections h given line_strings is in
+    all_added_keeps IsPlain (file_added sections) (λ l n f added plain.
+    let t = took (file_parts (version_of l) sections l.directory_ids f) (λ parts. Ok (with_parts l f parts)) added in
+    subst IsPlain (same_ok (with_parts l f t.0) t.2) (ap (λ (x : TablesAndTexts). with_parts x f t.0) plain))
+    h.files p.with_directories p.files (all_added_keeps IsPlain (directory_added sections) (λ l n v added plain.
+    let t = took (source_path (version_of l) sections v) (λ path. Ok (with_path l path)) added in
+    subst IsPlain (same_ok (with_path l t.0) t.2) (ap (λ (x : TablesAndTexts). with_path x t.0) plain)) h.directories
     (start_of_tables encoding p.line_encoding h (first_texts encoding.version line_strings p.directory p.file))
-    p.with_directories p.directories refl)
+    p.directories refl)
 
 -- ---- rows
 
@@ -84,27 +79,23 @@ module _ (version : ℕ) (tables : TablesAndTexts) (r : SourceRow) (rest : Readi
     (ends_not : r.row.end_sequence ≡ false) where
   by_file : row_or_end_offered version tables r rest ≡ row_offered (built_row version tables r) tables rest
   by_file =
-      ap
-      (λ b. if b then offers (EndSequence r.address_offset) tables rest
-      else row_offered (built_row version tables r) tables rest)
-      ends_not
+      ap (λ b. if b then offers (EndSequence r.address_offset) tables rest
+      else row_offered (built_row version tables r) tables rest) ends_not
 
-  pub row_taken : (file : ℕ) → Ok file ≡ file_id version tables r.row.file
+  pub row_taken : {file : ℕ} → Ok file ≡ file_id version tables r.row.file
       → row_or_end_offered version tables r rest ≡ offers (Row (row_in r file)) tables rest
-  row_taken file is = by_file ∙ ap (λ x. row_offered (x >>= λ n. Ok (row_in r n)) tables rest) (sym is)
+  row_taken is = by_file ∙ ap (λ x. row_offered (x >>= λ n. Ok (row_in r n)) tables rest) (sym is)
 
-  pub row_refused : (e : ConvertError) → Err e ≡ file_id version tables r.row.file
+  pub row_refused : {e : ConvertError} → Err e ≡ file_id version tables r.row.file
       → row_or_end_offered version tables r rest ≡ stops e
-  row_refused e is = by_file ∙ ap (λ x. row_offered (x >>= λ n. Ok (row_in r n)) tables rest) (sym is)
+  row_refused is = by_file ∙ ap (λ x. row_offered (x >>= λ n. Ok (row_in r n)) tables rest) (sym is)
 
   -- so a file has its number, or none has
-  pub file_found : (file : ℕ) → Ok file ≡ file_id version tables r.row.file → lacks_file version tables r ≡ false
-  file_found file is =
-      ap (λ b. not b && is_err (file_id version tables r.row.file)) ends_not ∙ ap (λ x. is_err x) (sym is)
+  pub file_found : {file : ℕ} → Ok file ≡ file_id version tables r.row.file → lacks_file version tables r ≡ false
+  file_found is = ap (λ b. not b && is_err (file_id version tables r.row.file)) ends_not ∙ ap (λ x. is_err x) (sym is)
 
-  pub file_lacks : (e : ConvertError) → Err e ≡ file_id version tables r.row.file → lacks_file version tables r ≡ true
-  file_lacks e is =
-      ap (λ b. not b && is_err (file_id version tables r.row.file)) ends_not ∙ ap (λ x. is_err x) (sym is)
+  pub file_lacks : {e : ConvertError} → Err e ≡ file_id version tables r.row.file → lacks_file version tables r ≡ true
+  file_lacks is = ap (λ b. not b && is_err (file_id version tables r.row.file)) ends_not ∙ ap (λ x. is_err x) (sym is)
 
 -- ---- the state of a conversion, by its parts
 
@@ -147,5 +138,4 @@ module _ (sections : Sections) (source : SourceRun) (tables : SourceTables) (add
       → now ≡ final_tables (conversion sections source tables address held failed) line_strings
   held_stops well lacks =
       sym (ap (λ o. if is_some o then now else tables_after_row version_here now held rest) well
-      ∙ ap (λ o. tables_after_row version_here now o rest) is
-      ∙ ap (λ b. if b then now else rest) lacks)
+      ∙ ap (λ o. tables_after_row version_here now o rest) is ∙ ap (λ b. if b then now else rest) lacks)

@@ -11,7 +11,7 @@ module _ {A B C : Type 0} (a : Result A ConvertError) (b : Result B ConvertError
     (x : A) (y : B) (first : a ≡ Ok x)
     (second : b ≡ Ok y) where
   pub at_third : (a >>= λ x. b >>= λ y. f x y) ≡ f x y
-  at_third = done_first a _ x first ∙ done_first b _ y second
+  at_third = done_first _ first ∙ done_first _ second
 
 -- ---- the preparation
 
@@ -28,16 +28,14 @@ module _ (s : Sections) (h : Header) (given : Handed) (line_strings : List (List
   pub refused_at_start : (e : ConvertError)
       → IsRefusedBy (tables_at_start s h encoding given.line_encoding given.name line_strings) e
       → IsRefusedBy (tables_of_header s h given line_strings) e
-  refused_at_start e refused =
-      refused_same _ _ e whole
-      (refused_first _ _ e refused)
+  refused_at_start e refused = refused_same e whole (refused_first _ _ e refused)
 
-  pub at_listed : (tables : TablesAndTexts)
+  pub at_listed : {tables : TablesAndTexts}
       → tables_at_start s h encoding given.line_encoding given.name line_strings ≡ Ok tables
       → lists_added s h tables ≡ tables_of_header s h given line_strings
-  at_listed tables is = sym (done_first _ _ _ is) ∙ whole
+  at_listed is = sym (done_first _ is) ∙ whole
 
-  pub refused_at_listed : (tables : TablesAndTexts) (e : ConvertError)
+  pub refused_at_listed : {tables : TablesAndTexts} (e : ConvertError)
       → tables_at_start s h encoding given.line_encoding given.name line_strings ≡ Ok tables
       → IsRefusedBy (lists_added s h tables) e → IsRefusedBy (tables_of_header s h given line_strings) e
-  refused_at_listed tables e is refused = refused_same _ _ e (at_listed _ is) refused
+  refused_at_listed e is refused = refused_same e (at_listed is) refused

@@ -1,13 +1,13 @@
 -- Sequences that are read, row by row.
 use Rattle.std.specs.Prelude.{◌≡◌, ◌∷◌, ◌++◌}
 use Rattle.gimli_write.proofs.Common
-use Common.{ℕ, false, nat_eq, List, [], length, refl, sym, ap, ◌∙◌, inl, inr, Option, Some, None, Ok}
-use Common.{Err, Built, LineRow, Row, TablesAndTexts, Reading, ends, stops, defines, offers, address_offered}
-use Common.{after_definitions, sequence_from, sequence_with, IsRefusedBy, Conversion, tables_of, version_of_source}
-use Common.{after_held, unless_failed, source_left, still_to_read, IsReadRefusal, AddsFiles, ConvertError}
-use Common.{MissingLineEndSequence}
-use Rattle.gimli_write.specs.declared.convert.rows.ConvertLineRow.TheVariants.{SetAddress}
-use Rattle.gimli_write.specs.declared.convert.rows.ConvertLineSequenceEnd.TheVariants.{Address}
+use Common.{ℕ, false, nat_eq, List, [], length, refl, sym, ap, ◌∙◌, inl, inr, Option, Some, None, Ok, Err, Built}
+use Common.{LineRow, Row, TablesAndTexts, Reading, ends, stops, defines, offers, address_offered, after_definitions}
+use Common.{sequence_from, sequence_with, IsRefusedBy, Conversion, tables_of, version_of_source, after_held}
+use Common.{unless_failed, source_left, still_to_read, IsReadRefusal, AddsFiles, ConvertError, MissingLineEndSequence}
+use Rattle.gimli_write.specs
+use specs.declared.convert.rows.ConvertLineRow.TheVariants.{SetAddress}
+use specs.declared.convert.rows.ConvertLineSequenceEnd.TheVariants.{Address}
 
 -- files that are defined give no row
 pub gathered_after : (start : Option ℕ) (rows : List LineRow) (r : Reading)
@@ -18,34 +18,30 @@ gathered_after start rows (stops e) = refl
 gathered_after start rows (offers item tables rest) = refl
 
 -- what is gathered, by what is read after them
-pub gathered_first : (start : Option ℕ) (rows : List LineRow) (old next : Reading) → after_definitions old ≡ next
+pub gathered_first : (start : Option ℕ) (rows : List LineRow) (old : Reading) {next : Reading}
+    → after_definitions old ≡ next
     → sequence_from start rows old ≡ sequence_from start rows next
-gathered_first start rows old next is = sym (gathered_after start rows old) ∙ ap (sequence_from start rows) is
+gathered_first start rows old is = sym (gathered_after start rows old) ∙ ap (sequence_from start rows) is
 
 -- after a row
-pub row_gathered : (start : Option ℕ) (rows more : List LineRow) (row : LineRow) (old rest : Reading)
-    (tables : TablesAndTexts)
-    → after_definitions old ≡ offers (Row row) tables rest → more ≡ rows ++ row ∷ []
+pub row_gathered : (start : Option ℕ) (rows : List LineRow) {more : List LineRow} (row : LineRow) (old rest : Reading)
+    (tables : TablesAndTexts) → after_definitions old ≡ offers (Row row) tables rest → more ≡ rows ++ row ∷ []
     → sequence_from start more rest ≡ sequence_from start rows old
-row_gathered start rows more row old rest tables hands more_is =
-    ap (λ (r : List LineRow). sequence_from start r rest) more_is
-    ∙ sym (gathered_first start rows old (offers (Row row) tables rest) hands)
+row_gathered start rows row old rest tables hands more_is =
+    ap (λ (r : List LineRow). sequence_from start r rest) more_is ∙ sym (gathered_first start rows old hands)
 
 -- after an address, before the first row
-pub address_gathered : (start : Option ℕ) (rows : List LineRow) (a : ℕ) (old rest : Reading) (tables : TablesAndTexts)
+pub address_gathered : (start : Option ℕ) {rows : List LineRow} (a : ℕ) (old rest : Reading) (tables : TablesAndTexts)
     → after_definitions old ≡ offers (SetAddress a) tables rest → rows ≡ []
     → sequence_from (Some a) rows rest ≡ sequence_from start rows old
-address_gathered start rows a old rest tables hands none =
-    rw none (sym (gathered_first start [] old (offers (SetAddress a) tables rest) hands))
+address_gathered start a old rest tables hands none = rw none (sym (gathered_first start [] old hands))
 
 -- an address after a row is where a sequence ends, and is read again
 pub address_ends : (start : Option ℕ) (rows : List LineRow) (a : ℕ) (old rest : Reading) (tables : TablesAndTexts)
-    → after_definitions old ≡ offers (SetAddress a) tables rest
-    → nat_eq (length rows) 0 ≡ false
+    → after_definitions old ≡ offers (SetAddress a) tables rest → nat_eq (length rows) 0 ≡ false
     → sequence_from start rows old ≡ Ok (Some (sequence_with start rows (Address a)), offers (SetAddress a) tables rest)
 address_ends start [] a old rest tables hands some = absurd cc
-address_ends start (row ∷ rows) a old rest tables hands some =
-    gathered_first start (row ∷ rows) old (offers (SetAddress a) tables rest) hands
+address_ends start (row ∷ rows) a old rest tables hands some = gathered_first start (row ∷ rows) old hands
 
 module _ (c d : Conversion) (line_strings : List (List ℕ)) (a : ℕ) where
   pub given_back : c.failed ≡ None → c.address ≡ None → d ≡ record c { address = Some a }
@@ -66,24 +62,22 @@ module _ (c d : Conversion) (line_strings : List (List ℕ)) (a : ℕ) where
       by None (Some b) well none = absurd cc
 
 -- the end of what is read
-pub nothing_gathered : (start : Option ℕ) (rows : List LineRow) (old rest : Reading) (tables : TablesAndTexts)
-    → after_definitions old ≡ ends tables
-    → rest ≡ ends tables → rows ≡ []
+pub nothing_gathered : (start : Option ℕ) {rows : List LineRow} (old : Reading) {rest : Reading}
+    (tables : TablesAndTexts)
+    → after_definitions old ≡ ends tables → rest ≡ ends tables → rows ≡ []
     → sequence_from start rows old ≡ Ok (None, rest)
-nothing_gathered start rows old rest tables end left none =
-    rw (none, left) (gathered_first start [] old (ends tables) end)
+nothing_gathered start old tables end left none = rw (none, left) (gathered_first start [] old end)
 
 pub rows_left : (start : Option ℕ) (rows : List LineRow) (old : Reading) (tables : TablesAndTexts)
-    → after_definitions old ≡ ends tables
-    → nat_eq (length rows) 0 ≡ false
+    → after_definitions old ≡ ends tables → nat_eq (length rows) 0 ≡ false
     → sequence_from start rows old ≡ Err MissingLineEndSequence
 rows_left start [] old tables end some = absurd cc
-rows_left start (row ∷ rows) old tables end some = gathered_first start (row ∷ rows) old (ends tables) end
+rows_left start (row ∷ rows) old tables end some = gathered_first start (row ∷ rows) old end
 
 -- a refusal
 pub gather_refused : (start : Option ℕ) (rows : List LineRow) (old : Reading) (e : ConvertError) → IsReadRefusal old e
     → IsRefusedBy (sequence_from start rows old) e
-gather_refused start rows old e (inl is) = inr (gathered_first start rows old (stops e) is)
+gather_refused start rows old e (inl is) = inr (gathered_first start rows old is)
 gather_refused start rows old e (inr memory) = inl memory.0
 
 -- files that are added, and then more

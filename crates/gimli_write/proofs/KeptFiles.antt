@@ -1,7 +1,7 @@
 -- Files that were there keep their ids and their numbers.
 use Rattle.std.specs.Prelude.{◌++◌, ◌∷◌}
 use Rattle.gimli_write.proofs.Common
-use Common.{List, [], refl, sym, ap, ◌∙◌, arith, Some, length-append, get_or_append_left, slice_get-get_or}
+use Common.{List, [], sym, ap, ◌∙◌, arith, Some, length-append, get_or_append_left, slice_get-get_or}
 use Common.{Keeps, SourceTables, KeepsFiles}
 
 module _ {A : Type 0} where
@@ -9,21 +9,18 @@ module _ {A : Type 0} where
   keeps_self xs = grind arith
 
   pub keeps_then : (xs ys zs : List A) → Keeps xs ys → Keeps ys zs → Keeps xs zs
-  keeps_then xs ys zs first second =
-      grind arith
+  keeps_then xs ys zs first second = grind arith
 
   -- one more comes last
   pub keeps_more : (xs : List A) (x : A) → Keeps xs (xs ++ x ∷ [])
   keeps_more xs x = record {
     grows = omega (arith, length-append xs (x ∷ []));
-    stays = λ i h.
-        slice_get-get_or _ i x (omega (arith, length-append xs (x ∷ [])))
-        ∙ ap Some (get_or_append_left xs (x ∷ []) x i h)
-        ∙ sym (slice_get-get_or _ i x h);
+    stays = λ i h. slice_get-get_or _ i x (omega (arith, length-append xs (x ∷ [])))
+        ∙ ap Some (get_or_append_left xs (x ∷ []) x i h) ∙ sym (slice_get-get_or _ i x h);
   }
 
-pub files_self : (c : SourceTables) → KeepsFiles c c
-files_self c = grind (arith, keeps_self)
+pub files_self : {c : SourceTables} → KeepsFiles c c
+files_self = grind (arith, keeps_self)
 
-pub files_then : (a b c : SourceTables) → KeepsFiles a b → KeepsFiles b c → KeepsFiles a c
-files_then a b c first second = grind (arith, keeps_then)
+pub files_then : {a b c : SourceTables} → KeepsFiles a b → KeepsFiles b c → KeepsFiles a c
+files_then first second = grind (arith, keeps_then)

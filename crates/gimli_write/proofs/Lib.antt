@@ -11,7 +11,6 @@ pub mod SourceSteps
 pub mod SourceFromBytes
 pub mod MappedRows
 pub mod MappedFiles
-pub mod OutcomeLemmas
 pub mod Conversions
 mod TablesAtEnd
 mod KeptFiles

@@ -4,7 +4,7 @@ use Rattle.std.specs.Prelude.{◌≡◌, ◌+◌, ◌||◌, if◌then◌else◌,
 use Rattle.gimli_write.proofs.Common
 use Common.{ℕ, zero, suc, Bool, true, false, cond, not, List, [], length}
 use Common.{refl, sym, ap, subst, ◌∙◌, arith, nat_le, Some, unwrap_or, slice_get, bytes_eq, list_any, position_or_len}
-use Common.{or_left, or_right, or_parts, eq-eqb, bytes_eq-Decides, with_text, index_of_text, StringTables, texts_in}
+use Common.{or_parts, eq-eqb, bytes_eq-Decides, with_text, index_of_text, StringTables, texts_in}
 use Common.{with_text-found, with_text-there, LineText, Inline, InStrings, InLineStrings, line_text_eq, bytes_in}
 use Common.{made_text, made_table, FileKey, key_eq, Option, None, option_map, IfSome, Result, Ok, Err, All}
 use Common.{option_map_or, lt-leb, All-nil, All-cons, All-push, slice_get_within, Value, Encoding, LineEncoding}
@@ -17,20 +17,26 @@ use Common.{no_details, inl, inr, append_assoc, Error, directory_of, from_one, I
 use Common.{MissingCompilationDirectory, InvalidAttributeValue, without_zero, source_text, first_path, first_ids}
 use Common.{needed_from_5, nat_eq, AllByRecursion, true≢false, eqb-true, append-nil, slice_get-map}
 use Common.{defined_files, has_file, index_of_file, with_details, with_file, keys_of, OneByOne, FileParts, ok_or}
-use Common.{All-from_recursion, leb-true, le-leb, IsOptionalText, InvalidDirectoryIndex, if_there, Outcome}
+use Common.{All-from_recursion, IsOptionalText, InvalidDirectoryIndex, if_there, Outcome}
 use Rattle.std.proofs.lemmas.List.Folds.{list_any-append}
-use Rattle.gimli_write.proofs.ConvertSteps.{kept_self, kept_then}
-use Rattle.gimli_write.proofs.Writable.{within_kept, source_kept, written_later, written_with_file}
+use Rattle.gimli_write.proofs
+use proofs.ConvertSteps.{kept_self, kept_then}
+use proofs.Writable.{within_kept, source_kept, written_later, written_with_file}
 use Rattle.std.proofs.Common.{length-append}
 use Rattle.std.specs.Result.{result_map_both}
 use Rattle.gimli_core.specs.declared.attribute_value.AttributeValue.TheVariants.{String, DebugStrRefSup}
 use Rattle.gimli_build.specs.FirstTables.{first_directories}
-use Rattle.gimli_build.proofs.building.TableLemmas.{directory_found, file_found_at, file_keeps, file_others}
-use Rattle.gimli_build.proofs.building.TableLemmas.{some_within}
-use Rattle.gimli_write.specs.convert.Mapped.{IsDirectoryPath, IsFileId, HasPaths, IsLastWithPaths, IsMappedFile}
-use Rattle.gimli_write.specs.convert.Mapped.{AreFilesMapped}
-use Rattle.gimli_write.proofs.ReadTexts.{text_read, one_by_one_push}
-use Rattle.gimli_write.proofs.BuiltAnswers.{text_same}
+use Rattle.gimli_build.proofs.building.TableLemmas.{
+  directory_found,
+  file_found_at,
+  file_keeps,
+  file_others,
+  some_within,
+}
+use Rattle.gimli_write.specs.convert.Mapped
+use Mapped.{IsDirectoryPath, IsFileId, HasPaths, IsLastWithPaths, IsMappedFile, AreFilesMapped}
+use proofs.ReadTexts.{text_read, one_by_one_push}
+use proofs.BuiltAnswers.{text_same}
 
 -- ---- the first index that passes a test, in a list that grows at its end
 
@@ -121,31 +127,28 @@ pub record HasMade (version : ℕ) (old new : List (List ℕ)) : Type 0 where
   pub there : (text : List ℕ) → IsMade version old text → IsMade version new text
   pub same : (text : List ℕ) → IsMade version old text → made_text version new text ≡ made_text version old text
 
-pub has_itself : (version : ℕ) (line_strings : List (List ℕ)) → HasMade version line_strings line_strings
-has_itself version line_strings = grind arith
+pub has_itself : {version : ℕ} {line_strings : List (List ℕ)} → HasMade version line_strings line_strings
+has_itself = grind arith
 
-pub has_then : (version : ℕ) (old between new : List (List ℕ)) → HasMade version old between
+pub has_then : {version : ℕ} {old between new : List (List ℕ)} → HasMade version old between
     → HasMade version between new → HasMade version old new
-has_then version old between new a b = grind arith
+has_then a b = grind arith
 
 module _ (version : ℕ) (line_strings : List (List ℕ)) (text : List ℕ) where
   -- the table has it
   made_any : (old : Bool) → old ≡ false
       → list_any (bytes_eq text) (if old then line_strings else with_text line_strings text) ≡ true
   made_any true is = absurd cc
-  made_any false is =
-      grind (arith, own_any, same_bytes)
+  made_any false is = grind (arith, own_any, same_bytes)
 
   pub is_made : IsMade version (made_table version line_strings text) text
   is_made = grind (arith, made_any)
 
-  made_same : (old : Bool)
-      → (if old then Inline text
+  made_same : (old : Bool) → (if old then Inline text
       else InLineStrings (index_of_text (if old then line_strings else with_text line_strings text) text))
       ≡ (if old then Inline text else InLineStrings (index_of_text line_strings text))
   made_same true = refl
-  made_same false =
-      grind (arith, own_index, same_bytes)
+  made_same false = grind (arith, own_index, same_bytes)
 
   -- at the index at which it was made
   pub is_same : made_text version (made_table version line_strings text) text ≡ made_text version line_strings text
@@ -168,9 +171,9 @@ module _ (version : ℕ) (line_strings : List (List ℕ)) (text : List ℕ) wher
   table_has = grind (arith, others_any, others_same)
 
 -- the bytes of a text that is there
-pub made_bytes : (version : ℕ) (texts : StringTables) (text : List ℕ) → IsMade version texts.line_strings text
+pub made_bytes : {version : ℕ} (texts : StringTables) {text : List ℕ} → IsMade version texts.line_strings text
     → bytes_in texts (made_text version texts.line_strings text) ≡ text
-made_bytes version texts text so = by (nat_le version 4) so.any
+made_bytes {version} texts {text} so = by (nat_le version 4) so.any
   where
     by : (old : Bool) → (old ≡ false → list_any (bytes_eq text) texts.line_strings ≡ true)
         → bytes_in texts (if old then Inline text else InLineStrings (index_of_text texts.line_strings text)) ≡ text
@@ -182,23 +185,22 @@ made_bytes version texts text so = by (nat_le version 4) so.any
         ap (λ o. unwrap_or o []) found
 
 -- so texts that are made the same are the same
-pub made_differ : (version : ℕ) (line_strings : List (List ℕ)) (a b : List ℕ) → IsMade version line_strings a
-    → IsMade version line_strings b
-    → made_text version line_strings a ≡ made_text version line_strings b → a ≡ b
-made_differ version line_strings a b x y is =
-    sym (made_bytes _ (texts_in [] line_strings) a x) ∙ ap (bytes_in (texts_in [] line_strings)) is
-    ∙ made_bytes _ (texts_in [] line_strings) b y
+pub made_differ : {version : ℕ} {line_strings : List (List ℕ)} {a b : List ℕ} → IsMade version line_strings a
+    → IsMade version line_strings b → made_text version line_strings a ≡ made_text version line_strings b → a ≡ b
+made_differ {line_strings} {a} {b} x y is =
+    sym (made_bytes (texts_in [] line_strings) x) ∙ ap (bytes_in (texts_in [] line_strings)) is
+    ∙ made_bytes (texts_in [] line_strings) y
 
 -- ---- steps that were done
 
 -- of two steps one after the other both were done
-pub took : {A B : Type 0} (r : Result A ConvertError) (f : A → Result B ConvertError) (y : B) → (r >>= f) ≡ Ok y
+pub took : {A B : Type 0} (r : Result A ConvertError) (f : A → Result B ConvertError) {y : B} → (r >>= f) ≡ Ok y
     → (x : A) × (r ≡ Ok x) × (f x ≡ Ok y)
-took (Ok x) f y is = (x, refl, is)
-took (Err e) f y is = absurd cc
+took (Ok x) f is = (x, refl, is)
+took (Err e) f is = absurd cc
 
-pub same_ok : {A : Type 0} (x y : A) → (let r : Result A ConvertError = Ok x in r) ≡ Ok y → x ≡ y
-same_ok x y is = cc
+pub same_ok : {A : Type 0} (x : A) {y : A} → (let r : Result A ConvertError = Ok x in r) ≡ Ok y → x ≡ y
+same_ok x is = cc
 
 -- a header was prepared: its steps one by one
 pub record IsPrepared (sections : Sections) (h : Header) (given : Handed) (line_strings : List (List ℕ))
@@ -216,21 +218,20 @@ pub record IsPrepared (sections : Sections) (h : Header) (given : Handed) (line_
   pub files : all_added (file_added sections) h.files with_directories ≡ Ok tables
 
 pub is_prepared : (sections : Sections) (h : Header) (given : Handed) (line_strings : List (List ℕ))
-    (tables : TablesAndTexts)
-    → tables_of_header sections h given line_strings ≡ Ok tables
+    {tables : TablesAndTexts} → tables_of_header sections h given line_strings ≡ Ok tables
     → IsPrepared sections h given line_strings tables
-is_prepared sections h given line_strings tables is =
+is_prepared sections h given line_strings {tables} is =
     let encoding = encoding_of h given in
     let begin =
     λ (directory : List ℕ) (file : SourceFile) (line_encoding : LineEncoding).
     start_of_tables encoding line_encoding h (first_texts encoding.version line_strings directory file) in
-    let start = took _ _ _ is in
-    let a = took _ _ _ start.1 in
-    let b = took _ _ _ a.2 in
-    let l = took (line_encoding_of h.parameters.line_encoding given.line_encoding) _ start.0 b.2 in
+    let start = took _ _ is in
+    let a = took _ _ start.1 in
+    let b = took _ _ a.2 in
+    let l = took (line_encoding_of h.parameters.line_encoding given.line_encoding) _ b.2 in
     let listed : lists_added sections h (begin a.0 b.0 l.0) ≡ Ok tables =
-    subst (λ t. lists_added sections h t ≡ Ok tables) (sym (same_ok _ _ l.2)) start.2 in
-    let d = took _ _ _ listed in
+    subst (λ t. lists_added sections h t ≡ Ok tables) (sym (same_ok _ l.2)) start.2 in
+    let d = took _ _ listed in
     record {
       directory = a.0;
       directory_is = a.1;
@@ -247,24 +248,25 @@ is_prepared sections h given line_strings tables is =
 module _ (P : TablesAndTexts → Type 0) where
   pub all_added_keeps : {A : Type 0} (add : TablesAndTexts → A → Result TablesAndTexts ConvertError)
       → ((tables next : TablesAndTexts) (x : A) → add tables x ≡ Ok next → P tables → P next)
-      → (xs : List A) (tables last : TablesAndTexts) → all_added add xs tables ≡ Ok last → P tables → P last
-  all_added_keeps add step [] tables last is p = subst P (same_ok _ _ is) p
-  all_added_keeps add step (x ∷ xs) tables last is p =
-      let t = took _ _ _ is in
-      all_added_keeps add step xs t.0 last t.2 (step tables t.0 x t.1 p)
+      → (xs : List A) (tables : TablesAndTexts) {last : TablesAndTexts} → all_added add xs tables ≡ Ok last → P tables
+      → P last
+  all_added_keeps add step [] tables is p = subst P (same_ok _ is) p
+  all_added_keeps add step (x ∷ xs) tables {last} is p =
+      let t = took _ _ is in
+      all_added_keeps add step xs t.0 t.2 (step tables t.0 x t.1 p)
 
   pub lists_at_keeps : (sections : Sections) (first : TablesAndTexts)
       → ((tables next : TablesAndTexts) (f : File) → file_added sections tables f ≡ Ok next → P tables → P next)
-      → (past : List Ins) (tables : TablesAndTexts) → tables_at sections first past ≡ Ok tables → P first → P tables
-  lists_at_keeps sections first step [] tables is p = subst P (same_ok _ _ is) p
-  lists_at_keeps sections first step (i ∷ past) tables is p =
-      let t = took _ _ _ is in
-      one i t.0 t.2 (lists_at_keeps sections first step past t.0 t.1 p)
+      → (past : List Ins) {tables : TablesAndTexts} → tables_at sections first past ≡ Ok tables → P first → P tables
+  lists_at_keeps sections first step [] is p = subst P (same_ok _ is) p
+  lists_at_keeps sections first step (i ∷ past) {tables} is p =
+      let t = took _ _ is in
+      one i t.0 t.2 (lists_at_keeps sections first step past t.1 p)
     where
       one : (i : Ins) (before : TablesAndTexts) → tables_after_definition sections before i ≡ Ok tables → P before
           → P tables
       one (DefineFile f) before so q = step before tables f so q
-      one i before so q = subst P (same_ok _ _ so) q
+      one i before so q = subst P (same_ok _ so) q
 
 -- ---- texts are there
 
@@ -290,15 +292,13 @@ module _ (strings : List (List ℕ)) (version : ℕ) (line_strings : List (List 
       → IsWithin (texts_in strings (made_table version line_strings text)) (made_text version line_strings text)
   made_within text = by (nat_le version 4)
     where
-      by : (old : Bool)
-          → IsWithin (texts_in strings (if old then line_strings else with_text line_strings text))
+      by : (old : Bool) → IsWithin (texts_in strings (if old then line_strings else with_text line_strings text))
           (if old then Inline text else InLineStrings (index_of_text line_strings text))
       by true = tt
       by false =
           slice_get_within (with_text line_strings text) (index_of_text line_strings text) text (with_text-found _ _)
 
-  source_within : (source : Option (List ℕ))
-      → IfSome (option_map (made_text version line_strings) source)
+  source_within : (source : Option (List ℕ)) → IfSome (option_map (made_text version line_strings) source)
       (IsWithin (texts_in strings (sources_table version line_strings source)))
   source_within (Some text) = made_within text
   source_within None = tt
@@ -322,10 +322,10 @@ pub record IsReady (strings : List (List ℕ)) (encoding : Encoding) (tables : T
   pub can : CanWrite (with_sources tables.program) (texts_in strings tables.line_strings)
 
 -- so can one of the same encoding that has these tables
-pub written_with_tables : (p : Built) (texts : StringTables) (tables : TablesAndTexts) → p.is_none ≡ false
+pub written_with_tables : (p : Built) {texts : StringTables} (tables : TablesAndTexts) → p.is_none ≡ false
     → tables.program.encoding ≡ p.encoding → CanWrite (with_sources tables.program) texts
     → CanWrite (with_tables tables p) texts
-written_with_tables p texts tables program encoding can = record {
+written_with_tables p tables program encoding can = record {
   program = program;
   directories = can.directories;
   paths = can.paths;
@@ -334,8 +334,7 @@ written_with_tables p texts tables program encoding can = record {
 }
 
 pub ready_written : (strings : List (List ℕ)) (encoding : Encoding) (tables : TablesAndTexts)
-    → IsReady strings encoding tables
-    → CanWrite tables.program (texts_in strings tables.line_strings)
+    → IsReady strings encoding tables → CanWrite tables.program (texts_in strings tables.line_strings)
 ready_written strings encoding tables so = record {
   program = so.can.program;
   directories = so.can.directories;
@@ -345,8 +344,7 @@ ready_written strings encoding tables so = record {
 }
 
 directories_with : (texts : StringTables) (ds : List LineText) (t : LineText) → All (IsWithin texts) ds
-    → IsWithin texts t
-    → All (IsWithin texts) (with_directory ds t)
+    → IsWithin texts t → All (IsWithin texts) (with_directory ds t)
 directories_with texts ds t all one = by (list_any _ ds)
   where
     by : (b : Bool) → All (IsWithin texts) (if b then ds else ds ++ t ∷ [])
@@ -360,13 +358,11 @@ module _ (strings : List (List ℕ)) (encoding : Encoding) (sections : Sections)
       → IsReady strings encoding tables → IsReady strings encoding next
   directory_ready v is so =
       let version = version_of tables in
-      let t = took (source_path version sections v) (λ path. Ok (with_path tables path)) _ is in
+      let t = took (source_path version sections v) (λ path. Ok (with_path tables path)) is in
       let path = t.0 in
       let after = made_table version tables.line_strings path in
-      let can =
-      written_later strings tables.line_strings after (made_keeps version tables.line_strings path)
-      (with_sources tables.program) so.can in
-      subst (IsReady strings encoding) (same_ok (with_path tables path) next t.2) (record {
+      let can = written_later strings tables.line_strings after (made_keeps version tables.line_strings path) so.can in
+      subst (IsReady strings encoding) (same_ok (with_path tables path) t.2) (record {
         items = so.items;
         encoding_is = so.encoding_is;
         can = record {
@@ -385,8 +381,7 @@ module _ (strings : List (List ℕ)) (encoding : Encoding) (sections : Sections)
       → IsReady strings encoding tables → IsReady strings encoding next
   file_ready f is so =
       let version = version_of tables in
-      let t =
-      took (file_parts version sections tables.directory_ids f) (λ parts. Ok (with_parts tables f parts)) next is in
+      let t = took (file_parts version sections tables.directory_ids f) (λ parts. Ok (with_parts tables f parts)) is in
       let parts = t.0 in
       let paths = made_table version tables.line_strings parts.path in
       let after = sources_table version paths parts.source in
@@ -398,24 +393,20 @@ module _ (strings : List (List ℕ)) (encoding : Encoding) (sections : Sections)
       } in
       let first = made_keeps version tables.line_strings parts.path in
       let second = sources_keep version paths parts.source in
-      subst (IsReady strings encoding) (same_ok (with_parts tables f parts) next t.2) (record {
+      subst (IsReady strings encoding) (same_ok (with_parts tables f parts) t.2) (record {
         items = so.items;
         encoding_is = so.encoding_is;
         can =
-            written_with_file (with_sources tables.program) (texts_in strings after)
-            (made_text version tables.line_strings parts.path) parts.directory details
+            written_with_file (made_text version tables.line_strings parts.path) parts.directory details
             (within_kept strings paths after second _ (made_within strings version tables.line_strings parts.path))
             (source_within strings version paths parts.source) (source_ends version paths parts.source)
-            (written_later strings tables.line_strings after (kept_then _ _ _ first second)
-            (with_sources tables.program) so.can);
+            (written_later strings tables.line_strings after (kept_then first second) so.can);
       })
 
 -- ---- the tables of a header
 
 started_ready : (strings : List (List ℕ)) (encoding : Encoding) (line_encoding : LineEncoding) (h : Header)
-    (line_strings : List (List ℕ)) (directory : List ℕ)
-    (file : SourceFile)
-    → IsReady strings encoding
+    (line_strings : List (List ℕ)) (directory : List ℕ) (file : SourceFile) → IsReady strings encoding
     (start_of_tables encoding line_encoding h (first_texts encoding.version line_strings directory file))
 started_ready strings encoding line_encoding h line_strings directory file =
     let texts = first_texts encoding.version line_strings directory file in
@@ -425,7 +416,7 @@ started_ready strings encoding line_encoding h line_strings directory file =
     let second_keeps = sources_keep encoding.version second file.directory in
     let third_keeps = made_keeps encoding.version third file.path in
     let working : IsWithin (texts_in strings last) texts.working_directory =
-    within_kept strings second last (kept_then second third last second_keeps third_keeps) texts.working_directory
+    within_kept strings second last (kept_then second_keeps third_keeps) texts.working_directory
     (made_within strings encoding.version line_strings directory) in
     let own : IfSome texts.source_directory (IsWithin (texts_in strings last)) =
     source_kept strings third last third_keeps texts.source_directory
@@ -456,8 +447,7 @@ started_ready strings encoding line_encoding h line_strings directory file =
     alone texts t w = All-cons (IsWithin texts) t [] w (All-nil (IsWithin texts))
 
     both : (texts : StringTables) (working : LineText) (own : Option LineText) (old : Bool) → IsWithin texts working
-        → IfSome own (IsWithin texts)
-        → All (IsWithin texts)
+        → IfSome own (IsWithin texts) → All (IsWithin texts)
         (if old then working ∷ [] else option_map_or (with_directory (working ∷ [])) own (working ∷ []))
     both texts working own true w o = alone texts working w
     both texts working (Some t) false w o = directories_with texts (working ∷ []) t (alone texts working w) o
@@ -469,16 +459,15 @@ started_ready strings encoding line_encoding h line_strings directory file =
 
 -- what `new` makes of a header can be written, and nothing is built in it
 pub prepared_ready : (strings : List (List ℕ)) (sections : Sections) (h : Header) (given : Handed)
-    (line_strings : List (List ℕ)) (tables : TablesAndTexts)
+    (line_strings : List (List ℕ)) {tables : TablesAndTexts}
     → tables_of_header sections h given line_strings ≡ Ok tables → IsReady strings (encoding_of h given) tables
-prepared_ready strings sections h given line_strings tables is =
-    let p = is_prepared sections h given line_strings tables is in
+prepared_ready strings sections h given line_strings {tables} is =
+    let p = is_prepared sections h given line_strings is in
     let encoding = encoding_of h given in
     all_added_keeps (IsReady strings encoding) (file_added sections)
-    (λ l n f a so. file_ready strings encoding sections l n f a so) h.files p.with_directories tables p.files
+    (λ l n f a so. file_ready strings encoding sections l n f a so) h.files p.with_directories p.files
     (all_added_keeps (IsReady strings encoding) (directory_added sections)
-    (λ l n v a so. directory_ready strings encoding sections l n v a so) h.directories _
-    p.with_directories p.directories
+    (λ l n v a so. directory_ready strings encoding sections l n v a so) h.directories _ p.directories
     (started_ready strings encoding p.line_encoding h line_strings p.directory p.file))
 
 -- ---- texts of a source
@@ -491,34 +480,32 @@ kept_bytes bytes text is = grind arith
     by true so = absurd cc
     by false so = cc
 
-source_read : (r : Result (List ℕ) Error) (text : List ℕ)
+source_read : (r : Result (List ℕ) Error) {text : List ℕ}
     → (result_map_both (λ text. text) Read r >>= without_zero) ≡ Ok text → r ≡ Ok text
-source_read (Ok bytes) text is = ap Ok (kept_bytes _ _ is)
-source_read (Err e) text is = absurd cc
+source_read (Ok bytes) is = ap Ok (kept_bytes _ _ is)
+source_read (Err e) is = absurd cc
 
-pub source_text_of : (sections : Sections) (v : Value) (text : List ℕ) → source_text sections v ≡ Ok text
+pub source_text_of : (sections : Sections) (v : Value) {text : List ℕ} → source_text sections v ≡ Ok text
     → text_of sections v ≡ Ok text
-source_text_of sections (DebugStrRefSup offset) text is = absurd cc
-source_text_of sections v text is = source_read _ _ is
+source_text_of sections (DebugStrRefSup offset) is = absurd cc
+source_text_of sections v is = source_read _ is
 
-pub source_path_of : (version : ℕ) (sections : Sections) (v : Value) (path : List ℕ)
+pub source_path_of : (version : ℕ) (sections : Sections) (v : Value) {path : List ℕ}
     → source_path version sections v ≡ Ok path → text_of sections v ≡ Ok path
-source_path_of version sections v path is =
-    grind (arith, took, source_text_of)
+source_path_of version sections v {path} is = grind (arith, took, source_text_of)
   where
     by : (text : List ℕ) (b : Bool) → (if b then Err InvalidAttributeValue else Ok text) ≡ Ok path → text ≡ path
     by text true so = absurd cc
     by text false so = cc
 
 first_path_of : (version : ℕ) (sections : Sections) (h : Header) (v : Value) (path : List ℕ)
-    → first_path version sections h v ≡ Ok path
-    → text_of sections v ≡ Ok path
+    → first_path version sections h v ≡ Ok path → text_of sections v ≡ Ok path
 first_path_of version sections h v path is = grind arith
   where
     by : (old : Bool) → (if old then source_text sections v else source_path version sections v) ≡ Ok path
         → text_of sections v ≡ Ok path
-    by true so = source_text_of _ v _ so
-    by false so = source_path_of _ _ v _ so
+    by true so = source_text_of _ v so
+    by false so = source_path_of _ _ v so
 
 -- ---- entries of tables
 
@@ -571,17 +558,15 @@ pub record IsDirectoryId (version : ℕ) (line_strings : List (List ℕ)) (direc
   pub made : IsMade version line_strings path
   pub at : IsAt directories (made_text version line_strings path) id
 
-longer_texts : (version : ℕ) (old new : List (List ℕ)) (directories : List LineText) (path : List ℕ) (id : ℕ)
+longer_texts : {version : ℕ} {old new : List (List ℕ)} {directories : List LineText} {path : List ℕ} {id : ℕ}
     → HasMade version old new
     → IsDirectoryId version old directories path id → IsDirectoryId version new directories path id
-longer_texts version old new directories path id has so = grind arith
+longer_texts has so = grind arith
 
-more_directories : (version : ℕ) (line_strings : List (List ℕ)) (directories : List LineText) (t : LineText)
-    (path : List ℕ) (id : ℕ)
-    → IsDirectoryId version line_strings directories path id
+more_directories : {version : ℕ} {line_strings : List (List ℕ)} {directories : List LineText} (t : LineText)
+    {path : List ℕ} {id : ℕ} → IsDirectoryId version line_strings directories path id
     → IsDirectoryId version line_strings (with_directory directories t) path id
-more_directories version line_strings directories t path id so =
-    grind (arith, grown_any, grown_index)
+more_directories t so = grind (arith, grown_any, grown_index)
 
 -- one that is added has its id
 new_id : (version : ℕ) (line_strings : List (List ℕ)) (directories : List LineText) (path : List ℕ)
@@ -593,35 +578,32 @@ new_id version line_strings directories path =
     let there = list_any (line_text_eq text) directories in
     record {
       made = grind (arith, is_made);
-      at =
-          grind (arith, is_same, own_any, same_text, own_index);
+      at = grind (arith, is_same, own_any, same_text, own_index);
     }
 
 -- it is found there
-pub directory_there : (version : ℕ) (line_strings : List (List ℕ)) (directories : List LineText) (path : List ℕ)
-    (id : ℕ)
-    → IsDirectoryId version line_strings directories path id
+pub directory_there : {version : ℕ} {line_strings : List (List ℕ)} {directories : List LineText} {path : List ℕ}
+    {id : ℕ} → IsDirectoryId version line_strings directories path id
     → slice_get directories id ≡ Some (made_text version line_strings path)
-directory_there version line_strings directories path id so =
+directory_there {version} {line_strings} {directories} {path} so =
     let t = made_text version line_strings path in
-    ap (slice_get directories) so.at.index
-    ∙ subst (λ ds. slice_get ds (index_of_directory directories t) ≡ Some t)
+    ap (slice_get directories) so.at.index ∙ subst (λ ds. slice_get ds (index_of_directory directories t) ≡ Some t)
     (ap (λ b. if b then directories else directories ++ t ∷ []) so.at.present) (directory_found _ t)
 
 -- so one id has one path
-pub one_path : (version : ℕ) (line_strings : List (List ℕ)) (directories : List LineText) (a b : List ℕ) (id : ℕ)
+pub one_path : (version : ℕ) (line_strings : List (List ℕ)) {directories : List LineText} (a b : List ℕ) {id : ℕ}
     → IsDirectoryId version line_strings directories a id → IsDirectoryId version line_strings directories b id → a ≡ b
-one_path version line_strings directories a b id x y =
-    let first = directory_there _ _ _ a _ x in
-    let second = directory_there _ _ _ b _ y in
+one_path version line_strings a b x y =
+    let first = directory_there x in
+    let second = directory_there y in
     let same : made_text version line_strings a ≡ made_text version line_strings b = cc in
-    made_differ _ _ a b x.made y.made same
+    made_differ x.made y.made same
 
 -- the texts that were there are there after a source, if one is made
 pub sources_has : (version : ℕ) (paths : List (List ℕ)) (source : Option (List ℕ))
     → HasMade version paths (sources_table version paths source)
 sources_has version paths (Some text) = table_has version paths text
-sources_has version paths None = has_itself _ _
+sources_has version paths None = has_itself
 
 -- ---- all directories
 
@@ -634,20 +616,19 @@ pub record AreDirectories (sections : Sections) (h : Header) (tables : TablesAnd
 module _ (sections : Sections) (h : Header) where
   -- the next directory of a header is added
   directory_next : (tables next : TablesAndTexts) (v : Value) → directory_of h (length tables.directory_ids) ≡ Some v
-      → directory_added sections tables v ≡ Ok next
-      → AreDirectories sections h tables
+      → directory_added sections tables v ≡ Ok next → AreDirectories sections h tables
       → AreDirectories sections h next × (length next.directory_ids ≡ length tables.directory_ids + 1)
   directory_next tables next v here is so =
       let version = version_of tables in
-      let t = took (source_path version sections v) (λ path. Ok (with_path tables path)) next is in
+      let t = took (source_path version sections v) (λ path. Ok (with_path tables path)) is in
       let path = t.0 in
       let after = made_table version tables.line_strings path in
       let text = made_text version tables.line_strings path in
       let new = new_id version tables.line_strings tables.program.directories path in
-      let read : IsText sections v path = text_read sections v path (source_path_of version sections v path t.1) in
+      let read : IsText sections v path = text_read sections v (source_path_of version sections v t.1) in
       subst (λ (l : TablesAndTexts).
       AreDirectories sections h l × (length l.directory_ids ≡ length tables.directory_ids + 1))
-      (same_ok (with_path tables path) next t.2) (
+      (same_ok (with_path tables path) t.2) (
         record {
           each =
               λ d id at.
@@ -656,11 +637,7 @@ module _ (sections : Sections) (h : Header) where
                     let before = so.each d id old in (
                       before.0,
                       before.1,
-                      longer_texts version tables.line_strings after (with_directory tables.program.directories text)
-                          before.0 id
-                          (table_has version tables.line_strings path)
-                          (more_directories version tables.line_strings tables.program.directories text before.0 id
-                          before.2),
+                      longer_texts (table_has version tables.line_strings path) (more_directories text before.2),
                     )
                 | inr here_it_is ↦ (
                   path,
@@ -674,28 +651,26 @@ module _ (sections : Sections) (h : Header) where
         length-append tables.directory_ids (index_of_directory tables.program.directories text ∷ []),
       )
 
-  directories_next : (done rest : List Value) (tables last : TablesAndTexts) → h.directories ≡ done ++ rest
+  directories_next : (done rest : List Value) (tables : TablesAndTexts) {last : TablesAndTexts}
+      → h.directories ≡ done ++ rest
       → length tables.directory_ids ≡ begins_at (nat_le h.parameters.encoding.version 4) + length done
       → all_added (directory_added sections) rest tables ≡ Ok last → AreDirectories sections h tables
       → AreDirectories sections h last
-  directories_next done [] tables last parts count is so = grind (arith, same_ok)
-  directories_next done (v ∷ rest) tables last parts count is so =
-      let t = took _ _ _ is in
+  directories_next done [] tables parts count is so = grind (arith, same_ok)
+  directories_next done (v ∷ rest) tables {last} parts count is so =
+      let t = took _ _ is in
       let here : directory_of h (length tables.directory_ids) ≡ Some v =
-      ap
-      (λ ds. if nat_le h.parameters.encoding.version 4
+      ap (λ ds. if nat_le h.parameters.encoding.version 4
       then from_one (option_map String h.comp_dir) ds (length tables.directory_ids)
-      else slice_get ds (length tables.directory_ids))
-      parts
-      ∙ entry_at _ _ _ _ v _ count in
+      else slice_get ds (length tables.directory_ids)) parts ∙ entry_at _ _ _ _ v _ count in
       let next = directory_next _ _ v here t.1 so in
-      directories_next (done ++ v ∷ []) rest t.0 last (parts ∙ sym (append_assoc done (v ∷ []) rest))
+      directories_next (done ++ v ∷ []) rest t.0 (parts ∙ sym (append_assoc done (v ∷ []) rest))
       (omega (arith, next.1, count, length-append done (v ∷ []))) t.2 next.0
 
   -- the working directory, up to version 4 of the source
-  working_read : (version : ℕ) (directory : List ℕ) → working_directory version sections h ≡ Ok directory
+  working_read : (version : ℕ) {directory : List ℕ} → working_directory version sections h ≡ Ok directory
       → IsDirectoryPath sections (directory_of h 0) directory
-  working_read version directory is = by (directory_of h 0) is
+  working_read version {directory} is = by (directory_of h 0) is
     where
       none : (b : Bool) → (if b then Ok [] else Err MissingCompilationDirectory) ≡ Ok directory → directory ≡ []
       none true so = cc
@@ -703,14 +678,12 @@ module _ (sections : Sections) (h : Header) where
 
       by : (o : Option Value)
           → option_map_or (first_path version sections h) o (needed_from_5 version [] MissingCompilationDirectory)
-          ≡ Ok directory
-          → IsDirectoryPath sections o directory
-      by (Some v) so = text_read _ v _ (first_path_of _ _ h v _ so)
+          ≡ Ok directory → IsDirectoryPath sections o directory
+      by (Some v) so = text_read _ v (first_path_of _ _ h v _ so)
       by None so = none _ so
 
   directories_first : (encoding : Encoding) (line_encoding : LineEncoding) (line_strings : List (List ℕ))
-      (directory : List ℕ) (file : SourceFile)
-      → IsDirectoryPath sections (directory_of h 0) directory
+      (directory : List ℕ) (file : SourceFile) → IsDirectoryPath sections (directory_of h 0) directory
       → AreDirectories sections h
       (start_of_tables encoding line_encoding h (first_texts encoding.version line_strings directory file))
   directories_first encoding line_encoding line_strings directory file read = record { each = each _ }
@@ -721,20 +694,18 @@ module _ (sections : Sections) (h : Header) where
       own : Option LineText
       own = (first_texts encoding.version line_strings directory file).source_directory
 
-      with_own : (last : List (List ℕ)) (working : LineText) (own : Option LineText) (old : Bool)
-          → IsDirectoryId encoding.version last (working ∷ []) directory 0
-          → IsDirectoryId encoding.version last
+      with_own : {last : List (List ℕ)} (working : LineText) (own : Option LineText) (old : Bool)
+          → IsDirectoryId encoding.version last (working ∷ []) directory 0 → IsDirectoryId encoding.version last
           (if old then working ∷ [] else option_map_or (with_directory (working ∷ [])) own (working ∷ [])) directory 0
-      with_own last working own true so = so
-      with_own last working (Some t) false so = more_directories _ _ _ t _ 0 so
-      with_own last working None false so = so
+      with_own working own true so = so
+      with_own working (Some t) false so = more_directories t so
+      with_own working None false so = so
 
       each : (old : Bool) (d id : ℕ) → slice_get (if old then 0 ∷ [] else []) d ≡ Some id
           → (path : List ℕ) × IsDirectoryPath sections (directory_of h d) path
           × IsDirectoryId encoding.version (first_texts encoding.version line_strings directory file).line_strings
           (first_directories encoding.version (made_text encoding.version line_strings directory)
-          (first_texts encoding.version line_strings directory file).source_directory)
-          path id
+          (first_texts encoding.version line_strings directory file).source_directory) path id
       each true zero id at =
           let second = made_table encoding.version line_strings directory in
           let third = sources_table encoding.version second file.directory in
@@ -743,69 +714,60 @@ module _ (sections : Sections) (h : Header) where
             directory,
             read,
             subst (IsDirectoryId encoding.version last (first_directories encoding.version working own) directory)
-                zero_is
-                (with_own _ _ _ _
-                (longer_texts _ _ _ _ _ 0 (table_has encoding.version third file.path)
-                (longer_texts _ _ _ _ _ 0 (sources_has _ _ _) (new_id encoding.version line_strings [] directory)))),
+                zero_is (with_own _ _ _ (longer_texts (table_has encoding.version third file.path)
+                (longer_texts (sources_has _ _ _) (new_id encoding.version line_strings [] directory)))),
           )
       each true (suc d) id at = absurd cc
       each false d id at = absurd cc
 
   -- those of a header
   pub directories_prepared : (given : Handed) (line_strings : List (List ℕ)) (tables : TablesAndTexts)
-      (p : IsPrepared sections h given line_strings tables)
-      → AreDirectories sections h p.with_directories
+      (p : IsPrepared sections h given line_strings tables) → AreDirectories sections h p.with_directories
   directories_prepared given line_strings tables p =
-      directories_next [] h.directories _ p.with_directories refl
-      (first_count h.parameters.encoding.version ∙ omega arith) p.directories
+      directories_next [] h.directories _ refl (first_count h.parameters.encoding.version ∙ omega arith) p.directories
       (directories_first (encoding_of h given) p.line_encoding line_strings p.directory p.file
-      (working_read (encoding_of h given).version p.directory p.directory_is))
+      (working_read (encoding_of h given).version p.directory_is))
 
   -- a file changes none of them
-  pub directories_stay : (tables next : TablesAndTexts) (f : File) → file_added sections tables f ≡ Ok next
-      → AreDirectories sections h tables
-      → AreDirectories sections h next
-  directories_stay tables next f is so =
+  pub directories_stay : (tables : TablesAndTexts) {next : TablesAndTexts} (f : File)
+      → file_added sections tables f ≡ Ok next
+      → AreDirectories sections h tables → AreDirectories sections h next
+  directories_stay tables {next} f is so =
       let version = version_of tables in
-      let t =
-      took (file_parts version sections tables.directory_ids f) (λ parts. Ok (with_parts tables f parts)) next is in
+      let t = took (file_parts version sections tables.directory_ids f) (λ parts. Ok (with_parts tables f parts)) is in
       let parts = t.0 in
       let paths = made_table version tables.line_strings parts.path in
       let after = sources_table version paths parts.source in
       let has : HasMade version tables.line_strings after =
-      has_then version tables.line_strings paths after (table_has version tables.line_strings parts.path)
-      (sources_has version paths parts.source) in
-      subst (AreDirectories sections h) (same_ok (with_parts tables f parts) next t.2) (record {
+      has_then (table_has version tables.line_strings parts.path) (sources_has version paths parts.source) in
+      subst (AreDirectories sections h) (same_ok (with_parts tables f parts) t.2) (record {
         each = grind (arith, longer_texts);
       })
 
 -- ---- elements one by one
 
 pub one_by_one_map : {A B : Type 0} (R S : A → B → Type 0) → ((x : A) (y : B) → R x y → S x y)
-    → (xs : List A) (ys : List B) → OneByOne R xs ys
-    → OneByOne S xs ys
+    → (xs : List A) (ys : List B) → OneByOne R xs ys → OneByOne S xs ys
 one_by_one_map R S f [] [] all = tt
 one_by_one_map R S f [] (y ∷ ys) all = elim all [ ]
 one_by_one_map R S f (x ∷ xs) [] all = elim all [ ]
 one_by_one_map R S f (x ∷ xs) (y ∷ ys) all = (f x y all.0, one_by_one_map R S f xs ys all.1)
 
-pub one_by_one_at : {A B : Type 0} (R : A → B → Type 0) (xs : List A) (ys : List B) (i : ℕ) (x : A) → OneByOne R xs ys
-    → slice_get xs i ≡ Some x
-    → (y : B) × (slice_get ys i ≡ Some y) × R x y
-one_by_one_at R [] ys i x all is = absurd cc
-one_by_one_at R (a ∷ xs) [] i x all is = elim all [ ]
-one_by_one_at {A = A} R (a ∷ xs) (b ∷ ys) zero x all is =
+pub one_by_one_at : {A B : Type 0} (R : A → B → Type 0) (xs : List A) (ys : List B) (i : ℕ) {x : A} → OneByOne R xs ys
+    → slice_get xs i ≡ Some x → (y : B) × (slice_get ys i ≡ Some y) × R x y
+one_by_one_at R [] ys i all is = absurd cc
+one_by_one_at R (a ∷ xs) [] i all is = elim all [ ]
+one_by_one_at {A = A} R (a ∷ xs) (b ∷ ys) zero {x} all is =
     let same : a ≡ x = cc in (b, refl, subst (λ z. R z b) same all.0)
-one_by_one_at R (a ∷ xs) (b ∷ ys) (suc i) x all is = one_by_one_at R xs ys i x all.1 is
+one_by_one_at R (a ∷ xs) (b ∷ ys) (suc i) {x} all is = one_by_one_at R xs ys i all.1 is
 
-pub one_by_one_back : {A B : Type 0} (R : A → B → Type 0) (xs : List A) (ys : List B) (i : ℕ) (y : B) → OneByOne R xs ys
-    → slice_get ys i ≡ Some y
-    → (x : A) × (slice_get xs i ≡ Some x)
-one_by_one_back R [] [] i y all is = absurd cc
-one_by_one_back R [] (b ∷ ys) i y all is = elim all [ ]
-one_by_one_back R (a ∷ xs) [] i y all is = elim all [ ]
-one_by_one_back R (a ∷ xs) (b ∷ ys) zero y all is = (a, refl)
-one_by_one_back R (a ∷ xs) (b ∷ ys) (suc i) y all is = one_by_one_back R xs ys i y all.1 is
+pub one_by_one_back : {A B : Type 0} (R : A → B → Type 0) (xs : List A) (ys : List B) (i : ℕ) {y : B} → OneByOne R xs ys
+    → slice_get ys i ≡ Some y → (x : A) × (slice_get xs i ≡ Some x)
+one_by_one_back R [] [] i all is = absurd cc
+one_by_one_back R [] (b ∷ ys) i all is = elim all [ ]
+one_by_one_back R (a ∷ xs) [] i all is = elim all [ ]
+one_by_one_back R (a ∷ xs) (b ∷ ys) zero all is = (a, refl)
+one_by_one_back R (a ∷ xs) (b ∷ ys) (suc i) {y} all is = one_by_one_back R xs ys i all.1 is
 
 all_push : {A : Type 0} (P : A → Type 0) (xs : List A) (x : A) → AllByRecursion P xs → P x
     → AllByRecursion P (xs ++ x ∷ [])
@@ -889,9 +851,7 @@ module _ (files : List BuiltFile) (k : FileKey) (d : Details) where
           → slice_get (after b) (index_of_file files k) ≡ Some (k, d)
       by true is found =
           let n = index_of_file files k in
-          details_at files n d
-          ∙ there (slice_get files n)
-          (ap (option_map (λ f. f.0)) (sym (details_at files n d))
+          details_at files n d ∙ there (slice_get files n) (ap (option_map (λ f. f.0)) (sym (details_at files n d))
           ∙ sym (slice_get-map (λ (f : BuiltFile). f.0) (with_details files n d) n) ∙ found)
       by false is found = last_element files (k, d) (index_of_file files k) (index_none (λ f. key_eq k f.0) files is)
 
@@ -908,18 +868,17 @@ module _ (files : List BuiltFile) (k : FileKey) (d : Details) where
       subst (λ (n : ℕ). slice_get (keys_of (with_file files k (Some d))) n ≡ Some k) (sym here)
       (file_found_at files k (Some d)) in
       let same : l ≡ k = cc in
-      other same)
-      ∙ is
+      other same) ∙ is
 
   entry_new : IsEntry (with_file files k (Some d)) k d (index_of_file files k)
   entry_new = record { present = new_any; index = sym new_index; there = new_there }
 
-  entry_replaced : (e : Details) (i : ℕ) → IsEntry files k e i → IsEntry (with_file files k (Some d)) k d i
-  entry_replaced e i so = subst (IsEntry (with_file files k (Some d)) k d) (sym so.index) entry_new
+  entry_replaced : {e : Details} {i : ℕ} → IsEntry files k e i → IsEntry (with_file files k (Some d)) k d i
+  entry_replaced so = subst (IsEntry (with_file files k (Some d)) k d) (sym so.index) entry_new
 
-  entry_kept : (l : FileKey) (e : Details) (i : ℕ) → l ≢ k → IsEntry files l e i
+  entry_kept : {l : FileKey} {e : Details} {i : ℕ} → l ≢ k → IsEntry files l e i
       → IsEntry (with_file files k (Some d)) l e i
-  entry_kept l e i other so = record {
+  entry_kept {l} {e} {i} other so = record {
     present = old_any l so.present;
     index = so.index ∙ sym (old_index l so.present);
     there = other_there l e i so.there other;
@@ -988,17 +947,16 @@ module _ (sections : Sections) (tables : TablesAndTexts) where
     pub entry : IsEntry tables.program.files (key_of parts) details id
     pub of_last : IsOfLast source parts details
 
-known_longer : (version : ℕ) (old new : List (List ℕ)) (f : File) (source : Option (List ℕ)) (d : Details)
-    → HasMade version old new
-    → IsKnown version old f source d → IsKnown version new f source d
-known_longer version old new f (Some text) d has so = record {
+known_longer : {version : ℕ} {old new : List (List ℕ)} {f : File} (source : Option (List ℕ)) {d : Details}
+    → HasMade version old new → IsKnown version old f source d → IsKnown version new f source d
+known_longer (Some text) has so = record {
   timestamp = so.timestamp;
   size = so.size;
   md5 = so.md5;
   source_is = so.source_is ∙ ap Some (sym (has.same text so.source_made));
   source_made = has.there text so.source_made;
 }
-known_longer version old new f None d has so = record {
+known_longer None has so = record {
   timestamp = so.timestamp;
   size = so.size;
   md5 = so.md5;
@@ -1039,9 +997,7 @@ module _ (sections : Sections) (tables : TablesAndTexts) (g : File) (added : Fil
   paths_stay = sources_has (version_of tables) paths added.source
 
   texts_stay : HasMade (version_of tables) tables.line_strings with_it.line_strings
-  texts_stay =
-      has_then (version_of tables) tables.line_strings paths with_it.line_strings
-      (table_has (version_of tables) tables.line_strings added.path) paths_stay
+  texts_stay = has_then (table_has (version_of tables) tables.line_strings added.path) paths_stay
 
   own_made : IsMade (version_of tables) with_it.line_strings added.path
   own_made = paths_stay.there added.path (is_made (version_of tables) tables.line_strings added.path)
@@ -1082,8 +1038,7 @@ module _ (sections : Sections) (tables : TablesAndTexts) (g : File) (added : Fil
     details = details_of;
     entry =
         subst (λ (k : FileKey). IsEntry with_it.program.files k details_of
-        (index_of_file tables.program.files (key_of sections tables added)))
-        (sym own_key)
+        (index_of_file tables.program.files (key_of sections tables added))) (sym own_key)
         (entry_new tables.program.files (key_of sections tables added) details_of);
     of_last = own_last added (refl, refl);
   }
@@ -1098,13 +1053,11 @@ module _ (sections : Sections) (tables : TablesAndTexts) (g : File) (added : Fil
 
       key_same : key_of sections with_it so.parts ≡ old_key
       key_same =
-          ap (λ (t : LineText). let k : FileKey = (t, so.parts.directory) in k)
-          (texts_stay.same so.parts.path so.made)
+          ap (λ (t : LineText). let k : FileKey = (t, so.parts.directory) in k) (texts_stay.same so.parts.path so.made)
 
-      with_entry : (d : Details) → IsEntry with_it.program.files old_key d id
-          → IsOfLast sections with_it (source ++ g ∷ []) so.parts d
-          → IsFileOf sections with_it (source ++ g ∷ []) f id
-      with_entry d entry of_last = record {
+      with_entry : {d : Details} → IsEntry with_it.program.files old_key d id
+          → IsOfLast sections with_it (source ++ g ∷ []) so.parts d → IsFileOf sections with_it (source ++ g ∷ []) f id
+      with_entry {d} entry of_last = record {
         parts = so.parts;
         parts_are = so.parts_are;
         made = texts_stay.there so.parts.path so.made;
@@ -1118,14 +1071,11 @@ module _ (sections : Sections) (tables : TablesAndTexts) (g : File) (added : Fil
       taken same =
           let is : key_of sections tables added ≡ old_key =
           ap (λ (path : List ℕ).
-          let k : FileKey = (made_text (version_of tables) tables.line_strings path, added.directory) in k)
-          same.0
+          let k : FileKey = (made_text (version_of tables) tables.line_strings path, added.directory) in k) same.0
           ∙ ap (λ (n : ℕ).
-          let k : FileKey = (made_text (version_of tables) tables.line_strings so.parts.path, n) in k)
-          same.1 in
-          with_entry details_of
-          (subst (λ (k : FileKey). IsEntry with_it.program.files k details_of id) is
-          (entry_replaced tables.program.files (key_of sections tables added) details_of so.details id
+          let k : FileKey = (made_text (version_of tables) tables.line_strings so.parts.path, n) in k) same.1 in
+          with_entry (subst (λ (k : FileKey). IsEntry with_it.program.files k details_of id) is
+          (entry_replaced tables.program.files (key_of sections tables added) details_of
           (subst (λ (k : FileKey). IsEntry tables.program.files k so.details id) (sym is) so.entry)))
           (own_last so.parts same)
 
@@ -1135,22 +1085,17 @@ module _ (sections : Sections) (tables : TablesAndTexts) (g : File) (added : Fil
           let other_key : old_key ≢ key_of sections tables added = λ is.
           let keys : key_of sections with_it so.parts ≡ key_of sections with_it added = key_same ∙ is ∙ sym own_key in
           other (
-            sym (made_differ (version_of tables) with_it.line_strings so.parts.path added.path
-                (texts_stay.there so.parts.path so.made) own_made (ap (λ (k : FileKey). k.0) keys)),
+            sym (made_differ (texts_stay.there so.parts.path so.made) own_made (ap (λ (k : FileKey). k.0) keys)),
             sym (ap (λ (k : FileKey). k.1) is),
           ) in
           let l = so.of_last in
-          with_entry so.details
-          (entry_kept tables.program.files (key_of sections tables added) details_of old_key so.details id other_key
-          so.entry)
+          with_entry (entry_kept tables.program.files (key_of sections tables added) details_of other_key so.entry)
           (record {
             last = l.last;
             last_parts = l.last_parts;
             last_are = l.last_are;
             same = l.same;
-            known =
-                known_longer (version_of tables) tables.line_strings with_it.line_strings l.last l.last_parts.source
-                so.details texts_stay l.known;
+            known = known_longer l.last_parts.source texts_stay l.known;
             before = l.before;
             later = l.later ++ g ∷ [];
             split = ap (λ (xs : List File). xs ++ g ∷ []) l.split ∙ append_assoc l.before (l.last ∷ l.later) (g ∷ []);
@@ -1167,63 +1112,59 @@ pub record AreFiles (sections : Sections) (h : Header) (tables : TablesAndTexts)
   pub ids_are : tables.file_ids ≡ first_ids h.parameters.encoding.version ++ ids
   pub each : OneByOne (IsFileOf sections tables source) source ids
 
-pub file_next : (sections : Sections) (h : Header) (tables next : TablesAndTexts) (g : File) (source : List File)
+pub file_next : {sections : Sections} (h : Header) {tables next : TablesAndTexts} (g : File) {source : List File}
     → file_added sections tables g ≡ Ok next
     → AreFiles sections h tables source → AreFiles sections h next (source ++ g ∷ [])
-file_next sections h tables next g source is so =
-    let t = took _ _ _ is in
+file_next {sections} h {tables} g {source} is so =
+    let t = took _ _ is in
     let parts = t.0 in
     let id = index_of_file tables.program.files (key_of sections tables parts) in
     let R = IsFileOf sections (with_parts tables g parts) (source ++ g ∷ []) in
-    subst (λ l. AreFiles sections h l (source ++ g ∷ [])) (same_ok _ _ t.2) (record {
+    subst (λ l. AreFiles sections h l (source ++ g ∷ [])) (same_ok _ t.2) (record {
       ids = so.ids ++ id ∷ [];
       ids_are =
-          ap (λ l. l ++ id ∷ []) so.ids_are
-          ∙ append_assoc (first_ids h.parameters.encoding.version) so.ids (id ∷ []);
+          ap (λ l. l ++ id ∷ []) so.ids_are ∙ append_assoc (first_ids h.parameters.encoding.version) so.ids (id ∷ []);
       each =
-          one_by_one_push R _ _ g _
-          (one_by_one_map _ R (file_old sections tables g parts t.1 source) _ _ so.each)
+          one_by_one_push R _ _ g _ (one_by_one_map _ R (file_old sections tables g parts t.1 source) _ _ so.each)
           (file_new sections tables g parts t.1 source);
     })
 
 -- those of a header
-pub files_next : (sections : Sections) (h : Header) (done rest : List File) (tables last : TablesAndTexts)
+pub files_next : (sections : Sections) (h : Header) (done rest : List File) {tables last : TablesAndTexts}
     → all_added (file_added sections) rest tables ≡ Ok last
     → AreFiles sections h tables done → AreFiles sections h last (done ++ rest)
-files_next sections h done [] tables last is so =
-    subst (AreFiles sections h last) (sym (append-nil done))
-    (subst (λ l. AreFiles sections h l done) (same_ok _ _ is) so)
-files_next sections h done (g ∷ rest) tables last is so =
-    let t = took _ _ _ is in
+files_next sections h done [] {last} is so =
+    subst (AreFiles sections h last) (sym (append-nil done)) (subst (λ l. AreFiles sections h l done) (same_ok _ is) so)
+files_next sections h done (g ∷ rest) {last} is so =
+    let t = took _ _ is in
     subst (AreFiles sections h last) (append_assoc done (g ∷ []) rest)
-    (files_next sections h (done ++ g ∷ []) rest t.0 last t.2 (file_next _ h _ _ g _ t.1 so))
+    (files_next sections h (done ++ g ∷ []) rest t.2 (file_next h g t.1 so))
 
 -- and those that a program defines
-pub files_defined : (sections : Sections) (h : Header) (first : TablesAndTexts) (past : List Ins)
-    (tables : TablesAndTexts)
-    → tables_at sections first past ≡ Ok tables
+pub files_defined : {sections : Sections} {h : Header} {first : TablesAndTexts} (past : List Ins)
+    {tables : TablesAndTexts} → tables_at sections first past ≡ Ok tables
     → AreFiles sections h first h.files → AreFiles sections h tables (defined_files h.files past)
-files_defined sections h first [] tables is so = subst (λ l. AreFiles sections h l h.files) (same_ok _ _ is) so
-files_defined sections h first (i ∷ past) tables is so =
-    let t = took _ _ _ is in
-    one i _ t.2 (files_defined sections h first past t.0 t.1 so)
+files_defined {sections} {h} [] is so = subst (λ l. AreFiles sections h l h.files) (same_ok _ is) so
+files_defined {sections} {h} {first} (i ∷ past) {tables} is so =
+    let t = took _ _ is in
+    one i t.2 (files_defined past t.1 so)
   where
-    one : (i : Ins) (before : TablesAndTexts) → tables_after_definition sections before i ≡ Ok tables
+    one : (i : Ins) {before : TablesAndTexts} → tables_after_definition sections before i ≡ Ok tables
         → AreFiles sections h before (defined_files h.files past)
         → AreFiles sections h tables (defined_files h.files (i ∷ past))
-    one (DefineFile f) before at q = file_next _ h _ _ f _ at q
-    one i before at q = subst (λ l. AreFiles sections h l (defined_files h.files past)) (same_ok _ _ at) q
+    one (DefineFile f) at q = file_next h f at q
+    one i at q = subst (λ l. AreFiles sections h l (defined_files h.files past)) (same_ok _ at) q
 
 -- ---- one text
 
-one_directory : (sections : Sections) (o : Option Value) (a b : List ℕ) → IsDirectoryPath sections o a
+one_directory : (sections : Sections) (o : Option Value) {a b : List ℕ} → IsDirectoryPath sections o a
     → IsDirectoryPath sections o b → a ≡ b
-one_directory sections (Some v) a b x y = text_same _ v b a y x
-one_directory sections None a b x y = x ∙ sym y
+one_directory sections (Some v) {a} {b} x y = text_same _ v b a y x
+one_directory sections None x y = x ∙ sym y
 
-there_ok : (o : Option ℕ) (id : ℕ) → ok_or o InvalidDirectoryIndex ≡ Ok id → o ≡ Some id
-there_ok (Some n) id is = ap Some (same_ok n _ is)
-there_ok None id is = absurd cc
+there_ok : (o : Option ℕ) {id : ℕ} → ok_or o InvalidDirectoryIndex ≡ Ok id → o ≡ Some id
+there_ok (Some n) is = ap Some (same_ok n is)
+there_ok None is = absurd cc
 
 -- ---- the parts of a file
 
@@ -1234,10 +1175,8 @@ record AreRead (sections : Sections) (directory_ids : List ℕ) (parts : FilePar
   source : if_there (source_text sections) f.source ≡ Ok parts.source
 
 are_read : (sections : Sections) (version : ℕ) (directory_ids : List ℕ) (parts : FileParts) (f : File)
-    → HasParts sections version directory_ids parts f
-    → AreRead sections directory_ids parts f
-are_read sections version directory_ids parts f is =
-    grind (arith, took, same_ok, text_read, source_path_of, there_ok)
+    → HasParts sections version directory_ids parts f → AreRead sections directory_ids parts f
+are_read sections version directory_ids parts f is = grind (arith, took, same_ok, text_read, source_path_of, there_ok)
 
 -- a source that is known stands for the text of the source
 source_is_text : (sections : Sections) (version : ℕ) (texts : StringTables) (o : Option Value)
@@ -1246,8 +1185,7 @@ source_is_text : (sections : Sections) (version : ℕ) (texts : StringTables) (o
     → IsOptionalText sections o (option_map (bytes_in texts) (option_map (made_text version texts.line_strings) source))
 source_is_text sections version texts (Some v) (Some text) is made =
     grind (arith, took, made_bytes, text_read, source_text_of)
-source_is_text sections version texts (Some v) None is made =
-    grind (arith, took)
+source_is_text sections version texts (Some v) None is made = grind (arith, took)
 source_is_text sections version texts None (Some text) is made = absurd cc
 source_is_text sections version texts None None is made = tt
 
@@ -1268,12 +1206,11 @@ module _ (sections : Sections) (h : Header) (strings : List (List ℕ)) (tables 
 
   -- the paths of a file by its parts
   paths_of : (parts : FileParts) (f : File) (directory : List ℕ) → Has sections tables parts f
-      → IsDirectory directory parts.directory
-      → HasPaths sections h parts.path directory f
+      → IsDirectory directory parts.directory → HasPaths sections h parts.path directory f
   paths_of parts f directory is at =
       let read = are_read _ _ _ _ f is in
       let own = directories.each f.directory_index parts.directory read.directory in
-      let same : own.0 ≡ directory = one_path _ _ _ _ _ _ own.2 at in
+      let same : own.0 ≡ directory = one_path _ _ _ _ own.2 at in
       record {
         own = read.path;
         of_directory = subst (IsDirectoryPath sections (directory_of h f.directory_index)) same own.1;
@@ -1281,12 +1218,11 @@ module _ (sections : Sections) (h : Header) (strings : List (List ℕ)) (tables 
 
   -- so a file with these paths has these parts
   parts_of : (parts own : FileParts) (g : File) (directory : List ℕ) → Has sections tables own g
-      → IsDirectory directory parts.directory → HasPaths sections h parts.path directory g
-      → SamePaths own parts
+      → IsDirectory directory parts.directory → HasPaths sections h parts.path directory g → SamePaths own parts
   parts_of parts own g directory is at has =
       let read = are_read _ _ _ _ g is in
       let there = directories.each g.directory_index own.directory read.directory in
-      let same : there.0 ≡ directory = one_directory _ _ _ _ there.1 has.of_directory in
+      let same : there.0 ≡ directory = one_directory _ _ there.1 has.of_directory in
       let moved : IsDirectory directory own.directory =
       subst (λ (path : List ℕ). IsDirectory path own.directory) same there.2 in
       (text_same _ _ parts.path own.path has.own read.path, moved.at.index ∙ sym at.at.index)
@@ -1301,9 +1237,9 @@ module _ (sections : Sections) (h : Header) (strings : List (List ℕ)) (tables 
   )
 
   module _ (p : Built) (source : List File) where
-    file_mapped : (f : File) (id : ℕ) → IsFileOf sections tables source f id
+    file_mapped : (f : File) {id : ℕ} → IsFileOf sections tables source f id
         → IsMappedFile sections h source strings (finished tables p) f id
-    file_mapped f id so =
+    file_mapped f so =
         let version = version_of tables in
         let texts = texts_in strings tables.line_strings in
         let l = so.of_last in
@@ -1314,8 +1250,8 @@ module _ (sections : Sections) (h : Header) (strings : List (List ℕ)) (tables 
         let directory = made_text version tables.line_strings d.0 in
         let to =
         λ (P : List ℕ → List ℕ → Type 0) (p : P so.parts.path d.0).
-        subst (λ (x : List ℕ). P x (bytes_in texts directory)) (sym (made_bytes version texts so.parts.path so.made))
-        (subst (P so.parts.path) (sym (made_bytes version texts d.0 d.2.made)) p) in
+        subst (λ (x : List ℕ). P x (bytes_in texts directory)) (sym (made_bytes texts so.made))
+        (subst (P so.parts.path) (sym (made_bytes texts d.2.made)) p) in
         let at_last : IsDirectory d.0 l.last_parts.directory = subst (IsDirectory d.0) (sym l.same.1) d.2 in
         let is_last : IsLastWithPaths sections h so.parts.path d.0 source l.last = record {
           before = l.before;
@@ -1330,8 +1266,7 @@ module _ (sections : Sections) (h : Header) (strings : List (List ℕ)) (tables 
           built = ((text, so.parts.directory), so.details);
           there = so.entry.there;
           directory = directory;
-          directory_there =
-              directory_there version tables.line_strings tables.program.directories d.0 so.parts.directory d.2;
+          directory_there = directory_there d.2;
           has = to (λ path directory. HasPaths sections h path directory f) (paths_of so.parts f d.0 so.parts_are d.2);
           last = l.last;
           is_last = to (λ path directory. IsLastWithPaths sections h path directory source l.last) is_last;
@@ -1340,8 +1275,7 @@ module _ (sections : Sections) (h : Header) (strings : List (List ℕ)) (tables 
           md5 = l.known.md5;
           source =
               subst (λ (o : Option LineText). IsOptionalText sections l.last.source (option_map (bytes_in texts) o))
-              (sym l.known.source_is)
-              (source_is_text sections version texts l.last.source l.last_parts.source
+              (sym l.known.source_is) (source_is_text sections version texts l.last.source l.last_parts.source
               (are_read sections version tables.directory_ids l.last_parts l.last l.last_are).source
               l.known.source_made);
         }
@@ -1355,32 +1289,27 @@ module _ (version : ℕ) (R : File → ℕ → Type 0) (files : List File) (ids 
       → (n : ℕ) (f : File) → (if old then from_one None files n else slice_get files n) ≡ Some f
       → (id : ℕ) × IsFileId version file_ids n id × R f id
   each_number true is ids_are zero f at = absurd cc
-  each_number true is ids_are (suc i) f at =
-      grind (arith, one_by_one_at)
-  each_number false is ids_are n f at =
-      grind (arith, one_by_one_at)
+  each_number true is ids_are (suc i) f at = grind (arith, one_by_one_at)
+  each_number false is ids_are n f at = grind (arith, one_by_one_at)
 
   -- and no other
   only_number : (old : Bool) → nat_le version 4 ≡ old → file_ids ≡ (if old then 0 ∷ [] else []) ++ ids
       → (n id : ℕ) → IsFileId version file_ids n id
       → (f : File) × ((if old then from_one None files n else slice_get files n) ≡ Some f)
   only_number true is ids_are zero id so = grind arith
-  only_number true is ids_are (suc i) id so =
-      grind (arith, one_by_one_back)
-  only_number false is ids_are n id so =
-      grind (arith, one_by_one_back)
+  only_number true is ids_are (suc i) id so = grind (arith, one_by_one_back)
+  only_number false is ids_are n id so = grind (arith, one_by_one_back)
 
 -- ---- all files
 
-pub files_mapped : (sections : Sections) (h : Header) (strings : List (List ℕ)) (tables : TablesAndTexts) (p : Built)
-    (source : List File)
-    → AreDirectories sections h tables → AreFiles sections h tables source
+pub files_mapped : {sections : Sections} {h : Header} (strings : List (List ℕ)) {tables : TablesAndTexts} (p : Built)
+    {source : List File} → AreDirectories sections h tables → AreFiles sections h tables source
     → AreFilesMapped sections h source strings (finished tables p)
-files_mapped sections h strings tables p source directories so =
+files_mapped {sections} {h} strings {tables} p {source} directories so =
     let version = h.parameters.encoding.version in
     let R = IsMappedFile sections h source strings (finished tables p) in
     let all =
-    one_by_one_map _ R (λ f id is. file_mapped sections h strings tables directories p source f id is) _ _ so.each in
+    one_by_one_map _ R (λ f id is. file_mapped sections h strings tables directories p source f is) _ _ so.each in
     record {
       each = each_number version R source so.ids tables.file_ids all _ refl so.ids_are;
       only = only_number version R source so.ids tables.file_ids all _ refl so.ids_are;

@@ -1,36 +1,51 @@
 -- What comes of a conversion that was done, and what the laws of conversions say of it.
 use Rattle.std.specs.Prelude.{◌≡◌, ◌&&◌, if◌then◌else◌, ◌∷◌, ◌++◌}
 use Rattle.gimli_write.proofs.Common
-use Common.{ℕ, Bool, true, false, not, List, [], refl, sym, ap, subst, ◌∙◌, Option, Some}
-use Common.{None, ok_or, Result, Ok, Err, append-nil, Value, Error, AddressOverflow, Address, texts_in, Parameters}
-use Common.{defined_files, past_at_end, Ins, makes_row, is_under_tombstone, overflows, after_address, after_row}
-use Common.{after_end, Built, previous_position, CanWrite, Sections, LineRow, ConvertError, Read, InvalidAddress}
-use Common.{MissingLineEndSequence, UnsupportedLineInstruction, SourceRow, ConvertLineRow, ◌>>=◌, source_path}
-use Common.{TablesAndTexts, version_of, with_path, directory_added, file_added, encoding_of, first_ids}
-use Common.{tables_of_header, Reading, stops, offers, source_row, built_row, address_offered, row_offered}
-use Common.{row_or_end_offered, source_row_offered, reading_at, end_reading, reading_with, tables_at, with_definition}
-use Common.{reading_after, ReadsItems, Outcome, outcome_of, with_tables, can_build, ToConvert, IsConverted, MatchResult}
-use Common.{arith, AllByRecursion, All-from_recursion, true≢false, Encoding, ReadRow, Decodes, one_decoding}
-use Common.{base_of, AddressesFit, RowsMatch, read_row, OneByOne, BuiltItem, map, nat_eq, slice_get, unwrap_or}
-use Common.{option_map, All, slice_get-map, slice_get_within, get_or_from_slice_get, KeepsTexts, with_text}
-use Common.{StringTables, with_text-KeepsTexts, row, Events, File, LineText, Inline, InStrings, InLineStrings, IsWithin}
-use Common.{bytes_in, FileAnswer, built_file}
-use Rattle.gimli_write.specs.convert.Mapped.{AreFilesMapped, CanBeFaithful, NoneEndsUnderTombstone, RowsMapped}
-use Rattle.gimli_write.specs.convert.Mapped.{AreRowsMapped, IsReadAs, SetsConstant, HasConstantAddresses, IsFaithful}
-use Rattle.gimli_write.specs.convert.Mapped.{HasPaths, AreFilesReadAs}
-use Rattle.gimli_write.proofs.Outcomes.{definition_passed}
-use Rattle.gimli_write.proofs.MappedFiles.{AreDirectories, directories_prepared, directories_stay, AreFiles, files_next}
-use Rattle.gimli_write.proofs.MappedFiles.{files_defined, took, same_ok, is_prepared, all_added_keeps, IsReady}
-use Rattle.gimli_write.proofs.MappedFiles.{lists_at_keeps, file_ready, written_with_tables, prepared_ready, finished}
-use Rattle.gimli_write.proofs.MappedFiles.{files_mapped}
+use Common.{ℕ, Bool, true, false, not, List, [], refl, sym, ap, subst, ◌∙◌, Option, Some, None, ok_or, Result, Ok, Err}
+use Common.{append-nil, Value, Error, AddressOverflow, Address, texts_in, Parameters, defined_files, past_at_end, Ins}
+use Common.{makes_row, is_under_tombstone, overflows, after_address, after_row, after_end, Built, previous_position}
+use Common.{CanWrite, Sections, LineRow, ConvertError, Read, InvalidAddress, MissingLineEndSequence}
+use Common.{UnsupportedLineInstruction, SourceRow, ConvertLineRow, ◌>>=◌, source_path, TablesAndTexts, version_of}
+use Common.{with_path, directory_added, file_added, encoding_of, first_ids, tables_of_header, Reading, stops, offers}
+use Common.{source_row, built_row, address_offered, row_offered, row_or_end_offered, source_row_offered, reading_at}
+use Common.{end_reading, reading_with, tables_at, with_definition, reading_after, ReadsItems, Outcome, outcome_of}
+use Common.{with_tables, can_build, ToConvert, IsConverted, MatchResult, arith, AllByRecursion, All-from_recursion}
+use Common.{Encoding, ReadRow, Decodes, one_decoding, base_of, AddressesFit, RowsMatch, read_row, OneByOne, BuiltItem}
+use Common.{map, nat_eq, slice_get, unwrap_or, option_map, All, slice_get-map, slice_get_within, get_or_from_slice_get}
+use Common.{KeepsTexts, with_text, StringTables, with_text-KeepsTexts, row, Events, File, LineText, Inline, InStrings}
+use Common.{InLineStrings, IsWithin, bytes_in, FileAnswer, built_file}
+use Rattle.gimli_write.specs.convert.Mapped
+use Mapped.{AreFilesMapped, CanBeFaithful, NoneEndsUnderTombstone, RowsMapped, AreRowsMapped, IsReadAs, SetsConstant}
+use Mapped.{HasConstantAddresses, IsFaithful, HasPaths, AreFilesReadAs}
+use Rattle.gimli_write.proofs
+use proofs.Outcomes.{definition_passed}
+use proofs.MappedFiles.{
+  AreDirectories,
+  directories_prepared,
+  directories_stay,
+  AreFiles,
+  files_next,
+  files_defined,
+  took,
+  same_ok,
+  is_prepared,
+  all_added_keeps,
+  IsReady,
+  lists_at_keeps,
+  file_ready,
+  written_with_tables,
+  prepared_ready,
+  finished,
+  files_mapped,
+}
 use Rattle.std.proofs.Math.Pow.{pow_mono}
 use Rattle.gimli_build.specs.declared.built.items.BuiltItem.TheVariants.{SetAddress, Row, End}
-use Rattle.gimli_write.proofs.MappedRows.{follows_start, Rest, rest_mapped}
+use proofs.MappedRows.{follows_start, Rest, rest_mapped}
 use Rattle.gimli_line.specs.run.EventsWithFiles.{FilesAtEnd}
 use Rattle.gimli_build.specs.Version5Tables.{needs_empty, first_form, sources, texts_after}
 use Rattle.gimli_write.specs.convert.DoneConversions.{UnitReadBack, UnitGives}
-use Rattle.gimli_write.proofs.BuiltAnswers.{events_same, rows_same}
-use Rattle.gimli_write.proofs.ConvertSteps.{kept_self}
+use proofs.BuiltAnswers.{events_same, rows_same}
+use proofs.ConvertSteps.{kept_self}
 use Rattle.gimli_build.specs.declared.built.items.BuiltItem.TheVariants as item
 use Rattle.gimli_write.specs.declared.convert.rows.ConvertLineRow.TheVariants as offer
 
@@ -64,15 +79,12 @@ module _ (convert_address : ℕ → Option Address) (c : Outcome) where
   built_goes false next p rest is is_none encoding = absurd cc
 
   item_goes : (o : ConvertLineRow) (tables : TablesAndTexts) (rest : Reading) (p : Built)
-      → Comes (offers o tables rest) p
-      → GoesOn rest p
+      → Comes (offers o tables rest) p → GoesOn rest p
   item_goes (offer.SetAddress a) tables rest p is = by (convert_address a) is
     where
       by : (o : Option Address)
           → ((ok_or o InvalidAddress >>= λ m. Ok (after_address m (with_tables tables p))) >>= λ n.
-          outcome_of convert_address rest n)
-          ≡ Ok c
-          → GoesOn rest p
+          outcome_of convert_address rest n) ≡ Ok c → GoesOn rest p
       by None so = absurd cc
       by (Some m) so = built_goes true (after_address m (with_tables tables p)) p rest so refl refl
   item_goes (offer.Row r) tables rest p is =
@@ -90,11 +102,8 @@ module _ (convert_address : ℕ → Option Address) (c : Outcome) where
       built (Ok r) so = item_goes (offer.Row r) tables rest p so
       built (Err e) so = absurd cc
 
-      by : (b : Bool)
-          → Comes
-          (if b then offers (offer.EndSequence r.address_offset) tables rest
-          else row_offered (built_row version tables r) tables rest) p
-          → GoesOn rest p
+      by : (b : Bool) → Comes (if b then offers (offer.EndSequence r.address_offset) tables rest
+          else row_offered (built_row version tables r) tables rest) p → GoesOn rest p
       by true so = item_goes (offer.EndSequence r.address_offset) tables rest p so
       by false so = built (built_row version tables r) so
 
@@ -102,8 +111,7 @@ module _ (convert_address : ℕ → Option Address) (c : Outcome) where
       → Comes (source_row_offered version tables r rest) p → GoesOn rest p
   offered_goes version tables r rest p is = by r.set_address is
     where
-      by : (o : Option ℕ)
-          → Comes (address_offered o tables (row_or_end_offered version tables r rest)) p
+      by : (o : Option ℕ) → Comes (address_offered o tables (row_or_end_offered version tables r rest)) p
           → GoesOn rest p
       by None so = point_goes version tables r rest p so
       by (Some a) so =
@@ -121,26 +129,21 @@ module _ (convert_address : ℕ → Option Address) (c : Outcome) where
   at_goes parameters tables past i rest p is =
       by (overflows parameters past i) (makes_row i && not (is_under_tombstone parameters past)) is
     where
-      by : (o m : Bool)
-          → Comes
-          (if o then stops (Read AddressOverflow)
+      by : (o m : Bool) → Comes (if o then stops (Read AddressOverflow)
           else (if m then source_row_offered parameters.encoding.version tables (source_row parameters past i) rest
-          else rest)) p
-          → GoesOn rest p
+          else rest)) p → GoesOn rest p
       by true m so = absurd cc
       by false true so = offered_goes parameters.encoding.version tables (source_row parameters past i) rest p so
       by false false so = built_goes true p p rest so refl refl
 
   nothing_goes : (sections : Sections) (first : TablesAndTexts) (past : List Ins) (end : Option Error)
-      (there : Result TablesAndTexts ConvertError) (p : Built)
-      → tables_at sections first past ≡ there
+      (there : Result TablesAndTexts ConvertError) (p : Built) → tables_at sections first past ≡ there
       → Comes (reading_with there (end_reading end)) p → EndsAs sections first past p c
   nothing_goes sections first past end (Err e) p at is = absurd cc
   nothing_goes sections first past (Some e) (Ok tables) p at is = absurd cc
   nothing_goes sections first past None (Ok tables) p at is = by p.in_sequence is
     where
-      by : (b : Bool)
-          → (if b then Err MissingLineEndSequence else Ok (finished tables p)) ≡ Ok c
+      by : (b : Bool) → (if b then Err MissingLineEndSequence else Ok (finished tables p)) ≡ Ok c
           → EndsAs sections first past p c
       by true so = absurd cc
       by false so =
@@ -162,13 +165,9 @@ module _ (convert_address : ℕ → Option Address) (c : Outcome) where
   outcome sections parameters first past (i ∷ list) end p is =
       by (λ p so. outcome sections parameters first (i ∷ past) list end p so) (tables_at sections first past) is
     where
-      by : ((p : Built)
-          → Comes (reading_after sections parameters first (i ∷ past) list end) p
-          → EndsAs sections first (past_at_end (i ∷ past) list) p c)
-          → (there : Result TablesAndTexts ConvertError)
-          → Comes
-          (reading_with there (λ tables.
-          reading_at parameters tables past i
+      by : ((p : Built) → Comes (reading_after sections parameters first (i ∷ past) list end) p
+          → EndsAs sections first (past_at_end (i ∷ past) list) p c) → (there : Result TablesAndTexts ConvertError)
+          → Comes (reading_with there (λ tables. reading_at parameters tables past i
           (with_definition i (reading_after sections parameters first (i ∷ past) list end)))) p
           → EndsAs sections first (past_at_end (i ∷ past) list) p c
       by rest (Err e) so = absurd cc
@@ -191,8 +190,8 @@ module _ (convert_address : ℕ → Option Address) (c : Outcome) where
 no_file : (sections : Sections) (tables next : TablesAndTexts) (v : Value) → directory_added sections tables v ≡ Ok next
     → next.file_ids ≡ tables.file_ids
 no_file sections tables next v is =
-    let t = took (source_path (version_of tables) sections v) (λ path. Ok (with_path tables path)) next is in
-    sym (ap (λ (l : TablesAndTexts). l.file_ids) (same_ok (with_path tables t.0) next t.2))
+    let t = took (source_path (version_of tables) sections v) (λ path. Ok (with_path tables path)) is in
+    sym (ap (λ (l : TablesAndTexts). l.file_ids) (same_ok (with_path tables t.0) t.2))
 
 -- ---- a conversion that was done
 
@@ -212,11 +211,9 @@ was_converted convert_address s line_strings c so =
     by (tables_of_header s.sections s.header s.given line_strings) refl so.1
   where
     by : (r : Result TablesAndTexts ConvertError) → tables_of_header s.sections s.header s.given line_strings ≡ r
-        → MatchResult r
-        (λ first. ReadsItems s.layout s.sections s.header first s.header.program so.0
+        → MatchResult r (λ first. ReadsItems s.layout s.sections s.header first s.header.program so.0
         × (outcome_of convert_address so.0 first.program ≡ Ok c))
-        (λ e. (let o : Result Outcome ConvertError = Ok c in o) ≡ Err e)
-        → WasConverted convert_address s line_strings c
+        (λ e. (let o : Result Outcome ConvertError = Ok c in o) ≡ Err e) → WasConverted convert_address s line_strings c
     by (Ok first) ready m = record { reading = so.0; first = first; ready = ready; reads = m.0; is = m.1 }
     by (Err e) ready m = absurd cc
 
@@ -227,15 +224,14 @@ module _ {convert_address : ℕ → Option Address} {s : ToConvert} {line_string
 
   -- how its reading ends
   pub read_to_end : outcome_of convert_address
-      (reading_after s.sections s.header.parameters w.first [] w.reads.list w.reads.end)
-      w.first.program ≡ Ok c
+      (reading_after s.sections s.header.parameters w.first [] w.reads.list w.reads.end) w.first.program ≡ Ok c
   read_to_end = ap (λ (r : Reading). outcome_of convert_address r w.first.program) (sym w.reads.given) ∙ w.is
 
   comes : EndsAs s.sections w.first whole_past w.first.program c
   comes = outcome convert_address c s.sections s.header.parameters w.first [] w.reads.list w.reads.end _ read_to_end
 
   pub first_ready : (strings : List (List ℕ)) → IsReady strings (encoding_of s.header s.given) w.first
-  first_ready strings = prepared_ready strings s.sections s.header s.given line_strings w.first w.ready
+  first_ready strings = prepared_ready strings s.sections s.header s.given line_strings w.ready
 
   pub encoding_kept : c.program.encoding ≡ encoding_of s.header s.given
   encoding_kept = comes.encoding ∙ (first_ready []).encoding_is
@@ -247,58 +243,52 @@ module _ {convert_address : ℕ → Option Address} {s : ToConvert} {line_string
       let tables = comes.tables in
       let last : IsReady strings encoding tables =
       lists_at_keeps (IsReady strings encoding) s.sections w.first
-      (λ l n d a so. file_ready strings encoding s.sections l n d a so) whole_past tables comes.there
-      (first_ready strings) in
+      (λ l n d a so. file_ready strings encoding s.sections l n d a so) whole_past comes.there (first_ready strings) in
       subst (λ (c : Outcome). CanWrite c.program (texts_in strings c.line_strings)) comes.same
-      (written_with_tables c.program (texts_in strings tables.line_strings) tables
+      (written_with_tables c.program tables
       (comes.is_none ∙ (first_ready strings).can.program) (last.encoding_is ∙ sym encoding_kept) last.can)
 
   -- the files
   files_are : AreFiles s.sections s.header w.first s.header.files
   files_are =
-      let p = is_prepared s.sections s.header s.given line_strings w.first w.ready in
+      let p = is_prepared s.sections s.header s.given line_strings w.ready in
       let version = s.header.parameters.encoding.version in
       let none : p.with_directories.file_ids ≡ first_ids version =
       all_added_keeps (λ l. l.file_ids ≡ first_ids version) (directory_added s.sections)
-      (λ l n v a so. no_file s.sections l n v a ∙ so) s.header.directories _
-      p.with_directories p.directories refl in
-      files_next s.sections s.header [] s.header.files p.with_directories w.first p.files
+      (λ l n v a so. no_file s.sections l n v a ∙ so) s.header.directories _ p.directories refl in
+      files_next s.sections s.header [] s.header.files {tables = p.with_directories} p.files
       (record { ids = []; ids_are = none ∙ sym (append-nil (first_ids version)); each = tt })
 
   directories_are : AreDirectories s.sections s.header w.first
   directories_are =
-      let p = is_prepared s.sections s.header s.given line_strings w.first w.ready in
+      let p = is_prepared s.sections s.header s.given line_strings w.ready in
       all_added_keeps (AreDirectories s.sections s.header) (file_added s.sections)
-      (λ l n f a so. directories_stay s.sections s.header l n f a so) s.header.files p.with_directories w.first
-      p.files
+      (λ l n f a so. directories_stay s.sections s.header l f a so) s.header.files p.with_directories p.files
       (directories_prepared s.sections s.header s.given line_strings w.first p)
 
   pub files_same : (strings : List (List ℕ))
       → AreFilesMapped s.sections s.header (defined_files s.header.files whole_past) strings c
   files_same strings =
       subst (AreFilesMapped s.sections s.header (defined_files s.header.files whole_past) strings) comes.same
-      (files_mapped s.sections s.header strings comes.tables c.program (defined_files s.header.files whole_past)
-      (lists_at_keeps (AreDirectories s.sections s.header) s.sections w.first
-      (λ l n d a so. directories_stay s.sections s.header l n d a so) whole_past comes.tables comes.there
-      directories_are)
-      (files_defined s.sections s.header w.first whole_past comes.tables comes.there files_are))
+      (files_mapped strings c.program (lists_at_keeps (AreDirectories s.sections s.header) s.sections w.first
+      (λ l n d a so. directories_stay s.sections s.header l d a so) whole_past comes.there directories_are)
+      (files_defined whole_past comes.there files_are))
 
 -- ---- one row
 
 -- a row that is read back says what the source's row says, but for the number of its file
-same_others : (source_version version base : ℕ) (built : LineRow) (source back : ReadRow)
+same_others : (source_version version base : ℕ) (built : LineRow) {source back : ReadRow}
     → source ≡ record (read_row source_version base built) { file = source.file } → back ≡ read_row version base built
     → back ≡ record source { file = back.file }
-same_others source_version version base built source back mapped matches =
-    grind arith
+same_others source_version version base built mapped matches = grind arith
 
 -- ---- the whole
 
 module _ {convert_address : ℕ → Option Address} {s : ToConvert} {line_strings : List (List ℕ)} {c : Outcome}
     (w : WasConverted convert_address s line_strings c) (can : CanBeFaithful convert_address s) where
-  decodes_once : (list : List Ins) (end : Option Error) → Decodes s.layout s.header s.header.program list end
+  decodes_once : {list : List Ins} {end : Option Error} → Decodes s.layout s.header s.header.program list end
       → list ≡ w.reads.list
-  decodes_once list end decoding =
+  decodes_once decoding =
       ap (λ p. p.0)
       (one_decoding s.layout s.header _ _ _ decoding ∙ sym (one_decoding s.layout s.header _ _ _ w.reads.decoding))
 
@@ -308,8 +298,7 @@ module _ {convert_address : ℕ → Option Address} {s : ToConvert} {line_string
       let seen = can.no_end_under_tombstone in
       rest_mapped s.sections s.header.parameters w.first (encoding_of s.header s.given).address_size c convert_address
       can.itself (pow_mono (omega (arith, can.wide))) _ _ _ 0 _ _ (follows_start _)
-      (subst (NoneEndsUnderTombstone s.header.parameters []) (decodes_once _ _ seen.decoding) seen.seen)
-      (read_to_end w)
+      (subst (NoneEndsUnderTombstone s.header.parameters []) (decodes_once seen.decoding) seen.seen) (read_to_end w)
 
   -- what was built is what was built after the start
   all_items : whole.items ≡ c.program.items
@@ -363,11 +352,12 @@ rows_again source_version version file_ids past (End offset op_index ∷ items) 
 -- ---- tables that gained a text
 
 -- a text that is within a table has the same bytes in a longer one
-bytes_longer : (strings old new : List (List ℕ)) (t : LineText) → KeepsTexts old new → IsWithin (texts_in strings old) t
+bytes_longer : (strings : List (List ℕ)) {old new : List (List ℕ)} (t : LineText) → KeepsTexts old new
+    → IsWithin (texts_in strings old) t
     → bytes_in (texts_in strings new) t ≡ bytes_in (texts_in strings old) t
-bytes_longer strings old new (Inline bytes) keeps within = refl
-bytes_longer strings old new (InStrings i) keeps within = refl
-bytes_longer strings old new (InLineStrings i) keeps within = ap (λ o. unwrap_or o []) (keeps.text i within)
+bytes_longer strings (Inline bytes) keeps within = refl
+bytes_longer strings (InStrings i) keeps within = refl
+bytes_longer strings (InLineStrings i) keeps within = ap (λ o. unwrap_or o []) (keeps.text i within)
 
 keeps_after : (p : Built) (texts : StringTables) → KeepsTexts texts.line_strings (texts_after p texts).line_strings
 keeps_after p texts = by (needs_empty p && nat_eq (first_form (sources p.files)) 0x1f)
@@ -376,8 +366,8 @@ keeps_after p texts = by (needs_empty p && nat_eq (first_form (sources p.files))
     by true = with_text-KeepsTexts texts.line_strings []
     by false = kept_self texts.line_strings
 
-element : {A : Type 0} (P : A → Type 0) (xs : List A) (i : ℕ) (x : A) → All P xs → slice_get xs i ≡ Some x → P x
-element P xs i x all is = subst P (get_or_from_slice_get _ i x x is) (all i x (slice_get_within xs i x is))
+element : {A : Type 0} (P : A → Type 0) (xs : List A) (i : ℕ) {x : A} → All P xs → slice_get xs i ≡ Some x → P x
+element P xs i {x} all is = subst P (get_or_from_slice_get _ i x x is) (all i x (slice_get_within xs i x is))
 
 -- ---- the laws
 
@@ -399,17 +389,13 @@ module _ (convert_address : ℕ → Option Address) (s : ToConvert) (line_string
   module _ (can : CanBeFaithful convert_address s) where
     pub conversion_back : (rows back : List ReadRow) → Events s.layout s.header s.header.program (map row rows)
         → (AddressesFit c.program.encoding.address_size 0 (0, 0) c.program.items
-        → RowsMatch c.program.encoding.version [] c.program.items back)
-        → OneByOne IsRow rows back
+        → RowsMatch c.program.encoding.version [] c.program.items back) → OneByOne IsRow rows back
     conversion_back rows back events built =
         let mapped = rows_mapped done can in
-        let same : mapped.rows
-        ≡ rows = rows_same mapped.rows rows
-        (events_same s.layout s.header s.header.program (map row mapped.rows) (map row rows) mapped.events events) in
+        let same : mapped.rows ≡ rows = rows_same mapped.rows rows (events_same mapped.events events) in
         subst (λ (source : List ReadRow). OneByOne IsRow source back) same
         (rows_again s.header.parameters.encoding.version c.program.encoding.version c.file_ids [] c.program.items
-        mapped.rows back mapped.mapped
-        (built (addresses_fit done can)))
+        mapped.rows back mapped.mapped (built (addresses_fit done can)))
 
     pub conversion_faithful : (strings : List (List ℕ)) → IsFaithful s strings c
     conversion_faithful strings =
@@ -427,18 +413,17 @@ module _ (convert_address : ℕ → Option Address) (s : ToConvert) (line_string
 
     -- the same of a unit that is read back
     pub unit_back : (rows : List ReadRow) → Events s.layout s.header s.header.program (map row rows)
-        → (u : UnitReadBack c.program) → (found : List ReadRow) × UnitGives u found
-        × OneByOne IsRow rows found
+        → (u : UnitReadBack c.program) → (found : List ReadRow) × UnitGives u found × OneByOne IsRow rows found
     unit_back rows events u =
         let found = u.back.rows (addresses_fit done can) in
         (found.0, found.1, conversion_back rows found.0 events (λ fit. found.2))
 
-  pub files_back : (strings : List (List ℕ)) (files : List File)
+  pub files_back : (strings : List (List ℕ)) {files : List File}
       → FilesAtEnd s.layout true s.header s.header.program files
       → (let texts = texts_in strings (texts_after c.program (texts_in strings c.line_strings)).line_strings in
       AreFilesReadAs s.sections s.header files c.file_ids (map (bytes_in texts) c.program.directories)
       (map (built_file c.program texts) c.program.files))
-  files_back strings files at_end =
+  files_back strings {files} at_end =
       let reads = done.reads in
       let once =
       one_decoding s.layout s.header s.header.program reads.list reads.end reads.decoding
@@ -461,13 +446,13 @@ module _ (convert_address : ℕ → Option Address) (s : ToConvert) (line_string
             let answer : FileAnswer = built m.built in
             let path : bytes_in (texts_in strings after) m.built.0.0
             ≡ bytes_in (texts_in strings c.line_strings) m.built.0.0 =
-            bytes_longer strings c.line_strings after m.built.0.0 keeps
-            (element (λ f. IsWithin (texts_in strings c.line_strings) f.0.0) c.program.files found.0 m.built can.paths
+            bytes_longer strings m.built.0.0 keeps
+            (element (λ f. IsWithin (texts_in strings c.line_strings) f.0.0) c.program.files found.0 can.paths
             m.there) in
             let directory : bytes_in (texts_in strings after) m.directory
             ≡ bytes_in (texts_in strings c.line_strings) m.directory =
-            bytes_longer strings c.line_strings after m.directory keeps
-            (element (IsWithin (texts_in strings c.line_strings)) c.program.directories m.built.0.1 m.directory
+            bytes_longer strings m.directory keeps
+            (element (IsWithin (texts_in strings c.line_strings)) c.program.directories m.built.0.1
             can.directories m.directory_there) in (
               found.0,
               found.1,
@@ -480,14 +465,10 @@ module _ (convert_address : ℕ → Option Address) (s : ToConvert) (line_string
                       slice_get-map (bytes_in (texts_in strings after)) c.program.directories m.built.0.1
                       ∙ ap (option_map (bytes_in (texts_in strings after))) m.directory_there;
                   has =
-                      subst
-                      (λ (path : List ℕ). HasPaths s.sections s.header path
-                      (bytes_in (texts_in strings after) m.directory) f)
-                      (sym path)
-                      (subst
+                      subst (λ (path : List ℕ). HasPaths s.sections s.header path
+                      (bytes_in (texts_in strings after) m.directory) f) (sym path) (subst
                       (λ (d : List ℕ). HasPaths s.sections s.header
-                      (bytes_in (texts_in strings c.line_strings) m.built.0.0) d f)
-                      (sym directory) m.has);
+                      (bytes_in (texts_in strings c.line_strings) m.built.0.0) d f) (sym directory) m.has);
                 },
               ),
             );

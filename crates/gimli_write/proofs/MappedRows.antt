@@ -1,14 +1,12 @@
 -- The rows and ends that a conversion builds are those of its source.
 use Rattle.std.specs.Prelude.{◌≡◌, ◌+◌, ◌-◌, ◌*◌, ◌<◌, ◌≤◌, ◌||◌, ◌&&◌, if◌then◌else◌, ◌∷◌, ◌^◌, ◌++◌}
 use Rattle.gimli_write.proofs.Common
-use Common.{ℕ, Bool, true, false, not, List, [], refl}
-use Common.{sym, ap, ◌∙◌, arith, nat_lt, nat_le, Some, None, ltb-false, leb-false, or_parts, or_left, not_from_false}
-use Common.{Special, Copy, AdvancePc, ConstAddPc, FixedAddPc, EndSequence, SetAddress, Parameters, Ins, is_end}
-use Common.{makes_row, row_at, OperationPointer, address_limit, is_tombstone, is_too_large, advanced_by}
-use Common.{pointer_at_overflow, next_pointer, pointer_at, is_under_tombstone, base_at, pending_address, zero, suc}
-use Common.{map, slice_get, subst, append_assoc, nat_eq, Option, ok_or, Result, Ok, Err, AllByRecursion}
-use Common.{true≢false, and_from, le-leb, eq-eqb, append-nil, Error, AddressOverflow, Address, Constant, ReadRow}
-use Common.{DefineFile, Event, row, fault, events_after, overflows, after_address, after_row, after_end, Built}
+use Common.{ℕ, Bool, true, false, not, List, [], refl, sym, ap, ◌∙◌, arith, nat_le, Some, None, Special, Copy}
+use Common.{AdvancePc, ConstAddPc, FixedAddPc, EndSequence, SetAddress, Parameters, Ins, is_end, makes_row, row_at}
+use Common.{OperationPointer, address_limit, is_tombstone, is_too_large, pointer_at_overflow, next_pointer, pointer_at}
+use Common.{is_under_tombstone, base_at, pending_address, zero, suc, map, slice_get, subst, append_assoc, nat_eq}
+use Common.{Option, ok_or, Result, Ok, Err, AllByRecursion, append-nil, Error, AddressOverflow, Address, Constant}
+use Common.{ReadRow, DefineFile, Event, row, fault, events_after, overflows, after_address, after_row, after_end, Built}
 use Common.{previous_position, AddressesFit, Sections, LineRow, BuiltItem, ConvertError, Read, InvalidFileIndex}
 use Common.{MissingLineEndSequence, InvalidAddress, UnsupportedLineInstruction, ◌>>=◌, TablesAndTexts, FileParts}
 use Common.{file_parts, with_parts, version_of, Reading, stops, offers, source_row, file_id, row_in, built_row}
@@ -17,11 +15,12 @@ use Common.{tables_after_definition, tables_at, with_definition, reading_after, 
 use Common.{can_build}
 use Rattle.std.proofs.lemmas.Nat.{pow_pos}
 use Rattle.gimli_line.proofs.NonDecreasingLaws.{rises}
-use Rattle.gimli_write.specs.convert.Mapped.{gave_row, MapsToItself, NoneEndsUnderTombstone, IsFileId, RowsMapped}
-use Rattle.gimli_write.specs.convert.Mapped.{SetsConstant}
+use Rattle.gimli_write.specs.convert.Mapped
+use Mapped.{gave_row, MapsToItself, NoneEndsUnderTombstone, IsFileId, RowsMapped, SetsConstant}
 use Rattle.gimli_line.proofs.RunLists.{events_at, after_here}
-use Rattle.gimli_write.proofs.Outcomes.{definition_passed}
-use Rattle.gimli_write.proofs.MappedFiles.{finished}
+use Rattle.gimli_write.proofs
+use proofs.Outcomes.{definition_passed}
+use proofs.MappedFiles.{finished}
 use Rattle.gimli_build.specs.declared.built.items.BuiltItem.TheVariants as item
 use Rattle.gimli_write.specs.declared.convert.rows.ConvertLineRow.TheVariants as offer
 
@@ -36,12 +35,10 @@ set_within parameters a p lt = grind arith
         < address_limit parameters
     at_test true c e = lt
     at_test false true e = lt
-    at_test false false e =
-        grind arith
+    at_test false false e = grind arith
 
 advance_within : (parameters : Parameters) (tombstone : Bool) (i : Ins) (p to : OperationPointer)
-    → (pointer_at_overflow i p to).address ≡ p.address
-    → p.address < address_limit parameters
+    → (pointer_at_overflow i p to).address ≡ p.address → p.address < address_limit parameters
     → (if tombstone then p else (if is_too_large parameters to then pointer_at_overflow i p to else to)).address
     < address_limit parameters
 advance_within parameters true i p to stays lt = lt
@@ -53,18 +50,13 @@ advance_within parameters false i p to stays lt = grind arith
     at_test false e = grind arith
 
 next_within : (parameters : Parameters) (tombstone : Bool) (i : Ins) (p : OperationPointer)
-    → p.address < address_limit parameters
-    → (next_pointer parameters tombstone i p).address < address_limit parameters
+    → p.address < address_limit parameters → (next_pointer parameters tombstone i p).address < address_limit parameters
 next_within parameters tombstone EndSequence p lt = omega arith
 next_within parameters tombstone (SetAddress a) p lt = set_within parameters a p lt
-next_within parameters tombstone (Special o) p lt =
-    grind (arith, advance_within)
-next_within parameters tombstone (AdvancePc n) p lt =
-    grind (arith, advance_within)
-next_within parameters tombstone ConstAddPc p lt =
-    grind (arith, advance_within)
-next_within parameters tombstone (FixedAddPc n) p lt =
-    grind (arith, advance_within)
+next_within parameters tombstone (Special o) p lt = grind (arith, advance_within)
+next_within parameters tombstone (AdvancePc n) p lt = grind (arith, advance_within)
+next_within parameters tombstone ConstAddPc p lt = grind (arith, advance_within)
+next_within parameters tombstone (FixedAddPc n) p lt = grind (arith, advance_within)
 next_within parameters tombstone i p lt = lt
 
 pub address_within : (parameters : Parameters) (past : List Ins)
@@ -79,22 +71,19 @@ address_within parameters (i ∷ past) =
 -- one that doesn't hide isn't below the address before it, nor one of the two greatest
 pub set_seen : (parameters : Parameters) (a : ℕ) (p : OperationPointer) → is_tombstone parameters a p ≡ false
     → (p.address ≤ a) × (a < address_limit parameters - 2)
-set_seen parameters a p seen =
-    grind arith
+set_seen parameters a p seen = grind arith
 
 pub set_moves : (parameters : Parameters) (a : ℕ) (p : OperationPointer) (tombstone : Bool)
-    → is_tombstone parameters a p ≡ false
-    → (next_pointer parameters tombstone (SetAddress a) p).address ≡ a
-set_moves parameters a p tombstone seen =
-    grind arith
+    → is_tombstone parameters a p ≡ false → (next_pointer parameters tombstone (SetAddress a) p).address ≡ a
+set_moves parameters a p tombstone seen = grind arith
 
-pub pending_is_base : (past : List Ins) (a : ℕ) → pending_address past ≡ Some a → base_at past ≡ a
-pending_is_base [] a is = absurd cc
-pending_is_base (SetAddress b ∷ past) a is = cc
-pending_is_base (EndSequence ∷ past) a is = absurd cc
-pending_is_base (Special o ∷ past) a is = absurd cc
-pending_is_base (Copy ∷ past) a is = absurd cc
-pending_is_base (i ∷ past) a is = pending_is_base past a is
+pub pending_is_base : (past : List Ins) {a : ℕ} → pending_address past ≡ Some a → base_at past ≡ a
+pending_is_base [] is = absurd cc
+pending_is_base (SetAddress b ∷ past) is = cc
+pending_is_base (EndSequence ∷ past) is = absurd cc
+pending_is_base (Special o ∷ past) is = absurd cc
+pending_is_base (Copy ∷ past) is = absurd cc
+pending_is_base (i ∷ past) {a} is = pending_is_base past is
 
 -- where nothing is under a tombstone, it isn't above the address reached
 pub base_below : (parameters : Parameters) (past : List Ins) → is_under_tombstone parameters past ≡ false
@@ -111,10 +100,8 @@ base_below parameters (i ∷ past) seen =
 
 -- nor above that of the row that a point makes
 pub base_below_row : (parameters : Parameters) (past : List Ins) (i : Ins) → is_under_tombstone parameters past ≡ false
-    → is_end i ≡ false
-    → base_at past ≤ (row_at parameters past i).address
-base_below_row parameters past i seen inner =
-    grind (arith, base_below, rises)
+    → is_end i ≡ false → base_at past ≤ (row_at parameters past i).address
+base_below_row parameters past i seen inner = grind (arith, base_below, rises)
 
 -- ---- what was built after a past
 
@@ -159,62 +146,52 @@ not_false false e = absurd cc
 
 -- one that is under a tombstone
 quiet_row : (parameters : Parameters) (past : List Ins) (i : Ins) (base position : ℕ) → makes_row i ≡ true
-    → is_end i ≡ false
-    → not (is_under_tombstone parameters past) ≡ false
+    → is_end i ≡ false → not (is_under_tombstone parameters past) ≡ false
     → Follows parameters past base position → Follows parameters (i ∷ past) base position
-quiet_row parameters past i base position loud inner quiet f =
-    grind (arith, row_point, not_false, rises)
+quiet_row parameters past i base position loud inner quiet f = grind (arith, row_point, not_false, rises)
 
 -- one that isn't
 pub follows_row : (parameters : Parameters) (past : List Ins) (i : Ins) → makes_row i ≡ true → is_end i ≡ false
     → is_under_tombstone parameters past ≡ false
     → Follows parameters (i ∷ past) (base_at past) ((pointer_at parameters (i ∷ past)).address - base_at past)
-follows_row parameters past i loud inner seen =
-    grind (arith, row_point, base_below, rises)
+follows_row parameters past i loud inner seen = grind (arith, row_point, base_below, rises)
 
 -- a point that gives nothing
 pub follows_quiet : (parameters : Parameters) (past : List Ins) (i : Ins) (base position : ℕ)
     → (makes_row i && not (is_under_tombstone parameters past)) ≡ false
     → (is_end i ≡ true → is_under_tombstone parameters past ≡ true → gave_row parameters past ≡ false)
     → Follows parameters past base position → Follows parameters (i ∷ past) base position
-follows_quiet parameters past EndSequence base position quiet ends f =
-    grind (arith, not_false)
-follows_quiet parameters past (SetAddress a) base position quiet ends f =
-    grind (arith, rises, set_seen)
-follows_quiet parameters past (Special o) base position quiet ends f =
-    grind (arith, quiet_row)
-follows_quiet parameters past Copy base position quiet ends f =
-    grind (arith, quiet_row)
-follows_quiet parameters past i base position quiet ends f =
-    grind (arith, rises)
+follows_quiet parameters past EndSequence base position quiet ends f = grind (arith, not_false)
+follows_quiet parameters past (SetAddress a) base position quiet ends f = grind (arith, rises, set_seen)
+follows_quiet parameters past (Special o) base position quiet ends f = grind (arith, quiet_row)
+follows_quiet parameters past Copy base position quiet ends f = grind (arith, quiet_row)
+follows_quiet parameters past i base position quiet ends f = grind (arith, rises)
 
 -- ---- ids stay
 
-slice_stays : {A : Type 0} (xs ys : List A) (i : ℕ) (x : A) → slice_get xs i ≡ Some x → slice_get (xs ++ ys) i ≡ Some x
-slice_stays [] ys i x is = absurd cc
-slice_stays (y ∷ xs) ys zero x is = is
-slice_stays (y ∷ xs) ys (suc i) x is = slice_stays xs ys i x is
+slice_stays : {A : Type 0} (xs ys : List A) (i : ℕ) {x : A} → slice_get xs i ≡ Some x → slice_get (xs ++ ys) i ≡ Some x
+slice_stays [] ys i is = absurd cc
+slice_stays (y ∷ xs) ys zero is = is
+slice_stays (y ∷ xs) ys (suc i) {x} is = slice_stays xs ys i is
 
 -- ids that are there stay after an instruction
-pub ids_stay : (sections : Sections) (tables next : TablesAndTexts) (i : Ins)
+pub ids_stay : (sections : Sections) (tables : TablesAndTexts) {next : TablesAndTexts} (i : Ins)
     → tables_after_definition sections tables i ≡ Ok next
     → (n id : ℕ) → slice_get tables.file_ids n ≡ Some id → slice_get next.file_ids n ≡ Some id
-ids_stay sections tables next (DefineFile f) is n id there =
+ids_stay sections tables {next} (DefineFile f) is n id there =
     by (file_parts (version_of tables) sections tables.directory_ids f) is
   where
     by : (r : Result FileParts ConvertError) → (r >>= λ parts. Ok (with_parts tables f parts)) ≡ Ok next
         → slice_get next.file_ids n ≡ Some id
     by (Err e) so = absurd cc
-    by (Ok parts) so =
-        grind (arith, slice_stays)
-ids_stay sections tables next i is n id there =
-    grind arith
+    by (Ok parts) so = grind (arith, slice_stays)
+ids_stay sections tables i is n id there = grind arith
 
 -- ---- one point
 
-file_id-is : (version : ℕ) (tables : TablesAndTexts) (n id : ℕ) → file_id version tables n ≡ Ok id
+file_id-is : (version : ℕ) (tables : TablesAndTexts) (n : ℕ) {id : ℕ} → file_id version tables n ≡ Ok id
     → IsFileId version tables.file_ids n id
-file_id-is version tables n id is = grind arith
+file_id-is version tables n {id} is = grind arith
   where
     there : (o : Option ℕ) → ok_or o InvalidFileIndex ≡ Ok id → o ≡ Some id
     there (Some x) so = cc
@@ -226,10 +203,9 @@ file_id-is version tables n id is = grind arith
     by true at so = absurd cc
     by false at so = grind arith
 
-row_parts : (r : ReadRow) (address : ℕ) → r.tombstone ≡ false → r.address ≡ address → r.end_sequence ≡ false
+row_parts : (r : ReadRow) {address : ℕ} → r.tombstone ≡ false → r.address ≡ address → r.end_sequence ≡ false
     → r ≡ record r { tombstone = false; address = address; end_sequence = false }
-row_parts r address seen at inner =
-    grind arith
+row_parts r seen at inner = grind arith
 
 -- ---- what comes of the rest of a program
 
@@ -258,11 +234,11 @@ module _ (sections : Sections) (parameters : Parameters) (first : TablesAndTexts
         → Comes (reading_after sections parameters first past [] end) p → Rest past [] end base position p
     none_left past end base position p is = by (tables_at sections first past) refl end is
       where
-        closed : (tables : TablesAndTexts) → tables_at sections first past ≡ Ok tables → (b : Bool)
+        closed : {tables : TablesAndTexts} → tables_at sections first past ≡ Ok tables → (b : Bool)
             → (if b then Err MissingLineEndSequence else Ok (finished tables p)) ≡ Ok c
             → Rest past [] None base position p
-        closed tables there true so = absurd cc
-        closed tables there false so =
+        closed there true so = absurd cc
+        closed {tables} there false so =
             let same : finished tables p ≡ c = cc in
             record {
               rows = [];
@@ -278,11 +254,10 @@ module _ (sections : Sections) (parameters : Parameters) (first : TablesAndTexts
             }
 
         by : (there : Result TablesAndTexts ConvertError) → tables_at sections first past ≡ there
-            → (end : Option Error) → Comes (reading_with there (end_reading end)) p
-            → Rest past [] end base position p
+            → (end : Option Error) → Comes (reading_with there (end_reading end)) p → Rest past [] end base position p
         by (Err e) there end so = absurd cc
         by (Ok tables) there (Some e) so = absurd cc
-        by (Ok tables) there None so = closed _ there _ so
+        by (Ok tables) there None so = closed there _ so
 
     module _ (past : List Ins) (i : Ins) (list : List Ins) (end : Option Error) (tables : TablesAndTexts)
         (at : tables_at sections first past ≡ Ok tables) where
@@ -312,11 +287,9 @@ module _ (sections : Sections) (parameters : Parameters) (first : TablesAndTexts
       abbrev NotUnderTombstone : Type 0
       NotUnderTombstone = is_under_tombstone parameters past ≡ false
 
-      stays : (next : TablesAndTexts) → tables_at sections first (i ∷ past) ≡ Ok next → (n id : ℕ)
-          → slice_get tables.file_ids n ≡ Some id
-          → slice_get next.file_ids n ≡ Some id
-      stays next there =
-          ids_stay _ _ _ i (sym (ap (λ r. r >>= λ l. tables_after_definition sections l i) at) ∙ there)
+      stays : {next : TablesAndTexts} → tables_at sections first (i ∷ past) ≡ Ok next → (n id : ℕ)
+          → slice_get tables.file_ids n ≡ Some id → slice_get next.file_ids n ≡ Some id
+      stays there = ids_stay _ _ i (sym (ap (λ r. r >>= λ l. tables_after_definition sections l i) at) ∙ there)
 
       -- a point gives nothing
       passed : (base : ℕ) (position : ℕ × ℕ) (p : Built) → events_at parameters past i ≡ [] → Later base position p
@@ -325,8 +298,7 @@ module _ (sections : Sections) (parameters : Parameters) (first : TablesAndTexts
         rows = r.rows;
         events =
             after_here parameters past i list end
-            ∙ ap (λ (here : List Event). here ++ events_after parameters (i ∷ past) list end) none
-            ∙ r.events;
+            ∙ ap (λ (here : List Event). here ++ events_after parameters (i ∷ past) list end) none ∙ r.events;
         items = r.items;
         built = r.built;
         mapped = r.mapped;
@@ -334,7 +306,7 @@ module _ (sections : Sections) (parameters : Parameters) (first : TablesAndTexts
         constants = r.constants;
         tables = tables;
         there = at;
-        stay = λ n id is. r.stay n id (stays _ r.there n _ is);
+        stay = λ n id is. r.stay n id (stays r.there n _ is);
       }
 
       -- a point gives a row, and an item is built of it
@@ -343,8 +315,7 @@ module _ (sections : Sections) (parameters : Parameters) (first : TablesAndTexts
           → ((items : List BuiltItem) (rows : List ReadRow) → RowsMapped version c.file_ids after items rows
           → RowsMapped version c.file_ids base (built ∷ items) (here ∷ rows))
           → ((items : List BuiltItem) → AddressesFit size after after_it items
-          → AddressesFit size base position (built ∷ items))
-          → Later after after_it next → Here base position p
+          → AddressesFit size base position (built ∷ items)) → Later after after_it next → Here base position p
       taken base after position after_it p next built one pushed constant mapped fit r = record {
         rows = here ∷ r.rows;
         events =
@@ -358,7 +329,7 @@ module _ (sections : Sections) (parameters : Parameters) (first : TablesAndTexts
         constants = (constant, r.constants);
         tables = tables;
         there = at;
-        stay = λ n id is. r.stay n id (stays _ r.there n _ is);
+        stay = λ n id is. r.stay n id (stays r.there n _ is);
       }
 
       -- an address is set before what a point gives
@@ -404,8 +375,7 @@ module _ (sections : Sections) (parameters : Parameters) (first : TablesAndTexts
             address_within parameters past in
             taken base 0 position (0, 0) p next built one refl tt
             (λ items rows mapped. (record { address = omega arith; ends = closes }, mapped))
-            (λ items fit. (omega (arith, wide), fit))
-            (follow 0 (0, 0) next (follows_end parameters past i closes)
+            (λ items fit. (omega (arith, wide), fit)) (follow 0 (0, 0) next (follows_end parameters past i closes)
             (was_built (can_build q.line_encoding (previous_position q.items) built) next is))
 
         -- a row of a file that is there
@@ -427,28 +397,25 @@ module _ (sections : Sections) (parameters : Parameters) (first : TablesAndTexts
             (subst (λ (a : ℕ). Follows parameters (i ∷ past) (base_at past) (a - base_at past)) (sym address)
             (follows_row parameters past i loud inner seen))
             (was_built (can_build q.line_encoding (previous_position q.items) built) next is) in
-            let number : IsFileId version tables.file_ids here.file file =
-            file_id-is version tables here.file file known in
+            let number : IsFileId version tables.file_ids here.file file = file_id-is version tables here.file known in
             let found : slice_get c.file_ids here.file ≡ Some file =
-            rest.stay here.file file (stays rest.tables rest.there here.file file number.there) in
+            rest.stay here.file file (stays rest.there here.file file number.there) in
             taken base (base_at past) position (r.address_offset, r.op_index) p next built one refl tt
             (λ items rows mapped. (
               record {
                 file = record { from_one = number.from_one; there = found };
-                others = row_parts here (base + offset) seen sum inner;
+                others = row_parts here seen sum inner;
               },
               subst (λ (b : ℕ). RowsMapped version c.file_ids b items rows) (sym same) mapped,
-            ))
-            (λ items fit. (
+            )) (λ items fit. (
               omega (arith, wide),
               subst (λ (b : ℕ). AddressesFit size b (r.address_offset, r.op_index) items) (sym same) fit,
-            ))
-            rest
+            )) rest
 
         -- a row, or an end
-        any_point_gives : (base : ℕ) (position : ℕ × ℕ) (p : Built) → base ≡ base_at past
+        any_point_gives : {base : ℕ} (position : ℕ × ℕ) (p : Built) → base ≡ base_at past
             → Comes (row_or_end_offered version tables (source_row parameters past i) later) p → Here base position p
-        any_point_gives base position p same is = by (is_end i) refl is
+        any_point_gives {base} position p same is = by (is_end i) refl is
           where
             known : (r : Result ℕ ConvertError) → file_id version tables here.file ≡ r → is_end i ≡ false
                 → Comes (row_offered (r >>= λ file. Ok (row_in (source_row parameters past i) file)) tables later) p
@@ -456,8 +423,7 @@ module _ (sections : Sections) (parameters : Parameters) (first : TablesAndTexts
             known (Err e) at inner so = absurd cc
             known (Ok file) at inner so = row_point_gives _ _ p _ inner same at so
 
-            by : (b : Bool) → is_end i ≡ b
-                → Comes (if b then offers (offer.EndSequence offset) tables later
+            by : (b : Bool) → is_end i ≡ b → Comes (if b then offers (offer.EndSequence offset) tables later
                 else row_offered (built_row version tables (source_row parameters past i)) tables later) p
                 → Here base position p
             by true closes so = end_point_gives _ _ p closes same so
@@ -473,19 +439,16 @@ module _ (sections : Sections) (parameters : Parameters) (first : TablesAndTexts
 
             by : (o : Option ℕ) → pending_address past ≡ o → Comes (address_offered o tables offered) p
                 → Here base position p
-            by None at so = any_point_gives base position p (f.counted seen at) so
+            by None at so = any_point_gives position p (f.counted seen at) so
             by (Some a) at so =
                 let ahead = f.ahead a seen at in
                 let next : Built = after_address (Constant a) (with_tables tables p) in
                 let mapped : Comes offered next =
                 sym (ap
                 (λ (o : Option Address). (ok_or o InvalidAddress >>= λ m. Ok (after_address m (with_tables tables p)))
-                >>= λ n.
-                outcome_of convert_address offered n)
-                (itself a))
-                ∙ so in
+                >>= λ n. outcome_of convert_address offered n) (itself a)) ∙ so in
                 address_taken base position p a ahead.0 ahead.1
-                (any_point_gives a (0, 0) next (sym (pending_is_base past a at)) mapped)
+                (any_point_gives (0, 0) next (sym (pending_is_base past {a = a} at)) mapped)
 
       -- any point
       point_passes : (base : ℕ) (position : ℕ × ℕ) (p : Built) → Follows parameters past base position.0
@@ -494,13 +457,12 @@ module _ (sections : Sections) (parameters : Parameters) (first : TablesAndTexts
       point_passes base position p f no_end_under_tombstone is follow =
           by (overflows parameters past i) (makes_row i) (is_under_tombstone parameters past) refl refl refl is
         where
-          gives : (o m tombstone : Bool) → overflows parameters past i ≡ o → makes_row i ≡ m
-              → is_under_tombstone parameters past ≡ tombstone
-              → events_at parameters past i
+          gives : (o m : Bool) {tombstone : Bool} → overflows parameters past i ≡ o → makes_row i ≡ m
+              → is_under_tombstone parameters past ≡ tombstone → events_at parameters past i
               ≡ (if o then fault AddressOverflow ∷ [] else (if m && not tombstone then row here ∷ [] else []))
-          gives true m tombstone at made seen = rw at refl
-          gives false true tombstone at made seen = rw (at, made, seen) refl
-          gives false false tombstone at made seen = rw (at, made) refl
+          gives true m at made seen = rw at refl
+          gives false true at made seen = rw (at, made, seen) refl
+          gives false false at made seen = rw (at, made) refl
 
           -- nothing comes of it
           quiet : (m tombstone : Bool) → overflows parameters past i ≡ false → makes_row i ≡ m
@@ -508,29 +470,24 @@ module _ (sections : Sections) (parameters : Parameters) (first : TablesAndTexts
               → Here base position p
           quiet m tombstone at made seen none so =
               passed base position p
-              (gives false m tombstone at made seen ∙ ap (λ b. if b then row here ∷ [] else []) none)
-              (follow base position p
-              (follows_quiet _ _ i _ _
+              (gives false m {tombstone = tombstone} at made seen ∙ ap (λ b. if b then row here ∷ [] else []) none)
+              (follow base position p (follows_quiet _ _ i _ _
               (ap (λ b. b && not (is_under_tombstone parameters past)) made ∙ ap (λ b. m && not b) seen ∙ none)
-              no_end_under_tombstone f)
-              so)
+              no_end_under_tombstone f) so)
 
           by : (o m tombstone : Bool) → overflows parameters past i ≡ o → makes_row i ≡ m
-              → is_under_tombstone parameters past ≡ tombstone
-              → Comes (if o then stops (Read AddressOverflow)
+              → is_under_tombstone parameters past ≡ tombstone → Comes (if o then stops (Read AddressOverflow)
               else (if m && not tombstone
               then source_row_offered version tables (source_row parameters past i) later else later)) p
               → Here base position p
           by true m tombstone at made seen so = absurd cc
-          by false true false at made seen so =
-              point_gives (gives _ _ _ at made seen) made seen follow _ _ p f so
+          by false true false at made seen so = point_gives (gives _ _ at made seen) made seen follow _ _ p f so
           by false true true at made seen so = quiet true true at made seen refl so
           by false false tombstone at made seen so = quiet false tombstone at made seen refl so
 
     -- what comes of the rest of a program
     pub rest_mapped : (past list : List Ins) (end : Option Error) (base : ℕ) (position : ℕ × ℕ) (p : Built)
-        → Follows parameters past base position.0
-        → NoneEndsUnderTombstone parameters past list
+        → Follows parameters past base position.0 → NoneEndsUnderTombstone parameters past list
         → outcome_of convert_address (reading_after sections parameters first past list end) p ≡ Ok c
         → Rest past list end base position p
     rest_mapped past [] end base position p f seen is = none_left past end base position p is
@@ -549,5 +506,4 @@ module _ (sections : Sections) (parameters : Parameters) (first : TablesAndTexts
         by follow (Err e) at so = absurd cc
         by follow (Ok tables) at so =
             point_passes past i list end tables at base position p f seen.0
-            (sym (definition_passed convert_address parameters tables past i after p) ∙ so)
-            follow
+            (sym (definition_passed convert_address parameters tables past i after p) ∙ so) follow

@@ -13,17 +13,16 @@ use Rattle.gimli_line.proofs.RunLists.{given_without_files}
 -- ---- a run to its end
 
 -- rows after which nothing comes are all that the program gives
-pub run_ended : (layout : OrderAndLimit) (h : Header) (events left : List EventWithFiles) (rows : List LineRow)
+pub run_ended : {layout : OrderAndLimit} (h : Header) {events left : List EventWithFiles} (rows : List LineRow)
     → EventsWithFiles layout true h h.program events
     → events_of events ≡ map row rows ++ events_of left → left ≡ [] → Events layout h h.program (map row rows)
-run_ended layout h events left rows tells so_far none = record {
+run_ended h rows tells so_far none = record {
   list = tells.list;
   end = tells.end;
   decoding = tells.decoding;
   given =
       sym (append-nil (map row rows)) ∙ ap (λ (l : List EventWithFiles). map row rows ++ events_of l) (sym none)
-      ∙ sym so_far
-      ∙ ap events_of tells.given ∙ given_without_files true h tells.list tells.end;
+      ∙ sym so_far ∙ ap events_of tells.given ∙ given_without_files true h tells.list tells.end;
 }
 
 -- ---- a run that is refused
@@ -33,12 +32,12 @@ pub is_memory : (e : Error) → (e ≡ OutOfMemory) ⊎ (e ≢ OutOfMemory)
 is_memory OutOfMemory = inl refl
 is_memory e = inr (λ is. absurd cc)
 
-first_fault : (layout : OrderAndLimit) (h : Header) (events left rest : List EventWithFiles) (rows : List LineRow)
-    (files : List File) (e : Error)
-    → EventsWithFiles layout true h h.program events
+first_fault : {layout : OrderAndLimit} (h : Header) {events left : List EventWithFiles} (rest : List EventWithFiles)
+    (rows : List LineRow)
+    (files : List File) (e : Error) → EventsWithFiles layout true h h.program events
     → events_of events ≡ map row rows ++ events_of left → left ≡ record { event = fault e; files = files } ∷ rest
     → HasFirstFault layout h e
-first_fault layout h events left rest rows files e tells so_far next = record {
+first_fault h rest rows files e tells so_far next = record {
   list = tells.list;
   end = tells.end;
   decoding = tells.decoding;
@@ -49,13 +48,13 @@ first_fault layout h events left rest rows files e tells so_far next = record {
 }
 
 -- a refusal after rows is the first fault, or `OutOfMemory`, and has the name that conversions give it
-pub run_refused : (layout : OrderAndLimit) (h : Header) (events : List EventWithFiles) (old new : RunState)
+pub run_refused : {layout : OrderAndLimit} {h : Header} {events : List EventWithFiles} (old new : RunState)
     (rows : List LineRow) (e : Error) (r : ConvertError)
     → EventsWithFiles layout true h h.program events → events_of events ≡ map row rows ++ events_of (events_left old)
     → FaultIs live_events (with_reset_row old) new e
     → (e ≡ OutOfMemory → r ≡ NoMemory) → (e ≢ OutOfMemory → r ≡ Read e) → IsRunRefusal layout h r
-run_refused layout h events old new rows e r tells so_far (inl memory) named other = rw (named memory.0) tt
-run_refused layout h events old new rows e r tells so_far (inr next) named other = elim (is_memory e) [
+run_refused old new rows e r tells so_far (inl memory) named other = rw (named memory.0) tt
+run_refused {h} old new rows e r tells so_far (inr next) named other = elim (is_memory e) [
   | inl memory ↦ rw (named memory) tt
-  | inr not_memory ↦ rw (other not_memory) (first_fault _ h _ _ _ _ _ e tells so_far next.0)
+  | inr not_memory ↦ rw (other not_memory) (first_fault h _ _ _ e tells so_far next.0)
 ]

@@ -1,16 +1,14 @@
 -- A unit that is read: it has one header, and no fault.
 use Rattle.std.specs.Prelude.{◌≡◌, ◌≢◌, ◌<◌, ◌^◌, ◌∷◌}
 use Rattle.gimli_write.proofs.Common
-use Common.{ℕ, Bool, List, [], length, drop, refl, sym, ap, ◌∙◌, subst, inl, inr, arith}
-use Common.{All, Result, Option, Some, None, IfOk, IfErr, length-drop, append-nil, All-nil, All-cons, IfOk-weaker}
-use Common.{MatchResult-weaker, OrderAndLimit, Value, Error, OutOfMemory, Header, UnitEntry, SpellsUnit, HasUnitFault}
-use Common.{ReadFile, one_header, no_fault, byte_count, StringTables, Sections, IsOptionalText, OneByOne}
-use Common.{HasText, HasOptionalText, HasFileTexts, Built, ConvertError}
-use Common.{NoMemory, RoundTrip, answers, AreAnswers, AnswersProgram, IsRunRefusal, RefusesUnit, slice_layout}
-use Common.{unit_entry_of, sections_of}
+use Common.{ℕ, Bool, List, [], length, drop, refl, sym, subst, inl, inr, arith, All, Result, Option, Some, None, IfOk}
+use Common.{IfErr, length-drop, append-nil, All-nil, All-cons, IfOk-weaker, MatchResult-weaker, OrderAndLimit, Value}
+use Common.{Error, OutOfMemory, Header, UnitEntry, SpellsUnit, HasUnitFault, ReadFile, one_header, no_fault, byte_count}
+use Common.{StringTables, Sections, IsOptionalText, OneByOne, HasText, HasOptionalText, HasFileTexts, Built}
+use Common.{ConvertError, NoMemory, RoundTrip, answers, AreAnswers, AnswersProgram, IsRunRefusal, RefusesUnit}
+use Common.{slice_layout, unit_entry_of, sections_of}
 use Rattle.gimli_build.specs.Tables.{File}
-use Rattle.gimli_build.specs.ReadsBack.{IsDirectory, IsFile, ReadsBack, IsReadWell, ReadsBackAs}
-use Rattle.gimli_build.specs.ReadsBack.{directories_from_zero}
+use Rattle.gimli_build.specs.ReadsBack.{IsDirectory, IsFile, ReadsBack, IsReadWell, ReadsBackAs, directories_from_zero}
 use Rattle.gimli_bytes.specs.Hand.{unplaced}
 use Rattle.gimli_build.proofs.linking.FoundTexts.{written-found, written-held}
 use Rattle.gimli_write.specs.inside.RoundTrip.{BeginsUnit, CanRead, HasTexts, unit_entry_with}
@@ -19,63 +17,56 @@ use Rattle.gimli_write.proofs.ReadRuns.{is_memory}
 -- ---- what a slice is read as
 
 -- the same layout, directory and bytes by another name
-pub same_unit : (limit size n : ℕ) (is_big other : Bool) (directory other_directory section other_section : List ℕ)
-    (h : Header)
-    → other ≡ is_big → other_directory ≡ directory → other_section ≡ section
+pub same_unit : (limit size n : ℕ) {is_big other : Bool} {directory other_directory section other_section : List ℕ}
+    (h : Header) → other ≡ is_big → other_directory ≡ directory → other_section ≡ section
     → SpellsUnit (record { is_big = other; limit = limit }) (unit_entry_with size other_directory)
     (drop n other_section) h
     → BeginsUnit (record { is_big = is_big; limit = limit }) (unit_entry_with size directory) (drop n section) h
-same_unit limit size n is_big other directory other_directory section other_section h b d s spelled =
+same_unit limit size n {is_big} {other} {directory} {other_directory} {section} h b d s spelled =
     subst (λ x. BeginsUnit (record { is_big = x; limit = limit }) (unit_entry_with size directory) (drop n section) h) b
     (subst (λ x. BeginsUnit (record { is_big = other; limit = limit }) (unit_entry_with size x) (drop n section) h) d
     (subst (λ x.
-    BeginsUnit (record { is_big = other; limit = limit }) (unit_entry_with size other_directory) (drop n x) h)
-    s
+    BeginsUnit (record { is_big = other; limit = limit }) (unit_entry_with size other_directory) (drop n x) h) s
     (record { spelled = spelled })))
 
 -- a fault where a unit begins
 pub record BeginsFault (layout : OrderAndLimit) (unit_entry : UnitEntry) (bytes : List ℕ) (e : Error) : Type 0 where
   pub fault : HasUnitFault layout unit_entry bytes e
 
-pub same_fault : (limit size n : ℕ) (is_big other : Bool) (directory other_directory section other_section : List ℕ)
-    (e : Error)
-    → other ≡ is_big → other_directory ≡ directory → other_section ≡ section
+pub same_fault : (limit size n : ℕ) (is_big other : Bool)
+    (directory other_directory section : List ℕ) {other_section : List ℕ}
+    (e : Error) → other ≡ is_big → other_directory ≡ directory → other_section ≡ section
     → HasUnitFault (record { is_big = other; limit = limit }) (unit_entry_with size other_directory)
     (drop n other_section) e
     → BeginsFault (record { is_big = is_big; limit = limit }) (unit_entry_with size directory) (drop n section) e
-same_fault limit size n is_big other directory other_directory section other_section e b d s fault =
+same_fault limit size n is_big other directory other_directory section e b d s fault =
     subst (λ x. BeginsFault (record { is_big = x; limit = limit }) (unit_entry_with size directory) (drop n section) e)
-    b
-    (subst (λ x. BeginsFault (record { is_big = other; limit = limit }) (unit_entry_with size x) (drop n section) e) d
+    b (subst (λ x. BeginsFault (record { is_big = other; limit = limit }) (unit_entry_with size x) (drop n section) e) d
     (subst
     (λ x. BeginsFault (record { is_big = other; limit = limit }) (unit_entry_with size other_directory) (drop n x) e) s
     (record { fault = fault })))
 
-pub same_sections : (strings other_strings line_strings other_line_strings : List ℕ) (s : Sections)
-    → other_strings ≡ strings
-    → other_line_strings ≡ line_strings
+pub same_sections : {strings other_strings line_strings other_line_strings : List ℕ} {s : Sections}
+    → other_strings ≡ strings → other_line_strings ≡ line_strings
     → record { strings = strings; line_strings = line_strings } ≡ s
     → record { strings = other_strings; line_strings = other_line_strings } ≡ s
-same_sections strings other_strings line_strings other_line_strings s a b is =
-    grind arith
+same_sections a b is = grind arith
 
-pub same_layout : (limit : ℕ) (is_big other : Bool) (n : OrderAndLimit) → n ≡ record { is_big = other; limit = limit }
+pub same_layout : (limit : ℕ) {is_big other : Bool} {n : OrderAndLimit} → n ≡ record { is_big = other; limit = limit }
     → other ≡ is_big
     → n ≡ record { is_big = is_big; limit = limit }
-same_layout limit is_big other n is b = grind arith
+same_layout limit is b = grind arith
 
 -- ---- one header
 
 module _ (layout : OrderAndLimit) (unit_entry : UnitEntry) (bytes : List ℕ) where
-  pub same_header : (h k : Header) → BeginsUnit layout unit_entry bytes h → BeginsUnit layout unit_entry bytes k
-      → h ≡ k
-  same_header h k s t = one_header layout unit_entry _ h k s.spelled t.spelled
+  pub same_header : {h k : Header} → BeginsUnit layout unit_entry bytes h → BeginsUnit layout unit_entry bytes k → h ≡ k
+  same_header {h} {k} s t = one_header layout unit_entry _ h k s.spelled t.spelled
 
   -- the texts of the header that is read are there
   pub texts_there : (sections : Sections) (k : Header) → CanRead layout unit_entry sections bytes
-      → BeginsUnit layout unit_entry bytes k
-      → HasTexts sections k
-  texts_there sections k can unit = subst (λ h. HasTexts sections h) (same_header _ k can.unit unit) can.texts
+      → BeginsUnit layout unit_entry bytes k → HasTexts sections k
+  texts_there sections k can unit = subst (λ h. HasTexts sections h) (same_header can.unit unit) can.texts
 
   -- a header that is there isn't refused
   pub header_refused : (h : Header) (e : Error) (r : ConvertError) → BeginsUnit layout unit_entry bytes h
@@ -88,23 +79,19 @@ module _ (layout : OrderAndLimit) (unit_entry : UnitEntry) (bytes : List ℕ) wh
 
 -- ---- answers of the same by another name
 
-pub same_answers : (r : Result RoundTrip ConvertError) (n m : OrderAndLimit) (s t : Sections) (h k : Header) → n ≡ m
-    → s ≡ t
-    → h ≡ k
+pub same_answers : (r : Result RoundTrip ConvertError) {n m : OrderAndLimit} {s t : Sections} {h k : Header} → n ≡ m
+    → s ≡ t → h ≡ k
     → IfOk r (λ answer. AreAnswers n s h (answers answer)) → IfOk r (λ answer. AreAnswers m t k (answers answer))
-same_answers r n m s t h k a b d is =
-    grind arith
+same_answers r a b d is = grind arith
 
-pub same_refusal : (r : Result RoundTrip ConvertError) (n m : OrderAndLimit) (h k : Header) → n ≡ m → h ≡ k
+pub same_refusal : (r : Result RoundTrip ConvertError) {n m : OrderAndLimit} {h k : Header} → n ≡ m → h ≡ k
     → IfErr r (IsRunRefusal n h) → IfErr r (IsRunRefusal m k)
-same_refusal r n m h k a d is =
-    grind arith
+same_refusal r a d is = grind arith
 
 -- ---- a program's unit
 
 one_by_one_all : {A B : Type 0} (Related : A → B → Type 0) (P : A → Type 0) → ((x : A) (y : B) → Related x y → P x)
-    → (xs : List A) (ys : List B)
-    → OneByOne Related xs ys → All P xs
+    → (xs : List A) (ys : List B) → OneByOne Related xs ys → All P xs
 one_by_one_all Related P gives [] [] all = All-nil P
 one_by_one_all Related P gives (x ∷ xs) (y ∷ ys) all =
     All-cons P x _ (gives x y all.0) (one_by_one_all Related P gives xs ys all.1)
@@ -118,9 +105,9 @@ optional_there s None None is = tt
 optional_there s (Some v) None is = absurd is
 optional_there s None (Some text) is = absurd is
 
-file_texts_there : (s : Sections) (p : Built) (texts : StringTables) (read : ReadFile) (built : File)
+file_texts_there : {s : Sections} {p : Built} {texts : StringTables} {read : ReadFile} {built : File}
     → IsFile s p texts read built → HasFileTexts s read
-file_texts_there s p texts read built is = grind (arith, optional_there)
+file_texts_there is = grind (arith, optional_there)
 
 -- the sections of the tables have lengths that 64 bits hold
 abbrev pub AreShort : StringTables → Type 0
@@ -145,9 +132,9 @@ module _ (is_big : Bool) (p : Built) (texts : StringTables) (section : List ℕ)
   read_back = whole _ _ _ read_well
 
   -- `OutOfMemory` before the unit is read
-  pub unread_refused : (e : ConvertError) → e ≡ NoMemory
+  pub unread_refused : {e : ConvertError} → e ≡ NoMemory
       → RefusesUnit (slice_layout is_big) (unit_entry_of p texts) (drop n section) e
-  unread_refused e is = grind (arith, read_back)
+  unread_refused is = grind (arith, read_back)
 
 -- what is handed to the reading of a program's unit, by the names of the program
 module _ (is_big other : Bool) (p : Built) (texts : StringTables) (section other_section : List ℕ) (n size : ℕ)
@@ -159,15 +146,13 @@ module _ (is_big other : Bool) (p : Built) (texts : StringTables) (section other
   back = read_back is_big p texts section n whole fits held
 
   is_unit_entry : unit_entry_with size directory ≡ unit_entry_of p texts
-  is_unit_entry =
-      grind arith
+  is_unit_entry = grind arith
 
   -- the unit by other names
   moved : (P : Bool → UnitEntry → List ℕ → Sections → Type 0)
       → P is_big (unit_entry_of p texts) section (sections_of texts)
       → P other (unit_entry_with size directory) other_section s
-  moved P is =
-      grind (arith, is_unit_entry)
+  moved P is = grind (arith, is_unit_entry)
 
   moved_back : (P : Bool → Sections → Type 0) → P other s → P is_big (sections_of texts)
   moved_back P is = grind arith
@@ -182,11 +167,10 @@ module _ (is_big other : Bool) (p : Built) (texts : StringTables) (section other
     texts = record {
       directories =
           one_by_one_all (IsDirectory (sections_of texts) texts) (HasText (sections_of texts)) (λ v t is. (_, is))
-          (directories_from_zero back.header)
-          p.directories back.directories;
+          (directories_from_zero back.header) p.directories back.directories;
       files =
           one_by_one_all (IsFile (sections_of texts) p texts) (HasFileTexts (sections_of texts))
-          (λ f built is. file_texts_there (sections_of texts) p texts f built is) back.header.files p.files back.files;
+          (λ f built is. file_texts_there is) back.header.files p.files back.files;
     };
   })
 

@@ -36,20 +36,21 @@ unit_written wanted old new none there = by _ refl there
     by (Err e) is appended = absurd appended
 
 -- a refusal of reading the unit that was appended
-unit_refused : (is_big : Bool) (wanted : ToWrite) (unit_entry : UnitEntry) (old new unit : List ℕ) (e : ConvertError)
+unit_refused : (is_big : Bool) {wanted : ToWrite} (unit_entry : UnitEntry) {old new unit : List ℕ} (e : ConvertError)
     → WasWritten wanted old new unit
     → RefusesUnit (slice_layout is_big) unit_entry unit e → IsRefusal is_big wanted unit_entry old new e
-unit_refused is_big wanted unit_entry old new unit NoMemory written r = tt
-unit_refused is_big wanted unit_entry old new unit (Read fault) written r = (unit, written, r)
-unit_refused is_big wanted unit_entry old new unit e written r = absurd r.2
+unit_refused is_big unit_entry NoMemory written r = tt
+unit_refused is_big unit_entry {unit} (Read fault) written r = (unit, written, r)
+unit_refused is_big unit_entry e written r = absurd r.2
 
 -- the same by the bytes after the offset
-pub unit_not_answered : (is_big other : Bool) (wanted : ToWrite) (unit_entry : UnitEntry) (old new : List ℕ) (n : ℕ)
+pub unit_not_answered : {is_big : Bool} (other : Bool) (wanted : ToWrite) (unit_entry : UnitEntry) (old new : List ℕ)
+    (n : ℕ)
     (r : Result RoundTrip ConvertError)
     → other ≡ is_big → wanted.cause ≡ None → Appends wanted.bytes old new → n ≡ length old
     → IfErr r (RefusesUnit (slice_layout other) unit_entry (drop n new))
     → IfErr r (IsRefusal is_big wanted unit_entry old new)
-unit_not_answered is_big other wanted unit_entry old new n r order none there offset is =
+unit_not_answered other wanted unit_entry old new n r order none there offset is =
     let written = unit_written _ _ _ none there in
     let later =
     ap (λ xs. drop n xs) written.1.appended ∙ ap (λ i. drop i (old ++ written.0)) offset
@@ -57,4 +58,4 @@ unit_not_answered is_big other wanted unit_entry old new n r order none there of
     let refused =
     subst (λ x. IfErr r (RefusesUnit (slice_layout x) unit_entry written.0)) order
     (subst (λ xs. IfErr r (RefusesUnit (slice_layout other) unit_entry xs)) later is) in
-    MatchResult-weaker r refused (λ _ u. u) (λ e f. unit_refused _ _ _ _ _ _ e written.1 f)
+    MatchResult-weaker r refused (λ _ u. u) (λ e f. unit_refused _ _ e written.1 f)

@@ -12,19 +12,32 @@ use Rattle.gimli_line.specs.run.Execution.{IsExecuted, RefusesNext, told_of}
 use Rattle.gimli_line.specs.run.NextInstruction.{TakesNext}
 use Rattle.gimli_line.proofs.Executions.{told_address, told_quiet, told_row}
 use Rattle.gimli_write.specs.inside.convert.SourceRun.{source_row}
-use Rattle.gimli_write.proofs.SourceSteps.{state, IsReady, address_state, executed_reading, executed_refusal}
-use Rattle.gimli_write.proofs.SourceSteps.{executed_shortens, is_shorter, made_is, quiet_state, ready_at_refusal}
-use Rattle.gimli_write.proofs.SourceSteps.{row_state, spelled_as, with_unread}
-use Rattle.gimli_write.proofs.TablesAtEnd.{executed_last, executed_stop}
+use Rattle.gimli_write.proofs
+use proofs.SourceSteps.{
+  state,
+  IsReady,
+  address_state,
+  executed_reading,
+  executed_refusal,
+  executed_shortens,
+  is_shorter,
+  made_is,
+  quiet_state,
+  ready_at_refusal,
+  row_state,
+  spelled_as,
+  with_unread,
+}
+use proofs.TablesAtEnd.{executed_last, executed_stop}
 
 -- nothing is added to the files
-files_kept : (h : Header) (i : Ins) → defines_file i ≡ false → h ≡ record h { files = files_after true i h.files }
-files_kept h (DefineFile f) none = absurd cc
-files_kept h i none = refl
+files_kept : {h : Header} (i : Ins) → defines_file i ≡ false → h ≡ record h { files = files_after true i h.files }
+files_kept (DefineFile f) none = absurd cc
+files_kept i none = refl
 
-no_address : (i : Ins) (told : Executed) → told ≡ told_of i → ((a : ℕ) → told ≢ Address a) → address_operand i ≡ None
-no_address (SetAddress a) told is other = absurd (other a is)
-no_address i told is other = refl
+no_address : (i : Ins) {told : Executed} → told ≡ told_of i → ((a : ℕ) → told ≢ Address a) → address_operand i ≡ None
+no_address (SetAddress a) is other = absurd (other a is)
+no_address i is other = refl
 
 -- an instruction that was taken and executed, or refused
 module _ {R Offset Endian : Type 0} (bytes : R → List ℕ) (number : Offset → ℕ) (s new : SourceRun) (u : Unread)
@@ -33,8 +46,7 @@ module _ {R Offset Endian : Type 0} (bytes : R → List ℕ) (number : Offset �
     (answer : Result (SourceStep R Endian Offset) ConvertError) (header : new.header ≡ s.header)
     (unread : new.unread ≡ u) where
   pub steps_source : defines_file i ≡ false → OnOk answer (is_refused s.header.parameters i s.row ≡ false)
-      → OnOk answer (new ≡ state_after i (with_unread s u))
-      → IfOk answer (λ step. step ≡ step_made (with_unread s u) i)
+      → OnOk answer (new ≡ state_after i (with_unread s u)) → IfOk answer (λ step. step ≡ step_made (with_unread s u) i)
       → IfErr answer (λ e. (e ≡ Read AddressOverflow) × (is_refused s.header.parameters i s.row ≡ true))
       → StepsSource bytes number s new answer
   steps_source file fits step made over =
@@ -58,7 +70,7 @@ module _ (s : SourceRun) (k : Header) (lent : k ≡ s.header) (r2 : LineRow) (u 
     taken : TakesNext s.header s.unread u (Some x.instruction)
     taken =
         let f = (reads_instruction s.unread.layout k).found s.unread.bytes x.instruction u.bytes x.reading in
-        (f.0, f.1, spelled_as _ _ k _ _ _ lent refl f.2)
+        (f.0, f.1, spelled_as _ _ lent refl f.2)
 
     fits : is_refused s.header.parameters x.instruction s.row ≡ refused
     fits = subst (λ j. is_refused j.parameters x.instruction s.row ≡ refused) lent x.refusal
@@ -85,14 +97,11 @@ module _ {R Offset Endian : Type 0} (bytes : R → List ℕ) (number : Offset �
         → StepsSource {Endian = Endian} bytes number s (state s.header r2 s.base s.pending u) (Ok More)
     quiet_steps told =
         let i = x.instruction in
-        let address = no_address i _ told (λ a is. absurd cc) in
+        let address = no_address i told (λ a is. absurd cc) in
         steps_source bytes number s (state s.header r2 s.base s.pending u) u layout i (taken s k lent r2 u false x)
-        (Ok More) refl refl x.defines
-        (fits s k lent r2 u false x)
+        (Ok More) refl refl x.defines (fits s k lent r2 u false x)
         (quiet_state i s.header s.header s.row r2 s.base s.pending u address x.defines (fits s k lent r2 u false x)
-        (files_kept _ i x.defines)
-        (steps s k lent r2 u false x) (told_quiet i told))
-        (rw (told_quiet i told) refl) tt
+        (files_kept i x.defines) (steps s k lent r2 u false x) (told_quiet i told)) (rw (told_quiet i told) refl) tt
 
     pub address_steps : (a : ℕ) → Address a ≡ told_of x.instruction
         → StepsSource {Endian = Endian} bytes number s (state s.header r2 a (Some a) u) (Ok More)
@@ -102,32 +111,24 @@ module _ {R Offset Endian : Type 0} (bytes : R → List ℕ) (number : Offset �
         (taken s k lent r2 u false x) in
         steps_source bytes number s (state s.header r2 a (Some a) u) u layout (SetAddress a) taken_is (Ok More) refl
         refl refl refl
-        (address_state a s.header s.header s.row r2 s.base s.pending u refl (address_step s k lent r2 u x a told)) refl
-        tt
+        (address_state a s.header s.header s.row s.base s.pending u refl (address_step s k lent r2 u x a told)) refl tt
 
     -- a row was made, and the registers were reset after it
-    pub row_steps : IsReady s.row → Row ≡ told_of x.instruction → (j : Header) → j ≡ s.header → (r3 : LineRow)
-        → r3 ≡ reset_row j.parameters r2
-        → (t : SourceRun) (given : SourceStep R Endian Offset)
+    pub row_steps : IsReady s.row → Row ≡ told_of x.instruction → (j : Header) → j ≡ s.header → {r3 : LineRow}
+        → r3 ≡ reset_row j.parameters r2 → (t : SourceRun) (given : SourceStep R Endian Offset)
         → given ≡ (if r2.tombstone then More else Made (source_row (state s.header r3 s.base s.pending u) r2))
         → t ≡ state s.header r3 (if r2.end_sequence then 0 else s.base) None u → StepsSource bytes number s t (Ok given)
-    row_steps ready told j same r3 reset t given is t_is =
+    row_steps ready told j same reset t given is t_is =
         let i = x.instruction in
         let loud = told_row i told in
-        let address = no_address i _ told (λ a is. absurd cc) in
-        let kept = files_kept _ i x.defines in
+        let address = no_address i told (λ a is. absurd cc) in
+        let kept = files_kept i x.defines in
         steps_source bytes number s t u layout i (taken s k lent r2 u false x) (Ok given) (ap (λ q. q.header) t_is)
-        (ap (λ q. q.unread) t_is)
-        x.defines (fits s k lent r2 u false x)
-        (t_is
+        (ap (λ q. q.unread) t_is) x.defines (fits s k lent r2 u false x) (t_is
         ∙ row_state i s.header s.header s.row r2 s.base s.pending u address x.defines (fits s k lent r2 u false x) kept
-        (steps s k lent r2 u false x) loud
-        ready j same _ reset
-        _ refl _ refl)
+        (steps s k lent r2 u false x) loud ready same reset refl refl)
         (made_is i s.header s.header s.row r2 s.base s.pending u address x.defines (fits s k lent r2 u false x) kept
-        (steps s k lent r2 u false x) _
-        _ is loud refl)
-        tt
+        (steps s k lent r2 u false x) is loud refl) tt
 
   pub refused_steps : (e : Error) → RefusesNext k s.unread u s.row r2 e
       → StepsSource {R = R} {Offset = Offset} {Endian = Endian} bytes number s (state s.header r2 s.base s.pending u)
@@ -135,6 +136,5 @@ module _ {R Offset Endian : Type 0} (bytes : R → List ℕ) (number : Offset �
   refused_steps e refused =
       let x = refused.1 in
       steps_source bytes number s (state s.header r2 s.base s.pending u) u layout x.instruction
-      (taken s k lent r2 u true x) (Err (Read e)) refl refl
-      x.defines tt tt tt
+      (taken s k lent r2 u true x) (Err (Read e)) refl refl x.defines tt tt tt
       (ap Read refused.0, fits s k lent r2 u true x)

@@ -1,13 +1,12 @@
 -- What the machine reads of a source is what looking back says.
 use Rattle.std.specs.Prelude.{◌≡◌, ◌-◌, ◌&&◌, if◌then◌else◌, ◌∷◌}
 use Rattle.gimli_write.proofs.Common
-use Common.{ℕ, Bool, true, false, not, List, [], refl, sym, ap, ◌∙◌, Option, Result}
-use Common.{Ok, Err, OrderAndLimit, Error, AddressOverflow, Header, EndSequence, SetAddress, Ins, makes_row, decoded_at}
-use Common.{is_refused, is_under_tombstone, overflows, registers_after, Unread, is_decoded, Sections, ConvertError}
-use Common.{Read, SourceRow, ◌>>=◌, TablesAndTexts, Reading, stops, reading_with, base_at, pending_address, source_row}
-use Common.{source_row_offered, reading_at, tables_after_definition, tables_at, reading_after, ReadsItems}
-use Common.{with_definition, SourceRun, start_of_source, row_made, base_after, pending_after, state_after}
-use Common.{instruction_reading, reading_from, reading_left}
+use Common.{ℕ, Bool, true, false, not, List, [], refl, sym, ap, ◌∙◌, Option, Result, Ok, Err, OrderAndLimit, Error}
+use Common.{AddressOverflow, Header, EndSequence, SetAddress, Ins, makes_row, decoded_at, is_under_tombstone}
+use Common.{registers_after, Unread, is_decoded, Sections, ConvertError, Read, SourceRow, ◌>>=◌, TablesAndTexts}
+use Common.{Reading, stops, reading_with, base_at, pending_address, source_row, source_row_offered, reading_at}
+use Common.{tables_after_definition, tables_at, reading_after, ReadsItems, with_definition, SourceRun, start_of_source}
+use Common.{row_made, base_after, pending_after, state_after, instruction_reading, reading_from, reading_left}
 use Rattle.gimli_line.proofs.Backwards.{refused_after, tombstone_after, row_after}
 use Rattle.gimli_write.proofs.SourceSteps.{state_same}
 
@@ -36,19 +35,17 @@ state_is : (h : Header) (u : Unread) (past : List Ins) (i : Ins)
     → state_after i (state_at h past u) ≡ state_at h (i ∷ past) u
 state_is h u past i =
     let row = registers_after h.parameters (i ∷ past) in
-    state_same h h row row _ _ _ _ u refl refl (base_is i past) (pending_is i past)
+    state_same h h row row u refl refl (base_is i past) (pending_is i past)
 
 -- ---- one point
 
 row_same : (h : Header) (u : Unread) (past : List Ins) (i : Ins) → makes_row i ≡ true
-    → is_under_tombstone h.parameters past ≡ false
-    → row_made (state_at h past u) i ≡ source_row h.parameters past i
+    → is_under_tombstone h.parameters past ≡ false → row_made (state_at h past u) i ≡ source_row h.parameters past i
 row_same h u past i loud seen =
     ap (λ row.
     let r : SourceRow =
     record { set_address = pending_address past; address_offset = row.address - base_at past; row = row } in
-    r)
-    (row_after h.parameters past i loud)
+    r) (row_after h.parameters past i loud)
 
 module _ (give : SourceRow → Reading) (stop rest : Reading) where
   same_parts : (made over tombstone : Bool) (r d : SourceRow) → (made ≡ true → tombstone ≡ false → r ≡ d)
@@ -59,22 +56,17 @@ module _ (give : SourceRow → Reading) (stop rest : Reading) where
   same_parts true false false r d same = ap give (same refl refl)
   same_parts false false tombstone r d same = refl
 
-  same_point : (made refused over is_tombstone tombstone : Bool) (r d : SourceRow) → refused ≡ over
-      → is_tombstone ≡ tombstone
-      → (made ≡ true → tombstone ≡ false → r ≡ d)
+  same_point : (made : Bool) {refused over is_tombstone tombstone : Bool} (r d : SourceRow) → refused ≡ over
+      → is_tombstone ≡ tombstone → (made ≡ true → tombstone ≡ false → r ≡ d)
       → (if refused then stop else (if made && not is_tombstone then give r else rest))
       ≡ (if over then stop else (if made && not tombstone then give d else rest))
-  same_point made refused over is_tombstone tombstone r d e f same = rw (e, f) (same_parts _ _ _ r d same)
+  same_point made r d e f same = rw (e, f) (same_parts _ _ _ r d same)
 
 point_is : (h : Header) (u : Unread) (past : List Ins) (tables : TablesAndTexts) (i : Ins) (rest : Reading)
     → instruction_reading (state_at h past u) tables i rest ≡ reading_at h.parameters tables past i rest
 point_is h u past tables i rest =
     same_point (λ (r : SourceRow). source_row_offered h.parameters.encoding.version tables r rest)
-    (stops (Read AddressOverflow)) rest (makes_row i)
-    (is_refused h.parameters i (registers_after h.parameters past)) (overflows h.parameters past i)
-    (registers_after h.parameters past).tombstone
-    (is_under_tombstone h.parameters past)
-    (row_made (state_at h past u) i) (source_row h.parameters past i)
+    (stops (Read AddressOverflow)) rest (makes_row i) (row_made (state_at h past u) i) (source_row h.parameters past i)
     (refused_after h.parameters past i) (tombstone_after h.parameters past) (row_same h u past i)
 
 -- ---- a whole program
@@ -93,34 +85,24 @@ module _ (sections : Sections) (h : Header) (first : TablesAndTexts) (u : Unread
           ≡ reading_after sections h.parameters first past (i ∷ list) end
       by others (Err e) is = rw is refl
       by others (Ok tables) is =
-          let next : tables_at sections first (i ∷ past)
-          ≡ tables_after_definition sections tables i = ap
+          let next : tables_at sections first (i ∷ past) ≡ tables_after_definition sections tables i = ap
           (λ (there : Result TablesAndTexts ConvertError). there >>= λ l. tables_after_definition sections l i) is in
           let rest : reading_from sections (state_after i (state_at h past u))
           (tables_after_definition sections tables i) list end
           ≡ reading_after sections h.parameters first (i ∷ past) list end =
           ap (λ (s : SourceRun). reading_from sections s (tables_after_definition sections tables i) list end)
-          (state_is h u past i)
-          ∙ ap
+          (state_is h u past i) ∙ ap
           (λ (there : Result TablesAndTexts ConvertError). reading_from sections (state_at h (i ∷ past) u) there list
-          end)
-          (sym next)
-          ∙ others in
-          ap
-          (λ (there : Result TablesAndTexts ConvertError). reading_with there (λ l.
+          end) (sym next) ∙ others in
+          ap (λ (there : Result TablesAndTexts ConvertError). reading_with there (λ l.
           instruction_reading (state_at h past u) l i
           (with_definition i (reading_from sections (state_after i (state_at h past u))
-          (tables_after_definition sections l i) list end))))
-          is
-          ∙ point_is h u past tables i
+          (tables_after_definition sections l i) list end)))) is ∙ point_is h u past tables i
           (with_definition i (reading_from sections (state_after i (state_at h past u))
           (tables_after_definition sections tables i) list end))
-          ∙ ap (λ (r : Reading). reading_at h.parameters tables past i (with_definition i r)) rest
-          ∙ ap
-          (λ (there : Result TablesAndTexts ConvertError). reading_with there (λ l.
-          reading_at h.parameters l past i
-          (with_definition i (reading_after sections h.parameters first (i ∷ past) list end))))
-          (sym is)
+          ∙ ap (λ (r : Reading). reading_at h.parameters tables past i (with_definition i r)) rest ∙ ap
+          (λ (there : Result TablesAndTexts ConvertError). reading_with there (λ l. reading_at h.parameters l past i
+          (with_definition i (reading_after sections h.parameters first (i ∷ past) list end)))) (sym is)
 
 -- what is left at the start of a program is what is read of it
 pub start_reads : (layout : OrderAndLimit) (sections : Sections) (h : Header) (first : TablesAndTexts) (bytes : List ℕ)

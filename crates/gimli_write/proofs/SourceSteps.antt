@@ -1,17 +1,15 @@
 -- What one instruction of a source does to what is still to be read.
-use Rattle.std.specs.Prelude.{◌≡◌, ◌≢◌, ◌<◌, ◌≤◌, ◌-◌, ◌&&◌, ◌||◌, if◌then◌else◌, ◌∷◌, ◌++◌}
+use Rattle.std.specs.Prelude.{◌≡◌, ◌≢◌, ◌<◌, ◌≤◌, ◌-◌, ◌&&◌, if◌then◌else◌, ◌∷◌, ◌++◌}
 use Rattle.gimli_write.proofs.Common
-use Common.{ℕ, Bool, true, false, not, List, [], length}
-use Common.{refl, sym, ap, ◌∙◌, subst, append_assoc, arith, Option, Some, None, unwrap_or, Result, Ok, Err, OnOk, OnErr}
-use Common.{IfOk, IfErr, length-append, append-nil, false≢true, OrderAndLimit, Error, AddressOverflow, OutOfMemory}
-use Common.{Header}
-use Common.{File, Parameters, Special, Copy, EndSequence, DefineFile, SetAddress, Ins, ins_seen, is_end, makes_row}
-use Common.{defines_file, files_after, SpellsInstruction, instruction_production, decoded_at, step_of, reset_row}
-use Common.{is_refused, next_registers, Unread, is_decoded, one_decoding, instructions_bounded, Sections, ConvertError}
-use Common.{Read, SourceRow, SourceStep, More, Made, TablesAndTexts, file_added, Reading, defines, with_definition}
-use Common.{ends, stops, address_operand, source_row_offered, tables_after_definition, SourceRun, row_made, base_after}
-use Common.{pending_after, state_after, instruction_reading, reading_from, reading_upon, reading_left, step_reading}
-use Common.{step_made, Shortens}
+use Common.{ℕ, Bool, true, false, not, List, [], length, refl, sym, ap, ◌∙◌, append_assoc, arith, Option, Some, None}
+use Common.{Result, Ok, Err, OnOk, OnErr, IfOk, IfErr, length-append, append-nil, OrderAndLimit, Error, AddressOverflow}
+use Common.{OutOfMemory, Header, File, Parameters, Special, Copy, EndSequence, DefineFile, SetAddress, Ins, ins_seen}
+use Common.{is_end, makes_row, defines_file, files_after, SpellsInstruction, instruction_production, decoded_at}
+use Common.{step_of, reset_row, is_refused, next_registers, Unread, is_decoded, one_decoding, instructions_bounded}
+use Common.{Sections, ConvertError, Read, SourceRow, SourceStep, More, Made, TablesAndTexts, file_added, Reading}
+use Common.{defines, with_definition, ends, stops, address_operand, source_row_offered, tables_after_definition}
+use Common.{SourceRun, row_made, state_after, instruction_reading, reading_from, reading_upon, reading_left}
+use Common.{step_reading, step_made, Shortens}
 use Rattle.gimli_line.specs.declared.run.row.LineRow.{LineRow}
 use Rattle.gimli_line.specs.declared.run.instruction.LineInstruction.{LineInstruction}
 use Rattle.gimli_line.specs.declared.header.file_entry.FileEntry.{FileEntry}
@@ -46,8 +44,7 @@ module _ (layout : OrderAndLimit) (h : Header) (bytes : List ℕ) where
       → length rest < length bytes
   is_shorter i front rest parts s =
       let some : length (i ∷ []) ≤ length front =
-      instructions_bounded layout h front (i ∷ []) None
-      (record {
+      instructions_bounded layout h front (i ∷ []) None (record {
         front = front;
         rest = [];
         parts = sym (append-nil front);
@@ -58,20 +55,20 @@ module _ (layout : OrderAndLimit) (h : Header) (bytes : List ℕ) where
 
 -- ---- readings
 
-if_true : {A : Type 0} (b : Bool) (x y : A) → b ≡ true → (if b then x else y) ≡ x
-if_true b x y e = grind arith
+if_true : {A : Type 0} {b : Bool} {x : A} (y : A) → b ≡ true → (if b then x else y) ≡ x
+if_true y e = grind arith
 
-if_false : {A : Type 0} (b : Bool) (x y : A) → b ≡ false → (if b then x else y) ≡ y
-if_false b x y e = grind arith
+if_false : {A : Type 0} {b : Bool} (x : A) {y : A} → b ≡ false → (if b then x else y) ≡ y
+if_false x e = grind arith
 
-pub no_file : (sections : Sections) (tables : TablesAndTexts) (i : Ins) → defines_file i ≡ false
+pub no_file : (sections : Sections) {tables : TablesAndTexts} (i : Ins) → defines_file i ≡ false
     → tables_after_definition sections tables i ≡ Ok tables
-no_file sections tables (DefineFile f) e = absurd cc
-no_file sections tables i e = refl
+no_file sections (DefineFile f) e = absurd cc
+no_file sections i e = refl
 
-no_definition : (i : Ins) (rest : Reading) → defines_file i ≡ false → with_definition i rest ≡ rest
-no_definition (DefineFile f) rest e = absurd cc
-no_definition i rest e = refl
+no_definition : (i : Ins) {rest : Reading} → defines_file i ≡ false → with_definition i rest ≡ rest
+no_definition (DefineFile f) e = absurd cc
+no_definition i e = refl
 
 -- bytes that are unread count by their instructions alone
 same_reading : (sections : Sections) (u v : Unread) (s : SourceRun) (there : Result TablesAndTexts ConvertError)
@@ -86,8 +83,7 @@ same_reading sections u v s (Ok tables) (i ∷ list) end =
 
 module _ (sections : Sections) (tables : TablesAndTexts) (s : SourceRun) where
   pub none_left : s.unread.bytes ≡ [] → reading_left sections s tables ≡ ends tables
-  none_left e =
-      grind (arith, decoded_none)
+  none_left e = grind (arith, decoded_none)
 
   pub at_fault : (e : Error) → s.unread.bytes ≢ []
       → (instruction_production s.unread.layout s.header).Fault s.unread.bytes e
@@ -100,8 +96,7 @@ module _ (sections : Sections) (tables : TablesAndTexts) (s : SourceRun) where
       (parts : s.unread.bytes ≡ front ++ u.bytes)
       (spelled : SpellsInstruction s.unread.layout s.header front i) where
     -- an instruction stands first
-    pub first_is : reading_left sections s tables
-        ≡ instruction_reading s tables i
+    pub first_is : reading_left sections s tables ≡ instruction_reading s tables i
         (with_definition i (reading_upon sections (record (state_after i s) { unread = u })
         (tables_after_definition sections tables i)))
     first_is =
@@ -109,11 +104,9 @@ module _ (sections : Sections) (tables : TablesAndTexts) (s : SourceRun) where
         let c = decoded_at s.unread.layout s.header u.bytes in
         let rest : reading_from sections (state_after i s) there c.0 c.1
         ≡ reading_upon sections (record (state_after i s) { unread = u }) there =
-        same_reading sections s.unread u (state_after i s) there c.0 c.1
-        ∙ ap
+        same_reading sections s.unread u (state_after i s) there c.0 c.1 ∙ ap
         (λ n. reading_from sections (record (state_after i s) { unread = u }) there (decoded_at n s.header u.bytes).0
-        (decoded_at n s.header u.bytes).1)
-        (sym layout) in
+        (decoded_at n s.header u.bytes).1) (sym layout) in
         ap (λ d. reading_from sections s (Ok tables) d.0 d.1)
         (decoded_some s.unread.layout s.header s.unread.bytes i _ _ parts spelled)
         ∙ ap (λ r. instruction_reading s tables i (with_definition i r)) rest
@@ -131,35 +124,29 @@ module _ (sections : Sections) (tables : TablesAndTexts) (s : SourceRun) where
 
     pub after_refusal : is_refused s.header.parameters i s.row ≡ true
         → reading_left sections s tables ≡ stops (Read AddressOverflow)
-    after_refusal large = first_is ∙ if_true _ _ _ large
+    after_refusal large = first_is ∙ if_true _ large
 
     module _ (fits : is_refused s.header.parameters i s.row ≡ false) (file : defines_file i ≡ false) where
       done : reading_left sections s tables ≡ quiet_or_row
-      done = first_is ∙ if_false _ _ _ fits
+      done = first_is ∙ if_false _ fits
 
       later : rest ≡ reading_left sections next tables
-      later =
-          no_definition i _ file
-          ∙ ap (reading_upon sections next) (no_file _ _ i file)
+      later = no_definition i file ∙ ap (reading_upon sections next) (no_file _ i file)
 
       pub after_quiet : (makes_row i && not s.row.tombstone) ≡ false
           → reading_left sections s tables ≡ reading_left sections next tables
-      after_quiet quiet =
-          done ∙ if_false _ _ _ quiet
-          ∙ later
+      after_quiet quiet = done ∙ if_false _ quiet ∙ later
 
-      pub after_row : (makes_row i && not s.row.tombstone) ≡ true
-          → reading_left sections s tables
+      pub after_row : (makes_row i && not s.row.tombstone) ≡ true → reading_left sections s tables
           ≡ source_row_offered s.header.parameters.encoding.version tables (row_made s i)
           (reading_left sections next tables)
       after_row loud =
-          done ∙ if_true _ _ _ loud
+          done ∙ if_true _ loud
           ∙ ap (source_row_offered s.header.parameters.encoding.version tables (row_made s i)) later
 
   -- a file is defined
   pub after_file : (u : Unread) → u.layout ≡ s.unread.layout → (f : File) (front : List ℕ)
-      → s.unread.bytes ≡ front ++ u.bytes
-      → SpellsInstruction s.unread.layout s.header front (DefineFile f)
+      → s.unread.bytes ≡ front ++ u.bytes → SpellsInstruction s.unread.layout s.header front (DefineFile f)
       → reading_left sections s tables
       ≡ defines (reading_upon sections (record s { unread = u }) (file_added sections tables f))
   after_file u layout f front parts spelled = first_is u layout (DefineFile f) front parts spelled
@@ -169,10 +156,9 @@ module _ (sections : Sections) (tables : TablesAndTexts) (s : SourceRun) where
 abbrev pub state : Header → LineRow → ℕ → Option ℕ → Unread → SourceRun
 state h r b p u = record { header = h; row = r; base = b; pending = p; unread = u }
 
-pub state_same : (h k : Header) (r s : LineRow) (b c : ℕ) (p q : Option ℕ) (u : Unread) → h ≡ k → r ≡ s → b ≡ c → p ≡ q
+pub state_same : (h k : Header) (r s : LineRow) {b c : ℕ} {p q : Option ℕ} (u : Unread) → h ≡ k → r ≡ s → b ≡ c → p ≡ q
     → state h r b p u ≡ state k s c q u
-state_same h k r s b c p q u header row base pending =
-    grind arith
+state_same h k r s u header row base pending = grind arith
 
 -- what an instruction does to registers that a run relies on
 ends_row : (p : Parameters) (i : Ins) (r : LineRow) → r.end_sequence ≡ false → makes_row i ≡ true
@@ -205,9 +191,10 @@ files_same : (i : Ins) (files : List File) → defines_file i ≡ false → file
 files_same (DefineFile f) files e = absurd cc
 files_same i files e = refl
 
-header_same : (i : Ins) (h h2 : Header) → defines_file i ≡ false → h2 ≡ record h { files = files_after true i h.files }
+header_same : (i : Ins) (h : Header) {h2 : Header} → defines_file i ≡ false
+    → h2 ≡ record h { files = files_after true i h.files }
     → h2 ≡ h
-header_same i h h2 file is = grind (arith, files_same)
+header_same i h file is = grind (arith, files_same)
 
 -- a refusal of an instruction that defines no file
 pub is_overflow : (i : Ins) (e : Error) → (e ≢ AddressOverflow → defines_file i ≡ true) → defines_file i ≡ false
@@ -223,8 +210,7 @@ module _ (i : Ins) (old new : LineRow) (ready : IsReady old) where
   pub ready_at_refusal : (p : Parameters) (e : Error) → defines_file i ≡ false
       → (e ≢ AddressOverflow → defines_file i ≡ true)
       → (e ≡ AddressOverflow → (is_refused p i old ≡ true) × (new ≡ step_of p i old)) → IsReady new
-  ready_at_refusal p e file memory over =
-      grind (arith, is_overflow, refusal_keeps_end)
+  ready_at_refusal p e file memory over = grind (arith, is_overflow, refusal_keeps_end)
 
   pub ready_when_quiet : (p : Parameters) → makes_row i ≡ false → new ≡ step_of p i old → IsReady new
   ready_when_quiet p quiet step = grind (arith, keeps_end)
@@ -232,56 +218,46 @@ module _ (i : Ins) (old new : LineRow) (ready : IsReady old) where
 -- ---- what is done of an instruction that sets no address and defines no file
 
 module _ {R Endian Offset : Type 0} where
-  shown : (tombstone : Bool) (d : SourceRow)
-      → ◌≡◌ {A = SourceStep R Endian Offset} (if tombstone then More else Made d)
+  shown : (tombstone : Bool) (d : SourceRow) → ◌≡◌ {A = SourceStep R Endian Offset} (if tombstone then More else Made d)
       (if not tombstone then Made d else More)
   shown true d = refl
   shown false d = refl
 
-  same_or_other : (made tombstone other : Bool) (r d : SourceRow) → made ≡ true → tombstone ≡ other → r ≡ d
+  same_or_other : {made tombstone other : Bool} {r d : SourceRow} → made ≡ true → tombstone ≡ other → r ≡ d
       → ◌≡◌ {A = SourceStep R Endian Offset} (if tombstone then More else Made r)
       (if made && not other then Made d else More)
-  same_or_other made tombstone other r d loud same row_is = grind (arith, shown)
+  same_or_other loud same row_is = grind (arith, shown)
 
 module _ (i : Ins) (h h2 : Header) (r r2 : LineRow) (b : ℕ) (p : Option ℕ) (u : Unread)
     (address : address_operand i ≡ None) (file : defines_file i ≡ false)
     (fits : is_refused h.parameters i r ≡ false) (files : h2 ≡ record h { files = files_after true i h.files })
     (step : r2 ≡ step_of h.parameters i r) where
   pub header_kept : h2 ≡ h
-  header_kept = header_same i h _ file files
+  header_kept = header_same i h file files
 
-  next_is : (made : Bool) → makes_row i ≡ made
-      → next_registers h.parameters i r
+  next_is : {made : Bool} → makes_row i ≡ made → next_registers h.parameters i r
       ≡ (if made then reset_row h.parameters (step_of h.parameters i r) else step_of h.parameters i r)
-  next_is made is =
-      grind arith
+  next_is is = grind arith
 
   -- where it makes no row
   pub quiet_state : makes_row i ≡ false → state h2 r2 b p u ≡ state_after i (state h r b p u)
-  quiet_state quiet =
-      grind (arith, next_is, no_end, state_same, header_kept)
+  quiet_state quiet = grind (arith, next_is, no_end, state_same, header_kept)
 
   -- where it makes one
-  pub row_state : makes_row i ≡ true → r.end_sequence ≡ false → (k : Header) → k ≡ h2 → (r3 : LineRow)
-      → r3 ≡ reset_row k.parameters r2
-      → (last : Bool) → last ≡ r2.end_sequence → (n : ℕ) → n ≡ (if last then 0 else b)
+  pub row_state : makes_row i ≡ true → r.end_sequence ≡ false → {k : Header} → k ≡ h2 → {r3 : LineRow}
+      → r3 ≡ reset_row k.parameters r2 → {last : Bool} → last ≡ r2.end_sequence → {n : ℕ} → n ≡ (if last then 0 else b)
       → state h2 r3 n None u ≡ state_after i (state h r b p u)
-  row_state loud ready k lent r3 reset last ended n counts =
-      grind (arith, header_kept, next_is, ends_row, state_same)
+  row_state loud ready lent reset ended counts = grind (arith, header_kept, next_is, ends_row, state_same)
 
-  pub made_is : {R Endian Offset : Type 0} (given : SourceStep R Endian Offset) (offset : ℕ)
+  pub made_is : {R Endian Offset : Type 0} {given : SourceStep R Endian Offset} {offset : ℕ}
       → given ≡ (if r2.tombstone then More else Made (record { set_address = p; address_offset = offset; row = r2 }))
-      → makes_row i ≡ true
-      → offset ≡ r2.address - b
-      → given ≡ step_made (state h r b p u) i
-  made_is given offset is loud counts =
-      grind (arith, keeps_tombstone, same_or_other)
+      → makes_row i ≡ true → offset ≡ r2.address - b → given ≡ step_made (state h r b p u) i
+  made_is is loud counts = grind (arith, keeps_tombstone, same_or_other)
 
 -- ---- what is done of a set address
 
 module _ (p : Parameters) (a : ℕ) (old new : LineRow) where
-  pub address_done : (r : Result Bool Error) → OnOk r (new ≡ step_of p (SetAddress a) old)
-      → IfErr r (λ e.
+  pub address_done : (r : Result Bool Error) → OnOk r (new ≡ step_of p (SetAddress a) old) → IfErr r (λ e.
       e ≡ AddressOverflow → (is_refused p (SetAddress a) old ≡ true) × (new ≡ step_of p (SetAddress a) old))
       → IfErr r (λ e.
       e ≢ AddressOverflow → (e ≡ OutOfMemory) × (true ≡ true) × (defines_file (SetAddress a) ≡ true) × (new ≡ old))
@@ -298,11 +274,10 @@ pub address_header : (a : ℕ) (h h2 : Header) (r : Result Bool Error)
 address_header a h h2 (Ok m) files kept = files
 address_header a h h2 (Err e) files kept = kept
 
-pub address_state : (a : ℕ) (h h2 : Header) (r r2 : LineRow) (b : ℕ) (p : Option ℕ) (u : Unread) → h2 ≡ h
+pub address_state : (a : ℕ) (h h2 : Header) (r : LineRow) {r2 : LineRow} (b : ℕ) (p : Option ℕ) (u : Unread) → h2 ≡ h
     → r2 ≡ step_of h.parameters (SetAddress a) r
     → state h2 r2 a (Some a) u ≡ state_after (SetAddress a) (state h r b p u)
-address_state a h h2 r r2 b p u header step =
-    grind (arith, state_same)
+address_state a h h2 r b p u header step = grind (arith, state_same)
 
 -- ---- what is read from a step on
 
@@ -310,11 +285,9 @@ abbrev pub with_unread : SourceRun → Unread → SourceRun
 with_unread s u = record s { unread = u }
 
 -- a spelling by the header that was lent
-pub spelled_as : (layout : OrderAndLimit) (h k : Header) (front : List ℕ) (i j : Ins) → k ≡ h → i ≡ j
-    → SpellsInstruction layout k front i
-    → SpellsInstruction layout h front j
-spelled_as layout h k front i j same is s =
-    grind arith
+pub spelled_as : (layout : OrderAndLimit) {h k : Header} (front : List ℕ) {i j : Ins} → k ≡ h → i ≡ j
+    → SpellsInstruction layout k front i → SpellsInstruction layout h front j
+spelled_as layout front same is s = grind arith
 
 module _ (R Endian Offset : Type 0) (s old new : SourceRun) (i : Ins) where
   shortens : length new.unread.bytes < length old.unread.bytes → (b : Bool)
@@ -333,36 +306,27 @@ module _ {R Offset : Type 0} (Endian : Type 0) (bytes : R → List ℕ) (number 
     (i : Ins) (front : List ℕ) (parts : s.unread.bytes ≡ front ++ u.bytes)
     (spelled : SpellsInstruction s.unread.layout s.header front i) where
   made_reading : is_refused s.header.parameters i s.row ≡ false → defines_file i ≡ false
-      → (sections : Sections) (tables : TablesAndTexts)
-      → reading_left sections s tables
+      → (sections : Sections) (tables : TablesAndTexts) → reading_left sections s tables
       ≡ step_reading {Endian = Endian} bytes number sections tables (step_made (with_unread s u) i)
       (state_after i (with_unread s u))
   made_reading fits file sections tables = by _ refl
     where
-      by : (b : Bool) → (makes_row i && not s.row.tombstone) ≡ b
-          → reading_left sections s tables
+      by : (b : Bool) → (makes_row i && not s.row.tombstone) ≡ b → reading_left sections s tables
           ≡ step_reading {Endian = Endian} bytes number sections tables (step_made (with_unread s u) i)
           (state_after i (with_unread s u))
       by true e =
-          after_row sections tables s u layout i front parts spelled fits file e
-          ∙ ap
+          after_row sections tables s u layout i front parts spelled fits file e ∙ ap
           (λ c. step_reading {Endian = Endian} bytes number sections tables
-          (if c then Made (row_made (with_unread s u) i) else More)
-          (state_after i (with_unread s u)))
-          (sym e)
+          (if c then Made (row_made (with_unread s u) i) else More) (state_after i (with_unread s u))) (sym e)
       by false e =
-          after_quiet sections tables s u layout i front parts spelled fits file e
-          ∙ ap
+          after_quiet sections tables s u layout i front parts spelled fits file e ∙ ap
           (λ c. step_reading {Endian = Endian} bytes number sections tables
-          (if c then Made (row_made (with_unread s u) i) else More)
-          (state_after i (with_unread s u)))
-          (sym e)
+          (if c then Made (row_made (with_unread s u) i) else More) (state_after i (with_unread s u))) (sym e)
 
   pub executed_reading : (t : SourceRun) (r : Result (SourceStep R Endian Offset) ConvertError) → defines_file i ≡ false
       → OnOk r (is_refused s.header.parameters i s.row ≡ false)
       → OnOk r (t ≡ state_after i (with_unread s u)) → IfOk r (λ step. step ≡ step_made (with_unread s u) i)
-      → IfOk r (λ step.
-      (sections : Sections) (tables : TablesAndTexts)
+      → IfOk r (λ step. (sections : Sections) (tables : TablesAndTexts)
       → reading_left sections s tables ≡ step_reading bytes number sections tables step t)
   executed_reading t (Ok step) file fits next made = grind (arith, made_reading)
   executed_reading t (Err e) file fits next made = tt

@@ -110,8 +110,7 @@ ends_under_tombstone : items_of itself 1 (SetAddress 16 ∷ Copy ∷ SetAddress 
 ends_under_tombstone = refl
 
 unseen_end_under_tombstone : NoneEndsUnderTombstone (source 1) []
-    (SetAddress 16 ∷ Copy ∷ SetAddress 4294967295 ∷ EndSequence ∷ [])
-    → ⊥
+    (SetAddress 16 ∷ Copy ∷ SetAddress 4294967295 ∷ EndSequence ∷ []) → ⊥
 unseen_end_under_tombstone seen = let open_sequence = seen.1.1.1.0 refl refl in absurd cc
 
 -- ---- refusals

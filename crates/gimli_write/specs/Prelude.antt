@@ -1,10 +1,41 @@
 -- What these definitions name of other crates, and the types of this one.
 pub use Rattle.std.specs.Option.{option_map_or}
-pub use Rattle.std.specs.Prelude.{All, Bool, Err, IfErr, IfOk, IfSome, List, MatchResult, None, Ok}
-pub use Rattle.std.specs.Prelude.{OnErr, OnOk, Option, Result, Some, [], false}
-pub use Rattle.std.specs.Prelude.{int_le, int_lt, is_err, is_some, length, map, nat_eq, nat_le}
-pub use Rattle.std.specs.Prelude.{nat_lt, not, ok_or, option_map, pos, slice_get, true, unwrap_or}
-pub use Rattle.std.specs.Prelude.{ℕ}
+pub use Rattle.std.specs.Prelude.{
+  All,
+  Bool,
+  Err,
+  IfErr,
+  IfOk,
+  IfSome,
+  List,
+  MatchResult,
+  None,
+  Ok,
+  OnErr,
+  OnOk,
+  Option,
+  Result,
+  Some,
+  [],
+  false,
+  int_le,
+  int_lt,
+  is_err,
+  is_some,
+  length,
+  map,
+  nat_eq,
+  nat_le,
+  nat_lt,
+  not,
+  ok_or,
+  option_map,
+  pos,
+  slice_get,
+  true,
+  unwrap_or,
+  ℕ,
+}
 pub use Rattle.std.specs.declared.alloc.Global.{Global}
 pub use Rattle.std.specs.declared.vec.Vec.{Vec}
 pub use Rattle.gimli_core.specs.Layout.{OrderAndLimit}
@@ -16,8 +47,15 @@ pub use Rattle.gimli_bytes.specs.Texts.{KeepsTexts, StringTables, table_bytes, t
 pub use Rattle.gimli_bytes.specs.declared.address.Address.{Address}
 pub use Rattle.gimli_line.specs.declared.run.row.LineRow.{LineRow as ReadRow}
 pub use Rattle.gimli_line.specs.header.File.{File, File as ReadFile, file_seen}
-pub use Rattle.gimli_line.specs.header.Header.{Header, SeenHeader, UnitEntry, directory_of}
-pub use Rattle.gimli_line.specs.header.Header.{entry_of, file_of, has_content}
+pub use Rattle.gimli_line.specs.header.Header.{
+  Header,
+  SeenHeader,
+  UnitEntry,
+  directory_of,
+  entry_of,
+  file_of,
+  has_content,
+}
 pub use Rattle.gimli_line.specs.header.Parameters.{Parameters}
 pub use Rattle.gimli_line.specs.run.Events.{Events, row, row_at}
 pub use Rattle.gimli_line.specs.run.EventsWithFiles.{FilesAtEnd}
@@ -36,37 +74,33 @@ pub use Rattle.gimli_build.specs.Version5Tables.{texts_after}
 pub use Rattle.gimli_build.specs.declared.built.items.BuiltItem.{BuiltItem}
 pub use Rattle.gimli_build.specs.declared.built.items.BuiltItem.TheVariants.{End, Row}
 pub use Rattle.gimli_build.specs.declared.built.row.LineRow.{LineRow}
-pub use Rattle.gimli_write.specs.declared.convert.rows.ConvertLineRow.{ConvertLineRow}
-pub use Rattle.gimli_write.specs.declared.convert.rows.ConvertLineRow.TheVariants.{EndSequence}
-pub use Rattle.gimli_write.specs.declared.convert.rows.ConvertLineRow.TheVariants.{SetAddress}
-pub use Rattle.gimli_write.specs.declared.convert.run.SourceRow.{SourceRow}
-pub use Rattle.gimli_write.specs.declared.convert.run.SourceStep.{SourceStep}
-pub use Rattle.gimli_write.specs.declared.convert.run.SourceStep.TheVariants.{Defines, Done, Made}
-pub use Rattle.gimli_write.specs.declared.convert.run.SourceStep.TheVariants.{More}
-pub use Rattle.gimli_write.specs.declared.convert_error.ConvertError.{ConvertError}
-pub use Rattle.gimli_write.specs.declared.convert_error.ConvertError.TheVariants.{InvalidAddress}
-pub use Rattle.gimli_write.specs.declared.convert_error.ConvertError.TheVariants.{
+use Rattle.gimli_write.specs
+pub use specs.declared.convert.rows.ConvertLineRow.{ConvertLineRow}
+pub use specs.declared.convert.rows.ConvertLineRow.TheVariants.{
+  EndSequence,
+  SetAddress,
+}
+pub use specs.declared.convert.run.SourceRow.{SourceRow}
+pub use specs.declared.convert.run.SourceStep.{SourceStep}
+pub use specs.declared.convert.run.SourceStep.TheVariants.{
+  Defines,
+  Done,
+  Made,
+  More,
+}
+pub use specs.declared.convert_error.ConvertError.{ConvertError}
+pub use specs.declared.convert_error.ConvertError.TheVariants.{
+  InvalidAddress,
   InvalidAttributeValue,
-}
-pub use Rattle.gimli_write.specs.declared.convert_error.ConvertError.TheVariants.{
   InvalidDirectoryIndex,
-}
-pub use Rattle.gimli_write.specs.declared.convert_error.ConvertError.TheVariants.{InvalidFileIndex}
-pub use Rattle.gimli_write.specs.declared.convert_error.ConvertError.TheVariants.{InvalidLineBase}
-pub use Rattle.gimli_write.specs.declared.convert_error.ConvertError.TheVariants.{
+  InvalidFileIndex,
+  InvalidLineBase,
   MissingCompilationDirectory,
-}
-pub use Rattle.gimli_write.specs.declared.convert_error.ConvertError.TheVariants.{
   MissingCompilationName,
-}
-pub use Rattle.gimli_write.specs.declared.convert_error.ConvertError.TheVariants.{
   MissingLineEndSequence,
-}
-pub use Rattle.gimli_write.specs.declared.convert_error.ConvertError.TheVariants.{OutOfMemory, Read}
-pub use Rattle.gimli_write.specs.declared.convert_error.ConvertError.TheVariants.{
+  OutOfMemory,
+  Read,
   UnsupportedLineInstruction,
-}
-pub use Rattle.gimli_write.specs.declared.convert_error.ConvertError.TheVariants.{
   UnsupportedLineStringForm,
+  Write,
 }
-pub use Rattle.gimli_write.specs.declared.convert_error.ConvertError.TheVariants.{Write}

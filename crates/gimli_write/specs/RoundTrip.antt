@@ -14,8 +14,9 @@ use Rattle.gimli_build.specs.Stored.{stored_details}
 use Rattle.gimli_build.specs.Unit.{unit_bytes}
 use Rattle.gimli_build.specs.Cause.{first_cause}
 use Rattle.gimli_build.specs.Items.{AddressesFit}
-use Rattle.gimli_write.specs.declared.read_back.RoundTrip.{RoundTrip}
-use Rattle.gimli_write.specs.declared.read_back.RoundTripFile.{RoundTripFile}
+use Rattle.gimli_write.specs
+use specs.declared.read_back.RoundTrip.{RoundTrip}
+use specs.declared.read_back.RoundTripFile.{RoundTripFile}
 
 -- ---- answers, as lists
 

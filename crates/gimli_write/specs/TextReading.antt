@@ -21,5 +21,3 @@ text_of sections (String bytes) = Ok bytes
 text_of sections (DebugStrRef offset) = text_from sections.strings offset.0
 text_of sections (DebugLineStrRef offset) = text_from sections.line_strings offset.0
 text_of sections v = Err ExpectedStringAttributeValue
-
--- ---- values that have a text

@@ -1,19 +1,27 @@
 -- A conversion, as far as it got, and what it has still to read.
 use Rattle.std.specs.Prelude.{◌≡◌, ◌⊎◌}
 use Rattle.gimli_write.specs.Prelude
-use Prelude.{ℕ, true, List, Option, Some, None, Result, Ok, Err, IfErr, OnOk}
-use Prelude.{MatchResult, Vec, Global, Address, Built, previous_position, CanBuild, LineRow, Row}
-use Prelude.{Sections, ConvertError, OutOfMemory, UnsupportedLineInstruction, SourceRow}
-use Prelude.{ConvertLineRow}
-use Rattle.gimli_write.specs.convert.SourceTables.{SourceTables, TablesAndTexts, tables_with}
-use Rattle.gimli_write.specs.convert.Items.{Reading, ends, stops, offers, address_offered}
-use Rattle.gimli_write.specs.convert.Items.{row_or_end_offered, defines_first, after_definitions}
-use Rattle.gimli_write.specs.convert.Items.{ReadsItems}
-use Rattle.gimli_write.specs.convert.SourceRun.{SourceRun, start_of_source, reading_left}
-use Rattle.gimli_write.specs.convert.Outcome.{Outcome, outcome_of, ComesTo, without_items}
-use Rattle.gimli_write.specs.convert.Preparation.{tables_of_header}
-use Rattle.gimli_write.specs.convert.Sources.{ToConvert}
-use Rattle.gimli_write.specs.convert.Texts.{IsRefusedBy}
+use Prelude.{ℕ, true, List, Option, Some, None, Result, Ok, Err, IfErr, OnOk, MatchResult, Vec}
+use Prelude.{Global, Address, Built, previous_position, CanBuild, LineRow, Row, Sections}
+use Prelude.{ConvertError, OutOfMemory, UnsupportedLineInstruction, SourceRow, ConvertLineRow}
+use Rattle.gimli_write.specs
+use specs.convert.SourceTables.{SourceTables, TablesAndTexts, tables_with}
+use specs.convert.Items.{
+  Reading,
+  ends,
+  stops,
+  offers,
+  address_offered,
+  row_or_end_offered,
+  defines_first,
+  after_definitions,
+  ReadsItems,
+}
+use specs.convert.SourceRun.{SourceRun, start_of_source, reading_left}
+use specs.convert.Outcome.{Outcome, outcome_of, ComesTo, without_items}
+use specs.convert.Preparation.{tables_of_header}
+use specs.convert.Sources.{ToConvert}
+use specs.convert.Texts.{IsRefusedBy}
 
 pub record Conversion : Type 0 where
   pub sections : Sections
@@ -139,14 +147,12 @@ IsHeaderRefusal s line_strings =
 abbrev pub ReadsWhole : ToConvert → Progress → Type 0
 ReadsWhole s p =
     ReadsItems s.layout s.sections s.header (tables_with p.line_strings p.conversion.tables)
-    s.header.program
-    (reading_of p)
+    s.header.program (reading_of p)
 
 -- nothing of the program of a source is read yet
 abbrev pub IsUnread : ToConvert → Conversion → Type 0
 IsUnread s c =
-    c
-    ≡ start_of_conversion s.sections
+    c ≡ start_of_conversion s.sections
     (start_of_source s.header (record { bytes = s.header.program; layout = s.layout })) c.tables
 
 -- a conversion of a source is begun, which had these line strings
@@ -161,13 +167,11 @@ pub record IsBegun (s : ToConvert) (old : List (List ℕ)) (new : Progress) : Ty
 -- what comes of a source, where nothing is built before: the refusal of a step of its header, else
 -- what comes of reading its program
 abbrev pub IsConverted : (ℕ → Option Address) → ToConvert → List (List ℕ)
-    → Result Outcome ConvertError
-    → Type 0
+    → Result Outcome ConvertError → Type 0
 IsConverted convert_address s line_strings outcome =
     (reading : Reading) × MatchResult (tables_of_header s.sections s.header s.given line_strings)
     (λ first. ReadsItems s.layout s.sections s.header first s.header.program reading
-    × (outcome_of convert_address reading first.program ≡ outcome))
-    (λ e. outcome ≡ Err e)
+    × (outcome_of convert_address reading first.program ≡ outcome)) (λ e. outcome ≡ Err e)
 
 -- ---- reads, from one state to the next
 
@@ -206,8 +210,7 @@ abbrev pub SourceComesTo : (ℕ → Option Address → Type 0) → ToConvert →
 SourceComesTo map s line_strings outcome =
     (reading : Reading) × MatchResult (tables_of_header s.sections s.header s.given line_strings)
     (λ first. ReadsItems s.layout s.sections s.header first s.header.program reading
-    × ComesTo map reading first.program outcome)
-    (λ e. outcome ≡ Err e)
+    × ComesTo map reading first.program outcome) (λ e. outcome ≡ Err e)
 
 -- by a map that answers as a function a source is converted to this answer; the old line strings
 -- are those before it, the new ones those after it

@@ -1,12 +1,12 @@
 -- What a caller sees of a `ConvertLineProgram`: how far it got, and the tables that it is lent. And
 -- what a call of the builder does to it.
 use Rattle.std.specs.Prelude.{◌≡◌}
-use Rattle.gimli_write.specs.Prelude
-use Prelude.{Result, OnErr, OnOk, Built, ConvertError}
-use Rattle.gimli_write.specs.declared.convert.program.ConvertLineProgram.{ConvertLineProgram}
-use Rattle.gimli_write.specs.convert.Conversion.{Conversion, Progress, built_so_far, with_program}
-use Rattle.gimli_write.specs.convert.KeptTables.{StaysWritable}
-use Rattle.gimli_write.specs.convert.LentTables.{LentTables, SameStringTables}
+use Rattle.gimli_write.specs
+use specs.Prelude.{Result, OnErr, OnOk, Built, ConvertError}
+use specs.declared.convert.program.ConvertLineProgram.{ConvertLineProgram}
+use specs.convert.Conversion.{Conversion, Progress, built_so_far, with_program}
+use specs.convert.KeptTables.{StaysWritable}
+use specs.convert.LentTables.{LentTables, SameStringTables}
 
 -- how far it got, with the texts of the line strings that it is lent
 abbrev pub progress : {R Endian Offset : Type 0} → ConvertLineProgram R Conversion Endian Offset

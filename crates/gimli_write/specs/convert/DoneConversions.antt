@@ -1,14 +1,14 @@
 -- A conversion that was done, and what is read back of it.
 use Rattle.gimli_write.specs.Prelude
 use Prelude.{ℕ, true, List, map, Option, Ok, OrderAndLimit, Address, StringTables, texts_in}
-use Prelude.{ReadRow}
-use Prelude.{UnitEntry, File, Events, row, FilesAtEnd, Built, bytes_in, ReadsBack, Sections}
-use Prelude.{OneByOne, texts_after}
-use Rattle.gimli_write.specs.RoundTrip.{built_file}
-use Rattle.gimli_write.specs.convert.Conversion.{IsConverted}
-use Rattle.gimli_write.specs.convert.Outcome.{Outcome}
-use Rattle.gimli_write.specs.convert.Mapped.{CanBeFaithful, IsReadAs, AreFilesReadAs}
-use Rattle.gimli_write.specs.convert.Sources.{ToConvert}
+use Prelude.{ReadRow, UnitEntry, File, Events, row, FilesAtEnd, Built, bytes_in, ReadsBack}
+use Prelude.{Sections, OneByOne, texts_after}
+use Rattle.gimli_write.specs
+use specs.RoundTrip.{built_file}
+use specs.convert.Conversion.{IsConverted}
+use specs.convert.Outcome.{Outcome}
+use specs.convert.Mapped.{CanBeFaithful, IsReadAs, AreFilesReadAs}
+use specs.convert.Sources.{ToConvert}
 
 -- a conversion that was done: the map of addresses, the source, the line strings before it, and
 -- what came of it

@@ -1,8 +1,7 @@
 -- The numbers that the files of a source have once it is converted.
 use Rattle.std.specs.Prelude.{◌≡◌, ◌&&◌, if◌then◌else◌}
 use Rattle.gimli_write.specs.Prelude
-use Prelude.{ℕ, nat_eq, nat_le, List, Option, None, option_map}
-use Prelude.{slice_get, IfSome, file_number}
+use Prelude.{ℕ, nat_eq, nat_le, List, Option, None, option_map, slice_get, IfSome, file_number}
 
 -- the number in a program of a version that a file of a source has, by the ids of the source's
 -- files; up to version 4 of the source none has number 0

@@ -3,20 +3,20 @@
 -- before it, the nearest first.
 use Rattle.std.specs.Prelude.{◌≡◌, ◌-◌, ◌&&◌, if◌then◌else◌, ◌∷◌}
 use Rattle.gimli_write.specs.Prelude
-use Prelude.{ℕ, Bool, true, false, not, nat_eq, nat_le, List, []}
-use Prelude.{slice_get, Option, Some, None, ok_or, Result, Ok, Err, OrderAndLimit, Error, Header}
-use Prelude.{Parameters, Ins, makes_row, Decodes, is_under_tombstone, overflows, row_at, Sections}
-use Prelude.{LineRow, ConvertError, Read, InvalidFileIndex, SourceRow, ConvertLineRow, SetAddress}
-use Prelude.{EndSequence}
+use Prelude.{ℕ, Bool, true, false, not, nat_eq, nat_le, List, [], slice_get, Option, Some, None}
+use Prelude.{ok_or, Result, Ok, Err, OrderAndLimit, Error, Header, Parameters, Ins, makes_row}
+use Prelude.{Decodes, is_under_tombstone, overflows, row_at, Sections, LineRow, ConvertError, Read}
+use Prelude.{InvalidFileIndex, SourceRow, ConvertLineRow, SetAddress, EndSequence}
 use Rattle.gimli_core.specs.declared.error.Error.TheVariants.{AddressOverflow}
 use Rattle.gimli_line.specs.run.Registers.{sequence, nearest}
-use Rattle.gimli_line.specs.declared.run.instruction.LineInstruction.TheVariants.{DefineFile}
 use Rattle.gimli_line.specs.declared.run.instruction.LineInstruction.TheVariants.{
+  DefineFile,
   SetAddress as SetAddressIns,
 }
-use Rattle.gimli_write.specs.convert.Texts.{◌>>=◌}
-use Rattle.gimli_write.specs.convert.SourceTables.{TablesAndTexts, file_added}
-use Rattle.gimli_write.specs.declared.convert.rows.ConvertLineRow.TheVariants.{Row}
+use Rattle.gimli_write.specs
+use specs.convert.Texts.{◌>>=◌}
+use specs.convert.SourceTables.{TablesAndTexts, file_added}
+use specs.declared.convert.rows.ConvertLineRow.TheVariants.{Row}
 
 -- ---- set addresses
 
@@ -160,8 +160,7 @@ abbrev pub reading_after : Sections → Parameters → TablesAndTexts → List I
 reading_after sections parameters first past [] end =
     reading_with (tables_at sections first past) (end_reading end)
 reading_after sections parameters first past (i ∷ list) end =
-    reading_with (tables_at sections first past) (λ tables.
-    reading_at parameters tables past i
+    reading_with (tables_at sections first past) (λ tables. reading_at parameters tables past i
     (with_definition i (reading_after sections parameters first (i ∷ past) list end)))
 
 -- what is read of a program's bytes, with these tables at its start

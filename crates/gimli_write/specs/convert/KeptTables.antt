@@ -2,13 +2,17 @@
 -- read is refused for another cause than `OutOfMemory`, all are there that its source defines
 -- before. And the program can be written, whatever was read.
 use Rattle.std.specs.Prelude.{◌≡◌, if◌then◌else◌}
-use Rattle.gimli_write.specs.Prelude
-use Prelude.{ℕ, is_some, List, texts_in, Built, CanWrite}
+use Rattle.gimli_write.specs
+use specs.Prelude.{ℕ, is_some, List, texts_in, Built, CanWrite}
 use Rattle.gimli_build.specs.Tables.{keys_of, Keeps}
-use Rattle.gimli_write.specs.convert.SourceTables.{SourceTables, TablesAndTexts, tables_with}
-use Rattle.gimli_write.specs.convert.TablesAtEnd.{tables_at_end, tables_after_row}
-use Rattle.gimli_write.specs.convert.Conversion.{Conversion, Progress, built_so_far}
-use Rattle.gimli_write.specs.convert.Conversion.{version_of_source}
+use specs.convert.SourceTables.{SourceTables, TablesAndTexts, tables_with}
+use specs.convert.TablesAtEnd.{tables_at_end, tables_after_row}
+use specs.convert.Conversion.{
+  Conversion,
+  Progress,
+  built_so_far,
+  version_of_source,
+}
 
 -- a file that was there keeps its id, and its number in the source; the ids of directories stay
 pub record KeepsFiles (old new : SourceTables) : Type 0 where

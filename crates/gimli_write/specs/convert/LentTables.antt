@@ -1,7 +1,6 @@
 -- The two tables of strings that a conversion is lent.
 use Rattle.std.specs.Prelude.{◌≡◌}
-use Rattle.gimli_write.specs.Prelude
-use Prelude.{ℕ, List, KeepsTexts}
+use Rattle.gimli_write.specs.Prelude.{ℕ, List, KeepsTexts}
 use Rattle.std.specs.Borrow.{MutBor}
 
 -- both, as they are lent

@@ -2,22 +2,21 @@
 -- for it.
 use Rattle.std.specs.Prelude.{◌≡◌, ◌≢◌, ◌+◌, ◌≤◌, ◌&&◌, ◌||◌, if◌then◌else◌, ◌∷◌, ◌++◌}
 use Rattle.gimli_write.specs.Prelude
-use Prelude.{ℕ, Bool, true, false, not, List, []}
-use Prelude.{map, slice_get, Option, Some, None, option_map, All, Ok, Vec, Global}
-use Prelude.{OrderAndLimit, Value, Error, Address, StringTables, texts_in, ReadRow, File, Header}
-use Prelude.{directory_of, entry_of, Parameters, Events, row, FilesAtEnd, Ins, is_end, makes_row}
-use Prelude.{Decodes, is_under_tombstone, Built, address_value, file_number, LineText, bytes_in}
-use Prelude.{CanWrite, read_row, RowsMatch, Sections, IsText, IsOptionalText, OneByOne, LineRow}
-use Prelude.{BuiltItem, Row, End}
+use Prelude.{ℕ, Bool, true, false, not, List, [], map, slice_get, Option, Some, None, option_map}
+use Prelude.{All, Ok, Vec, Global, OrderAndLimit, Value, Error, Address, StringTables, texts_in}
+use Prelude.{ReadRow, File, Header, directory_of, entry_of, Parameters, Events, row, FilesAtEnd}
+use Prelude.{Ins, is_end, makes_row, Decodes, is_under_tombstone, Built, address_value, file_number}
+use Prelude.{LineText, bytes_in, CanWrite, read_row, RowsMatch, Sections, IsText, IsOptionalText}
+use Prelude.{OneByOne, LineRow, BuiltItem, Row, End}
 use Rattle.gimli_bytes.specs.declared.address.Address.TheVariants.{Constant}
 use Rattle.gimli_build.specs.Tables.{File as BuiltFile}
 use Rattle.gimli_build.specs.declared.built.items.BuiltItem.TheVariants.{SetAddress}
-use Rattle.gimli_write.specs.RoundTrip.{FileAnswer, HasFittingAddresses}
-use Rattle.gimli_write.specs.convert.Outcome.{Outcome}
-use Rattle.gimli_write.specs.convert.Preparation.{encoding_of}
-use Rattle.gimli_write.specs.convert.Sources.{ToConvert}
-use Rattle.gimli_write.specs.convert.Conversion.{AnswersAs, outcome_with, SourceComesTo}
-use Rattle.gimli_write.specs.convert.Conversion.{ConvertsTo}
+use Rattle.gimli_write.specs
+use specs.RoundTrip.{FileAnswer, HasFittingAddresses}
+use specs.convert.Outcome.{Outcome}
+use specs.convert.Preparation.{encoding_of}
+use specs.convert.Sources.{ToConvert}
+use specs.convert.Conversion.{AnswersAs, outcome_with, SourceComesTo, ConvertsTo}
 
 -- ---- what is asked
 

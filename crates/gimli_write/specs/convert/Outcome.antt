@@ -3,17 +3,17 @@
 -- told exactly.
 use Rattle.std.specs.Prelude.{◌+◌, ◌-◌, ◌*◌, ◌/◌, ◌%◌, ◌^◌, ◌&&◌, ◌||◌, if◌then◌else◌, ◌≡◌}
 use Rattle.gimli_write.specs.Prelude
-use Prelude.{ℕ, Bool, true, false, not}
-use Prelude.{nat_eq, nat_lt, nat_le, List, [], Option, None, ok_or, Result, Ok, Err}
-use Prelude.{MatchResult, LineEncoding, Address, Built, previous_position, BuiltItem, Row, End}
-use Prelude.{ConvertError, InvalidAddress, MissingLineEndSequence, UnsupportedLineInstruction}
-use Prelude.{ConvertLineRow}
+use Prelude.{ℕ, Bool, true, false, not, nat_eq, nat_lt, nat_le, List, [], Option, None, ok_or}
+use Prelude.{Result, Ok, Err, MatchResult, LineEncoding, Address, Built, previous_position}
+use Prelude.{BuiltItem, Row, End, ConvertError, InvalidAddress, MissingLineEndSequence}
+use Prelude.{UnsupportedLineInstruction, ConvertLineRow}
 use Rattle.gimli_build.specs.Calls.{after_address, after_row, after_end}
 use Rattle.gimli_build.specs.Rows.{initial_row}
 use Rattle.gimli_build.specs.declared.built.items.BuiltItem.TheVariants.{SetAddress}
-use Rattle.gimli_write.specs.convert.Texts.{◌>>=◌}
-use Rattle.gimli_write.specs.convert.SourceTables.{TablesAndTexts}
-use Rattle.gimli_write.specs.convert.Items.{Reading, ends, stops, defines, offers}
+use Rattle.gimli_write.specs
+use specs.convert.Texts.{◌>>=◌}
+use specs.convert.SourceTables.{TablesAndTexts}
+use specs.convert.Items.{Reading, ends, stops, defines, offers}
 use Rattle.gimli_write.specs.declared.convert.rows.ConvertLineRow.TheVariants as offer
 
 -- ---- the builder's conditions, as tests
@@ -27,8 +27,7 @@ can_follow e position offset op_index =
     && nat_le position.0 offset && (not (nat_eq offset position.0) || nat_le position.1 op_index)
     && nat_lt
     ((offset - position.0) / e.minimum_instruction_length * e.maximum_operations_per_instruction
-    + op_index)
-    (2 ^ 64)
+    + op_index) (2 ^ 64)
 
 -- whether an item can be built where the previous row is at this position; this tests `CanBuild`
 abbrev pub can_build : LineEncoding → ℕ × ℕ → BuiltItem → Bool

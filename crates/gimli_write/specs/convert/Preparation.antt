@@ -7,12 +7,21 @@ use Prelude.{option_map_or, Encoding, LineEncoding, Value, File, Header, directo
 use Prelude.{has_content, LineText, made_text, made_table, Built, empty_built, Sections}
 use Prelude.{ConvertError, MissingCompilationDirectory, MissingCompilationName}
 use Prelude.{InvalidDirectoryIndex, InvalidLineBase}
-use Rattle.gimli_line.specs.LineNumbers.{DW_LNCT_timestamp, DW_LNCT_size, DW_LNCT_MD5}
-use Rattle.gimli_line.specs.LineNumbers.{DW_LNCT_LLVM_source}
+use Rattle.gimli_line.specs.LineNumbers.{
+  DW_LNCT_timestamp,
+  DW_LNCT_size,
+  DW_LNCT_MD5,
+  DW_LNCT_LLVM_source,
+}
 use Rattle.gimli_build.specs.FirstTables.{first_directories, first_files}
-use Rattle.gimli_write.specs.convert.Texts.{◌>>=◌, without_zero, source_text, source_path}
-use Rattle.gimli_write.specs.convert.SourceTables.{TablesAndTexts, directory_added, file_added}
-use Rattle.gimli_write.specs.convert.SourceTables.{all_added}
+use Rattle.gimli_write.specs
+use specs.convert.Texts.{◌>>=◌, without_zero, source_text, source_path}
+use specs.convert.SourceTables.{
+  TablesAndTexts,
+  directory_added,
+  file_added,
+  all_added,
+}
 
 -- what a program of version 5 asks, and one up to version 4 can do without
 abbrev pub needed_from_5 : {A : Type 0} → ℕ → A → ConvertError → Result A ConvertError

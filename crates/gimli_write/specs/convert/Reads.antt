@@ -3,9 +3,14 @@ use Rattle.std.specs.Prelude.{◌≡◌, ◌≢◌}
 use Rattle.gimli_write.specs.Prelude
 use Prelude.{Option, Some, None, Result, Err, IfErr, IfOk, OnOk, KeepsTexts}
 use Prelude.{ConvertError, OutOfMemory}
-use Rattle.gimli_write.specs.convert.Conversion.{Progress, AddsFiles, built_so_far}
-use Rattle.gimli_write.specs.convert.KeptTables.{KeepsFiles, StaysWritable, HasFinalTables}
-use Rattle.gimli_write.specs.convert.KeptTables.{KeepsFinalTables}
+use Rattle.gimli_write.specs
+use specs.convert.Conversion.{Progress, AddsFiles, built_so_far}
+use specs.convert.KeptTables.{
+  KeepsFiles,
+  StaysWritable,
+  HasFinalTables,
+  KeepsFinalTables,
+}
 
 -- however a read ends, it adds files to the program and changes nothing else in it; the files that
 -- were there keep their ids and their numbers, and the line strings their texts; and a program that

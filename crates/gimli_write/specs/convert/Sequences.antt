@@ -3,15 +3,18 @@ use Rattle.std.specs.Prelude.{◌≡◌, ◌∷◌, ◌++◌}
 use Rattle.gimli_write.specs.Prelude
 use Prelude.{ℕ, List, [], Option, Some, None, option_map, Result, Ok, Err, LineRow}
 use Prelude.{ConvertError, MissingLineEndSequence, SetAddress, EndSequence}
-use Rattle.gimli_write.specs.declared.convert.rows.ConvertLineRow.TheVariants.{Row}
-use Rattle.gimli_write.specs.declared.convert.rows.ConvertLineSequence.{ConvertLineSequence}
-use Rattle.gimli_write.specs.declared.convert.rows.ConvertLineSequenceEnd.{ConvertLineSequenceEnd}
-use Rattle.gimli_write.specs.declared.convert.rows.ConvertLineSequenceEnd.TheVariants.{Length}
-use Rattle.gimli_write.specs.declared.convert.rows.ConvertLineSequenceEnd.TheVariants.{Address}
-use Rattle.gimli_write.specs.convert.SourceTables.{TablesAndTexts}
-use Rattle.gimli_write.specs.convert.Items.{Reading, ends, stops, defines, offers}
-use Rattle.gimli_write.specs.convert.Texts.{IsRefusedBy}
-use Rattle.gimli_write.specs.convert.Conversion.{Progress, reading_of}
+use Rattle.gimli_write.specs
+use specs.declared.convert.rows.ConvertLineRow.TheVariants.{Row}
+use specs.declared.convert.rows.ConvertLineSequence.{ConvertLineSequence}
+use specs.declared.convert.rows.ConvertLineSequenceEnd.{ConvertLineSequenceEnd}
+use specs.declared.convert.rows.ConvertLineSequenceEnd.TheVariants.{
+  Length,
+  Address,
+}
+use specs.convert.SourceTables.{TablesAndTexts}
+use specs.convert.Items.{Reading, ends, stops, defines, offers}
+use specs.convert.Texts.{IsRefusedBy}
+use specs.convert.Conversion.{Progress, reading_of}
 
 -- rows whose offsets count from one address
 pub record SequenceRead : Type 0 where

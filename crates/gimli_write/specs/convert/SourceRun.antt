@@ -1,17 +1,24 @@
 -- What a run over a source has still to read.
 use Rattle.std.specs.Prelude.{◌-◌, ◌&&◌, if◌then◌else◌, ◌∷◌}
 use Rattle.gimli_write.specs.Prelude
-use Prelude.{ℕ, not, List, [], Option, Some, None, unwrap_or}
-use Prelude.{Result, Ok, Error, Header, Ins, is_end, makes_row, decoded_at, Sections, ConvertError}
-use Prelude.{Read, SourceRow}
+use Prelude.{ℕ, not, List, [], Option, Some, None, unwrap_or, Result, Ok, Error, Header, Ins}
+use Prelude.{is_end, makes_row, decoded_at, Sections, ConvertError, Read, SourceRow}
 use Rattle.gimli_core.specs.declared.error.Error.TheVariants.{AddressOverflow}
 use Rattle.gimli_line.specs.declared.run.row.LineRow.{LineRow}
 use Rattle.gimli_line.specs.run.Machine.{initial, step_of, is_refused, next_registers}
 use Rattle.gimli_line.specs.run.Unread.{Unread}
-use Rattle.gimli_write.specs.convert.SourceTables.{TablesAndTexts}
-use Rattle.gimli_write.specs.convert.Items.{Reading, stops, address_operand, source_row_offered}
-use Rattle.gimli_write.specs.convert.Items.{end_reading, reading_with, tables_after_definition}
-use Rattle.gimli_write.specs.convert.Items.{with_definition}
+use Rattle.gimli_write.specs
+use specs.convert.SourceTables.{TablesAndTexts}
+use specs.convert.Items.{
+  Reading,
+  stops,
+  address_operand,
+  source_row_offered,
+  end_reading,
+  reading_with,
+  tables_after_definition,
+  with_definition,
+}
 
 pub record SourceRun : Type 0 where
   pub header : Header
@@ -72,8 +79,7 @@ abbrev pub reading_from : Sections → SourceRun → Result TablesAndTexts Conve
     → Option Error → Reading
 reading_from sections s there [] end = reading_with there (end_reading end)
 reading_from sections s there (i ∷ list) end =
-    reading_with there (λ tables.
-    instruction_reading s tables i (with_definition i
+    reading_with there (λ tables. instruction_reading s tables i (with_definition i
     (reading_from sections (state_after i s) (tables_after_definition sections tables i) list end)))
 
 -- what is still to be read
@@ -84,5 +90,3 @@ reading_upon sections s there =
 
 abbrev pub reading_left : Sections → SourceRun → TablesAndTexts → Reading
 reading_left sections s tables = reading_upon sections s (Ok tables)
-
--- ---- steps

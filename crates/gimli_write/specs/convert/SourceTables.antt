@@ -4,8 +4,8 @@ use Rattle.gimli_write.specs.Prelude
 use Prelude.{ℕ, List, [], Option, Some, option_map, ok_or, slice_get, Result, Ok}
 use Prelude.{option_map_or, Value, File, made_text, made_table, Built, Sections, ConvertError}
 use Prelude.{InvalidDirectoryIndex}
-use Rattle.gimli_build.specs.Tables.{FileKey, with_directory, index_of_directory, with_file}
-use Rattle.gimli_build.specs.Tables.{index_of_file}
+use Rattle.gimli_build.specs.Tables
+use Tables.{FileKey, with_directory, index_of_directory, with_file, index_of_file}
 use Rattle.gimli_write.specs.convert.Texts.{◌>>=◌, if_there, source_text, source_path}
 
 -- the program that is built, and where it has the directories and files of its source
@@ -81,13 +81,12 @@ with_parts tables f parts =
     let key : FileKey = (made tables.line_strings parts.path, parts.directory) in
     record tables {
       program = record tables.program {
-        files = with_file tables.program.files key
-            (Some (record {
-              timestamp = f.timestamp;
-              size = f.size;
-              md5 = f.md5;
-              source = option_map (made paths) parts.source;
-            }));
+        files = with_file tables.program.files key (Some (record {
+          timestamp = f.timestamp;
+          size = f.size;
+          md5 = f.md5;
+          source = option_map (made paths) parts.source;
+        }));
       };
       file_ids = tables.file_ids ++ index_of_file tables.program.files key ∷ [];
       line_strings = option_map_or (after paths) parts.source paths;

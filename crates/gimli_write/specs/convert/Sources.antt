@@ -1,8 +1,18 @@
 -- A source that is converted, with what is handed for it.
-use Rattle.gimli_write.specs.Prelude
-use Prelude.{ℕ, List, Option, option_map, OrderAndLimit, Encoding, LineEncoding, Header, SeenHeader}
-use Prelude.{Sections}
-use Rattle.gimli_write.specs.convert.Preparation.{Handed, handed_of}
+use Rattle.gimli_write.specs
+use specs.Prelude.{
+  ℕ,
+  List,
+  Option,
+  option_map,
+  OrderAndLimit,
+  Encoding,
+  LineEncoding,
+  Header,
+  SeenHeader,
+  Sections,
+}
+use specs.convert.Preparation.{Handed, handed_of}
 
 -- a source: its layout and its header, the sections that hold its texts, and what is handed for
 -- the conversion

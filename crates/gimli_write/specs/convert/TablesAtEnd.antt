@@ -5,9 +5,10 @@ use Rattle.gimli_write.specs.Prelude
 use Prelude.{ℕ, Bool, not, List, [], Option, Some, None, Result}
 use Prelude.{Ok, Err, is_err, Ins, makes_row, decoded_at, Sections, ConvertError, SourceRow}
 use Rattle.gimli_line.specs.run.Machine.{is_refused}
-use Rattle.gimli_write.specs.convert.SourceTables.{TablesAndTexts}
-use Rattle.gimli_write.specs.convert.Items.{file_id, tables_after_definition}
-use Rattle.gimli_write.specs.convert.SourceRun.{SourceRun, row_made, state_after}
+use Rattle.gimli_write.specs
+use specs.convert.SourceTables.{TablesAndTexts}
+use specs.convert.Items.{file_id, tables_after_definition}
+use specs.convert.SourceRun.{SourceRun, row_made, state_after}
 
 -- no file has the number of a row; an end has no file
 abbrev pub lacks_file : ℕ → TablesAndTexts → SourceRow → Bool
@@ -16,8 +17,7 @@ lacks_file version tables r = not r.row.end_sequence && is_err (file_id version 
 -- an instruction is refused, or the row that it gives
 abbrev pub refuses : SourceRun → TablesAndTexts → Ins → Bool
 refuses s tables i =
-    is_refused s.header.parameters i s.row
-    || (makes_row i && not s.row.tombstone
+    is_refused s.header.parameters i s.row || (makes_row i && not s.row.tombstone
     && lacks_file s.header.parameters.encoding.version tables (row_made s i))
 
 -- these tables where a step is refused, else what comes after it

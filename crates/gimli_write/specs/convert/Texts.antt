@@ -1,9 +1,8 @@
 -- The texts of a source that is converted.
 use Rattle.std.specs.Prelude.{◌≡◌, ◌⊎◌, ◌&&◌, if◌then◌else◌}
 use Rattle.gimli_write.specs.Prelude
-use Prelude.{ℕ, List, Option, Some, None, Result, Ok, Err, length, nat_eq, nat_le}
-use Prelude.{Value, Sections, ConvertError, Read, InvalidAttributeValue}
-use Prelude.{UnsupportedLineStringForm, OutOfMemory}
+use Prelude.{ℕ, List, Option, Some, None, Result, Ok, Err, length, nat_eq, nat_le, Value, Sections}
+use Prelude.{ConvertError, Read, InvalidAttributeValue, UnsupportedLineStringForm, OutOfMemory}
 use Rattle.std.specs.List.{list_any}
 use Rattle.std.specs.Result.{result_map_both}
 use Rattle.gimli_core.specs.declared.attribute_value.AttributeValue.TheVariants.{DebugStrRefSup}

@@ -1,9 +1,19 @@
 -- What is answered of a unit that was written and read again.
-use Rattle.gimli_write.specs.Prelude
-use Prelude.{ℕ, List, Some, None, All, OrderAndLimit, Header, UnitEntry, Sections}
-use Prelude.{directories_from_zero}
+use Rattle.gimli_write.specs
+use specs.Prelude.{
+  ℕ,
+  List,
+  Some,
+  None,
+  All,
+  OrderAndLimit,
+  Header,
+  UnitEntry,
+  Sections,
+  directories_from_zero,
+}
 use Rattle.gimli_line.specs.header.HeaderGrammar.{SpellsUnit}
-use Rattle.gimli_write.specs.inside.TextReading.{HasText, HasFileTexts}
+use specs.inside.TextReading.{HasText, HasFileTexts}
 
 -- with this address size and working directory, and no name
 abbrev pub unit_entry_with : ℕ → List ℕ → UnitEntry

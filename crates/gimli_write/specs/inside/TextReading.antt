@@ -1,6 +1,5 @@
 -- The text that a value stands for, as it is read.
-use Rattle.gimli_write.specs.Prelude
-use Prelude.{ℕ, List, Option, Some, None, Value, File, Sections, IsText}
+use Rattle.gimli_write.specs.Prelude.{ℕ, List, Option, Some, None, Value, File, Sections, IsText}
 
 -- a value stands for a text
 abbrev pub HasText : Sections → Value → Type 0

@@ -1,5 +1,4 @@
-use Rattle.gimli_write.proofs.Common
-use Common.{ap, or, end, none, one}
+use Rattle.gimli_write.proofs.Common.{ap, or, end, none, one}
 use Rattle.gimli_write.specs.contracts.convert_error.ConvertError.{as_values, enum}
 use Rattle.gimli_write.proofs.conversion_laws.equal_refusals.Goals as goal
 use denote.Enum.Declared.{values_one}

@@ -5,9 +5,10 @@ use Rattle.std.specs.Bool.{Decides}
 use Rattle.std.specs.Cmp.{unsigned_Decides}
 use Rattle.gimli_line.proofs.Equality.{both, whole}
 use Rattle.gimli_build.proofs.building.Equality.{row-Decides}
-use Rattle.gimli_write.specs.contracts.convert.rows.ConvertLineSequenceEnd.{as_values, enum}
-use Rattle.gimli_write.specs.contracts.convert.rows.ConvertLineSequenceEndPartialEq.TheImpl.{ghosts as the_ends}
-use Rattle.gimli_write.specs.declared.convert.rows.ConvertLineSequenceEnd.{ConvertLineSequenceEnd}
+use Rattle.gimli_write.specs
+use specs.contracts.convert.rows.ConvertLineSequenceEnd.{as_values, enum}
+use specs.contracts.convert.rows.ConvertLineSequenceEndPartialEq.TheImpl.{ghosts as the_ends}
+use specs.declared.convert.rows.ConvertLineSequenceEnd.{ConvertLineSequenceEnd}
 use Rattle.gimli_write.proofs.conversion_laws.equal_rows_and_sequences.Goals as goal
 use denote.Enum.Declared.{values_one}
 

@@ -1,5 +1,4 @@
-use Rattle.gimli_write.proofs.Common
-use Common.{map, take, file_seen, OneByOne, IsFileAnswer, file_answer}
+use Rattle.gimli_write.proofs.Common.{map, take, file_seen, OneByOne, IsFileAnswer, file_answer}
 use Rattle.gimli_write.proofs.read_back.read_files.Given as goal
 
 abbrev pub invariant-loop-file : goal.invariant-loop-file

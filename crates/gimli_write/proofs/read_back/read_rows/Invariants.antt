@@ -1,6 +1,5 @@
 use Rattle.std.specs.Prelude.{◌≡◌, ◌++◌}
-use Rattle.gimli_write.proofs.Common
-use Common.{length, map, row, events_left, events_of}
+use Rattle.gimli_write.proofs.Common.{length, map, row, events_left, events_of}
 use Rattle.gimli_write.proofs.read_back.read_rows.Given as goal
 
 abbrev pub invariant-rows : goal.invariant-rows

@@ -1,8 +1,17 @@
-use Rattle.gimli_write.proofs.Common
-use Common.{◌∙◌, drop, slice_layout}
+use Rattle.gimli_write.proofs
+use proofs.Common.{◌∙◌, drop, slice_layout}
 use Rattle.gimli_write.specs.inside.RoundTrip.{unit_entry_with}
-use Rattle.gimli_write.proofs.ReadUnits.{same_unit, same_fault, same_sections, same_layout, same_header, texts_there}
-use Rattle.gimli_write.proofs.ReadUnits.{header_refused, same_answers, same_refusal}
+use proofs.ReadUnits.{
+  same_unit,
+  same_fault,
+  same_sections,
+  same_layout,
+  same_header,
+  texts_there,
+  header_refused,
+  same_answers,
+  same_refusal,
+}
 use Rattle.gimli_write.proofs.read_back.read_section.Goals as goal
 
 pub read_program-requires : goal.read_program-requires
@@ -12,11 +21,10 @@ read_program-requires g c =
     let bytes = drop c.args.offset.0 c.args.section.now in
     let h = c.in-Ok.program.meaning in
     let unit =
-    same_unit _ _ _ _ _ _ _ _ _ h c.new-section.ensures.order
+    same_unit _ _ _ h c.new-section.ensures.order
     c.new-directory.ensures.bytes c.new-section.ensures.bytes c.in-Ok.ensures.unit in
     let is =
-    same_sections _ _ _ _ _ (c.new.ensures.bytes ∙ c.as_slice.ensures.value)
-    (c.new-2.ensures.bytes ∙ c.as_slice-2.ensures.value)
+    same_sections (c.new.ensures.bytes ∙ c.as_slice.ensures.value) (c.new-2.ensures.bytes ∙ c.as_slice-2.ensures.value)
     c.sections.view_is in
     rw is (texts_there (slice_layout is_big) unit_entry bytes _ h c.requires.unit unit)
 
@@ -27,15 +35,13 @@ returns-in-Ok-clause-ok g c h begins =
     let bytes = drop c.args.offset.0 c.args.section.now in
     let k = c.in-Ok.program.meaning in
     let unit =
-    same_unit _ _ _ _ _ _ _ _ _ k c.new-section.ensures.order
+    same_unit _ _ _ k c.new-section.ensures.order
     c.new-directory.ensures.bytes c.new-section.ensures.bytes c.in-Ok.ensures.unit in
     let is =
-    same_sections _ _ _ _ _ (c.new.ensures.bytes ∙ c.as_slice.ensures.value)
-    (c.new-2.ensures.bytes ∙ c.as_slice-2.ensures.value)
+    same_sections (c.new.ensures.bytes ∙ c.as_slice.ensures.value) (c.new-2.ensures.bytes ∙ c.as_slice-2.ensures.value)
     c.sections.view_is in
-    let n = same_layout _ _ _ _ c.in-Ok.ensures.layout c.new-section.ensures.order in
-    same_answers _ _ _ _ _ k h n is
-    (same_header (slice_layout is_big) unit_entry bytes k h unit begins) c.read_program.ensures.ok
+    let n = same_layout _ c.in-Ok.ensures.layout c.new-section.ensures.order in
+    same_answers _ n is (same_header (slice_layout is_big) unit_entry bytes unit begins) c.read_program.ensures.ok
 
 pub returns-in-Ok-clause-err : goal.returns-in-Ok-clause-err
 returns-in-Ok-clause-err g c h begins =
@@ -44,11 +50,10 @@ returns-in-Ok-clause-err g c h begins =
     let bytes = drop c.args.offset.0 c.args.section.now in
     let k = c.in-Ok.program.meaning in
     let unit =
-    same_unit _ _ _ _ _ _ _ _ _ k c.new-section.ensures.order
+    same_unit _ _ _ k c.new-section.ensures.order
     c.new-directory.ensures.bytes c.new-section.ensures.bytes c.in-Ok.ensures.unit in
-    let n = same_layout _ _ _ _ c.in-Ok.ensures.layout c.new-section.ensures.order in
-    same_refusal _ _ _ k h n
-    (same_header (slice_layout is_big) unit_entry bytes k h unit begins) c.read_program.ensures.err
+    let n = same_layout _ c.in-Ok.ensures.layout c.new-section.ensures.order in
+    same_refusal _ n (same_header (slice_layout is_big) unit_entry bytes unit begins) c.read_program.ensures.err
 
 pub returns-in-Err-clause-err : goal.returns-in-Err-clause-err
 returns-in-Err-clause-err g c h begins =
@@ -56,6 +61,6 @@ returns-in-Err-clause-err g c h begins =
     let unit_entry = unit_entry_with c.args.address_size c.args.directory.now in
     let bytes = drop c.args.offset.0 c.args.section.now in
     header_refused (slice_layout is_big) unit_entry bytes h _ _ begins
-    (λ other. same_fault _ _ _ _ _ _ _ _ _ _ c.new-section.ensures.order
+    (λ other. same_fault _ _ _ _ _ _ _ _ _ c.new-section.ensures.order
     c.new-directory.ensures.bytes c.new-section.ensures.bytes (c.in-Err.ensures.refusal other))
     c.from_read.ensures.memory

@@ -1,8 +1,8 @@
 use Rattle.std.specs.Prelude.{◌<◌, ◌^◌}
-use Rattle.gimli_write.proofs.Common
-use Common.{length, ap, subst, List, ℕ, ◌∙◌, err_from_is_err_and, texts_in}
-use Rattle.gimli_write.proofs.ReadUnits.{can_read, program_answered, program_refused, unread_refused}
-use Rattle.gimli_write.proofs.BuiltAnswers.{built_directories, built_files, built_rows, never_read}
+use Rattle.gimli_write.proofs
+use proofs.Common.{length, ap, subst, List, ℕ, ◌∙◌, err_from_is_err_and, texts_in}
+use proofs.ReadUnits.{can_read, program_answered, program_refused, unread_refused}
+use proofs.BuiltAnswers.{built_directories, built_files, built_rows, never_read}
 use Rattle.gimli_write.proofs.read_back.read_unit.Goals as goal
 
 pub returns-in_err-sections-clause-err : goal.returns-in_err-sections-clause-err
@@ -10,9 +10,8 @@ returns-in_err-sections-clause-err g c =
     let p = err_from_is_err_and c.from_residual.result c.from_residual.ensures.1 in
     let lt = subst (λ (xs : List ℕ). length xs < 2 ^ 64) c.slice-bytes.ensures c.slice-bytes.type_inv.0 in
     rw p.1 (unread_refused (g.E.Endianity.is_big c.args.section.now.endian) c.args.program.now
-    (texts_in c.args.strings.now c.args.line_strings.now)
-    c.args.section.now.bytes
-    c.args.offset.0 c.requires.unit lt c.in_err-sections.ensures.held p.0 (p.2 ∙ c.in_err-sections.ensures.err))
+    (texts_in c.args.strings.now c.args.line_strings.now) c.args.section.now.bytes
+    c.args.offset.0 c.requires.unit lt c.in_err-sections.ensures.held (p.2 ∙ c.in_err-sections.ensures.err))
 
 pub read_section-requires-clause-unit : goal.read_section-requires-clause-unit
 read_section-requires-clause-unit g c =
@@ -34,8 +33,7 @@ returns-clause-ok g c =
     c.args.offset.0 c.encoding.result.address_size c.working_directory.result.now c.in_ok-sections.sections
     (ap g.E.Endianity.is_big c.endian-endian.ensures) c.slice-bytes.ensures
     (ap (λ e. e.address_size) c.encoding.ensures.encoding) c.working_directory.ensures
-    c.in_ok-sections.ensures.ok c.requires.unit lt c.in_ok-sections.ensures.held
-    _ c.read_section.ensures.ok
+    c.in_ok-sections.ensures.ok c.requires.unit lt c.in_ok-sections.ensures.held _ c.read_section.ensures.ok
 
 pub returns-clause-err : goal.returns-clause-err
 returns-clause-err g c =
@@ -46,37 +44,32 @@ returns-clause-err g c =
     c.args.offset.0 c.encoding.result.address_size c.working_directory.result.now c.in_ok-sections.sections
     (ap g.E.Endianity.is_big c.endian-endian.ensures) c.slice-bytes.ensures
     (ap (λ e. e.address_size) c.encoding.ensures.encoding) c.working_directory.ensures
-    c.in_ok-sections.ensures.ok c.requires.unit lt c.in_ok-sections.ensures.held
-    _ c.read_section.ensures.err
+    c.in_ok-sections.ensures.ok c.requires.unit lt c.in_ok-sections.ensures.held _ c.read_section.ensures.err
 
 pub returns-clause-directories : goal.returns-clause-directories
 returns-clause-directories g c =
     let lt = subst (λ xs. length xs < 2 ^ 64) c.slice-bytes.ensures c.slice-bytes.type_inv.0 in
     built_directories (g.E.Endianity.is_big c.args.section.now.endian) c.args.program.now
     (texts_in c.args.strings.now c.args.line_strings.now)
-    c.args.section.now.bytes c.args.offset.0 c.requires.unit lt c.in_ok-sections.ensures.held
-    _ (returns-clause-ok g c)
+    c.args.section.now.bytes c.args.offset.0 c.requires.unit lt c.in_ok-sections.ensures.held _ (returns-clause-ok g c)
 
 pub returns-clause-files : goal.returns-clause-files
 returns-clause-files g c =
     let lt = subst (λ xs. length xs < 2 ^ 64) c.slice-bytes.ensures c.slice-bytes.type_inv.0 in
     built_files (g.E.Endianity.is_big c.args.section.now.endian) c.args.program.now
     (texts_in c.args.strings.now c.args.line_strings.now) c.args.section.now.bytes
-    c.args.offset.0 c.requires.unit lt c.in_ok-sections.ensures.held
-    _ (returns-clause-ok g c)
+    c.args.offset.0 c.requires.unit lt c.in_ok-sections.ensures.held _ (returns-clause-ok g c)
 
 pub returns-clause-built : goal.returns-clause-built
 returns-clause-built g c =
     let lt = subst (λ xs. length xs < 2 ^ 64) c.slice-bytes.ensures c.slice-bytes.type_inv.0 in
     built_rows (g.E.Endianity.is_big c.args.section.now.endian) c.args.program.now
     (texts_in c.args.strings.now c.args.line_strings.now) c.args.section.now.bytes
-    c.args.offset.0 c.requires.unit lt c.in_ok-sections.ensures.held
-    _ (returns-clause-ok g c)
+    c.args.offset.0 c.requires.unit lt c.in_ok-sections.ensures.held _ (returns-clause-ok g c)
 
 pub returns-clause-never_read : goal.returns-clause-never_read
 returns-clause-never_read g c held =
     let lt = subst (λ xs. length xs < 2 ^ 64) c.slice-bytes.ensures c.slice-bytes.type_inv.0 in
     never_read (g.E.Endianity.is_big c.args.section.now.endian) c.args.program.now
     (texts_in c.args.strings.now c.args.line_strings.now) c.args.section.now.bytes
-    c.args.offset.0 c.requires.unit lt c.in_ok-sections.ensures.held
-    _ (returns-clause-err g c) held
+    c.args.offset.0 c.requires.unit lt c.in_ok-sections.ensures.held _ (returns-clause-err g c) held

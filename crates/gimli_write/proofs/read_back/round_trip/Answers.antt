@@ -16,19 +16,13 @@ returns-in-Ok-clause-refusal g c =
     let texts = texts_after program (texts_in c.args.strings.now c.args.line_strings.now) in
     let later = drop c.in-Ok.offset.0 c.write.new.w.0.bytes in
     let read =
-    subst
-    (λ strings. IfErr c.read_unit.result
+    subst (λ strings. IfErr c.read_unit.result
     (RefusesUnit (slice_layout other) (unit_entry_of program (texts_in strings texts.line_strings)) later))
-    c.in-Ok.ensures.tables.strings
-    (subst
-    (λ line_strings. IfErr c.read_unit.result
+    c.in-Ok.ensures.tables.strings (subst (λ line_strings. IfErr c.read_unit.result
     (RefusesUnit (slice_layout other) (unit_entry_of program (texts_in c.write.new.strings line_strings)) later))
     c.in-Ok.ensures.tables.line_strings c.read_unit.ensures.err) in
-    unit_not_answered _ _ _ _
-    _ _ _ _ c.in-Ok.ensures.writes.ordered
-    (no-cause _ _ _ _ c.in-Ok.ensures.cause
-    (c.in-Ok.ensures.writes.ok refl))
-    (c.in-Ok.ensures.writes.ok refl) c.in-Ok.ensures.offset read
+    unit_not_answered _ _ _ _ _ _ _ c.in-Ok.ensures.writes.ordered (no-cause _ _ _ _ c.in-Ok.ensures.cause
+    (c.in-Ok.ensures.writes.ok refl)) (c.in-Ok.ensures.writes.ok refl) c.in-Ok.ensures.offset read
 
 always : {X E P : Type 0} (r : Result X E) → P → OnOk r P
 always (Ok x) p = p
@@ -46,10 +40,7 @@ returns-in-Err-clause-refusal g c =
     let program = c.args.program.now in
     let unit = unit_bytes plain is_big c.args.encoding program (texts_in c.args.strings.now c.args.line_strings.now) in
     let why = refused-for _ _ _ c.in-Err.ensures.cause (c.in-Err.ensures.writes.err refl refl) in
-    write_refused _ _
-    _
-    _ _ _ _ why c.from_write.ensures.memory
-    c.from_write.ensures.other
+    write_refused _ _ _ _ _ _ _ why c.from_write.ensures.memory c.from_write.ensures.other
 
 pub read_unit-requires-clause-within : goal.read_unit-requires-clause-within
 read_unit-requires-clause-within g c =

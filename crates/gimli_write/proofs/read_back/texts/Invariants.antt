@@ -1,5 +1,4 @@
-use Rattle.gimli_write.proofs.Common
-use Common.{map, take, value_seen, IsText, OneByOne}
+use Rattle.gimli_write.proofs.Common.{map, take, value_seen, IsText, OneByOne}
 use Rattle.gimli_write.proofs.read_back.texts.Given as goal
 
 abbrev pub invariant-loop-value : goal.invariant-loop-value

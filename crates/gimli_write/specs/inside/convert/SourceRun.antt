@@ -1,15 +1,15 @@
 -- What a run over a source has still to read.
 use Rattle.std.specs.Prelude.{◌≡◌, ◌<◌, ◌-◌, ◌&&◌, if◌then◌else◌}
 use Rattle.gimli_write.specs.Prelude
-use Prelude.{ℕ, not, List, [], length, IfErr, IfOk, Result}
-use Prelude.{file_seen, Ins, makes_row, Sections, ConvertError, SourceRow, SourceStep, Done, More}
-use Prelude.{Defines, Made}
+use Prelude.{ℕ, not, List, [], length, IfErr, IfOk, Result, file_seen, Ins, makes_row, Sections}
+use Prelude.{ConvertError, SourceRow, SourceStep, Done, More, Defines, Made}
 use Rattle.gimli_line.specs.declared.run.row.LineRow.{LineRow}
-use Rattle.gimli_write.specs.convert.SourceTables.{TablesAndTexts, file_added}
-use Rattle.gimli_write.specs.convert.Items.{Reading, ends, defines, source_row_offered, stops}
-use Rattle.gimli_write.specs.convert.TablesAtEnd.{tables_at_end}
-use Rattle.gimli_write.specs.inside.convert.TablesAtEnd.{step_tables}
-use Rattle.gimli_write.specs.convert.SourceRun.{SourceRun, row_made, reading_upon, reading_left}
+use Rattle.gimli_write.specs
+use specs.convert.SourceTables.{TablesAndTexts, file_added}
+use specs.convert.Items.{Reading, ends, defines, source_row_offered, stops}
+use specs.convert.TablesAtEnd.{tables_at_end}
+use specs.inside.convert.TablesAtEnd.{step_tables}
+use specs.convert.SourceRun.{SourceRun, row_made, reading_upon, reading_left}
 
 module _ {R Offset Endian : Type 0} (bytes : R → List ℕ) (number : Offset → ℕ) where
   -- what is read from a step on, after which this state is

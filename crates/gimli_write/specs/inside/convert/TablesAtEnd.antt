@@ -2,9 +2,10 @@
 -- refused.
 use Rattle.gimli_write.specs.Prelude
 use Prelude.{ℕ, List, Some, file_seen, Sections, SourceStep, Done, More, Defines, Made}
-use Rattle.gimli_write.specs.convert.SourceTables.{TablesAndTexts, file_added}
-use Rattle.gimli_write.specs.convert.SourceRun.{SourceRun}
-use Rattle.gimli_write.specs.convert.TablesAtEnd.{unless_refused, tables_at_end, tables_after_row}
+use Rattle.gimli_write.specs
+use specs.convert.SourceTables.{TablesAndTexts, file_added}
+use specs.convert.SourceRun.{SourceRun}
+use specs.convert.TablesAtEnd.{unless_refused, tables_at_end, tables_after_row}
 
 module _ {R Offset Endian : Type 0} (bytes : R → List ℕ) (number : Offset → ℕ) where
   -- these tables, from a step on after which this state is

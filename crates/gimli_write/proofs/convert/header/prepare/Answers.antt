@@ -1,7 +1,7 @@
-use Rattle.gimli_write.proofs.Common
-use Common.{ap, ◌∙◌, option_map, unwrap_or, err_from_is_err_and, tables_with, handed_of}
-use Rattle.gimli_write.proofs.ConvertSteps.{kept_then}
-use Rattle.gimli_write.proofs.ConvertHeader.{refused_at_start, refused_at_listed}
+use Rattle.gimli_write.proofs
+use proofs.Common.{ap, ◌∙◌, option_map, unwrap_or, err_from_is_err_and, handed_of}
+use proofs.ConvertSteps.{kept_then}
+use proofs.ConvertHeader.{refused_at_start, refused_at_listed}
 use Rattle.gimli_write.proofs.convert.header.prepare.Goals as goal
 
 pub returns-in_err-tables-clause-err : goal.returns-in_err-tables-clause-err
@@ -26,16 +26,12 @@ returns-in_err-add_directories_and_files-clause-err g c =
     c.from_residual-in_err-add_directories_and_files.ensures.1 in
     rw (p.1, p.2)
     (refused_at_listed s h given c.args.line_strings.now c.unwrap_or-encoding.result target
-    (tables_with c.tables_at_start.new.line_strings c.in_ok-tables.tables) c.in_err-add_directories_and_files.field-0.0
-    c.in_ok-tables.ensures.ok
-    c.in_err-add_directories_and_files.ensures.err)
+    c.in_err-add_directories_and_files.field-0.0
+    c.in_ok-tables.ensures.ok c.in_err-add_directories_and_files.ensures.err)
 
 pub returns-in_err-add_directories_and_files-clause-stays : goal.returns-in_err-add_directories_and_files-clause-stays
 returns-in_err-add_directories_and_files-clause-stays g c =
-    kept_then _ _ _
-    c.in_ok-tables.ensures.stays c.in_err-add_directories_and_files.ensures.stays
+    kept_then c.in_ok-tables.ensures.stays c.in_err-add_directories_and_files.ensures.stays
 
 pub returns-clause-stays : goal.returns-clause-stays
-returns-clause-stays g c =
-    kept_then _ _ _
-    c.in_ok-tables.ensures.stays c.in_ok-add_directories_and_files.ensures.stays
+returns-clause-stays g c = kept_then c.in_ok-tables.ensures.stays c.in_ok-add_directories_and_files.ensures.stays

@@ -17,6 +17,5 @@ returns-clause-ok g c =
     Ok (start_of_tables encoding e h (first_texts encoding.version c.args.line_strings.now directory file)) in
     IfOk-weaker c.tables_with_texts.result _ _
     (λ tables is. at_third first second next c.in_ok-directory.directory.items c.in_ok-file.file
-    c.in_ok-directory.ensures.ok c.in_ok-file.ensures.ok
-    ∙ is)
+    c.in_ok-directory.ensures.ok c.in_ok-file.ensures.ok ∙ is)
     (rw c.as_slice.ensures.value at c.tables_with_texts.ensures.ok)

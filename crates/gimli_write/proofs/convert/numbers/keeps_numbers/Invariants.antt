@@ -1,6 +1,5 @@
 use Rattle.std.specs.Prelude.{◌≡◌, ◌<◌}
-use Rattle.gimli_write.proofs.Common
-use Common.{ℕ, IfSome}
+use Rattle.gimli_write.proofs.Common.{ℕ, IfSome}
 use Rattle.gimli_write.specs.convert.FileNumbers.{written_number}
 use Rattle.gimli_write.proofs.convert.numbers.keeps_numbers.Given as goal
 

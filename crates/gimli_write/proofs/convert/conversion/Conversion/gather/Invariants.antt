@@ -1,7 +1,7 @@
 use Rattle.std.specs.Prelude.{◌≡◌}
-use Rattle.gimli_write.proofs.Common
-use Common.{[], None, KeepsFinalTables, beside, still_to_read, ReadsOn, sequence_from}
-use Rattle.gimli_write.proofs.Outcomes.{offer_count}
+use Rattle.gimli_write.proofs
+use proofs.Common.{[], None, KeepsFinalTables, beside, still_to_read, ReadsOn, sequence_from}
+use proofs.Outcomes.{offer_count}
 use Rattle.gimli_write.proofs.convert.conversion.Conversion.gather.Given as goal
 
 abbrev pub invariant-rows : goal.invariant-rows

@@ -1,7 +1,7 @@
 use Rattle.std.specs.Prelude.{◌≡◌}
-use Rattle.gimli_write.proofs.Common
-use Common.{refl, sym, subst, None, err_from_is_err_and, Conversion}
-use Rattle.gimli_write.proofs.Conversions.{held_last, held_stops}
+use Rattle.gimli_write.proofs
+use proofs.Common.{refl, sym, subst, None, err_from_is_err_and, Conversion}
+use proofs.Conversions.{held_last, held_stops}
 use Rattle.gimli_write.proofs.convert.conversion.Conversion.next_row.Goals as goal
 
 pub returns-in_err-row_or_end-clause-leaves : goal.returns-in_err-row_or_end-clause-leaves
@@ -24,8 +24,7 @@ returns-in-Some-held-clause-leaves g c =
     rw (← c.self.view_is) (record {
       still =
           held_last a.sections a.source a.tables a.address a.address a.held None a.failed c.args.line_strings.now
-          c.in-Some-held.row
-          c.in-Some-held.is refl (c.in_ok-row_or_end.ensures.found c.args.line_strings.now);
+          c.in-Some-held.row c.in-Some-held.is refl (c.in_ok-row_or_end.ensures.found c.args.line_strings.now);
       ended = λ none. absurd cc;
       stopped = tt;
     })

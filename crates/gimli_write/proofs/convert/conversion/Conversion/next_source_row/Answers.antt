@@ -2,10 +2,11 @@ use Rattle.gimli_write.proofs.Common
 use Common.{sym, ap, ◌∙◌, err_from_is_err_and, file_seen, tables_with, defines, defines_first, after_definitions}
 use Common.{without_built, source_left}
 use Rattle.gimli_write.specs.convert.TablesAtEnd.{unless_refused, tables_at_end}
-use Rattle.gimli_write.proofs.SourceSteps.{none_left}
-use Rattle.gimli_write.proofs.TablesAtEnd.{none_last}
-use Rattle.gimli_write.proofs.ReadLemmas.{reads_then}
-use Rattle.gimli_write.proofs.Conversions.{conversion, file_taken, file_refusal}
+use Rattle.gimli_write.proofs
+use proofs.SourceSteps.{none_left}
+use proofs.TablesAtEnd.{none_last}
+use proofs.ReadLemmas.{reads_then}
+use proofs.Conversions.{conversion, file_taken, file_refusal}
 use Rattle.gimli_write.proofs.convert.conversion.Conversion.next_source_row.Goals as goal
 
 pub returns-in-Done-clause-ok : goal.returns-in-Done-clause-ok
@@ -28,9 +29,8 @@ steps-preserved g c =
     let leaves = rw c.in-Defines.is at c.in_ok-step.ensures.tables in
     record {
       left =
-          sym (ap after_definitions
-          (read a.sections (without_built before)
-          ∙ ap defines (file_taken a.sections c.step.new.self before f _ c.in_ok-add_file-in-Defines.ensures.ok)))
+          sym (ap after_definitions (read a.sections (without_built before)
+          ∙ ap defines (file_taken a.sections c.step.new.self before f c.in_ok-add_file-in-Defines.ensures.ok)))
           ∙ c.steps.invariant.left;
       first = λ more. c.steps.invariant.first (ap defines_first (read a.sections (without_built before)));
       version = ap (λ h. h.parameters.encoding.version) c.in_ok-step.ensures.header ∙ c.steps.invariant.version;
@@ -47,8 +47,7 @@ steps-preserved g c =
       last =
           sym (leaves a.sections before
           ∙ ap (λ there. unless_refused before there (λ next. tables_at_end a.sections c.step.new.self next))
-          c.in_ok-add_file-in-Defines.ensures.ok)
-          ∙ c.steps.invariant.last;
+          c.in_ok-add_file-in-Defines.ensures.ok) ∙ c.steps.invariant.last;
     }
 
 pub returns-in_err-add_file-in-Defines-clause-err : goal.returns-in_err-add_file-in-Defines-clause-err
@@ -61,10 +60,8 @@ returns-in_err-add_file-in-Defines-clause-err g c =
     let p =
     err_from_is_err_and c.from_residual-in_err-add_file-in-Defines.result
     c.from_residual-in_err-add_file-in-Defines.ensures.1 in
-    rw (p.1, p.2)
-    (file_refusal a.sections c.step.new.self before f (source_left now c.steps.line_strings)
-    (source_left c.args.self.now c.args.line_strings.now)
-    c.in_err-add_file-in-Defines.field-0.0
+    rw (p.1, p.2) (file_refusal a.sections c.step.new.self before f
+    (source_left c.args.self.now c.args.line_strings.now) c.in_err-add_file-in-Defines.field-0.0
     (read a.sections (without_built before)) c.steps.invariant.left c.steps.invariant.first
     c.in_err-add_file-in-Defines.ensures.err)
 

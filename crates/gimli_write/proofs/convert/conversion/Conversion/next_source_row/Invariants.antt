@@ -1,8 +1,17 @@
 use Rattle.std.specs.Prelude.{◌≡◌}
-use Rattle.gimli_write.proofs.Common
-use Common.{true, length, final_tables_of_source, defines_first, after_definitions, beside, version_of_source}
-use Common.{source_left, ReadsOn}
-use Rattle.gimli_write.proofs.Conversions.{conversion}
+use Rattle.gimli_write.proofs
+use proofs.Common.{
+  true,
+  length,
+  final_tables_of_source,
+  defines_first,
+  after_definitions,
+  beside,
+  version_of_source,
+  source_left,
+  ReadsOn,
+}
+use proofs.Conversions.{conversion}
 use Rattle.gimli_write.proofs.convert.conversion.Conversion.next_source_row.Given as goal
 
 abbrev pub invariant-steps : goal.invariant-steps

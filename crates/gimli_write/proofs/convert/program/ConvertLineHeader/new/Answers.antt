@@ -2,9 +2,10 @@ use Rattle.std.specs.Prelude.{◌≡◌}
 use Rattle.gimli_write.proofs.Common
 use Common.{refl, sym, subst, option_map, err_from_is_err_and, Sections, TablesAndTexts, tables_with, handed_of}
 use Common.{encoding_of, ReadsItems, start_of_source, reading_left, without_built}
-use Rattle.gimli_write.proofs.SourceReadings.{start_reads}
-use Rattle.gimli_write.proofs.Conversions.{prepared_plain}
-use Rattle.gimli_write.proofs.MappedFiles.{prepared_ready, ready_written}
+use Rattle.gimli_write.proofs
+use proofs.SourceReadings.{start_reads}
+use proofs.Conversions.{prepared_plain}
+use proofs.MappedFiles.{prepared_ready, ready_written}
 use Rattle.gimli_write.proofs.convert.program.ConvertLineHeader.new.Goals as goal
 
 pub returns-in_err-tables-clause-err : goal.returns-in_err-tables-clause-err
@@ -24,12 +25,11 @@ returns-clause-ok g c =
     let tables = tables_with c.prepare.new.line_strings c.in_ok-tables.tables in
     let given = handed_of c.args.encoding c.args.line_encoding (option_map g.R.Reader.bytes c.args.from_comp_name) in
     let is = rw c.header.ensures at c.in_ok-tables.ensures.ok in
-    let same : without_built tables ≡ tables = prepared_plain sections h given c.args.line_strings.now tables is in
+    let same : without_built tables ≡ tables = prepared_plain sections h given c.args.line_strings.now is in
     rw c.start-conversion.ensures (record {
       prepared = is;
       reads =
-          subst (λ (x : TablesAndTexts).
-          ReadsItems layout sections h tables h.program
+          subst (λ (x : TablesAndTexts). ReadsItems layout sections h tables h.program
           (reading_left sections (start_of_source h (record { bytes = h.program; layout = layout })) x))
           (sym same) (start_reads layout sections h tables h.program);
       unread = refl;
@@ -46,7 +46,6 @@ returns-clause-writable g c =
     let given = handed_of c.args.encoding c.args.line_encoding (option_map g.R.Reader.bytes c.args.from_comp_name) in
     let is = rw c.header.ensures at c.in_ok-tables.ensures.ok in
     rw c.start-conversion.ensures (record {
-      can = λ strings.
-          ready_written strings (encoding_of h given) tables
-          (prepared_ready strings sections h given c.args.line_strings.now tables is);
+      can = λ strings. ready_written strings (encoding_of h given) tables
+          (prepared_ready strings sections h given c.args.line_strings.now is);
     })

@@ -1,51 +1,43 @@
 use Rattle.std.specs.Prelude.{◌≡◌}
 use Rattle.gimli_write.proofs.Common
 use Common.{true, false, refl, sym, ap, ◌∙◌, subst, is_refused, reset_row, state_after, step_made, ins_seen, Read}
-use Rattle.gimli_write.proofs.SourceSteps.{state, is_overflow, ready_at_refusal, ready_when_quiet, header_kept}
-use Rattle.gimli_write.proofs.SourceSteps.{quiet_state, row_state, made_is}
+use Rattle.gimli_write.proofs.SourceSteps
+use SourceSteps.{state, is_overflow, ready_at_refusal, ready_when_quiet, header_kept, quiet_state, row_state, made_is}
 use Rattle.gimli_write.proofs.convert.run.SourceRun.execute.Goals as goal
 
 pub invariant_of-self : goal.invariant_of-self
 invariant_of-self g c =
     ready_at_refusal (ins_seen g.R.Reader.bytes g.R.Offset.ReaderOffset.number c.args.instruction) c.self.inside.row
-    c.execute.new.self c.self.invariant
-    c.self.inside.program.meaning.parameters _
+    c.execute.new.self c.self.invariant c.self.inside.program.meaning.parameters _
     c.requires.file (λ n. (c.in-Err.ensures.memory n).2) c.in-Err.ensures.overflow
 
 pub returns-in-Err-clause-overflow : goal.returns-in-Err-clause-overflow
 returns-in-Err-clause-overflow g c =
     let is =
-    is_overflow _ _ (λ n. (c.in-Err.ensures.memory n).2)
-    c.requires.file in (
+    is_overflow _ _ (λ n. (c.in-Err.ensures.memory n).2) c.requires.file in (
       ap Read is,
       subst (λ s.
           is_refused s.header.parameters (ins_seen g.R.Reader.bytes g.R.Offset.ReaderOffset.number c.args.instruction)
-          s.row
-          ≡ true)
-          c.self.view_is (c.in-Err.ensures.overflow is).0,
+          s.row ≡ true) c.self.view_is (c.in-Err.ensures.overflow is).0,
     )
 
 pub invariant_of-self-then-not-made : goal.invariant_of-self-then-not-made
 invariant_of-self-then-not-made g c =
     ready_when_quiet (ins_seen g.R.Reader.bytes g.R.Offset.ReaderOffset.number c.args.instruction) c.self.inside.row
-    c.execute.new.self c.self.invariant
-    c.self.inside.program.meaning.parameters
+    c.execute.new.self c.self.invariant c.self.inside.program.meaning.parameters
     (sym c.in-Ok.ensures.made ∙ c.if-not-made.true) c.in-Ok.ensures.step
 
 pub returns-then-not-made-clause-fits : goal.returns-then-not-made-clause-fits
 returns-then-not-made-clause-fits g c =
     subst (λ s.
     is_refused s.header.parameters (ins_seen g.R.Reader.bytes g.R.Offset.ReaderOffset.number c.args.instruction) s.row
-    ≡ false)
-    c.self.view_is c.in-Ok.ensures.fits
+    ≡ false) c.self.view_is c.in-Ok.ensures.fits
 
 pub returns-then-not-made-clause-step : goal.returns-then-not-made-clause-step
 returns-then-not-made-clause-step g c =
-    subst
-    (λ s. state c.execute.new.program.meaning c.execute.new.self c.self.inside.base c.self.inside.pending
+    subst (λ s. state c.execute.new.program.meaning c.execute.new.self c.self.inside.base c.self.inside.pending
     c.self.inside.instructions
-    ≡ state_after (ins_seen g.R.Reader.bytes g.R.Offset.ReaderOffset.number c.args.instruction) s)
-    c.self.view_is
+    ≡ state_after (ins_seen g.R.Reader.bytes g.R.Offset.ReaderOffset.number c.args.instruction) s) c.self.view_is
     (quiet_state (ins_seen g.R.Reader.bytes g.R.Offset.ReaderOffset.number c.args.instruction)
     c.self.inside.program.meaning c.execute.new.program.meaning
     c.self.inside.row c.execute.new.self c.self.inside.base c.self.inside.pending c.self.inside.instructions
@@ -56,8 +48,7 @@ pub returns-clause-fits : goal.returns-clause-fits
 returns-clause-fits g c =
     subst (λ s.
     is_refused s.header.parameters (ins_seen g.R.Reader.bytes g.R.Offset.ReaderOffset.number c.args.instruction) s.row
-    ≡ false)
-    c.self.view_is c.in-Ok.ensures.fits
+    ≡ false) c.self.view_is c.in-Ok.ensures.fits
 
 pub returns-clause-step : goal.returns-clause-step
 returns-clause-step g c =
@@ -66,14 +57,12 @@ returns-clause-step g c =
     let lent : c.header.result.now.meaning ≡ c.execute.new.program.meaning = rw c.header.ensures refl in
     subst
     (λ s. c.made.new.self ≡ state_after (ins_seen g.R.Reader.bytes g.R.Offset.ReaderOffset.number c.args.instruction) s)
-    c.self.view_is
-    (c.made.ensures.new
+    c.self.view_is (c.made.ensures.new
     ∙ row_state (ins_seen g.R.Reader.bytes g.R.Offset.ReaderOffset.number c.args.instruction)
     c.self.inside.program.meaning c.execute.new.program.meaning
     c.self.inside.row c.execute.new.self c.self.inside.base c.self.inside.pending c.self.inside.instructions
     c.requires.address c.requires.file c.in-Ok.ensures.fits c.in-Ok.ensures.files c.in-Ok.ensures.step
-    (sym c.in-Ok.ensures.made ∙ c.if-not-made.false) c.self.invariant _ lent _ reset
-    _ refl _ refl)
+    (sym c.in-Ok.ensures.made ∙ c.if-not-made.false) c.self.invariant lent reset refl refl)
 
 pub returns-clause-made : goal.returns-clause-made
 returns-clause-made g c =
@@ -84,12 +73,11 @@ returns-clause-made g c =
     c.execute.new.program.meaning
     c.self.inside.row c.execute.new.self c.self.inside.base c.self.inside.pending c.self.inside.instructions
     c.requires.address c.requires.file c.in-Ok.ensures.fits c.in-Ok.ensures.files c.in-Ok.ensures.step
-    _ _ c.made.ensures.step (sym c.in-Ok.ensures.made ∙ c.if-not-made.false) refl)
+    c.made.ensures.step (sym c.in-Ok.ensures.made ∙ c.if-not-made.false) refl)
 
 pub returns-clause-header : goal.returns-clause-header
 returns-clause-header g c =
-    subst (λ s. c.made.new.self.header ≡ s.header) c.self.view_is
-    (ap (λ q. q.header) c.made.ensures.new
+    subst (λ s. c.made.new.self.header ≡ s.header) c.self.view_is (ap (λ q. q.header) c.made.ensures.new
     ∙ header_kept (ins_seen g.R.Reader.bytes g.R.Offset.ReaderOffset.number c.args.instruction)
     c.self.inside.program.meaning c.execute.new.program.meaning
     c.self.inside.row c.execute.new.self c.self.inside.base c.self.inside.pending c.self.inside.instructions

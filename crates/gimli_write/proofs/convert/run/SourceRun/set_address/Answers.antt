@@ -1,7 +1,7 @@
 use Rattle.std.specs.Prelude.{◌≡◌}
-use Rattle.gimli_write.proofs.Common
-use Common.{subst, Some, SetAddress, SourceRun, state_after}
-use Rattle.gimli_write.proofs.SourceSteps.{state, address_done, address_ready, address_header, address_state}
+use Rattle.gimli_write.proofs
+use proofs.Common.{subst, Some, SetAddress, SourceRun, state_after}
+use proofs.SourceSteps.{state, address_done, address_ready, address_header, address_state}
 use Rattle.gimli_write.proofs.convert.run.SourceRun.set_address.Goals as goal
 
 pub invariant_of-self : goal.invariant_of-self
@@ -20,8 +20,7 @@ returns g c =
     let u = c.self.inside.instructions in
     subst
     (λ (s : SourceRun). state h2 r2 c.args.address (Some c.args.address) u ≡ state_after (SetAddress c.args.address) s)
-    c.self.view_is
-    (address_state c.args.address h h2 c.self.inside.row r2 c.self.inside.base c.self.inside.pending u
+    c.self.view_is (address_state c.args.address h h2 c.self.inside.row c.self.inside.base c.self.inside.pending u
     (address_header c.args.address h h2 c.execute-never_refused.result c.execute-never_refused.ensures.files
     c.execute-never_refused.ensures.kept)
     (address_done h.parameters c.args.address c.self.inside.row r2 c.execute-never_refused.result

@@ -1,6 +1,7 @@
 use Rattle.std.proofs.Common.{◌≡◌, refl}
-use Rattle.gimli_write.proofs.SourceSteps.{state}
-use Rattle.gimli_write.proofs.SourceFromBytes.{address_steps, quiet_steps, refused_ready, refused_steps, row_steps}
+use Rattle.gimli_write.proofs
+use proofs.SourceSteps.{state}
+use proofs.SourceFromBytes.{address_steps, quiet_steps, refused_ready, refused_steps, row_steps}
 use Rattle.gimli_write.proofs.convert.run.SourceRun.step.Goals as goal
 
 pub returns-in-Err : goal.returns-in-Err
@@ -72,7 +73,7 @@ returns-in-Row g c =
     let x =
     row_steps g.R.Reader.bytes g.R.Offset.ReaderOffset.number s _ lent _ _ c.in-Ok.ensures.layout q.0 c.self.invariant
     q.1 c.header.result.now.meaning
-    (rw c.header.ensures refl) _ c.reset.ensures _ _ c.made.ensures.step c.made.ensures.new in
+    (rw c.header.ensures refl) c.reset.ensures _ _ c.made.ensures.step c.made.ensures.new in
     rw (← c.self.view_is) (record {
       reading = x.reading;
       refusal = x.refusal;

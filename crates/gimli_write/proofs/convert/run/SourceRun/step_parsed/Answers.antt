@@ -1,9 +1,9 @@
 use Rattle.std.specs.Prelude.{◌≡◌}
-use Rattle.gimli_write.proofs.Common
-use Common.{false, refl, ap, SetAddress, DefineFile, file_seen, ins_seen, defines_file}
-use Rattle.gimli_write.proofs.TablesAtEnd.{none_last, fault_last, file_last}
-use Rattle.gimli_write.proofs.SourceSteps.{state, other_kind, spelled_as, is_shorter, none_left, at_fault, after_file}
-use Rattle.gimli_write.proofs.SourceFromBytes.{steps_source}
+use Rattle.gimli_write.proofs
+use proofs.Common.{false, refl, ap, SetAddress, DefineFile, file_seen, ins_seen, defines_file}
+use proofs.TablesAtEnd.{none_last, fault_last, file_last}
+use proofs.SourceSteps.{state, other_kind, spelled_as, is_shorter, none_left, at_fault, after_file}
+use proofs.SourceFromBytes.{steps_source}
 use Rattle.gimli_write.proofs.convert.run.SourceRun.step_parsed.Goals as goal
 
 pub returns-in-Err : goal.returns-in-Err
@@ -50,7 +50,7 @@ returns-in-DefineFile g c =
     let f = file_seen g.R.Reader.bytes g.R.Offset.ReaderOffset.number c.in-DefineFile.file in
     let is : ins_seen g.R.Reader.bytes g.R.Offset.ReaderOffset.number c.in-Ok-Some.instruction
     ≡ DefineFile f = rw c.in-DefineFile.is refl in
-    let spelled = spelled_as _ _ _ _ _ _ lent is n.2 in
+    let spelled = spelled_as _ _ lent is n.2 in
     rw (← c.self.view_is) (record {
       reading = λ sections tables. after_file sections tables s u layout f _ n.1 spelled;
       refusal = tt;
@@ -71,7 +71,7 @@ returns-in-SetAddress g c =
     let lent : c.header.result.now.meaning ≡ c.self.inside.program.meaning = rw c.header.ensures refl in
     let is : ins_seen g.R.Reader.bytes g.R.Offset.ReaderOffset.number c.in-Ok-Some.instruction
     ≡ SetAddress c.in-SetAddress.address = rw c.in-SetAddress.is refl in
-    let spelled = spelled_as _ _ _ _ _ _ lent is n.2 in
+    let spelled = spelled_as _ _ lent is n.2 in
     rw (← c.self.view_is) (steps_source _ _ s c.set_address.new.self u c.in-Ok-Some.ensures.layout
     (SetAddress c.in-SetAddress.address) (n.0, n.1, spelled) _
     (ap (λ q. q.header) c.set_address.ensures) (ap (λ q. q.unread) c.set_address.ensures) refl refl
@@ -86,10 +86,8 @@ returns-in_default g c =
     c.self.inside.instructions in
     let u = c.next_instruction.new.self in
     let lent : c.header.result.now.meaning ≡ c.self.inside.program.meaning = rw c.header.ensures refl in
-    let spelled = spelled_as _ _ _ _ i i lent refl n.2 in
-    let file : defines_file i
-    ≡ false = other_kind _ _ _ (λ f is. c.in_default.not-DefineFile f is) in
-    rw (← c.self.view_is)
-    (steps_source _ _ s c.execute.new.self u c.in-Ok-Some.ensures.layout i (n.0, n.1, spelled) _
+    let spelled = spelled_as _ _ {i = i} {j = i} lent refl n.2 in
+    let file : defines_file i ≡ false = other_kind _ _ _ (λ f is. c.in_default.not-DefineFile f is) in
+    rw (← c.self.view_is) (steps_source _ _ s c.execute.new.self u c.in-Ok-Some.ensures.layout i (n.0, n.1, spelled) _
     c.execute.ensures.header c.execute.ensures.unread file
     c.execute.ensures.fits c.execute.ensures.step c.execute.ensures.made c.execute.ensures.overflow)

@@ -1,7 +1,6 @@
 use Rattle.std.specs.Prelude.{◌<◌, ◌+◌}
 use Rattle.gimli_write.proofs.Common
-use Common.{length, map, drop, arith, sym, ◌∙◌, value_seen, TablesAndTexts, tables_with, directory_added}
-use Common.{all_added}
+use Common.{length, map, drop, arith, sym, ◌∙◌, value_seen, TablesAndTexts, tables_with, directory_added, all_added}
 use Rattle.gimli_write.proofs.ConvertSteps.{done_first, next_added, kept_then}
 use Rattle.gimli_write.proofs.convert.tables.SourceTables.add_directories.Goals as goal
 
@@ -17,12 +16,11 @@ loop-directory-preserved g c =
     let next = tables_with c.add_directory.new.line_strings c.add_directory.new.self in
     record {
       left =
-          sym (done_first (add here (seen x)) (λ (l : TablesAndTexts). all_added add (map seen (drop (i + 1) xs)) l)
-          next c.in_ok-add_directory.ensures.ok)
-          ∙ sym (next_added add seen xs i x here lt c.directory-item.is) ∙ c.loop-directory.invariant.left;
+          sym (done_first (λ (l : TablesAndTexts). all_added add (map seen (drop (i + 1) xs)) l)
+          c.in_ok-add_directory.ensures.ok)
+          ∙ sym (next_added add seen xs i here lt c.directory-item.is) ∙ c.loop-directory.invariant.left;
       stays = grind (arith, kept_then);
     }
 
 pub returns-in_err-add_directory-clause-stays : goal.returns-in_err-add_directory-clause-stays
-returns-in_err-add_directory-clause-stays g c =
-    grind (arith, kept_then)
+returns-in_err-add_directory-clause-stays g c = grind (arith, kept_then)

@@ -1,6 +1,5 @@
 use Rattle.std.specs.Prelude.{◌≡◌}
-use Rattle.gimli_write.proofs.Common
-use Common.{map, drop, value_seen, KeepsTexts, tables_with, directory_added, all_added}
+use Rattle.gimli_write.proofs.Common.{map, drop, value_seen, KeepsTexts, tables_with, directory_added, all_added}
 use Rattle.gimli_write.proofs.convert.tables.SourceTables.add_directories.Given as goal
 
 -- what is left to be added gives what all gave

@@ -1,6 +1,6 @@
-use Rattle.gimli_write.proofs.Common
-use Common.{value_seen, TablesAndTexts}
-use Rattle.gimli_write.proofs.ConvertSteps.{directory_is_added}
+use Rattle.gimli_write.proofs
+use proofs.Common.{value_seen, TablesAndTexts}
+use proofs.ConvertSteps.{directory_is_added}
 use Rattle.gimli_write.proofs.convert.tables.SourceTables.add_directory.Goals as goal
 
 pub returns-in-Ok-clause-ok : goal.returns-in-Ok-clause-ok
@@ -16,4 +16,4 @@ returns-in-Ok-clause-ok g c =
     let made = rw (c.encoding-encoding.ensures.encoding, c.as_slice.ensures.value) at c.in_ok-text.ensures.ok in
     let after = rw (c.encoding-encoding.ensures.encoding, c.as_slice.ensures.value) at c.in_ok-text.ensures.table in
     rw (← c.self.view_is, c.in-Ok.ensures.ok, c.in_ok-push-in-Ok.ensures.items, c.in-Ok.ensures.id)
-    (directory_is_added _ _ v _ _ _ path made after)
+    (directory_is_added _ _ v path made after)

@@ -1,6 +1,6 @@
 use Rattle.std.specs.Prelude.{◌<◌, ◌+◌}
 use Rattle.gimli_write.proofs.Common
-use Common.{length, map, drop, arith, sym, ◌∙◌, err_from_is_err_and, file_seen, ◌>>=◌, TablesAndTexts}
+use Common.{length, map, drop, arith, sym, ◌∙◌, err_from_is_err_and, file_seen, TablesAndTexts}
 use Common.{tables_with, file_added, all_added}
 use Rattle.gimli_write.proofs.ConvertSteps.{done_first, refused_first, refused_same, next_added, kept_then}
 use Rattle.gimli_write.proofs.convert.tables.SourceTables.add_files.Goals as goal
@@ -17,9 +17,9 @@ loop-file-preserved g c =
     let next = tables_with c.add_file.new.line_strings c.add_file.new.self in
     record {
       left =
-          sym (done_first (add here (seen x)) (λ (l : TablesAndTexts). all_added add (map seen (drop (i + 1) xs)) l)
-          next c.in_ok-add_file.ensures.ok)
-          ∙ sym (next_added add seen xs i x here lt c.file-item.is) ∙ c.loop-file.invariant.left;
+          sym (done_first (λ (l : TablesAndTexts). all_added add (map seen (drop (i + 1) xs)) l)
+          c.in_ok-add_file.ensures.ok)
+          ∙ sym (next_added add seen xs i here lt c.file-item.is) ∙ c.loop-file.invariant.left;
       stays = grind (arith, kept_then);
     }
 
@@ -34,13 +34,9 @@ returns-in_err-add_file-clause-err g c =
     let here = tables_with c.loop-file.line_strings c.loop-file.self in
     let e = c.in_err-add_file.field-0.0 in
     let p = err_from_is_err_and c.from_residual.result c.from_residual.ensures.1 in
-    rw (p.1, p.2)
-    (refused_same (add here (seen x) >>= λ l. all_added add (map seen (drop (i + 1) xs)) l)
-    (all_added add (map seen xs) (tables_with c.args.line_strings.now c.args.self.now)) e
-    (sym (next_added add seen xs i x here lt c.file-item.is) ∙ c.loop-file.invariant.left)
+    rw (p.1, p.2) (refused_same e (sym (next_added add seen xs i here lt c.file-item.is) ∙ c.loop-file.invariant.left)
     (refused_first (add here (seen x)) (λ l. all_added add (map seen (drop (i + 1) xs)) l) e
     c.in_err-add_file.ensures.err))
 
 pub returns-in_err-add_file-clause-stays : goal.returns-in_err-add_file-clause-stays
-returns-in_err-add_file-clause-stays g c =
-    grind (arith, kept_then)
+returns-in_err-add_file-clause-stays g c = grind (arith, kept_then)

@@ -1,6 +1,5 @@
 use Rattle.std.specs.Prelude.{◌≡◌}
-use Rattle.gimli_write.proofs.Common
-use Common.{map, drop, file_seen, KeepsTexts, tables_with, file_added, all_added}
+use Rattle.gimli_write.proofs.Common.{map, drop, file_seen, KeepsTexts, tables_with, file_added, all_added}
 use Rattle.gimli_write.proofs.convert.tables.SourceTables.add_files.Given as goal
 
 -- what is left to be added gives what all gave

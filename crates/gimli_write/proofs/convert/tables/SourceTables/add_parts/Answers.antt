@@ -1,8 +1,8 @@
-use Rattle.gimli_write.proofs.Common
-use Common.{refl, option_map, file_seen, line_text, TablesAndTexts, FileParts}
-use Rattle.gimli_write.proofs.ConvertSteps.{parts_are_added, kept_then}
-use Rattle.gimli_write.proofs.KeptFiles.{keeps_more}
-use Rattle.gimli_write.proofs.Writable.{written_later, written_with_parts}
+use Rattle.gimli_write.proofs
+use proofs.Common.{refl, option_map, file_seen, line_text, TablesAndTexts, FileParts}
+use proofs.ConvertSteps.{parts_are_added, kept_then}
+use proofs.KeptFiles.{keeps_more}
+use proofs.Writable.{written_later, written_with_parts}
 use Rattle.gimli_write.proofs.convert.tables.SourceTables.add_parts.Goals as goal
 
 pub returns-in_ok-push-in-Ok-clause-ok : goal.returns-in_ok-push-in-Ok-clause-ok
@@ -32,9 +32,7 @@ returns-in_ok-push-in-Ok-clause-ok g c =
       c.timestamp.ensures,
       c.size.ensures,
       c.md5.ensures,
-    )
-    (parts_are_added _ f _ _ _
-    _ _ made after source_made source_after)
+    ) (parts_are_added _ f _ made after source_made source_after)
 
 pub returns-in_ok-push-in-Ok-clause-keeps : goal.returns-in_ok-push-in-Ok-clause-keeps
 returns-in_ok-push-in-Ok-clause-keeps g c =
@@ -47,34 +45,28 @@ returns-in_ok-push-in-Ok-clause-keeps g c =
 pub returns-in_err-path-clause-writable : goal.returns-in_err-path-clause-writable
 returns-in_err-path-clause-writable g c = record {
   still = λ strings can.
-      written_later strings c.args.line_strings.now c.program_text.new.line_strings c.in_err-path.ensures.stays _ can;
+      written_later strings c.args.line_strings.now c.program_text.new.line_strings c.in_err-path.ensures.stays can;
 }
 
 pub returns-in_err-source-clause-writable : goal.returns-in_err-source-clause-writable
 returns-in_err-source-clause-writable g c =
-    let kept =
-    kept_then _ _ _ c.in_ok-path.ensures.stays
-    c.in_err-source.ensures.stays in
+    let kept = kept_then c.in_ok-path.ensures.stays c.in_err-source.ensures.stays in
     record {
-      still = λ strings. written_later strings c.args.line_strings.now c.optional_program_text.new.line_strings kept _;
+      still = λ strings. written_later strings c.args.line_strings.now c.optional_program_text.new.line_strings kept;
     }
 
 pub returns-in-Err-clause-writable : goal.returns-in-Err-clause-writable
 returns-in-Err-clause-writable g c =
-    let kept =
-    kept_then _ _ _ c.in_ok-path.ensures.stays
-    c.in_ok-source.ensures.stays in
+    let kept = kept_then c.in_ok-path.ensures.stays c.in_ok-source.ensures.stays in
     record {
       still = λ strings. rw (c.in-Err.ensures.err, ← c.self.view_is)
-          (written_later strings c.args.line_strings.now c.optional_program_text.new.line_strings kept _);
+          (written_later strings c.args.line_strings.now c.optional_program_text.new.line_strings kept);
     }
 
 pub returns-in_err-push-in-Ok-clause-writable : goal.returns-in_err-push-in-Ok-clause-writable
 returns-in_err-push-in-Ok-clause-writable g c =
     record {
-      still = λ strings. rw (c.in-Ok.ensures.ok, ← c.self.view_is)
-          (written_with_parts line_text _ _ _ _
-          _ _ _ _ _ _ _
+      still = λ strings. rw (c.in-Ok.ensures.ok, ← c.self.view_is) (written_with_parts line_text _ _ _ _ _ _ _
           c.in_ok-path.ensures.stays c.in_ok-source.ensures.stays c.in_ok-path.ensures.within
           c.in_ok-source.ensures.within c.in_ok-source.ensures.no_zero);
     }
@@ -82,9 +74,7 @@ returns-in_err-push-in-Ok-clause-writable g c =
 pub returns-in_ok-push-in-Ok-clause-writable : goal.returns-in_ok-push-in-Ok-clause-writable
 returns-in_ok-push-in-Ok-clause-writable g c =
     record {
-      still = λ strings. rw (c.in-Ok.ensures.ok, ← c.self.view_is)
-          (written_with_parts line_text _ _ _ _
-          _ _ _ _ _ _ _
+      still = λ strings. rw (c.in-Ok.ensures.ok, ← c.self.view_is) (written_with_parts line_text _ _ _ _ _ _ _
           c.in_ok-path.ensures.stays c.in_ok-source.ensures.stays c.in_ok-path.ensures.within
           c.in_ok-source.ensures.within c.in_ok-source.ensures.no_zero);
     }

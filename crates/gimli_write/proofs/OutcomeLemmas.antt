@@ -1,3 +1,0 @@
--- The tests of a conversion tell the builder's conditions.
-
--- ---- the tests
