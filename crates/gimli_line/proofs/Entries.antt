@@ -46,8 +46,7 @@ module _ (layout : OrderAndLimit) (format : Format) {A : Type 0} (step : A → �
       → folded_at layout format step first formats bytes
       ≡ read_map (fold_of step first) (entry_at layout format formats bytes)
   folded_is first [] bytes = refl
-  folded_is first (f ∷ formats) bytes =
-      at_value (form_at layout format f.form.0 bytes) (λ value rest.
+  folded_is first (f ∷ formats) bytes = at_value (form_at layout format f.form.0 bytes) (λ value rest.
       folded_is (step first f.content_type.0 value) formats rest)
     where
       after : (value : Value) (r : Read TableEntry)
@@ -75,7 +74,6 @@ module _ (layout : OrderAndLimit) (format : Format) where
   pub file_is : (formats : List FileEntryFormat) (bytes : List ℕ)
       → folded_at layout format file_with (plain_file [] 0 0 0) formats bytes
       ≡ read_map file_of_entry (entry_at layout format formats bytes)
-  file_is formats bytes =
-      folded_is layout format file_with (plain_file [] 0 0 0) formats bytes
+  file_is formats bytes = folded_is layout format file_with (plain_file [] 0 0 0) formats bytes
       ∙ viewed_by (fold_of file_with (plain_file [] 0 0 0)) file_of_entry (file_folded (plain_file [] 0 0 0))
       (entry_at layout format formats bytes)

@@ -1,11 +1,12 @@
 -- What rows at the start of a sequence make and give.
-use Rattle.gimli_line.proofs.Common
+use Rattle.gimli_line.proofs
+use proofs.Common
 use Common.{Bool, List, Option, ap, Error, HeaderSource, Header, without_files, Ins, given_of, Makes, EventsWithFiles}
 use Common.{FilesAtEnd, decoded_at, events_left, made_left, files_at_end, start_of_run, Unread}
 use Rattle.gimli_line.specs.run.InstructionGrammar.{Decodes}
-use Rattle.gimli_line.proofs.Backwards.{made_start, files_from_start}
-use Rattle.gimli_line.proofs.InstructionLaws.{is_decoded}
-use Rattle.gimli_line.proofs.Runs.{bare_decoding}
+use proofs.Backwards.{made_start, files_from_start}
+use proofs.InstructionLaws.{is_decoded}
+use proofs.Runs.{bare_decoding}
 
 -- rows at the start of a sequence, by the bytes that are to come
 module _ (a : Bool) (h : Header) (c : HeaderSource) (s : Unread) where

@@ -7,11 +7,25 @@ use Common.{number, some_bytes, text, unsigned, signed, below_limit, IsWanting, 
 use Common.{UnknownStandard0, UnknownStandard1, UnknownStandardN, UnknownExtended, Header, file_production, operand_of}
 use Common.{bytes_of, Ins}
 use Rattle.gimli_core.specs.Production.{◌>>=◌}
-use Rattle.gimli_line.specs.run.InstructionGrammar.{Operand, none, uleb, sleb, uhalf, address, file, standard_opcodes}
-use Rattle.gimli_line.specs.run.InstructionGrammar.{extended_opcodes, operand_production}
-use Rattle.gimli_line.specs.run.InstructionGrammar.{unknown_production, standard_production, extended_operands}
-use Rattle.gimli_line.specs.run.InstructionGrammar.{extended_production, instruction_production}
-use Rattle.gimli_line.specs.run.InstructionGrammar.{IsInstructionRefusal}
+use Rattle.gimli_line.specs
+use specs.run.InstructionGrammar.{
+  Operand,
+  none,
+  uleb,
+  sleb,
+  uhalf,
+  address,
+  file,
+  standard_opcodes,
+  extended_opcodes,
+  operand_production,
+  unknown_production,
+  standard_production,
+  extended_operands,
+  extended_production,
+  instruction_production,
+  IsInstructionRefusal,
+}
 
 -- a production that is refused as an instruction may be
 record IsKnown {A : Type 0} (layout : OrderAndLimit) (l : Production A) : Type 0 where
@@ -66,15 +80,13 @@ module _ (layout : OrderAndLimit) where
   bytes_of_known : {A : Type 0} (l : Production A) → IsKnown layout l → IsKnown layout (bytes_of l)
   bytes_of_known l known = grind arith
 
-  within_known : {A : Type 0} (inside : List ℕ) (l : Production A) → IsKnown layout l
-      → IsKnown layout (within inside l)
+  within_known : {A : Type 0} (inside : List ℕ) (l : Production A) → IsKnown layout l → IsKnown layout (within inside l)
   within_known inside l known = grind arith
 
   -- a number that the reader's offsets don't hold is below 2 ^ 64
   limit_known : IsKnown layout (below_limit layout unsigned)
   limit_known = record {
-    known = λ bytes e f.
-        elim f [ inl p ↦ unsigned_known.known bytes e p | inr p ↦ at_check p.0 p.1 p.4 p.2 e p.5 ];
+    known = λ bytes e f. elim f [ inl p ↦ unsigned_known.known bytes e p | inr p ↦ at_check p.0 p.1 p.4 p.2 e p.5 ];
   }
     where
       at_check : (n : ℕ) (front : List ℕ) → SpellsUleb128 64 front n → (rest : List ℕ) (e : Error)
@@ -86,8 +98,7 @@ module _ (layout : OrderAndLimit) where
   -- ---- instructions
 
   file_known : (path : List ℕ) → IsKnown layout (file_production path)
-  file_known path =
-      grind (arith)
+  file_known path = grind (arith)
 
   module _ (h : Header) where
     operand_known : (operand : Operand) → IsKnown layout (operand_production layout h operand)
@@ -117,22 +128,20 @@ module _ (layout : OrderAndLimit) where
     standard_known : (opcode : ℕ) → IsKnown layout (standard_production layout h opcode)
     standard_known opcode = at_operand (operand_of opcode standard_opcodes)
       where
-        at_operand : (found : Option Operand) → IsKnown {A = Ins} layout
-            (elim found [
-              | Some operand ↦ operand_production layout h operand
-              | None ↦ unknown_production layout h opcode (slice_index h.operand_counts (opcode - 1))
-            ])
+        at_operand : (found : Option Operand) → IsKnown {A = Ins} layout (elim found [
+          | Some operand ↦ operand_production layout h operand
+          | None ↦ unknown_production layout h opcode (slice_index h.operand_counts (opcode - 1))
+        ])
         at_operand (Some operand) = operand_known operand
         at_operand None = unknown_known opcode (slice_index h.operand_counts (opcode - 1))
 
     operands_known : (opcode : ℕ) (operands : List ℕ) → IsKnown layout (extended_operands layout h opcode operands)
     operands_known opcode operands = at_operand (operand_of opcode (extended_opcodes h.parameters.encoding.version))
       where
-        at_operand : (found : Option Operand) → IsKnown {A = Ins} layout
-            (elim found [
-              | Some operand ↦ within operands (operand_production layout h operand) >>= (λ read. done read.0)
-              | None ↦ done (UnknownExtended (record { 0 = opcode }) operands)
-            ])
+        at_operand : (found : Option Operand) → IsKnown {A = Ins} layout (elim found [
+          | Some operand ↦ within operands (operand_production layout h operand) >>= (λ read. done read.0)
+          | None ↦ done (UnknownExtended (record { 0 = opcode }) operands)
+        ])
         at_operand (Some operand) =
             then_known (within operands (operand_production layout h operand)) _
             (within_known operands (operand_production layout h operand) (operand_known operand)) (λ read.

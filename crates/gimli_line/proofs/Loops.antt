@@ -22,15 +22,13 @@ viewed_same (Err e, rest) = refl
 module _ {A B : Type 0} (f : A → B) where
   regroup : (xs : List B) (x : A) (v : B) → f x ≡ v → (r : Read (List A))
       → collected xs f (r >>= λ ys rest. (Ok (x ∷ ys), rest)) ≡ collected (xs ++ v ∷ []) f r
-  regroup xs x v is (Ok ys, rest) =
-      grind (arith, append_assoc)
+  regroup xs x v is (Ok ys, rest) = grind (arith, append_assoc)
   regroup xs x v is (Err e, rest) = refl
 
   -- what was read, where it is seen
   seen_item : (r : Read A) (v : B) (left : List ℕ) → (Ok v, left) ≡ read_map f r
       → (x : A) × (r ≡ (Ok x, left)) × (f x ≡ v)
-  seen_item r v left e =
-      grind (arith)
+  seen_item r v left e = grind (arith)
 
   seen_fault : (r : Read A) (e : Error) (left : List ℕ) → (Err e, left) ≡ read_map f r → r.0 ≡ Err e
   seen_fault (Ok x, rest) e left is = grind arith
@@ -62,8 +60,7 @@ module _ {A B : Type 0} (f : A → B) where
     times_ends xs count i bytes e left total lt is so_far =
         let k : count - i ≡ suc (count - (i + 1)) = omega arith in
         let refused = seen_fault (read bytes) e left is in
-        let inner =
-        bind_refused (read bytes)
+        let inner = bind_refused (read bytes)
         (λ x rest. times_at (count - (i + 1)) read rest >>= λ ys end. (let s : Read (List A) = (Ok (x ∷ ys), end) in s))
         e
         refused in
@@ -154,8 +151,7 @@ module _ {A B : Type 0} (f : A → B) where
         ≡ Err e = rw is (bind_refused (read bytes)
         (λ x rest. closed_below (length bytes) read rest >>= λ ys end.
         (let s : Read (List A) = (Ok (x ∷ ys), end) in s)) e refused) in
-        let one =
-        bind_refused (list_to_zero_at read bytes)
+        let one = bind_refused (list_to_zero_at read bytes)
         (λ ys rest. (let s : Read (List B) = (Ok (xs ++ map f ys), rest) in s)) e inner in
         ap (λ (r : Read (List B)). r.0) (sym so_far) ∙ one
 
@@ -179,8 +175,7 @@ text_closed bytes text rest empty e =
 
 pub text_free : (bytes text rest : List ℕ) → (IsTrue false ↔ (text ≡ [])) → (Ok text, rest) ≡ text_at bytes
     → is_closed bytes ≡ false
-text_free bytes text rest empty e =
-    grind (arith)
+text_free bytes text rest empty e = grind (arith)
 
 pub text_refused : (bytes rest : List ℕ) (e : Error) → (Err e, rest) ≡ text_at bytes → is_closed bytes ≡ false
 text_refused bytes rest e is = grind (arith)
@@ -190,13 +185,11 @@ text_refused bytes rest e is = grind (arith)
 pub named_is : (bytes path mid : List ℕ) (answer : Read File) → (Ok path, mid) ≡ text_at bytes
     → answer ≡ plain_file_at path mid
     → answer ≡ read_map (λ x. x) (named_file_at bytes)
-named_is bytes path mid answer e is =
-    grind (arith)
+named_is bytes path mid answer e is = grind (arith)
 
 pub named_fault : (bytes mid : List ℕ) (e : Error) → (Err e, mid) ≡ text_at bytes
     → (Err e, mid) ≡ read_map (λ x. x) (named_file_at bytes)
-named_fault bytes mid e is =
-    grind (arith)
+named_fault bytes mid e is = grind (arith)
 
 -- ---- the entries of a table of version 5, whose count is read first
 
@@ -218,5 +211,4 @@ pub entry_kept : (format : Format) {B : Type 0} (f : TableEntry → B) (formats 
     → now ≡ first
     → answer ≡ read_map f (entry_at (layout_of now limit) format formats bytes)
     → answer ≡ read_map f (entry_at (layout_of first limit) format formats bytes)
-entry_kept format f formats now first limit bytes answer same is =
-    grind arith
+entry_kept format f formats now first limit bytes answer same is = grind arith

@@ -23,8 +23,7 @@ module _ (is_big : Bool) (limit : ℕ) (unit_entry : UnitEntry) where
       → (Ok opened, program) ≡ opening_at layout unit_entry.address_size unit.1 inside
       → (header_at layout unit_entry bytes).0 ≡ (fields_at layout unit_entry unit.0 opened program opened.fields).0
   unfolding header_at
-  header_answer bytes unit rest inside left opened program length whole opening =
-      rw (← length, ← whole, ← opening)
+  header_answer bytes unit rest inside left opened program length whole opening = rw (← length, ← whole, ← opening)
       (last_answer (fields_at layout unit_entry unit.0 opened program opened.fields) left)
 
   -- the fields take no address size
@@ -50,8 +49,7 @@ module _ (is_big : Bool) (limit : ℕ) (unit_entry : UnitEntry) where
       let again : (Ok opened, program) ≡ opening_at layout unit_entry.address_size unit.1 inside = opening
       ∙ ap (λ (b : Bool). opening_at (layout_of b limit) unit_entry.address_size unit.1 inside) same in
       let is = header_answer bytes unit rest inside left opened program length whole again in
-      let others =
-      ap (λ (b : Bool).
+      let others = ap (λ (b : Bool).
       (fields_at (layout_of b limit) (record unit_entry { address_size = size }) unit.0 opened program
       opened.fields).0)
       kept in

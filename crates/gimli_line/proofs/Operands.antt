@@ -23,8 +23,7 @@ module _ {A : Type 0} (read : List ℕ → Read A) where
   pub pass_ends : (count i : ℕ) (bytes : List ℕ) (e : Error) (left : List ℕ) (total : Read (Unit {0})) → i < count
       → (Err e, left) ≡ read bytes
       → without_value (times_at (count - i) read bytes) ≡ total → (Err e, left) ≡ total
-  pass_ends count i bytes e left total lt is so_far =
-      grind arith
+  pass_ends count i bytes e left total lt is so_far = grind arith
 
 -- what was passed over stood in front of what is left
 pub passed_front : (count : ℕ) (bytes left : List ℕ) (u : Unit {0})

@@ -1,15 +1,16 @@
 -- A sequence that is resumed gives what its bytes give by looking back, as a program of their own.
 use Rattle.std.specs.Prelude.{◌≡◌, ◌∷◌, ◌++◌}
-use Rattle.gimli_line.proofs.Common
+use Rattle.gimli_line.proofs
+use proofs.Common
 use Common.{ℕ, false, List, [], map, Option, refl, sym, ap, subst, ◌∙◌, All, map-append, Error, OrderAndLimit, LineRow}
 use Common.{Header, without_files, HeaderSource, Ins, decoded_at, Event, row, EventWithFiles, Events, events_of}
 use Common.{program_events, events_left, start_of_run, GivesRowsAlone, IsRow, Unread}
 use Rattle.std.proofs.lemmas.List.Elements.{All-nil, All-cons}
 use Rattle.gimli_line.specs.run.InstructionGrammar.{Decodes}
 use Rattle.gimli_line.specs.run.Sequences.{Sequence, HasRun, HaveRuns, ResumesToRows}
-use Rattle.gimli_line.proofs.InstructionLaws.{is_decoded, one_decoding}
-use Rattle.gimli_line.proofs.Runs.{bare_decoding}
-use Rattle.gimli_line.proofs.RunLists.{given_from_start}
+use proofs.InstructionLaws.{is_decoded, one_decoding}
+use proofs.Runs.{bare_decoding}
+use proofs.RunLists.{given_from_start}
 
 -- ---- bytes give one run
 
@@ -17,8 +18,7 @@ module _ (n : OrderAndLimit) (h : Header) (bytes : List ℕ) where
   same_decoding : (list other : List Ins) (end finish : Option Error) → Decodes n h bytes list end
       → Decodes n h bytes other finish
       → program_events h.parameters list end ≡ program_events h.parameters other finish
-  same_decoding list other end finish a b =
-      ap (λ (p : List Ins × Option Error). program_events h.parameters p.0 p.1)
+  same_decoding list other end finish a b = ap (λ (p : List Ins × Option Error). program_events h.parameters p.0 p.1)
       (one_decoding n h bytes list end a ∙ sym (one_decoding n h bytes other finish b))
 
   pub one_run : (run other : List Event) → Events n h bytes run → Events n h bytes other → run ≡ other
@@ -59,10 +59,8 @@ module _ (h : Header) (c : HeaderSource) (s : Unread) where
   -- they give the run of the bytes
   pub gives_run : (run : List Event) → Events s.layout h s.bytes run
       → events_of (events_left (start_of_run false h c s)) ≡ run
-  gives_run run has =
-      given_from_start false h.parameters h.files decoded.0 decoded.1
-      ∙ same_decoding s.layout h s.bytes decoded.0 has.list decoded.1 has.end decoding has.decoding
-      ∙ sym has.given
+  gives_run run has = given_from_start false h.parameters h.files decoded.0 decoded.1
+      ∙ same_decoding s.layout h s.bytes decoded.0 has.list decoded.1 has.end decoding has.decoding ∙ sym has.given
 
   -- and rows alone, where that has rows alone
   pub gives_rows_alone : (rows : List LineRow) → Events s.layout h s.bytes (map row rows)
@@ -77,8 +75,7 @@ module _ (h : Header) (c : HeaderSource) (s : Unread) where
 to_rows : (h : Header) (s : Sequence) (run : List Event) → HasRun h s run → ResumesToRows h s
 to_rows h s run has = record {
   rows = has.is.rows ++ has.is.last ∷ [];
-  given =
-      subst (λ (events : List Event). Events s.unread.layout h s.unread.bytes events)
+  given = subst (λ (events : List Event). Events s.unread.layout h s.unread.bytes events)
       (has.is.given ∙ sym (map-append row has.is.rows (has.is.last ∷ [])))
       has.given;
 }

@@ -96,13 +96,12 @@ module _ (layout : OrderAndLimit) (h : Header) where
 
   pub made_bounded : (appends : Bool) (bytes : List ℕ) (events : List EventWithFiles)
       → Makes layout appends h bytes events → length events ≤ length bytes
-  made_bounded appends bytes events m =
-      omega (
-        arith,
-        ap length m.made,
-        few_after h.parameters (files_at appends h.files) [] m.list m.end,
-        decoded_bounded bytes m.list m.end m.decoding,
-      )
+  made_bounded appends bytes events m = omega (
+    arith,
+    ap length m.made,
+    few_after h.parameters (files_at appends h.files) [] m.list m.end,
+    decoded_bounded bytes m.list m.end m.decoding,
+  )
 
   pub events_bounded : (bytes : List ℕ) (events : List Event) → Events layout h bytes events
       → length events ≤ length bytes
@@ -131,8 +130,7 @@ module _ (layout : OrderAndLimit) (h : Header) where
       )
 
 pub made_left_bounded : (rows : RunState) → length (made_left rows) ≤ length rows.unread.bytes
-made_left_bounded rows =
-    grind (arith, few_from, taken_bounded)
+made_left_bounded rows = grind (arith, few_from, taken_bounded)
 
 pub left_bounded : (rows : RunState) → length (events_left rows) ≤ length rows.unread.bytes
 left_bounded rows = grind (arith, few_given, made_left_bounded)

@@ -34,8 +34,7 @@ still_adds : (a b : RunState) → KeepsRun a b → (order : Bool) → AddsInOrde
 still_adds a b keeps order adds = λ appends. ap (λ n. n.is_big) keeps.unread ∙ adds (sym keeps.appends ∙ appends)
 
 pub keeps_same : (x y : RunState) → x ≡ y → KeepsRun x y
-keeps_same x y same =
-    subst (KeepsRun x) same
+keeps_same x y same = subst (KeepsRun x) same
     (record { fixed = refl; appends = refl; unread = refl; source = source_kept (AddsInOrder x) x.source })
 
 pub keeps_both : (x y z : RunState) → KeepsRun x y → KeepsRun y z → KeepsRun x z
@@ -54,8 +53,7 @@ pub sees_after : {R Offset Endian : Type 0} (is_big : R → Bool) (number : Offs
     → SeesHeader is_big number y h → SeesHeader is_big number x h
 sees_after is_big number x y h p q = record {
   fixed = q.fixed ∙ p.fixed;
-  source =
-      source_both (AddsInOrder x) x.source y.source (source_of is_big number h) p.source
+  source = source_both (AddsInOrder x) x.source y.source (source_of is_big number h) p.source
       (fits_less _ _ _ _ (still_adds x y p) q.source);
 }
 

@@ -27,8 +27,7 @@ module _ {B : Type 0} (plain : List ℕ → Read (List B)) (view : TableEntry �
 
     pub table_4_end : (e : Error) → encoding.version ≤ 4 → (plain bytes).0 ≡ Err e → here.0 ≡ Err e
     unfolding table_of
-    table_4_end e old is =
-        rw (le-leb encoding.version 4 old)
+    table_4_end e old is = rw (le-leb encoding.version 4 old)
         (bind_refused (plain bytes) (λ items rest. (let s : Read Table = (Ok ([], items), rest) in s)) e is)
 
     pub formats_end : (e : Error) → 4 < encoding.version → (formats_at bytes).0 ≡ Err e → here.0 ≡ Err e
@@ -39,8 +38,7 @@ module _ {B : Type 0} (plain : List ℕ → Read (List B)) (view : TableEntry �
       (formats lent : List FileEntryFormat) (new : 4 < encoding.version)
       (head : formats_at bytes ≡ (Ok formats, mid)) (kept : now ≡ first) (same : lent ≡ formats) where
     abbrev items_at : Bool → List FileEntryFormat → Read (List B)
-    items_at is_big formats =
-        read_map (map view) (entries_at (layout_of is_big limit) encoding.format formats mid)
+    items_at is_big formats = read_map (map view) (entries_at (layout_of is_big limit) encoding.format formats mid)
 
     abbrev before : Read Table
     before = table_of plain view (layout_of first limit) encoding bytes

@@ -12,13 +12,11 @@ use Rattle.gimli_line.specs.UnitReading.{any_unit_at, after_unit, offsets_upto, 
 module _ (layout : OrderAndLimit) where
   pub reads_any_unit : Reads (any_unit layout) (any_unit_at layout)
   unfolding any_unit_at
-  reads_any_unit =
-      reads_both (unit_length layout) _ _ _ (reads_unit_length layout) (λ unit. reads_some_bytes unit.0)
+  reads_any_unit = reads_both (unit_length layout) _ _ _ (reads_unit_length layout) (λ unit. reads_some_bytes unit.0)
 
   -- a unit has bytes
   unit_some : (unit content : List ℕ) → (any_unit layout).Spells unit content → 0 < length unit
-  unit_some unit content s =
-      grind (arith, length-append)
+  unit_some unit content s = grind (arith, length-append)
 
   -- what comes after the bytes that were read is an end of them, and is shorter
   after_end : (bytes : List ℕ) (r : Read (List ℕ)) → any_unit_at layout bytes ≡ r
@@ -60,8 +58,7 @@ module _ (layout : OrderAndLimit) where
     enough (suc more) (suc less) (b ∷ bytes) le lower =
         let some : b ∷ bytes ≢ [] = λ none. absurd cc in
         let fewer = after_less (b ∷ bytes) (any_unit_at layout (b ∷ bytes)) some refl in
-        upto_some more (b ∷ bytes) some
-        ∙ ap (λ (os : List ℕ). (end - length (b ∷ bytes)) ∷ os)
+        upto_some more (b ∷ bytes) some ∙ ap (λ (os : List ℕ). (end - length (b ∷ bytes)) ∷ os)
         (enough more less (after_unit (any_unit_at layout (b ∷ bytes))) (omega arith) (omega arith))
         ∙ sym (upto_some less (b ∷ bytes) some)
 
@@ -75,8 +72,7 @@ module _ (layout : OrderAndLimit) where
     offsets_some (b ∷ bytes) some =
         let after = after_unit (any_unit_at layout (b ∷ bytes)) in
         let fewer = after_less (b ∷ bytes) (any_unit_at layout (b ∷ bytes)) some refl in
-        upto_some (length bytes) (b ∷ bytes) some
-        ∙ ap (λ (os : List ℕ). (end - length (b ∷ bytes)) ∷ os)
+        upto_some (length bytes) (b ∷ bytes) some ∙ ap (λ (os : List ℕ). (end - length (b ∷ bytes)) ∷ os)
         (enough (length bytes) (length after) after (omega arith) (omega arith))
 
   -- the offsets that are found are those of the units
@@ -106,15 +102,13 @@ module _ (layout : OrderAndLimit) where
             rest = rest;
             parts = f.1;
             spelled = f.2;
-            follow =
-                others (offset + length f.0) rest (omega (arith, length-append f.0 rest, ap length f.1))
+            follow = others (offset + length f.0) rest (omega (arith, length-append f.0 rest, ap length f.1))
                 (omega (arith, length-append f.0 rest, ap length f.1));
           })
-      at_answer some others (Err e, rest) is =
-          inr (
-            record { some = some; error = e; fault = reads_any_unit.fault (b ∷ bytes) e (rw is refl) },
-            upto_none end more,
-          )
+      at_answer some others (Err e, rest) is = inr (
+        record { some = some; error = e; fault = reads_any_unit.fault (b ∷ bytes) e (rw is refl) },
+        upto_none end more,
+      )
 
   -- and there are no others
   only_units : (offsets : List ℕ) (end more offset : ℕ) (bytes : List ℕ) → length bytes ≤ more
@@ -174,14 +168,12 @@ module _ (layout : OrderAndLimit) where
       → (header_production layout unit_entry).Spells unit h
       → (content : List ℕ) × (any_unit layout).Spells unit content
       × (length unit ≡ initial_length_size h.parameters.encoding.format + h.unit_length)
-  unit_size unit_entry unit h s =
-      grind (arith, append-nil, length-append)
+  unit_size unit_entry unit h s = grind (arith, append-nil, length-append)
 
   pub unit_ends : (unit_entry : UnitEntry) (offset : ℕ) (bytes : List ℕ) (h : Header)
       → SpellsUnit layout unit_entry bytes h
       → offset_after offset h ≤ offset + length bytes
-  unit_ends unit_entry offset bytes h u =
-      grind (arith, length-append)
+  unit_ends unit_entry offset bytes h u = grind (arith, length-append)
 
   pub unit_follows : (unit_entry : UnitEntry) (offset next : ℕ) (bytes offsets : List ℕ) (h : Header)
       → SpellsUnit layout unit_entry bytes h
@@ -234,5 +226,4 @@ module _ (layout : OrderAndLimit) where
       offsets_some (length section) (drop offset section) some
       ∙ ap
       (λ (n : ℕ). n ∷ offsets_at layout (length section) (after_unit (any_unit_at layout (drop offset section))))
-      first
-      ∙ ap (λ (xs : List ℕ). offset ∷ offsets_at layout (length section) xs) (sym is ∙ sym rest)
+      first ∙ ap (λ (xs : List ℕ). offset ∷ offsets_at layout (length section) xs) (sym is ∙ sym rest)

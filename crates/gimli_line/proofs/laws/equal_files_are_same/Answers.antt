@@ -1,7 +1,8 @@
 use Rattle.std.specs.Prelude.{◌≡◌}
-use Rattle.gimli_line.proofs.Common.{refl, unsigned_Decides, FileEntry}
-use Rattle.gimli_line.proofs.Equality.{both, whole}
-use Rattle.gimli_line.proofs.laws.equal_files_are_same.Goals as goal
+use Rattle.gimli_line.proofs
+use proofs.Common.{refl, unsigned_Decides, FileEntry}
+use proofs.Equality.{both, whole}
+use proofs.laws.equal_files_are_same.Goals as goal
 
 module _ {R Offset Endian : Type 0} where
   -- a file of these parts

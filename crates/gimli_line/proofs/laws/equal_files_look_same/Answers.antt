@@ -1,9 +1,10 @@
 use Rattle.std.specs.Prelude.{◌≡◌}
-use Rattle.gimli_line.proofs.Common
+use Rattle.gimli_line.proofs
+use proofs.Common
 use Common.{Bool, List, Option, Some, None, ℕ, refl, ap, option_map, unsigned_Decides, Value, value_by, AttributeValue}
 use Common.{File, FileOrders, file_by, FileEntry}
-use Rattle.gimli_line.proofs.Equality.{both, whole, zipped}
-use Rattle.gimli_line.proofs.laws.equal_files_look_same.Goals as goal
+use proofs.Equality.{both, whole, zipped}
+use proofs.laws.equal_files_look_same.Goals as goal
 
 -- a file as it is seen, of its parts as they are seen
 abbrev seen_of : Value × Option Bool → ℕ → ℕ → ℕ → List ℕ → Option (Value × Option Bool) → File × FileOrders
@@ -28,8 +29,7 @@ module _ {R Offset Endian : Type 0} (bytes : R → List ℕ) (is_big : R → Boo
   by = value_by bytes is_big number
 
   abbrev SameParts : (x y : FileEntry R Offset Endian) → Type 0
-  SameParts x y =
-      (by x.path_name ≡ by y.path_name)
+  SameParts x y = (by x.path_name ≡ by y.path_name)
       × ((x.directory_index ≡ y.directory_index)
       × ((x.timestamp ≡ y.timestamp)
       × ((x.size ≡ y.size) × ((x.md5 ≡ y.md5) × (option_map by x.source ≡ option_map by y.source)))))

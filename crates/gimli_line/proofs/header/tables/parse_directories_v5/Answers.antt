@@ -1,7 +1,8 @@
-use Rattle.gimli_line.proofs.Common.{◌∙◌, map_push, err_from_is_err_and, path_of}
-use Rattle.gimli_line.proofs.Order.{values_pushed}
-use Rattle.gimli_line.proofs.Loops.{times_goes_on, times_ends, times_done, entry_kept}
-use Rattle.gimli_line.proofs.header.tables.parse_directories_v5.Goals as goal
+use Rattle.gimli_line.proofs
+use proofs.Common.{◌∙◌, map_push, err_from_is_err_and, path_of}
+use proofs.Order.{values_pushed}
+use proofs.Loops.{times_goes_on, times_ends, times_done, entry_kept}
+use proofs.header.tables.parse_directories_v5.Goals as goal
 
 pub returns-in_err-directory-clause-read : goal.returns-in_err-directory-clause-read
 returns-in_err-directory-clause-read g c =

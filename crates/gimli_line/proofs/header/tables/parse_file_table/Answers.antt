@@ -1,7 +1,8 @@
-use Rattle.gimli_line.proofs.Common.{err_from_is_err_and, file_of_entry}
-use Rattle.gimli_line.proofs.Tables.{table_up_to_4, table_4_end, formats_end, table_from_5, table_5_end}
-use Rattle.gimli_line.proofs.Order.{files_kept}
-use Rattle.gimli_line.proofs.header.tables.parse_file_table.Goals as goal
+use Rattle.gimli_line.proofs
+use proofs.Common.{err_from_is_err_and, file_of_entry}
+use proofs.Tables.{table_up_to_4, table_4_end, formats_end, table_from_5, table_5_end}
+use proofs.Order.{files_kept}
+use proofs.header.tables.parse_file_table.Goals as goal
 
 pub returns-then-encoding-le4-clause-read : goal.returns-then-encoding-le4-clause-read
 returns-then-encoding-le4-clause-read g c =

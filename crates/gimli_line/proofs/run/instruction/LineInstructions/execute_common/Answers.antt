@@ -1,6 +1,7 @@
-use Rattle.gimli_line.proofs.Common.{refl, sym, ap, ◌∙◌, Header}
-use Rattle.gimli_line.proofs.Executions.{special_executed, standard_executed, executes_it, executes_none}
-use Rattle.gimli_line.proofs.run.instruction.LineInstructions.execute_common.Goals as goal
+use Rattle.gimli_line.proofs
+use proofs.Common.{refl, sym, ap, ◌∙◌, Header}
+use proofs.Executions.{special_executed, standard_executed, executes_it, executes_none}
+use proofs.run.instruction.LineInstructions.execute_common.Goals as goal
 
 pub returns-in-Err-clause-err : goal.returns-in-Err-clause-err
 returns-in-Err-clause-err g c =

@@ -1,8 +1,9 @@
 use Rattle.std.specs.Prelude.{◌≡◌}
-use Rattle.gimli_line.proofs.Common.{rules, ◌∙◌, refl, sym, ap, arith, layout_of, AdvancePc, ConstAddPc, Header}
-use Rattle.gimli_line.proofs.Executions.{executes_it}
-use Rattle.gimli_line.proofs.OtherExecutions.{below_executed, advance_read, const_add_read, extended_first}
-use Rattle.gimli_line.proofs.run.instruction.LineInstructions.execute_other.Goals as goal
+use Rattle.gimli_line.proofs
+use proofs.Common.{rules, ◌∙◌, refl, sym, ap, arith, layout_of, AdvancePc, ConstAddPc, Header}
+use proofs.Executions.{executes_it}
+use proofs.OtherExecutions.{below_executed, advance_read, const_add_read, extended_first}
+use proofs.run.instruction.LineInstructions.execute_other.Goals as goal
 
 pub returns-then-is_executed-clause-ok : goal.returns-then-is_executed-clause-ok
 returns-then-is_executed-clause-ok g c =
@@ -14,8 +15,7 @@ returns-then-is_executed-clause-ok g c =
     (rw first (rw c.in-Ok.ensures.order at (c.exec_extended_opcode-executed.ensures.executed is))))
 
 pub returns-else-is_executed-clause-ok : goal.returns-else-is_executed-clause-ok
-returns-else-is_executed-clause-ok g c =
-    grind (arith)
+returns-else-is_executed-clause-ok g c = grind (arith)
 
 pub returns-in-Err-clause-err : goal.returns-in-Err-clause-err
 returns-in-Err-clause-err g c =

@@ -1,6 +1,7 @@
-use Rattle.gimli_line.proofs.Common.{◌∙◌, layout_of}
-use Rattle.gimli_line.proofs.OtherExecutions.{extended_first}
-use Rattle.gimli_line.proofs.run.instruction.LineInstructions.next_defined_file.Goals as goal
+use Rattle.gimli_line.proofs
+use proofs.Common.{◌∙◌, layout_of}
+use proofs.OtherExecutions.{extended_first}
+use proofs.run.instruction.LineInstructions.next_defined_file.Goals as goal
 
 pub returns-clause-read : goal.returns-clause-read
 returns-clause-read g c =
