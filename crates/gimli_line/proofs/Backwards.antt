@@ -99,7 +99,7 @@ makes h past i false false fits quiet = rw (fits, quiet) refl
 -- and the registers after it
 goes_to : (h : Parameters) (i : Ins) (r : LineRow) (b : Bool) → (is_refused h i r || makes_row i) ≡ b
     → next_registers h i r ≡ (if b then reset_row h (step_of h i r) else step_of h i r)
-goes_to h i r b is = ap (λ (b : Bool). if b then reset_row h (step_of h i r) else step_of h i r) is
+goes_to h i r b is = ap (λ b. if b then reset_row h (step_of h i r) else step_of h i r) is
 
 goes : (h : Parameters) (past : List Ins) (i : Ins) (o m : Bool) → overflows h past i ≡ o → makes_row i ≡ m
     → next_registers h i (registers h past) ≡ registers h (i ∷ past)
@@ -135,7 +135,7 @@ made_are a h files past (i ∷ list) end = rw (
   goes h past i (overflows h past i) (makes_row i) refl refl,
   files_go a files past i,
 )
-    (ap (λ (rest : List EventWithFiles). with_files (files_at a files past) (made_at h past i) ++ rest)
+    (ap (λ rest. with_files (files_at a files past) (made_at h past i) ++ rest)
     (made_are a h files (i ∷ past) list end))
 
 -- from the start

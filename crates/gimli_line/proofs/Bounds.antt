@@ -48,7 +48,7 @@ times_bounded zero l some bytes xs s = rw s.1 (omega arith)
 times_bounded (suc n) l some bytes xs s =
     let r = s.5 in
     let one = some s.1 s.0 s.4 in
-    let others = times_bounded n l some r.1 r.0 r.4 in
+    let others = times_bounded n l some _ _ r.4 in
     omega (arith, length-append s.1 s.2, ap length s.3, length-append r.1 r.2, ap length r.3, ap length r.5.1)
 
 -- so many values are that many
@@ -57,7 +57,7 @@ times_counted : {A : Type 0} (n : ℕ) (l : Production A) (bytes : List ℕ) (xs
 times_counted zero l bytes xs s = rw s.1 refl
 times_counted (suc n) l bytes xs s =
     let r = s.5 in
-    rw r.5.1 (ap suc (times_counted n l r.1 r.0 r.4))
+    rw r.5.1 (ap suc (times_counted n l _ _ r.4))
 
 -- values one after the other, each of which has bytes
 each_bounded : {A : Type 0} (Spells : List ℕ → A → Type 0)
@@ -88,7 +88,7 @@ module _ (layout : OrderAndLimit) (format : Format) where
 
   form_some : (form : ℕ) (bytes : List ℕ) (v : Value) → (form_production layout format form).Spells bytes v
       → 0 < length bytes
-  form_some form bytes v = at_shape (shape_among form shapes) refl
+  form_some form bytes v = at_shape _ refl
     where
       at_shape : (found : Option Shape) → shape_among form shapes ≡ found
           → (let l : Production Value = elim found
@@ -115,7 +115,7 @@ module _ (layout : OrderAndLimit) (format : Format) where
       → length table.1 ≤ length bytes
   table_bounded bytes table s =
       let e = s.5 in
-      let b = entries_bounded s.0 (formats_some s.1 s.0 s.4) e.1 e.0 e.4 in
+      let b = entries_bounded _ (formats_some _ _ s.4) _ _ e.4 in
       omega (
         arith,
         length-append s.1 s.2,
@@ -124,7 +124,7 @@ module _ (layout : OrderAndLimit) (format : Format) where
         ap length e.3,
         length-append b.0 b.1,
         ap length b.2,
-        ap (λ (t : List FileEntryFormat × List TableEntry). length t.1) e.5.1,
+        ap (λ t. length t.1) e.5.1,
       )
 
 -- ---- the tables of a header
@@ -153,7 +153,7 @@ module _ (layout : OrderAndLimit) (encoding : Encoding) where
     ap length s.3,
     paths_bounded s.1 s.0 s.4,
     length-map {B = Value} s.0 String,
-    ap (λ (t : List FileEntryFormat × List Value). length t.1) s.5.1,
+    ap (λ t. length t.1) s.5.1,
   ))
       (λ s. omega (
         arith,
@@ -161,7 +161,7 @@ module _ (layout : OrderAndLimit) (encoding : Encoding) where
         ap length s.3,
         table_bounded layout encoding.format s.1 s.0 s.4,
         length-map s.0.1 path_of,
-        ap (λ (t : List FileEntryFormat × List Value). length t.1) s.5.1,
+        ap (λ t. length t.1) s.5.1,
       ))
 
   all_files_bounded : (bytes : List ℕ) (table : List FileEntryFormat × List File)
@@ -172,7 +172,7 @@ module _ (layout : OrderAndLimit) (encoding : Encoding) where
     length-append s.1 s.2,
     ap length s.3,
     files_bounded s.1 s.0 s.4,
-    ap (λ (t : List FileEntryFormat × List File). length t.1) s.5.1,
+    ap (λ t. length t.1) s.5.1,
   ))
       (λ s. omega (
         arith,
@@ -180,7 +180,7 @@ module _ (layout : OrderAndLimit) (encoding : Encoding) where
         ap length s.3,
         table_bounded layout encoding.format s.1 s.0 s.4,
         length-map s.0.1 file_of_entry,
-        ap (λ (t : List FileEntryFormat × List File). length t.1) s.5.1,
+        ap (λ t. length t.1) s.5.1,
       ))
 
 -- the bytes that the header length counts are that many, and stand in front of the program

@@ -37,7 +37,7 @@ pub reads_name : ReadsOpen path_text text_at
 reads_name = record {
   found = λ bytes xs rest clear e.
       let f = reads_text.found bytes xs rest e in
-      (f.0, f.1, (empty_text f.0 xs rest f.2 (rw f.1 at clear), f.2));
+      (f.0, f.1, (empty_text _ _ _ f.2 (rw f.1 at clear), f.2));
   only = grind (arith, reads_text);
   opens = name_opens;
   fault = grind (arith, reads_text);
@@ -56,7 +56,7 @@ module _ {A B : Type 0} (l : Production A) (next : A → Production B) (read : L
   both_opens front y s = grind arith
 
   both_fault : (bytes : List ℕ) (e : Error) → IsOpen bytes → (both bytes).0 ≡ Err e → (l >>> next).Fault bytes e
-  both_fault bytes e clear is = elim (bind_fault (read bytes) after e is) [
+  both_fault bytes e clear is = elim (bind_fault _ _ e is) [
     | inl p ↦ inl (first.fault bytes e clear p)
     | inr a ↦ let p = first.found bytes a.0 a.1 clear a.2 in inr (a.0, p.0, a.1, p.1, p.2, (second a.0).fault a.1 e a.3)
   ]
@@ -91,7 +91,7 @@ data Next (bytes : List ℕ) : Type 0 where
 next_of : (bytes : List ℕ) → Next bytes
 next_of [] = other_byte tt refl
 next_of (b ∷ bytes) = elim (eqb_tells b 0) [
-  | inl p ↦ zero_byte bytes (ap (λ (n : ℕ). n ∷ bytes) p.1)
+  | inl p ↦ zero_byte bytes (ap (λ n. n ∷ bytes) p.1)
   | inr p ↦ other_byte p.1 p.0
 ]
 

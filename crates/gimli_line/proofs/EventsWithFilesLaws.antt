@@ -14,7 +14,7 @@ module _ (a : Bool) (h : Header) (c : HeaderSource) (s : Unread) where
   parts = decoded_at s.layout (without_files h) s.bytes
 
   decoding : Decodes s.layout h s.bytes parts.0 parts.1
-  decoding = bare_decoding s.layout h s.bytes parts.0 parts.1 (is_decoded s.layout (without_files h) s.bytes)
+  decoding = bare_decoding _ h _ _ _ (is_decoded _ _ _)
 
   pub started_events : EventsWithFiles s.layout a h s.bytes (events_left (start_of_run a h c s))
   started_events = record {

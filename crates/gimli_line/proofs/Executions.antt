@@ -110,7 +110,7 @@ module _ (layout : OrderAndLimit) (h : Header) (bytes rest : List ℕ) where
       → IsExecutedAs h.parameters (ins_at layout h bytes) after old new told
   standard_executed opcode base is some lt read after old new told x =
       let below : nat_le h.parameters.opcode_base opcode
-      ≡ false = lt-leb h.parameters.opcode_base opcode (omega (arith)) in
+      ≡ false = lt-leb _ _ (omega (arith)) in
       rw (standard_first opcode some below read) x
 
 -- ---- what is told

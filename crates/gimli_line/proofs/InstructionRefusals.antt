@@ -73,9 +73,9 @@ module _ (layout : OrderAndLimit) where
   choose_known false l m first other = other
 
   times_known : {A : Type 0} (n : ℕ) (l : Production A) → IsKnown layout l → IsKnown layout (times n l)
-  times_known zero l known = done_known []
+  times_known zero l known = done_known _
   times_known (suc n) l known =
-      then_known l _ known (λ x. then_known (times n l) _ (times_known n l known) (λ xs. done_known (x ∷ xs)))
+      then_known l _ known (λ x. then_known _ _ (times_known n l known) (λ xs. done_known _))
 
   bytes_of_known : {A : Type 0} (l : Production A) → IsKnown layout l → IsKnown layout (bytes_of l)
   bytes_of_known l known = grind arith
@@ -103,17 +103,17 @@ module _ (layout : OrderAndLimit) where
   module _ (h : Header) where
     operand_known : (operand : Operand) → IsKnown layout (operand_production layout h operand)
     operand_known (none i) = done_known i
-    operand_known (uleb make) = then_known unsigned _ unsigned_known (λ n. done_known (make n))
-    operand_known (sleb make) = then_known signed _ signed_known (λ z. done_known (make z))
+    operand_known (uleb make) = then_known _ _ unsigned_known (λ n. done_known _)
+    operand_known (sleb make) = then_known _ _ signed_known (λ z. done_known _)
     operand_known (uhalf make) =
-        then_known (number layout.is_big 2) _ (number_known layout.is_big 2) (λ n. done_known (make n))
+        then_known _ _ (number_known _ 2) (λ n. done_known _)
     operand_known (address make) =
-        then_known (number layout.is_big h.parameters.encoding.address_size) _
-        (number_known layout.is_big h.parameters.encoding.address_size) (λ a.
-        done_known (make a))
+        then_known _ _
+        (number_known _ _) (λ a.
+        done_known _)
     operand_known (file make) =
-        then_known text _ text_known (λ path.
-        then_known (file_production path) _ (file_known path) (λ f. done_known (make f)))
+        then_known _ _ text_known (λ path.
+        then_known _ _ (file_known _) (λ f. done_known _))
 
     unknown_known : (opcode count : ℕ) → IsKnown layout (unknown_production layout h opcode count)
     unknown_known opcode zero = done_known (UnknownStandard0 (record { 0 = opcode }))
@@ -136,17 +136,17 @@ module _ (layout : OrderAndLimit) where
         at_operand None = unknown_known opcode (slice_index h.operand_counts (opcode - 1))
 
     operands_known : (opcode : ℕ) (operands : List ℕ) → IsKnown layout (extended_operands layout h opcode operands)
-    operands_known opcode operands = at_operand (operand_of opcode (extended_opcodes h.parameters.encoding.version))
+    operands_known opcode operands = at_operand _
       where
         at_operand : (found : Option Operand) → IsKnown {A = Ins} layout (elim found [
           | Some operand ↦ within operands (operand_production layout h operand) >>= (λ read. done read.0)
           | None ↦ done (UnknownExtended (record { 0 = opcode }) operands)
         ])
         at_operand (Some operand) =
-            then_known (within operands (operand_production layout h operand)) _
-            (within_known operands (operand_production layout h operand) (operand_known operand)) (λ read.
-            done_known read.0)
-        at_operand None = done_known (UnknownExtended (record { 0 = opcode }) operands)
+            then_known _ _
+            (within_known _ _ (operand_known _)) (λ read.
+            done_known _)
+        at_operand None = done_known _
 
     extended_known : IsKnown layout (extended_production layout h)
     extended_known =

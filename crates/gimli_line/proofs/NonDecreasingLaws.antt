@@ -53,7 +53,7 @@ module _ (parameters : Parameters) where
           (filter is_given
           (if o then fault AddressOverflow ∷ [] else (if m then row (row_at parameters past i) ∷ [] else [])) ++ rest)
       at_test true m = later
-      at_test false true = given (not (is_under_tombstone parameters past))
+      at_test false true = given _
       at_test false false = later
 
   pub non_decreasing : (past list : List Ins) → AreOneSequence list
@@ -68,4 +68,4 @@ module _ (parameters : Parameters) where
   pub never_down : (past list : List Ins) → AreOneSequence list → NeverBelow 0 (events_after parameters past list None)
   never_down past list one =
       weaker 0 (pointer_at parameters past).address (omega arith) (events_after parameters past list None)
-      (non_decreasing past list one)
+      (non_decreasing _ _ one)

@@ -23,13 +23,13 @@ module _ (layout : OrderAndLimit) (h : Header) (bytes rest : List ℕ) where
       → IsExecuted h.parameters (ins_at layout h bytes) after old new refused
   below_executed opcode base k same is some lt read i after found defines old new refused step refusal =
       let below : nat_le h.parameters.opcode_base opcode
-      ≡ false = lt-leb h.parameters.opcode_base opcode (omega (arith, lt, is)) in
+      ≡ false = lt-leb _ _ (omega (arith, lt, is)) in
       record {
         instruction = i;
-        reading = standard_first layout h bytes rest opcode some below read ∙ found;
+        reading = standard_first _ h _ _ _ some below read ∙ found;
         defines = defines;
-        refusal = subst (λ (p : Parameters). is_refused p i old ≡ refused) same refusal;
-        registers = subst (λ (p : Parameters). new ≡ step_of p i old) same step;
+        refusal = subst (λ p. is_refused p i old ≡ refused) same refusal;
+        registers = subst (λ p. new ≡ step_of p i old) same step;
       }
 
 module _ (layout : OrderAndLimit) (h : Header) (bytes : List ℕ) (opcode : ℕ) where
@@ -114,7 +114,7 @@ module _ (layout : OrderAndLimit) (h : Header) (inside operands rest : List ℕ)
       reading = rw (← operand) refl;
       defines = refl;
       refusal = refl;
-      registers = subst (λ (p : Parameters). new ≡ step_of p (SetAddress a) r) same step;
+      registers = subst (λ p. new ≡ step_of p (SetAddress a) r) same step;
     },
     refl,
   )

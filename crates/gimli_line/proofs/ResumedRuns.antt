@@ -22,7 +22,7 @@ module _ (n : OrderAndLimit) (h : Header) (bytes : List ℕ) where
       (one_decoding n h bytes list end a ∙ sym (one_decoding n h bytes other finish b))
 
   pub one_run : (run other : List Event) → Events n h bytes run → Events n h bytes other → run ≡ other
-  one_run run other a b = a.given ∙ same_decoding a.list b.list a.end b.end a.decoding b.decoding ∙ sym b.given
+  one_run run other a b = a.given ∙ same_decoding _ _ _ _ a.decoding b.decoding ∙ sym b.given
 
 pub one_list_of_runs : (h : Header) (parts : List Sequence) (runs others : List (List Event)) → HaveRuns h parts runs
     → HaveRuns h parts others → runs ≡ others
@@ -32,14 +32,14 @@ one_list_of_runs h [] (run ∷ runs) others a b = absurd a
 one_list_of_runs h (s ∷ parts) [] others a b = absurd a
 one_list_of_runs h (s ∷ parts) (run ∷ runs) [] a b = absurd b
 one_list_of_runs h (s ∷ parts) (run ∷ runs) (other ∷ others) a b =
-    let first : run ≡ other = one_run s.unread.layout h s.unread.bytes run other a.0.given b.0.given in
+    let first : run ≡ other = one_run _ h _ _ _ a.0.given b.0.given in
     let later : runs ≡ others = one_list_of_runs h parts runs others a.1 b.1 in
     cc
 
 -- ---- rows at the start of a sequence
 
 are_rows : (events : List EventWithFiles) (rows : List LineRow) → events_of events ≡ map row rows → All IsRow events
-are_rows [] rows same = All-nil IsRow
+are_rows [] rows same = All-nil _
 are_rows (e ∷ events) [] same = absurd cc
 are_rows (e ∷ events) (r ∷ rows) same = All-cons IsRow e events (r, at_head) (are_rows events rows at_tail)
   where
@@ -54,7 +54,7 @@ module _ (h : Header) (c : HeaderSource) (s : Unread) where
   decoded = decoded_at s.layout (without_files h) s.bytes
 
   decoding : Decodes s.layout h s.bytes decoded.0 decoded.1
-  decoding = bare_decoding s.layout h s.bytes decoded.0 decoded.1 (is_decoded s.layout (without_files h) s.bytes)
+  decoding = bare_decoding _ h _ _ _ (is_decoded _ _ _)
 
   -- they give the run of the bytes
   pub gives_run : (run : List Event) → Events s.layout h s.bytes run
@@ -67,7 +67,7 @@ module _ (h : Header) (c : HeaderSource) (s : Unread) where
       → GivesRowsAlone (start_of_run false h c s)
   gives_rows_alone rows has = record {
     complete = refl;
-    rows = are_rows (events_left (start_of_run false h c s)) rows (gives_run (map row rows) has);
+    rows = are_rows _ _ (gives_run _ has);
   }
 
 -- ---- sequences with runs
@@ -75,14 +75,14 @@ module _ (h : Header) (c : HeaderSource) (s : Unread) where
 to_rows : (h : Header) (s : Sequence) (run : List Event) → HasRun h s run → ResumesToRows h s
 to_rows h s run has = record {
   rows = has.is.rows ++ has.is.last ∷ [];
-  given = subst (λ (events : List Event). Events s.unread.layout h s.unread.bytes events)
-      (has.is.given ∙ sym (map-append row has.is.rows (has.is.last ∷ [])))
+  given = subst (λ events. Events s.unread.layout h s.unread.bytes events)
+      (has.is.given ∙ sym (map-append _ _ _))
       has.given;
 }
 
 pub resume_to_rows : (h : Header) (parts : List Sequence) (runs : List (List Event)) → HaveRuns h parts runs
     → All (ResumesToRows h) parts
-resume_to_rows h [] runs all = All-nil (ResumesToRows h)
+resume_to_rows h [] runs all = All-nil _
 resume_to_rows h (s ∷ parts) [] all = absurd all
 resume_to_rows h (s ∷ parts) (run ∷ runs) all =
     All-cons (ResumesToRows h) s parts (to_rows h s run all.0) (resume_to_rows h parts runs all.1)

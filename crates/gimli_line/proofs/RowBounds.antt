@@ -67,7 +67,7 @@ module _ (layout : OrderAndLimit) (h : Header) where
   unfolding decoded_upto
   upto_bounded zero bytes = omega arith
   upto_bounded (suc more) [] = omega arith
-  upto_bounded (suc more) (b ∷ bytes) = after (λ rest. upto_bounded more rest) (ins_at layout h (b ∷ bytes))
+  upto_bounded (suc more) (b ∷ bytes) = after (λ rest. upto_bounded _ _) _
     where
       after : ((rest : List ℕ)
           → length (decoded_upto layout h more rest).0 + length (end_events (decoded_upto layout h more rest).1)
@@ -81,7 +81,7 @@ module _ (layout : OrderAndLimit) (h : Header) where
 
   taken_bounded : (bytes : List ℕ)
       → length (decoded_at layout h bytes).0 + length (end_events (decoded_at layout h bytes).1) ≤ length bytes
-  taken_bounded bytes = upto_bounded (length bytes) bytes
+  taken_bounded bytes = upto_bounded _ _
 
   decoded_bounded : (bytes : List ℕ) (list : List Ins) (end : Option Error) → Decodes layout h bytes list end
       → length list + length (end_events end) ≤ length bytes
@@ -110,7 +110,7 @@ module _ (layout : OrderAndLimit) (h : Header) where
       omega (
         arith,
         ap length given.given,
-        length-map (given_of made) (λ (t : EventWithFiles). t.event),
+        length-map (given_of made) (λ t. t.event),
         few_given made,
         few_after h.parameters (λ before. []) [] given.list given.end,
         decoded_bounded bytes given.list given.end given.decoding,

@@ -20,7 +20,7 @@ given_here files (row r ∷ here) later = by (not r.tombstone) (given_here files
     by : (b : Bool) → events_of rest ≡ filter is_given here ++ events_of (given_of later)
         → events_of (if b then record { event = row r; files = files } ∷ rest else rest)
         ≡ (if b then row r ∷ filter is_given here else filter is_given here) ++ events_of (given_of later)
-    by true same = ap (λ (es : List Event). row r ∷ es) same
+    by true same = ap (λ es. row r ∷ es) same
     by false same = same
 
 -- what a point gives

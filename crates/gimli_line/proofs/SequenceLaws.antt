@@ -64,7 +64,7 @@ runs_push h _ [] s run all one = absurd all
 runs_push h (p ∷ parts) (r ∷ runs) s run all one = (all.0, runs_push h parts runs s run all.1 one)
 
 joined_push : (runs : List (List Event)) (run : List Event) → joined_runs (runs ++ run ∷ []) ≡ joined_runs runs ++ run
-joined_push [] run = append-nil run
+joined_push [] run = append-nil _
 joined_push (r ∷ runs) run = ap (λ xs. r ++ xs) (joined_push runs run) ∙ sym (append_assoc r _ run)
 
 through_events : (events : List Event) (start end : ℕ) → IsSequence events start end → (later : List Event)
@@ -157,7 +157,7 @@ pub starts_keeping : (h : Header) (source : HeaderSource) (unread : Unread)
     → Keeping h (record { parts = []; unread = unread; start = None }) (record { closed = []; unended = [] }) []
     (with_reset_row (start_of_run true h source unread))
 unfolding starts_splitting
-starts_keeping h source unread = record { splitting = starts_splitting h source unread; unended = refl; closed = refl }
+starts_keeping h source unread = record { splitting = starts_splitting h _ _; unended = refl; closed = refl }
 
 -- the rows of each sequence are its run
 pub kept_runs : (h : Header) (k : SequenceSplit) (kept : RowSplit) (done : List LineRow) (point : RunState)
@@ -220,7 +220,7 @@ module _ (h : Header) (k : SequenceSplit) (done : List LineRow) (point next : Ru
   }
 
   pub goes_splitting : Splitting h (with_row next.row next.unread k) (done ++ next.row ∷ []) (with_reset_row next)
-  goes_splitting = at_test next.row.end_sequence refl
+  goes_splitting = at_test _ refl
     where
       at_test : (b : Bool) → next.row.end_sequence ≡ b
           → Splitting h (if b then record { parts = k.parts ++ ended ∷ []; unread = next.unread; start = None }
@@ -233,14 +233,14 @@ module _ (h : Header) (k : SequenceSplit) (done : List LineRow) (point next : Ru
       → Keeping h (with_row next.row next.unread k) (with_kept_row next.row kept) (done ++ next.row ∷ [])
       (with_reset_row next)
   unfolding goes_open goes_closed
-  goes_keeping kept same all = at_test next.row.end_sequence refl
+  goes_keeping kept same all = at_test _ refl
     where
       whole_rows : List LineRow
       whole_rows = kept.unended ++ next.row ∷ []
 
       whole_same : last_run ≡ map row whole_rows
       whole_same =
-          sym (map-append row c.rows (next.row ∷ [])) ∙ ap (λ (xs : List LineRow). map row (xs ++ next.row ∷ [])) same
+          sym (map-append _ _ _) ∙ ap (λ xs. map row (xs ++ next.row ∷ [])) same
 
       at_test : (b : Bool) → next.row.end_sequence ≡ b
           → Keeping h (if b then record { parts = k.parts ++ ended ∷ []; unread = next.unread; start = None }
@@ -252,13 +252,13 @@ module _ (h : Header) (k : SequenceSplit) (done : List LineRow) (point next : Ru
       at_test true e = record {
         splitting = goes_closed e;
         unended = refl;
-        closed = ap (λ (runs : List (List Event)). runs ++ last_run ∷ []) all
-            ∙ ap (λ (run : List Event). map (map row) kept.closed ++ run ∷ []) whole_same
-            ∙ sym (map-append (map row) kept.closed (whole_rows ∷ []));
+        closed = ap (λ runs. runs ++ last_run ∷ []) all
+            ∙ ap (λ run. map (map row) kept.closed ++ run ∷ []) whole_same
+            ∙ sym (map-append _ _ _);
       }
-      at_test false e = record {
+      at_test _ e = record {
         splitting = goes_open e;
-        unended = ap (λ (xs : List LineRow). xs ++ next.row ∷ []) same;
+        unended = ap (λ xs. xs ++ next.row ∷ []) same;
         closed = all;
       }
 
@@ -269,7 +269,7 @@ module _ (h : Header) (k : SequenceSplit) (done : List LineRow) (point next : Ru
 -- a row takes bytes
 pub row_takes : (a b : RunState) (e : Event) (es : List Event) → PassesOver a b (e ∷ es)
     → length b.unread.bytes < length a.unread.bytes
-row_takes a b e es p = at_list p.list p.front p.parts p.spelled p.given
+row_takes a b e es p = at_list _ _ p.parts p.spelled p.given
   where
     at_list : (list : List Ins) (front : List ℕ) → a.unread.bytes ≡ front ++ b.unread.bytes
         → Each (SpellsInstruction a.unread.layout a.fixed) front list
@@ -359,11 +359,11 @@ module _ (h : Header) (source : HeaderSource) (Split : List LineRow → RunState
     split_goes Longer p split = record {
       done = so_far.done ++ next.row ∷ [];
       split = split;
-      passes = subst (λ (es : List Event). PassesOver whole_row (with_reset_row next) es)
-          (sym (map-append row so_far.done (next.row ∷ [])))
-          (passes_both whole_row (with_reset_row rows) (with_reset_row next) (map row so_far.done) (row next.row ∷ [])
+      passes = subst (λ es. PassesOver whole_row (with_reset_row next) es)
+          (sym (map-append _ _ _))
+          (passes_both _ _ _ _ _
           so_far.passes p);
-      keeps = keeps_both (whole_run h source) rows next so_far.keeps keeps;
+      keeps = keeps_both _ _ _ so_far.keeps keeps;
     }
 
     pub split_faults : (e : Error) → e ≢ OutOfMemory → FaultIs live_events (with_reset_row rows) next e
@@ -375,13 +375,13 @@ module _ (h : Header) (source : HeaderSource) (Split : List LineRow → RunState
     pub split_source : (last : HeaderSource) → last ≡ next.source
         → KeepsSource (λ order. source.layout.is_big ≡ order) source last
     split_source last same = subst (KeepsSource (λ order. source.layout.is_big ≡ order) source) (sym same)
-        (fits_less _ _ _ _ (λ order is adds. is) (keeps_both (whole_run h source) rows next so_far.keeps keeps).source)
+        (fits_less _ _ _ _ (λ order is adds. is) (keeps_both _ _ _ so_far.keeps keeps).source)
 
     pub split_ends : (c : Header) (k : SequenceSplit) → Splitting h k so_far.done (with_reset_row rows)
         → next.unread.bytes ≡ []
         → PassesOver (with_reset_row rows) next [] → without_files c ≡ next.fixed → c.files ≡ next.files
         → AreSequences source.layout h c k.parts
-    split_ends c k splitting empty p = are_sequences source h c k so_far.done (with_reset_row rows) next splitting
-        (subst (λ (es : List Event). PassesOver whole_row next es) (append-nil (map row so_far.done))
-        (passes_both whole_row (with_reset_row rows) next (map row so_far.done) [] so_far.passes p))
+    split_ends c k splitting empty p = are_sequences _ h c k _ _ _ splitting
+        (subst (λ es. PassesOver whole_row next es) (append-nil _)
+        (passes_both _ _ _ _ _ so_far.passes p))
         empty

@@ -13,7 +13,7 @@ returns g c readers offsets x y =
     let parameters = whole
     (both (encodings.encodings x.parameters.encoding y.parameters.encoding)
     (both (encodings.encodings_of_rows x.parameters.line_encoding y.parameters.line_encoding)
-    (unsigned_Decides x.parameters.opcode_base y.parameters.opcode_base)))
+    (unsigned_Decides _ _)))
     (joined_parameters x.parameters y.parameters) (parted_parameters x.parameters y.parameters) in
     let offset = whole (offsets x.offset.0 y.offset.0) (joined_offset x.offset y.offset)
     (ap (λ (o : DebugLineOffset g.row.R-Offset.Denot). o.0)) in

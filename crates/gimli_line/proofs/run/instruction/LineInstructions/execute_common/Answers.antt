@@ -16,7 +16,7 @@ returns-in-Err-clause-err g c =
 
 pub returns-in-Ok-exec_special_opcode-clause-ok : goal.returns-in-Ok-exec_special_opcode-clause-ok
 returns-in-Ok-exec_special_opcode-clause-ok g c =
-    let same = ap (λ (m : Header). m.parameters) (ap (λ v. v.meaning) c.header.view_is) in
+    let same = ap (λ m. m.parameters) (ap (λ v. v.meaning) c.header.view_is) in
     rw (← c.self.view_is) (
       special_executed _ _ _ _ _ _ _ same c.opcode_base.ensures c.exec_special_opcode.ensures.some
           c.if-opcode-opcode_base.true

@@ -19,7 +19,7 @@ returns-else-is_executed-clause-ok g c = grind (arith)
 
 pub returns-in-Err-clause-err : goal.returns-in-Err-clause-err
 returns-in-Err-clause-err g c =
-    let same = ap (λ (m : Header). m.parameters) (ap (λ v. v.meaning) c.header.view_is) in
+    let same = ap (λ m. m.parameters) (ap (λ v. v.meaning) c.header.view_is) in
     let is : c.in-Ok.opcode ≡ 2 = search rules in
     let over = c.in-Err.ensures.overflow in
     rw (← c.self.view_is) (
@@ -33,7 +33,7 @@ returns-in-Err-clause-err g c =
 
 pub returns-in-Ok-apply_operation_advance-clause-ok : goal.returns-in-Ok-apply_operation_advance-clause-ok
 returns-in-Ok-apply_operation_advance-clause-ok g c =
-    let same = ap (λ (m : Header). m.parameters) (ap (λ v. v.meaning) c.header.view_is) in
+    let same = ap (λ m. m.parameters) (ap (λ v. v.meaning) c.header.view_is) in
     let is : c.in-Ok.opcode ≡ 2 = search rules in
     rw (← c.self.view_is) (
       below_executed _ _ _ _ _ _ _ same c.opcode_base.ensures (omega (arith)) c.if-opcode-opcode_base.false
@@ -46,7 +46,7 @@ returns-in-Ok-apply_operation_advance-clause-ok g c =
 
 pub returns-in-Err-exec_const_add_pc-clause-err : goal.returns-in-Err-exec_const_add_pc-clause-err
 returns-in-Err-exec_const_add_pc-clause-err g c =
-    let same = ap (λ (m : Header). m.parameters) (ap (λ v. v.meaning) c.header.view_is) in
+    let same = ap (λ m. m.parameters) (ap (λ v. v.meaning) c.header.view_is) in
     let is : c.in-Ok.opcode ≡ 8 = search rules in
     let over = c.in-Err-exec_const_add_pc.ensures.overflow in
     rw (← c.self.view_is) (
@@ -58,7 +58,7 @@ returns-in-Err-exec_const_add_pc-clause-err g c =
 
 pub returns-in-Ok-exec_const_add_pc-clause-ok : goal.returns-in-Ok-exec_const_add_pc-clause-ok
 returns-in-Ok-exec_const_add_pc-clause-ok g c =
-    let same = ap (λ (m : Header). m.parameters) (ap (λ v. v.meaning) c.header.view_is) in
+    let same = ap (λ m. m.parameters) (ap (λ v. v.meaning) c.header.view_is) in
     let is : c.in-Ok.opcode ≡ 8 = search rules in
     rw (← c.self.view_is) (
       below_executed _ _ _ _ _ _ _ same c.opcode_base.ensures (omega (arith)) c.if-opcode-opcode_base.false

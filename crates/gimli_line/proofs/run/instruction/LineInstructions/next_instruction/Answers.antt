@@ -11,6 +11,6 @@ pub returns-in-Err-clause-refusal : goal.returns-in-Err-clause-refusal
 returns-in-Err-clause-refusal g c = rw (← c.self.view_is) (
   λ none. absurd (search rules),
   c.empty.ensures.left,
-  (reads_instruction _ c.args.header.now.meaning).fault _ _
-      (sym (ap (λ (r : Read Ins). r.0) c.in-Err.ensures.read)),
+  (reads_instruction _ _).fault _ _
+      (sym (ap (λ r. r.0) c.in-Err.ensures.read)),
 )
