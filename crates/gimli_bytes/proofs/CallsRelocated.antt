@@ -1,38 +1,45 @@
 -- What calls leave, once the relocations are applied.
 use Rattle.std.specs.Prelude.{◌≡◌, ◌≢◌, ◌⊎◌, ◌+◌, ◌*◌, ◌%◌, ◌^◌, ◌<◌, ◌≤◌, if◌then◌else◌, ◌∷◌, ◌++◌, ◌||◌, ◌+ℤ◌}
-use Rattle.gimli_bytes.proofs.Common
+use Rattle.gimli_bytes.proofs
+use proofs.Common
 use Common.{arith, inl, inr, ℕ, ℤ, pos, negsuc, Bool, true, false, List, [], length, refl, ap, sym, ◌∙◌, subst, Ok, Err}
 use Common.{length-append, w64, All, Result, nat_eq, FitsSigned, cast_unsigned, cast_signed, mod-eq_of_lt, ints}
 use Common.{of_z-to_z, cases_lt, list_any, All-head, All-tail, number_bytes, value_of, result_map, SectionId, put_over}
 use Common.{udata, overwrite_of, patch, Relocatable, Placement, Constant, Symbol, Error, InvalidRange, ValueTooLarge}
 use Common.{UnsupportedWordSize, OffsetOutOfBounds, LengthOutOfBounds, Relocation, RelocationTarget, OfSymbol}
 use Common.{OfSection}
-use Rattle.gimli_bytes.specs.Relocations.{Call, Bytes, AddressOf, OffsetInto, ReferenceTo, BytesAt, OffsetAt, place_of}
-use Rattle.gimli_bytes.specs.Relocations.{relocated, all_relocated}
-use Rattle.gimli_bytes.specs.Relocations.{applied, touches, number_in_place, addend_in_list, with_place, with_place_at}
-use Rattle.gimli_bytes.specs.Relocations.{relocation_at, with_relocation}
-use Rattle.gimli_bytes.specs.Relocations.{result_then}
-use Rattle.gimli_bytes.specs.Relocations.{after_call, after_calls, plainly_after, plainly_after_calls, CallFits}
-use Rattle.gimli_bytes.specs.Relocations.{CallsFit}
-use Rattle.gimli_bytes.proofs.PieceLemmas.{patched-inside, length-put_over}
-use Rattle.gimli_bytes.proofs.RelocationLemmas.{length-number, number-mod}
-use Rattle.gimli_bytes.proofs.Relocating.{
-  AreInside,
-  IsApart,
-  apart-from,
-  addend_is,
-  low_sum,
-  sum_low,
-  word_at,
-  relocated-end,
-  relocated-put,
-  all-more,
-  length-all,
-  all-over,
-  all-last,
-  inside_more,
-  inside_last,
+use Rattle.gimli_bytes.specs
+use specs.Relocations.{
+  Call,
+  Bytes,
+  AddressOf,
+  OffsetInto,
+  ReferenceTo,
+  BytesAt,
+  OffsetAt,
+  place_of,
+  relocated,
+  all_relocated,
+  applied,
+  touches,
+  number_in_place,
+  addend_in_list,
+  with_place,
+  with_place_at,
+  relocation_at,
+  with_relocation,
+  result_then,
+  after_call,
+  after_calls,
+  plainly_after,
+  plainly_after_calls,
+  CallFits,
+  CallsFit,
 }
+use proofs.PieceLemmas.{patched-inside, length-put_over}
+use proofs.RelocationLemmas.{length-number, number-mod}
+use proofs.Relocating.{AreInside, IsApart, apart-from, addend_is, low_sum, sum_low, word_at, relocated-end}
+use proofs.Relocating.{relocated-put, all-more, length-all, all-over, all-last, inside_more, inside_last}
 
 same_ok : {A : Type 0} (x y : A) → (let r : Result A Error = Ok x in r) ≡ Ok y → x ≡ y
 same_ok x y h = cc
@@ -46,8 +53,7 @@ pub size_short : (size : ℕ) → is_size size ≡ true → size ≤ 8
 size_short size is = by (cases_lt 8 size)
   where
     by : (8 < size) ⊎ (size ≤ 8) → size ≤ 8
-    by (inl long) =
-        grind (arith)
+    by (inl long) = grind (arith)
     by (inr short) = short
 
 -- what is known of a size where a number of it is written
@@ -57,8 +63,7 @@ pub record Sized (is_big : Bool) (m size : ℕ) (word : List ℕ) : Type 0 where
   pub word_is : word ≡ number_bytes is_big size m
   pub other : (n : ℕ) → n < 256 ^ size → udata is_big n size ≡ Ok (number_bytes is_big size n)
 
-udata_parts : (is_big : Bool) (m size : ℕ) (word : List ℕ) → udata is_big m size ≡ Ok word
-    → Sized is_big m size word
+udata_parts : (is_big : Bool) (m size : ℕ) (word : List ℕ) → udata is_big m size ≡ Ok word → Sized is_big m size word
 udata_parts is_big m size word h = grind arith
 
 -- ---- places
@@ -75,10 +80,8 @@ pub puts_sum : (p : Placement) (v : Relocatable) (target : RelocationTarget) (z 
     (size n : ℕ)
     → (size ≤ 8 → place_of p target (cast_unsigned w64 z % 256 ^ size) % 256 ^ size ≡ n)
     → PutsNumber p v target z size n
-puts_sum p v target z size n is =
-    λ short small.
-    ap (λ k. number_bytes v.is_big size (place_of p target k)) (addend_is _ _ z _ small)
-    ∙ number-mod _ _ _
+puts_sum p v target z size n is = λ short small.
+    ap (λ k. number_bytes v.is_big size (place_of p target k)) (addend_is _ _ z _ small) ∙ number-mod _ _ _
     ∙ ap (number_bytes v.is_big size) (is short)
 
 pub puts_lowest : (p : Placement) (v : Relocatable) (target : RelocationTarget) (z : ℤ) (size : ℕ)
@@ -109,26 +112,19 @@ puts_place p v w target z size n inside called sum fits =
         let long : length word ≡ size = ap length sized.word_is
         ∙ length-number v.is_big size (number_in_place v.addends z size) in
         let old = all_relocated p v.is_big v.bytes v.relocations in
-        let here : length v.bytes ≡ length old =
-        sym (length-all p v.is_big _ _ inside) in
-        let number : word_at p v.is_big r word ≡ number_bytes v.is_big size n =
-        ap (word_at p v.is_big r) sized.word_is
+        let here : length v.bytes ≡ length old = sym (length-all p v.is_big _ _ inside) in
+        let number : word_at p v.is_big r word ≡ number_bytes v.is_big size n = ap (word_at p v.is_big r) sized.word_is
         ∙ sum sized.short sized.small
         in
-        let all : length (v.bytes ++ word) ≡ length v.bytes + size =
-        omega (arith, length-append v.bytes word) in
+        let all : length (v.bytes ++ word) ≡ length v.bytes + size = omega (arith, length-append v.bytes word) in
         subst (λ x. Puts p v x size n) (same_ok _ w e)
         (record {
           wanted = sized.other n fits;
-          bytes_are =
-              all-last p v.is_big v.relocations r (v.bytes ++ word)
+          bytes_are = all-last p v.is_big v.relocations r (v.bytes ++ word)
               ∙ ap (λ (l : List ℕ). relocated p v.is_big l r)
-              (all-more p v.is_big _ _ word inside)
-              ∙ relocated-end p v.is_big _ _ r here (sym long)
+              (all-more p v.is_big _ _ word inside) ∙ relocated-end p v.is_big _ _ r here (sym long)
               ∙ ap (λ (l : List ℕ). old ++ l) number;
-          inside = inside_last _ _ r
-              (inside_more _ (length (v.bytes ++ word)) _ (omega arith)
-              inside) (omega arith);
+          inside = inside_last _ _ r (inside_more _ (length (v.bytes ++ word)) _ (omega arith) inside) (omega arith);
           big_is = refl;
         })
     by (Err x) is e = cc
@@ -140,10 +136,8 @@ pub record Over (old new : List ℕ) (at : ℕ) (x : List ℕ) : Type 0 where
   pub fits : at + length x ≤ length old
   pub new_is : new ≡ put_over old at x
 
-pub overwrite_parts : (old new : List ℕ) (at : ℕ) (x : List ℕ) → overwrite_of old at x ≡ Ok new
-    → Over old new at x
-overwrite_parts old new at x h =
-    grind arith
+pub overwrite_parts : (old new : List ℕ) (at : ℕ) (x : List ℕ) → overwrite_of old at x ≡ Ok new → Over old new at x
+overwrite_parts old new at x h = grind arith
 
 -- a number of a size over others
 pub puts_place_at : (p : Placement) (v w : Relocatable) (at : ℕ) (target : RelocationTarget) (z : ℤ)
@@ -155,8 +149,7 @@ puts_place_at p v w at target z size n inside called sum fits =
     free (list_any (touches at size) v.relocations) refl called
   where
     Is : Relocatable → Type 0
-    Is x = (patch (udata v.is_big n size) (applied p v) at ≡ Ok (applied p x)) × AreInside x ×
-        (x.is_big ≡ v.is_big)
+    Is x = (patch (udata v.is_big n size) (applied p v) at ≡ Ok (applied p x)) × AreInside x × (x.is_big ≡ v.is_big)
 
     r : Relocation
     r = relocation_at v at target z size
@@ -173,8 +166,7 @@ puts_place_at p v w at target z size n inside called sum fits =
         ∙ length-number v.is_big size (number_in_place v.addends z size) in
         let put = overwrite_parts v.bytes new at word h in
         let same : length old ≡ length v.bytes = length-all p v.is_big _ _ inside in
-        let number : word_at p v.is_big r word ≡ number_bytes v.is_big size n =
-        ap (word_at p v.is_big r) sized.word_is
+        let number : word_at p v.is_big r word ≡ number_bytes v.is_big size n = ap (word_at p v.is_big r) sized.word_is
         ∙ sum sized.short sized.small
         in
         let there : All (IsApart at (length word)) v.relocations =
@@ -182,22 +174,18 @@ puts_place_at p v w at target z size n inside called sum fits =
         let bytes_are : all_relocated p v.is_big new (v.relocations ++ r ∷ []) ≡ put_over old at
         (number_bytes v.is_big size n) =
         ap (λ (l : List ℕ). all_relocated p v.is_big l (v.relocations ++ r ∷ [])) put.new_is
-        ∙ all-last p v.is_big v.relocations r (put_over v.bytes at word)
-        ∙ ap (λ (l : List ℕ). relocated p v.is_big l r)
+        ∙ all-last p v.is_big v.relocations r (put_over v.bytes at word) ∙ ap (λ (l : List ℕ). relocated p v.is_big l r)
         (all-over p v.is_big v.relocations v.bytes at word inside put.fits there)
-        ∙ relocated-put p v.is_big old _ r (sym long) (omega (arith))
-        ∙ ap (λ (l : List ℕ). put_over old at l) number in
+        ∙ relocated-put p v.is_big old _ r (sym long) (omega (arith)) ∙ ap (λ (l : List ℕ). put_over old at l) number in
         let size_is = length-number v.is_big size n in
         let plain : overwrite_of old at (number_bytes v.is_big size n) ≡ Ok
-        (all_relocated p v.is_big new (v.relocations ++ r ∷ [])) =
-        patched-inside old at (number_bytes v.is_big size n)
+        (all_relocated p v.is_big new (v.relocations ++ r ∷ [])) = patched-inside old at (number_bytes v.is_big size n)
         (all_relocated p v.is_big new (v.relocations ++ r ∷ [])) (omega (arith))
         bytes_are in
         let kept : length new ≡ length v.bytes = ap length put.new_is
         ∙ length-put_over v.bytes at word put.fits in (
           rw (sized.other n fits) plain,
-          inside_last _ _ r
-              (subst (λ k. All (λ r. r.offset + r.size ≤ k) v.relocations) (sym kept) inside)
+          inside_last _ _ r (subst (λ k. All (λ r. r.offset + r.size ≤ k) v.relocations) (sym kept) inside)
               (omega (arith)),
           refl,
         )
@@ -217,8 +205,7 @@ puts_place_at p v w at target z size n inside called sum fits =
         → result_map (with_relocation v r) (if b then Err InvalidRange else
         patch (udata v.is_big (number_in_place v.addends z size) size) v.bytes at) ≡ Ok w → Is w
     free true is e = cc
-    free false is e =
-        by (apart-from at size v.relocations is) (udata v.is_big (number_in_place v.addends z size) size)
+    free false is e = by (apart-from at size v.relocations is) (udata v.is_big (number_in_place v.addends z size) size)
         refl e
 
 -- ---- sums
@@ -249,8 +236,7 @@ pub number_same : (p : Placement) (v w : Relocatable) (n size : ℕ) → AreInsi
 number_same p v w n size inside called = by (udata v.is_big n size) refl called
   where
     by : (r : Result (List ℕ) Error) → udata v.is_big n size ≡ r
-        → result_map (λ word. let u : Relocatable =
-        record v { bytes = v.bytes ++ word } in u) r ≡ Ok w
+        → result_map (λ word. let u : Relocatable = record v { bytes = v.bytes ++ word } in u) r ≡ Ok w
         → SameCall p v w (AddressOf (Constant n) size)
     by (Ok word) is e =
         let u : Relocatable = record v { bytes = v.bytes ++ word } in
@@ -266,14 +252,12 @@ placed_same p v w size n puts = grind arith
 -- bytes over others
 pub over_same : (p : Placement) (v w : Relocatable) (at : ℕ) (x : List ℕ) → AreInside v
     → after_call v (BytesAt at x) ≡ Ok w → SameCall p v w (BytesAt at x)
-over_same p v w at x inside called =
-    free _ refl called
+over_same p v w at x inside called = free _ refl called
   where
     by : All (IsApart at (length x)) v.relocations → (r : Result (List ℕ) Error) → overwrite_of v.bytes at x ≡ r
         → result_map (λ new. let u : Relocatable = record v { bytes = new } in u) r ≡ Ok w
         → SameCall p v w (BytesAt at x)
-    by apart (Ok new) is e =
-        grind (arith, length-all, length-put_over, all-over)
+    by apart (Ok new) is e = grind (arith, length-all, length-put_over, all-over)
     by apart (Err y) is e = cc
 
     free : (b : Bool) → list_any (touches at (length x)) v.relocations ≡ b
@@ -281,8 +265,7 @@ over_same p v w at x inside called =
         (if b then Err InvalidRange else overwrite_of v.bytes at x) ≡ Ok w
         → SameCall p v w (BytesAt at x)
     free true is e = cc
-    free false is e =
-        by (apart-from _ _ _ is) (overwrite_of v.bytes at x) refl e
+    free false is e = by (apart-from _ _ _ is) (overwrite_of v.bytes at x) refl e
 
 -- an offset into a section that fits the size, as does what it becomes
 offset_is : (p : Placement) (section : SectionId) (n size : ℕ) → p.section section n < 256 ^ size
@@ -291,16 +274,14 @@ offset_is : (p : Placement) (section : SectionId) (n size : ℕ) → p.section s
     ≡ p.section section n
 offset_is p section n size placed fits bits =
     ap (λ k. p.section section (k % 256 ^ size) % 256 ^ size) (of_z-to_z w64 n bits)
-    ∙ ap (λ k. p.section section k % 256 ^ size) (mod-eq_of_lt fits)
-    ∙ mod-eq_of_lt placed
+    ∙ ap (λ k. p.section section k % 256 ^ size) (mod-eq_of_lt fits) ∙ mod-eq_of_lt placed
 
 pub call_same : (p : Placement) (v w : Relocatable) (call : Call) → AreInside v → CallFits p call
     → after_call v call ≡ Ok w → SameCall p v w call
 call_same p v w (Bytes x) inside fits called =
     let u : Relocatable = record v { bytes = v.bytes ++ x } in
     more_same p v w x inside (same_ok u w called)
-call_same p v w (AddressOf (Constant n) size) inside fits called =
-    number_same p v w n size inside called
+call_same p v w (AddressOf (Constant n) size) inside fits called = number_same p v w n size inside called
 call_same p v w (AddressOf (Symbol symbol addend) size) inside fits called =
     let n = fits.0.0 in
     let wrapped = wraps (p.symbol symbol) addend n fits.0.1 fits.1 in
@@ -310,8 +291,7 @@ call_same p v w (AddressOf (Symbol symbol addend) size) inside fits called =
     record {
       same = rw fits.0.1 (placed_same p v w size n puts);
       inside = puts.inside;
-      big_is =
-          puts.big_is;
+      big_is = puts.big_is;
     }
 call_same p v w (OffsetInto section n size) inside fits called =
     let puts = puts_place p v w (OfSection section) (cast_signed w64 n) size (p.section section n)
@@ -320,8 +300,7 @@ call_same p v w (OffsetInto section n size) inside fits called =
     (λ short. offset_is p section n size fits.0 fits.1 fits.2)) fits.0 in
     record {
       same = placed_same p v w size (p.section section n) puts;
-      inside =
-          puts.inside;
+      inside = puts.inside;
       big_is = puts.big_is;
     }
 call_same p v w (ReferenceTo symbol size) inside fits called =
@@ -331,8 +310,7 @@ call_same p v w (ReferenceTo symbol size) inside fits called =
     record {
       same = placed_same p v w size (p.symbol symbol) puts;
       inside = puts.inside;
-      big_is =
-          puts.big_is;
+      big_is = puts.big_is;
     }
 call_same p v w (BytesAt at x) inside fits called = over_same p v w at x inside called
 call_same p v w (OffsetAt at section n size) inside fits called =

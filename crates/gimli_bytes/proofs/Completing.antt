@@ -1,21 +1,37 @@
 -- What calls of a section with relocations leave, once a linker has completed it.
 use Rattle.std.specs.Prelude.{◌≡◌, ◌+◌, ◌%◌, ◌<◌, ◌≤◌, ◌^◌, ◌++◌, if◌then◌else◌}
-use Rattle.gimli_bytes.proofs.Common
+use Rattle.gimli_bytes.proofs
+use proofs.Common
 use Common.{arith, ℕ, ℤ, pos, Bool, true, false, List, length, take, refl, ap, sym, ◌∙◌, Ok, Err, OnOk, OnErr, w64}
 use Common.{subst, Result, nat_lt, cast_unsigned, cast_signed, list_any, mod-lt, of_z-to_z, take_at, result_map}
 use Common.{SectionId, put_over, udata, Placement, unplaced, Begins, Appends, Overwrites, overwrite_of, patch}
 use Common.{Relocatable, Address, Constant, Symbol, Error, InvalidRange, OffsetOutOfBounds, LengthOutOfBounds}
 use Common.{RelocationTarget, OfSymbol, OfSection}
-use Rattle.gimli_bytes.specs.Relocations.{Bytes, AddressOf, OffsetInto, ReferenceTo, BytesAt, OffsetAt, place_of}
-use Rattle.gimli_bytes.specs.Relocations.{applied, after_call}
-use Rattle.gimli_bytes.specs.Relocations.{are_inside, with_place, with_relocation, relocation_at, number_in_place}
-use Rattle.gimli_bytes.specs.Relocations.{placed_address, placed_offset}
-use Rattle.gimli_bytes.specs.Relocations.{placed_reference, touches}
-use Rattle.gimli_bytes.proofs.PieceLemmas.{length-put_over, take-before}
-use Rattle.gimli_bytes.proofs.RelocationLemmas.{pow_positive}
-use Rattle.gimli_bytes.proofs.Relocating.{AreInside, inside-from, inside-to, low_sum}
-use Rattle.gimli_bytes.proofs.CallsRelocated.{Puts, puts_place, puts_place_at, puts_lowest, more_same, number_same}
-use Rattle.gimli_bytes.proofs.CallsRelocated.{over_same}
+use Rattle.gimli_bytes.specs
+use specs.Relocations.{
+  Bytes,
+  AddressOf,
+  OffsetInto,
+  ReferenceTo,
+  BytesAt,
+  OffsetAt,
+  place_of,
+  applied,
+  after_call,
+  are_inside,
+  with_place,
+  with_relocation,
+  relocation_at,
+  number_in_place,
+  placed_address,
+  placed_offset,
+  placed_reference,
+  touches,
+}
+use proofs.PieceLemmas.{length-put_over, take-before}
+use proofs.RelocationLemmas.{pow_positive}
+use proofs.Relocating.{AreInside, inside-from, inside-to, low_sum}
+use proofs.CallsRelocated.{Puts, puts_place, puts_place_at, puts_lowest, more_same, number_same, over_same}
 
 -- ---- either answer
 
@@ -51,8 +67,7 @@ lowest_fits n size = mod-lt n (pow_positive _)
 puts : (p : Placement) (v w : Relocatable) (target : RelocationTarget) (z : ℤ) (size : ℕ) → AreInside v
     → with_place v target z size ≡ Ok w
     → Puts p v w size (place_of p target (cast_unsigned w64 z % 256 ^ size) % 256 ^ size)
-puts p v w target z size inside called =
-    puts_place p v w _ z _ _ inside called (puts_lowest p v target z size)
+puts p v w target z size inside called = puts_place p v w _ z _ _ inside called (puts_lowest p v target z size)
     (lowest_fits (place_of p target (cast_unsigned w64 z % 256 ^ size)) size)
 
 pub grows_bytes : (v w : Relocatable) (x : List ℕ) → after_call v (Bytes x) ≡ Ok w → Grows v w
@@ -61,8 +76,7 @@ grows_bytes v w x called =
     subst (Grows v) (same_ok u w called) (record {
       begins = begins_more v.bytes x;
       big_is = refl;
-      stays = λ is.
-          inside-to _ _ (more_same unplaced v u x (inside-from _ _ is) refl).inside;
+      stays = λ is. inside-to _ _ (more_same unplaced v u x (inside-from _ _ is) refl).inside;
     })
 
 grows_number : (v w : Relocatable) (n size : ℕ) → after_call v (AddressOf (Constant n) size) ≡ Ok w → Grows v w
@@ -78,8 +92,7 @@ grows_place : (v w : Relocatable) (target : RelocationTarget) (z : ℤ) (size : 
 grows_place v w target z size called = record {
   begins = (by (udata v.is_big (number_in_place v.addends z size) size) called).0;
   big_is = (by (udata v.is_big (number_in_place v.addends z size) size) called).1;
-  stays = λ is.
-      inside-to (length w.bytes) w.relocations
+  stays = λ is. inside-to (length w.bytes) w.relocations
       (puts unplaced v w target z size (inside-from (length v.bytes) v.relocations is) called).inside;
 }
   where
@@ -90,8 +103,7 @@ grows_place v w target z size called = record {
         → result_map (λ word. with_relocation v (relocation_at v (length v.bytes) target z size) (v.bytes ++ word)) r
         ≡ Ok w
         → Is w
-    by (Ok word) e =
-        subst Is (same_ok _ w e) (begins_more v.bytes word, refl)
+    by (Ok word) e = subst Is (same_ok _ w e) (begins_more v.bytes word, refl)
     by (Err d) e = cc
 
 pub grows_address : (v w : Relocatable) (a : Address) (size : ℕ) → after_call v (AddressOf a size) ≡ Ok w → Grows v w
@@ -110,8 +122,7 @@ grows_reference v w symbol size called = grows_place v w (OfSymbol symbol) (pos 
 pub completed_bytes : (p : Placement) (v w : Relocatable) (x : List ℕ) → are_inside v ≡ true
     → after_call v (Bytes x) ≡ Ok w
     → Appends (Ok x) (applied p v) (applied p w)
-completed_bytes p v w x is called =
-    grind (arith, more_same, inside-from)
+completed_bytes p v w x is called = grind (arith, more_same, inside-from)
 
 mapped : (r : Result (List ℕ) Error) (old new : List ℕ) → result_map (λ word. old ++ word) r ≡ Ok new
     → Appends r old new
@@ -125,8 +136,7 @@ put_there p v w size n so = grind arith
 pub completed_address : (p : Placement) (v w : Relocatable) (a : Address) (size : ℕ) → are_inside v ≡ true
     → after_call v (AddressOf a size) ≡ Ok w
     → Appends (placed_address p v.is_big a size) (applied p v) (applied p w)
-completed_address p v w (Constant n) size is called =
-    mapped (udata v.is_big n size) (applied p v) (applied p w)
+completed_address p v w (Constant n) size is called = mapped (udata v.is_big n size) (applied p v) (applied p w)
     (number_same p v w n size (inside-from (length v.bytes) v.relocations is) called).same
 completed_address p v w (Symbol symbol addend) size is called =
     let low = low_sum (p.symbol symbol) (cast_unsigned w64 addend) (256 ^ size) in
@@ -139,8 +149,7 @@ pub completed_offset : (p : Placement) (v w : Relocatable) (section : SectionId)
     → Appends (placed_offset p v.is_big section n size) (applied p v) (applied p w)
 completed_offset p v w section n size small is called =
     let bits : cast_unsigned w64 (cast_signed w64 n) ≡ n = of_z-to_z w64 n small in
-    let so =
-    puts p v w (OfSection section) (cast_signed w64 n) size (inside-from (length v.bytes) v.relocations is)
+    let so = puts p v w (OfSection section) (cast_signed w64 n) size (inside-from (length v.bytes) v.relocations is)
     called in
     put_there p v w size (p.section section (n % 256 ^ size) % 256 ^ size) (rw bits at so)
 
@@ -162,8 +171,7 @@ pub record Stays (v w : Relocatable) (at : ℕ) : Type 0 where
 
 pub stays_inside : (v w : Relocatable) (x : List ℕ) (at : ℕ) → after_call v (BytesAt at x) ≡ Ok w → are_inside v ≡ true
     → are_inside w ≡ true
-stays_inside v w x at called is =
-    inside-to _ _ (over_same unplaced v w at x (inside-from _ _ is) called).inside
+stays_inside v w x at called is = inside-to _ _ (over_same unplaced v w at x (inside-from _ _ is) called).inside
 
 pub completed_over : (p : Placement) (v w : Relocatable) (x : List ℕ) (at : ℕ) → are_inside v ≡ true
     → after_call v (BytesAt at x) ≡ Ok w
@@ -178,8 +186,7 @@ puts_at : (p : Placement) (v w : Relocatable) (at : ℕ) (section : SectionId) (
 puts_at p v w at section n size small is called =
     let bits : cast_unsigned w64 (cast_signed w64 n) ≡ n = of_z-to_z w64 n small in
     let sum = p.section section (cast_unsigned w64 (cast_signed w64 n) % 256 ^ size) % 256 ^ size in
-    let so =
-    puts_place_at p v w at (OfSection section) (cast_signed w64 n) size sum (inside-from _ _ is) called
+    let so = puts_place_at p v w at (OfSection section) (cast_signed w64 n) size sum (inside-from _ _ is) called
     (puts_lowest p v (OfSection section) (cast_signed w64 n) size)
     (lowest_fits (p.section section (cast_unsigned w64 (cast_signed w64 n) % 256 ^ size)) size) in
     rw bits at so
@@ -212,8 +219,7 @@ over_stays v w x at called = free (list_any (touches at (length x)) v.relocation
             → (length new ≡ length v.bytes) × (take at new ≡ take at v.bytes)
         by true b e f h = cc
         by false true e f h = cc
-        by false false e f h =
-            grind (arith, length-put_over, take-before)
+        by false false e f h = grind (arith, length-put_over, take-before)
 
     over : (r : Result (List ℕ) Error) → overwrite_of v.bytes at x ≡ r
         → result_map (λ new. let u : Relocatable = record v { bytes = new } in u) r ≡ Ok w → Stays v w at

@@ -26,16 +26,13 @@ uleb_step bytes i v all short low high so =
     let down : 9 - i ≡ suc (9 - (i + 1)) = omega arith in
     ap (λ t. t ++ uleb_within (9 - (i + 1)) (v / 128)) (take_more_set _ i _ short)
     ∙ append_assoc (take i bytes) ((v % 128 + 128) ∷ []) (uleb_within (9 - (i + 1)) (v / 128))
-    ∙ ap (λ t. take i bytes ++ t) (sym (uleb_more _ v high))
-    ∙ ap (λ k. take i bytes ++ uleb_within k v) (sym down)
-    ∙ so
+    ∙ ap (λ t. take i bytes ++ t) (sym (uleb_more _ v high)) ∙ ap (λ k. take i bytes ++ uleb_within k v) (sym down) ∙ so
 
 -- the last byte in the buffer
 pub uleb_end : (bytes : List ℕ) (i v : ℕ) (all : List ℕ) → i < length bytes → v < 128
     → take i bytes ++ uleb_within (9 - i) v ≡ all
     → take (i + 1) (set bytes i v) ≡ all
-uleb_end bytes i v all short low so =
-    grind (arith, take_more_set)
+uleb_end bytes i v all short low so = grind (arith, take_more_set)
 
 -- the same of signed numbers
 pub high_bits_is : (z : ℤ) → int_div_euclid z (pos 128) ≡ high_bits z
@@ -65,8 +62,7 @@ sleb_step bytes i z all short low high so =
     ∙ append_assoc (take i bytes) ((low_bits z + 128) ∷ []) (sleb_within (9 - (i + 1)) (int_div_euclid z (pos 128)))
     ∙ ap (λ rest. take i bytes ++ ((low_bits z + 128) ∷ sleb_within (9 - (i + 1)) rest)) (high_bits_is z)
     ∙ ap (λ t. take i bytes ++ t) (sym (sleb_more (9 - (i + 1)) z high))
-    ∙ ap (λ k. take i bytes ++ sleb_within k z) (sym down)
-    ∙ so
+    ∙ ap (λ k. take i bytes ++ sleb_within k z) (sym down) ∙ so
 
 pub sleb_end : (bytes : List ℕ) (i : ℕ) (z : ℤ) (all : List ℕ) → i < length bytes → has_seven_bits z ≡ true
     → take i bytes ++ sleb_within (9 - i) z ≡ all

@@ -18,13 +18,12 @@ Sized n pieces = All (λ piece. length piece ≡ n) pieces
 
 pub length-concat : (n : ℕ) (ps : List (List ℕ)) → Sized n ps → length (concat ps) ≡ length ps * n
 length-concat n [] s = omega arith
-length-concat n (p ∷ ps) s =
-    omega (
-      arith,
-      length-append p (concat ps),
-      length-concat n ps (All-tail (λ q. length q ≡ n) p ps s),
-      All-head (λ q. length q ≡ n) p ps s,
-    )
+length-concat n (p ∷ ps) s = omega (
+  arith,
+  length-append p (concat ps),
+  length-concat n ps (All-tail (λ q. length q ≡ n) p ps s),
+  All-head (λ q. length q ≡ n) p ps s,
+)
 
 -- ---- bytes put over others
 
@@ -40,8 +39,7 @@ put_over-front p c at bytes h = grind (arith, common_steps)
 -- after other bytes
 pub put_over-after : (p c : List ℕ) (at : ℕ) (bytes : List ℕ)
     → put_over (p ++ c) (length p + at) bytes ≡ p ++ put_over c at bytes
-put_over-after p c at bytes =
-    grind (arith, drop-append-add, take-append-add, append_assoc)
+put_over-after p c at bytes = grind (arith, drop-append-add, take-append-add, append_assoc)
 
 -- two parts, one after the other
 pub put_over-twice : (old : List ℕ) (at : ℕ) (a b : List ℕ) → at + length a ≤ length old
@@ -56,15 +54,13 @@ put_over-twice old at a b h =
     let far : at + length (a ++ b) ≡ at + length a + length b = omega (arith, length-append a b) in
     let back : drop (at + length a + length b) (put_over old at a) ≡ drop (at + length (a ++ b)) old =
     sym (drop-drop (length b) (at + length a) (put_over old at a)) ∙ ap (drop (length b)) dropped
-    ∙ drop-drop (length b) (at + length a) old
-    ∙ ap (λ k. drop k old) (sym far) in
+    ∙ drop-drop (length b) (at + length a) old ∙ ap (λ k. drop k old) (sym far) in
     rw (taken, back) (simp append_assoc)
 
 -- what ends with them
 pub take-put_over : (old : List ℕ) (at : ℕ) (bytes : List ℕ) → at ≤ length old
     → take (at + length bytes) (put_over old at bytes) ≡ take at old ++ bytes
-take-put_over old at bytes h =
-    grind (arith, take_at, length-append, length-take)
+take-put_over old at bytes h = grind (arith, take_at, length-append, length-take)
 
 -- what ends after them
 pub put_over-take : (old : List ℕ) (len at : ℕ) (bytes : List ℕ) → at + length bytes ≤ len → len ≤ length old
@@ -96,8 +92,7 @@ put_over-piece n (q ∷ ps) (suc i) start d bytes s inside fits =
 
 -- a place within the bytes is within a piece
 pub piece-inside : (n at : ℕ) (ps : List (List ℕ)) → 1 ≤ n → Sized n ps → at < length (concat ps) → at / n < length ps
-piece-inside n at ps one s h =
-    grind (arith, length-concat, div_below)
+piece-inside n at ps one s h = grind (arith, length-concat, div_below)
 
 -- what is left to put, after the part that goes into one piece
 pub put-step : (n at : ℕ) (ps : List (List ℕ)) (d now later rest new : List ℕ) → Sized n ps → at / n < length ps
@@ -108,14 +103,12 @@ pub put-step : (n at : ℕ) (ps : List (List ℕ)) (d now later rest new : List 
 put-step n at ps d now later rest new s inside parts within fits is =
     let place : at / n * n + at % n ≡ at = div-add-mod' at n in
     let whole : concat (set ps (at / n) new) ≡ put_over (concat ps) at now =
-    ap (λ (q : List ℕ). concat (set ps (at / n) q)) is
-    ∙ put_over-piece n _ _ _ d _ s inside fits
+    ap (λ (q : List ℕ). concat (set ps (at / n) q)) is ∙ put_over-piece n _ _ _ d _ s inside fits
     ∙ ap (λ k. put_over (concat ps) k now) place in
     let size = ap (λ (l : List ℕ). length l) parts in
     let both = length-append now later in
     ap (λ (l : List ℕ). put_over l (at + length now) later) whole
-    ∙ put_over-twice (concat ps) at now later (omega arith)
-    ∙ ap (λ (l : List ℕ). put_over (concat ps) at l) parts
+    ∙ put_over-twice (concat ps) at now later (omega arith) ∙ ap (λ (l : List ℕ). put_over (concat ps) at l) parts
 
 -- ---- pieces in use
 
@@ -202,31 +195,26 @@ bytes-more n len ps qs all rs bytes h is e =
 pub bytes-over : (n len at : ℕ) (ps rs : List (List ℕ)) (bytes : List ℕ) → HoldPieces n len ps → at + length bytes ≤ len
     → concat rs ≡ put_over (concat ps) at bytes
     → take len (concat rs) ≡ put_over (take len (concat ps)) at bytes
-bytes-over n len at ps rs bytes h fits e =
-    ap (λ l. take len l) e ∙ put_over-take _ _ _ _ fits (bytes-within n _ _ h)
+bytes-over n len at ps rs bytes h fits e = ap (λ l. take len l) e ∙ put_over-take _ _ _ _ fits (bytes-within n _ _ h)
 
 pub take-before : (old : List ℕ) (at : ℕ) (bytes : List ℕ) → at ≤ length old
     → take at (put_over old at bytes) ≡ take at old
-take-before old at bytes h =
-    grind (arith, append_assoc, take_at, length-take)
+take-before old at bytes h = grind (arith, append_assoc, take_at, length-take)
 
 -- ---- the refusals of a place
 
 pub patched-inside : (old : List ℕ) (at : ℕ) (bytes new : List ℕ) → at + length bytes ≤ length old
     → new ≡ put_over old at bytes
     → overwrite_of old at bytes ≡ Ok new
-patched-inside old at bytes new h is =
-    grind (arith)
+patched-inside old at bytes new h is = grind (arith)
 
 -- so many pieces
 pub piece-count : (n len : ℕ) (ps : List (List ℕ)) → HoldPieces n len ps
     → length ps ≡ div_ceil (length (take len (concat ps))) n
-piece-count n len ps h =
-    grind (arith, bytes-length)
+piece-count n len ps h = grind (arith, bytes-length)
 
 -- where no more are needed
 pub no_piece : (n len more : ℕ) (ps : List (List ℕ)) → HoldPieces n len ps
     → NeedsNoPiece n (length (take len (concat ps))) more
     → div_ceil (len + more) n ≡ length ps
-no_piece n len more ps h e =
-    grind (arith, bytes-length, piece-count)
+no_piece n len more ps h e = grind (arith, bytes-length, piece-count)

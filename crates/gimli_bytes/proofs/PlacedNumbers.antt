@@ -1,12 +1,13 @@
 -- What a linker puts at a place, where it fits: the number itself.
 use Rattle.std.specs.Prelude.{◌≡◌, ◌+◌, ◌*◌, ◌^◌, ◌<◌}
-use Rattle.gimli_bytes.proofs.Common
+use Rattle.gimli_bytes.proofs
+use proofs.Common
 use Common.{ℕ, Bool, true, false, nat_eq, refl, ap, sym, ◌∙◌, w64, mod-eq_of_lt, eqb-true, cast_unsigned, udata}
 use Common.{address_bytes, Placement, section_word, Address, Constant, Symbol}
 use Rattle.gimli_bytes.specs.Relocations.{AddressOf, CallFits, lowest_bytes, placed_address, address_placed}
-use Rattle.gimli_bytes.proofs.SectionWords.{word-is}
-use Rattle.gimli_bytes.proofs.Relocating.{sum_low}
-use Rattle.gimli_bytes.proofs.CallsRelocated.{is_size, size_short, wraps}
+use proofs.SectionWords.{word-is}
+use proofs.Relocating.{sum_low}
+use proofs.CallsRelocated.{is_size, size_short, wraps}
 
 pub placed-word : (is_big : Bool) (n size : ℕ) → n < 256 ^ size
     → lowest_bytes is_big n size ≡ section_word is_big n size
@@ -31,6 +32,5 @@ placed-address at is_big (Symbol symbol addend) size fits =
     by : (n q : ℕ) → at.symbol symbol + cast_unsigned w64 addend ≡ n + q * 2 ^ 64 → n < 256 ^ size → (b : Bool)
         → is_size size ≡ b
         → lowest_bytes is_big (at.symbol symbol + cast_unsigned w64 addend) size ≡ udata is_big n size
-    by n q sum small true is =
-        ap (λ k. udata is_big k size) (sum_low _ _ _ n q (size_short _ is) sum small)
+    by n q sum small true is = ap (λ k. udata is_big k size) (sum_low _ _ _ n q (size_short _ is) sum small)
     by n q sum small false is = rw is refl

@@ -1,15 +1,16 @@
 -- What calls of a section with relocations are refused with.
 use Rattle.std.specs.Prelude.{◌≡◌, ◌⊎◌, ◌+◌, ◌^◌, ◌<◌, if◌then◌else◌}
-use Rattle.gimli_bytes.proofs.Common
+use Rattle.gimli_bytes.proofs
+use proofs.Common
 use Common.{inl, inr, ℕ, ℤ, Bool, true, false, List, length, refl, sym, subst, Ok, Err, IfErr, Result, nat_lt, list_any}
 use Common.{mod-lt, lt-ltb, number_bytes, result_map, put_over, udata, address_bytes, Placement, overwrite_of, patch}
 use Common.{Relocatable, Address, Constant, Symbol, Error, InvalidRange, LengthOutOfBounds, OffsetOutOfBounds}
 use Common.{OutOfMemory, UnsupportedWordSize, ValueTooLarge, RelocationTarget, Addends, Listed, InPlace}
-use Rattle.gimli_bytes.specs.Relocations.{Bytes, AddressOf, BytesAt, IsRefusal, IsRelocatableRefusal, number_in_place}
-use Rattle.gimli_bytes.specs.Relocations.{touches}
-use Rattle.gimli_bytes.specs.Relocations.{with_place, with_place_at, placed_address}
-use Rattle.gimli_bytes.proofs.RelocationLemmas.{pow_positive}
-use Rattle.gimli_bytes.proofs.CallsRelocated.{is_size}
+use Rattle.gimli_bytes.specs
+use specs.Relocations.{Bytes, AddressOf, BytesAt, IsRefusal, IsRelocatableRefusal, number_in_place, touches, with_place}
+use specs.Relocations.{with_place_at, placed_address}
+use proofs.RelocationLemmas.{pow_positive}
+use proofs.CallsRelocated.{is_size}
 
 pub if_err : {X : Type 0} (r : Result X Error) {P Q : Error → Type 0} → ((e : Error) → P e → Q e) → IfErr r P
     → IfErr r Q
@@ -66,8 +67,7 @@ bytes_refused v x e (inr is) = never is
 number_refused : (v : Relocatable) (n size : ℕ) (e : Error) → IsRefusal v (AddressOf (Constant n) size) e
     → IsRelocatableRefusal e ⊎ (udata v.is_big n size ≡ Err e)
 number_refused v n size e (inl memory) = inl (memory_is e memory)
-number_refused v n size e (inr is) =
-    inr (mapped_refused _ _ e is)
+number_refused v n size e (inr is) = inr (mapped_refused _ _ e is)
 
 -- by plain numbers, and once a linker has placed all
 pub address_refused : (v : Relocatable) (a : Address) (size : ℕ) (e : Error) → IsRefusal v (AddressOf a size) e

@@ -30,13 +30,9 @@ parts_over : (p s : List ℕ) (at : ℕ) (x : List ℕ) (k : ℕ) (y : List ℕ)
     (put_over (p ++ s) (length p + k) y) at x
 parts_over p s at x k y fits =
     let size : length (put_over p at x) ≡ length p = length-put_over p _ x fits in
-    let first : put_over (p ++ s) at x ≡ put_over p at x ++ s =
-    sym (put_over-front p s _ x fits) in
-    ap (λ l. put_over l (length p + k) y) first
-    ∙ ap (λ m. put_over (put_over p at x ++ s) (m + k) y) (sym size)
-    ∙ put_over-after _ s k y
-    ∙ put_over-front p _ _ x fits
-    ∙ ap (λ l. put_over l at x) (sym (put_over-after p s k y))
+    let first : put_over (p ++ s) at x ≡ put_over p at x ++ s = sym (put_over-front p s _ x fits) in
+    ap (λ l. put_over l (length p + k) y) first ∙ ap (λ m. put_over (put_over p at x ++ s) (m + k) y) (sym size)
+    ∙ put_over-after _ s k y ∙ put_over-front p _ _ x fits ∙ ap (λ l. put_over l at x) (sym (put_over-after p s k y))
 
 -- two that are apart
 pub put_over-apart : (old : List ℕ) (at : ℕ) (x : List ℕ) (off : ℕ) (y : List ℕ)
@@ -66,8 +62,7 @@ after-put_over old at x off before inside =
 -- what stands in a part in front
 pub front_same : (p s : List ℕ) (off size : ℕ) → off + size ≤ length p
     → take size (drop off (p ++ s)) ≡ take size (drop off p)
-front_same p s off size fits =
-    grind (arith, drop-append-le, take-append-le, length-drop)
+front_same p s off size fits = grind (arith, drop-append-le, take-append-le, length-drop)
 
 -- what stands before them
 pub before-put_over : (old : List ℕ) (at : ℕ) (x : List ℕ) (off size : ℕ) → off + size ≤ at
@@ -76,22 +71,18 @@ pub before-put_over : (old : List ℕ) (at : ℕ) (x : List ℕ) (off size : ℕ
 before-put_over old at x off size before inside =
     let front : off + size ≤ length (take at old) = omega (arith, length-take at old) in
     ap (λ l. take size (drop off l))
-    (append_assoc (take at old) x (drop (at + length x) old))
-    ∙ front_same _ _ _ _ front
-    ∙ sym (front_same _ _ _ _ front)
-    ∙ ap (λ l. take size (drop off l)) (take-append-drop at old)
+    (append_assoc (take at old) x (drop (at + length x) old)) ∙ front_same _ _ _ _ front
+    ∙ sym (front_same _ _ _ _ front) ∙ ap (λ l. take size (drop off l)) (take-append-drop at old)
 
 -- the bytes that are put there
 pub there-put_over : (old : List ℕ) (at : ℕ) (x : List ℕ) → at + length x ≤ length old
     → take (length x) (drop at (put_over old at x)) ≡ x
-there-put_over old at x inside =
-    grind (arith, length-take, append_assoc, drop_at, take_at)
+there-put_over old at x inside = grind (arith, length-take, append_assoc, drop_at, take_at)
 
 -- others of the same length put over them
 pub put_over-again : (old : List ℕ) (at : ℕ) (x y : List ℕ) → length x ≡ length y
     → at + length x ≤ length old → put_over (put_over old at x) at y ≡ put_over old at y
-put_over-again old at x y same inside =
-    grind (arith, length-take, append_assoc, take_at, after-put_over)
+put_over-again old at x y same inside = grind (arith, length-take, append_assoc, take_at, after-put_over)
 
 -- ---- the lowest bytes of a number
 
@@ -108,30 +99,25 @@ byte_below : (i j n q : ℕ) → byte_at i (n + q * 256 ^ (i + suc j)) ≡ byte_
 byte_below i j n q =
     let worth : 256 ^ (i + suc j) ≡ 256 ^ i * 256 ^ suc j = pow-add 256 i (suc j) in
     let more : 256 ^ suc j ≡ 256 ^ j * 256 = pow-suc 256 j in
-    let parts : n + q * 256 ^ (i + suc j) ≡ n + q * 256 ^ j * 256 * 256 ^ i =
-    rw (worth, more) (grind arith) in
+    let parts : n + q * 256 ^ (i + suc j) ≡ n + q * 256 ^ j * 256 * 256 ^ i = rw (worth, more) (grind arith) in
     let positive : 0 < 256 ^ i = pow_positive i in
-    byte_is i _
-    ∙ ap (λ m. m / 256 ^ i % 256) parts
+    byte_is i _ ∙ ap (λ m. m / 256 ^ i % 256) parts
     ∙ ap (λ m. m % 256) (add-mul-div_right n (q * 256 ^ j * 256) positive)
-    ∙ add-mul-mod_self_right (n / 256 ^ i) (q * 256 ^ j) 256
-    ∙ sym (byte_is i n)
+    ∙ add-mul-mod_self_right (n / 256 ^ i) (q * 256 ^ j) 256 ∙ sym (byte_is i n)
 
 byte_same : (i k n q : ℕ) → i < k → byte_at i (n + q * 256 ^ k) ≡ byte_at i n
 byte_same i k n q below =
     let parts : i + suc (k - suc i) ≡ k = omega arith in
     rw parts at (byte_below i (k - suc i) n q)
 
-low_same : (size i k n q : ℕ) → i + size ≤ k
-    → bytes_low_first i size (n + q * 256 ^ k) ≡ bytes_low_first i size n
+low_same : (size i k n q : ℕ) → i + size ≤ k → bytes_low_first i size (n + q * 256 ^ k) ≡ bytes_low_first i size n
 low_same zero i k n q below = refl
 low_same (suc size) i k n q below =
     let first = byte_same i k n q (omega arith) in
     let others = low_same size (suc i) k n q (omega arith) in
     rw (first, others) refl
 
-high_same : (size k n q : ℕ) → size ≤ k
-    → bytes_high_first size (n + q * 256 ^ k) ≡ bytes_high_first size n
+high_same : (size k n q : ℕ) → size ≤ k → bytes_high_first size (n + q * 256 ^ k) ≡ bytes_high_first size n
 high_same zero k n q below = refl
 high_same (suc size) k n q below =
     let first = byte_same size k n q (omega arith) in
@@ -143,9 +129,7 @@ number_same : (is_big : Bool) (size n q : ℕ)
 number_same true size n q = grind (arith, high_same)
 number_same false size n q = grind (arith, low_same)
 
-pub number-mod : (is_big : Bool) (size n : ℕ)
-    → number_bytes is_big size n ≡ number_bytes is_big size (n % 256 ^ size)
+pub number-mod : (is_big : Bool) (size n : ℕ) → number_bytes is_big size n ≡ number_bytes is_big size (n % 256 ^ size)
 number-mod is_big size n =
-    let parts : n % 256 ^ size + n / 256 ^ size * 256 ^ size ≡ n =
-    omega (arith) in
+    let parts : n % 256 ^ size + n / 256 ^ size * 256 ^ size ≡ n = omega (arith) in
     ap (number_bytes is_big size) (sym parts) ∙ number_same _ _ _ _

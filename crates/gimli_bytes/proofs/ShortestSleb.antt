@@ -1,13 +1,14 @@
 -- The written spelling of a signed number is the shortest.
 use Rattle.std.specs.Prelude.{◌≡◌, ◌+◌, ◌-◌, ◌*◌, ◌/◌, ◌%◌, ◌^◌, ◌<◌, ◌≤◌, ◌∷◌, ◌-ℤ◌, if◌then◌else◌}
-use Rattle.gimli_bytes.proofs.Common
+use Rattle.gimli_bytes.proofs
+use proofs.Common
 use Common.{ℕ, zero, suc, Bool, true, false, List, [], length, refl, sym, ap, ◌∙◌, arith, inl, inr, ℤ, pos, negsuc, w64}
 use Common.{FitsSigned, pow-succ', pow-add, ints, cases_lt, lt-ltb, le-ltb, leb-true, leb-false, IsLeb128, is_negative}
 use Common.{signed_value, SpellsSleb128, IsShortest, high_bits, has_seven_bits}
 use lib.Signed.{mag}
 use Rattle.gimli_bytes.specs.Number.{sleb, sleb_within}
-use Rattle.gimli_bytes.proofs.LebLemmas.{sleb_last, sleb_more}
-use Rattle.gimli_bytes.proofs.ShortestUleb.{IsLeb128-below, IsLeb128-cons}
+use proofs.LebLemmas.{sleb_last, sleb_more}
+use proofs.ShortestUleb.{IsLeb128-below, IsLeb128-cons}
 
 -- seven bits a byte
 power_of_128 : (k : ℕ) → 2 ^ (7 * k) ≡ 128 ^ k
@@ -102,8 +103,7 @@ record Positive (n : ℕ) (bytes : List ℕ) : Type 0 where
   sign : is_negative bytes ≡ false
 
 positive_last : (n : ℕ) → n < 64 → Positive n (n % 128 ∷ [])
-positive_last n h =
-    grind (arith)
+positive_last n h = grind (arith)
 
 positive : (more n : ℕ) → n < 64 * 128 ^ more → Positive n (sleb_within more (pos n))
 unfolding sleb_within
@@ -128,8 +128,7 @@ record Negative (n : ℕ) (bytes : List ℕ) : Type 0 where
   sign : is_negative bytes ≡ true
 
 negative_last : (n : ℕ) → n < 64 → Negative n ((127 - n % 128) ∷ [])
-negative_last n h =
-    grind (arith)
+negative_last n h = grind (arith)
 
 negative : (more n : ℕ) → n < 64 * 128 ^ more → Negative n (sleb_within more (negsuc n))
 unfolding sleb_within
@@ -158,8 +157,7 @@ spells (pos n) h =
     record {
       unsigned = n;
       groups = p.groups;
-      value_is =
-          sign_taken _ n _
+      value_is = sign_taken _ n _
           ∙ ap (λ b. if b then pos n -ℤ pos (2 ^ (7 * length (sleb_within 9 (pos n)))) else pos n) p.sign;
       short = length-sleb_within 9 9 _ size;
       fits = h;
@@ -172,8 +170,7 @@ spells (negsuc n) h =
     record {
       unsigned = p.unsigned;
       groups = p.groups;
-      value_is =
-          sign_taken (is_negative bytes) p.unsigned (2 ^ (7 * length bytes))
+      value_is = sign_taken (is_negative bytes) p.unsigned (2 ^ (7 * length bytes))
           ∙ ap (λ b. if b then pos p.unsigned -ℤ pos (2 ^ (7 * length bytes)) else pos p.unsigned) p.sign
           ∙ ap (λ k. pos p.unsigned -ℤ pos k) power
           ∙ (let e : pos p.unsigned -ℤ pos (p.unsigned + suc n) ≡ negsuc n = omega (arith, ints) in e);

@@ -24,8 +24,7 @@ IsLeb128-cons b (c ∷ bytes) n high more so h = (more, high, so, h)
 -- no more groups are written than hold the number
 pub length-uleb_within : (more j n : ℕ) → n < 128 ^ suc j → length (uleb_within more n) ≤ suc j
 length-uleb_within zero j n h = omega arith
-length-uleb_within (suc more) zero n h =
-    grind (arith)
+length-uleb_within (suc more) zero n h = grind (arith)
 length-uleb_within (suc more) (suc j) n h = elim (cases_lt n 128) [
   | inl low ↦ omega (arith, ap length (uleb_last (suc more) n low))
   | inr high ↦
@@ -36,8 +35,7 @@ length-uleb_within (suc more) (suc j) n h = elim (cases_lt n 128) [
 
 -- what is written are groups of the number
 pub IsLeb128-uleb_within : (more n : ℕ) → n < 128 ^ suc more → IsLeb128 (uleb_within more n) n
-IsLeb128-uleb_within zero n h =
-    grind (arith)
+IsLeb128-uleb_within zero n h = grind (arith)
 IsLeb128-uleb_within (suc more) n h = elim (cases_lt n 128) [
   | inl low ↦ rw (uleb_last _ n low) (low, refl)
   | inr high ↦

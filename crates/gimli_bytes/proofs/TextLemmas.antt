@@ -40,8 +40,7 @@ place_is ks t = grind (arith, prefix-map)
 -- a text that a search doesn't find is none of them
 pub not_there : (ks : List (Vec ℕ Global)) (t : List ℕ) → false ≡ list_any (λ k. bytes_eq t k.items) ks
     → Contains (texts_of ks) t → ⊥
-not_there ks t e h =
-    grind (arith, list_any_at, bytes_eq-Decides, is_there)
+not_there ks t e h = grind (arith, list_any_at, bytes_eq-Decides, is_there)
 
 -- the place of a text that is there
 pub index_there : (ks : List (Vec ℕ Global)) (t : List ℕ) (i : ℕ) → Some i ≡ position (λ k. bytes_eq t k.items) ks
@@ -58,8 +57,7 @@ place_new ks t v e =
 pub texts_new : (ks : List (Vec ℕ Global)) (t : List ℕ) (v : Vec ℕ Global) → v.items ≡ t
     → false ≡ list_any (λ k. bytes_eq t k.items) ks
     → texts_of (if list_any (λ k. bytes_eq v.items k.items) ks then ks else ks ++ v ∷ []) ≡ with_text (texts_of ks) t
-texts_new ks t v e absent =
-    grind (arith, map-append, is_there)
+texts_new ks t v e absent = grind (arith, map-append, is_there)
 
 -- ---- a text is added
 
@@ -69,8 +67,7 @@ with_text-there ts t h = grind arith
 
 pub byte_count-new : (ts : List (List ℕ)) (t : List ℕ) → list_any (bytes_eq t) ts ≡ false
     → byte_count (with_text ts t) ≡ byte_count ts + length t + 1
-byte_count-new ts t absent =
-    grind (arith, sum_by-append)
+byte_count-new ts t absent = grind (arith, sum_by-append)
 
 pub with_text-AreTexts : (ts : List (List ℕ)) (t : List ℕ) → AreTexts ts → All (λ b. b ≢ 0) t
     → AreTexts (with_text ts t)
@@ -79,9 +76,7 @@ with_text-AreTexts ts t so clean = by (list_any (bytes_eq t) ts) refl
     by : (b : Bool) → list_any (bytes_eq t) ts ≡ b → AreTexts (if b then ts else ts ++ t ∷ [])
     by true h = so
     by false h = record {
-      distinct =
-          all_pairs_push (λ s u. s ≢ u) ts t so.distinct (λ k d short same.
-          true≢false
+      distinct = all_pairs_push (λ s u. s ≢ u) ts t so.distinct (λ k d short same. true≢false
           (sym (list_any_at (bytes_eq t) ts k d short ((bytes_eq-Decides t (get_or ts k d)).1 (sym same))) ∙ h));
       no_zero = All-push (λ u. All (λ b. b ≢ 0) u) ts t so.no_zero clean;
     }
@@ -95,8 +90,7 @@ found-there (s ∷ ts) t h = at (bytes_eq t s) refl (found-there ts t) h
         → (b || list_any (bytes_eq t) ts) ≡ true
         → slice_get (s ∷ ts) (cond (not b) (1 + index_of_text ts t) 0) ≡ Some t
     at true e rest h = grind (arith, bytes_eq-Decides)
-    at false e rest h =
-        grind arith
+    at false e rest h = grind arith
 
 found-new : (ts : List (List ℕ)) (t : List ℕ) → list_any (bytes_eq t) ts ≡ false
     → slice_get (ts ++ t ∷ []) (index_of_text ts t) ≡ Some t
@@ -107,8 +101,7 @@ found-new (s ∷ ts) t h = at (bytes_eq t s) (found-new ts t) h
         → (b || list_any (bytes_eq t) ts) ≡ false
         → slice_get (s ∷ ts ++ t ∷ []) (cond (not b) (1 + index_of_text ts t) 0) ≡ Some t
     at true rest h = cc
-    at false rest h =
-        grind arith
+    at false rest h = grind arith
 
 -- an added text stands at its place
 pub with_text-found : (ts : List (List ℕ)) (t : List ℕ) → slice_get (with_text ts t) (index_of_text ts t) ≡ Some t
@@ -136,27 +129,24 @@ with_text-KeepsTexts ts t = by (list_any (bytes_eq t) ts)
 
 pub length-table_bytes : (ts : List (List ℕ)) → length (table_bytes ts) ≡ byte_count ts
 length-table_bytes [] = refl
-length-table_bytes (t ∷ ts) =
-    omega (
-      arith,
-      length-append (t ++ 0 ∷ []) (table_bytes ts),
-      length-append t (0 ∷ []),
-      sum_by-cons (λ (x : List ℕ). length x + 1) t ts,
-      length-table_bytes ts,
-    )
+length-table_bytes (t ∷ ts) = omega (
+  arith,
+  length-append (t ++ 0 ∷ []) (table_bytes ts),
+  length-append t (0 ∷ []),
+  sum_by-cons (λ (x : List ℕ). length x + 1) t ts,
+  length-table_bytes ts,
+)
 
 pub table_bytes-at : (ts : List (List ℕ)) (i : ℕ) (t : List ℕ) → slice_get ts i ≡ Some t
     → drop (offset_of ts i) (table_bytes ts) ≡ t ++ 0 ∷ table_bytes (drop (i + 1) ts)
 table_bytes-at [] i t h = cc
-table_bytes-at (s ∷ ts) zero t h =
-    grind (arith, append_assoc)
+table_bytes-at (s ∷ ts) zero t h = grind (arith, append_assoc)
 table_bytes-at (s ∷ ts) (suc i) t h =
     let first : length (s ++ 0 ∷ []) ≡ length s + 1 = length-append s (0 ∷ []) in
     let more : suc i + 1 ≡ suc (i + 1) = omega arith in
     ap (λ (n : ℕ). drop n (table_bytes (s ∷ ts))) (sum_by-cons (λ (x : List ℕ). length x + 1) s (take i ts))
     ∙ sym (drop-drop (offset_of ts i) (length s + 1) (table_bytes (s ∷ ts)))
-    ∙ ap (drop (offset_of ts i)) (drop_at (s ++ 0 ∷ []) (table_bytes ts) (length s + 1) first)
-    ∙ table_bytes-at ts i t h
+    ∙ ap (drop (offset_of ts i)) (drop_at (s ++ 0 ∷ []) (table_bytes ts) (length s + 1) first) ∙ table_bytes-at ts i t h
     ∙ ap (λ (n : ℕ). t ++ 0 ∷ table_bytes (drop n (s ∷ ts))) (sym more)
 
 -- ---- a walk over the keys
@@ -169,8 +159,7 @@ byte_count-part ks n =
 pub byte_count-more : (ks : List (Vec ℕ Global)) (i : ℕ) (v : Vec ℕ Global) → i < length ks → v ≡ get_or ks i v
     → byte_count (texts_of (take (i + 1) ks)) ≡ byte_count (texts_of (take i ks)) + (length v.items + 1)
 byte_count-more ks i v h e =
-    let more =
-    ap (λ (l : List (Vec ℕ Global)). byte_count (texts_of l)) (take_more ks i v h)
+    let more = ap (λ (l : List (Vec ℕ Global)). byte_count (texts_of l)) (take_more ks i v h)
     ∙ ap byte_count (map-append (λ (k : Vec ℕ Global). k.items) (take i ks) (get_or ks i v ∷ []))
     ∙ sum_by-append (λ (x : List ℕ). length x + 1) (texts_of (take i ks)) ((get_or ks i v).items ∷ []) in
     let same = ap (λ (k : Vec ℕ Global). length k.items) e in

@@ -9,10 +9,20 @@ use Common.{InitialLengthOverflow, InvalidAddress, InvalidReference, Unsupported
 use Common.{LengthOutOfBounds, InvalidRange, Addends, Listed, InPlace, OfSymbol, OfSection}
 use Rattle.gimli_core.specs.declared.common.Format.TheVariants.{Dwarf32, Dwarf64}
 use Rattle.gimli_core.specs.declared.common.SectionId.TheVariants.{DebugStr}
-use Rattle.gimli_bytes.specs.Number.{uleb, sleb_within, sleb}
-use Rattle.gimli_bytes.specs.Pieces.{ArePieces, in_use, NeedsNoPiece}
-use Rattle.gimli_bytes.specs.Relocations.{Call, AddressOf, OffsetInto, ReferenceTo, BytesAt, OffsetAt, after_calls}
-use Rattle.gimli_bytes.specs.Relocations.{applied, placed_address}
+use Rattle.gimli_bytes.specs
+use specs.Number.{uleb, sleb_within, sleb}
+use specs.Pieces.{ArePieces, in_use, NeedsNoPiece}
+use specs.Relocations.{
+  Call,
+  AddressOf,
+  OffsetInto,
+  ReferenceTo,
+  BytesAt,
+  OffsetAt,
+  after_calls,
+  applied,
+  placed_address,
+}
 
 -- what a call writes
 abbrev Written : Type 0
@@ -355,8 +365,7 @@ addend_in_place = refl
 pub offset_in_the_list : after_calls (begun Listed) (OffsetInto DebugStr 7 4 ∷ ReferenceTo 2 1 ∷ [])
     ≡ Ok (record (begun Listed) {
       bytes = 0xaa ∷ replicate 5 0;
-      relocations =
-          record { offset = 1; size = 4; target = OfSection DebugStr; addend = pos 7 }
+      relocations = record { offset = 1; size = 4; target = OfSection DebugStr; addend = pos 7 }
           ∷ record { offset = 5; size = 1; target = OfSymbol 2; addend = pos 0 }
           ∷ [];
     })

@@ -47,8 +47,7 @@ pub relative_pointer : (is_big : Bool) (old : List ℕ) (address : Address) (n p
     → bit_and encoding.0 0x70 ≡ 0x10 → place ≡ length old → format.0 ≡ bit_and encoding.0 0x0f
     → pointer_at_end is_big old address encoding size
     ≡ pointer_data is_big ((n + (2 ^ 64 - place)) % 2 ^ 64) format size
-relative_pointer is_big old address n place encoding format size constant kind later is =
-    rw (constant, kind, ← later)
+relative_pointer is_big old address n place encoding format size constant kind later is = rw (constant, kind, ← later)
     (ap (λ f. pointer_data is_big ((n + (2 ^ 64 - place)) % 2 ^ 64) f size) (same_format _ _ is))
 
 pub other_pointer : (is_big : Bool) (old : List ℕ) (address : Address) (n : ℕ) (encoding : DwEhPe) (size : ℕ)

@@ -1,12 +1,12 @@
 -- How a writer writes what it may leave to a linker: addresses, offsets into sections, and
 -- references to symbols.
-use Rattle.std.specs.Prelude.{if◌then◌else◌}
-use Rattle.gimli_bytes.specs.Prelude.{number_bytes, SectionId}
-use Rattle.std.specs.Prelude.{ℕ, Bool, List, Result, Ok, Err, nat_eq}
-use Rattle.gimli_bytes.specs.Number.{udata, address_bytes}
-use Rattle.gimli_bytes.specs.declared.address.Address.{Address}
-use Rattle.gimli_bytes.specs.declared.error.Error.{Error}
-use Rattle.gimli_bytes.specs.declared.error.Error.TheVariants.{InvalidReference}
+use Rattle.std.specs.Prelude.{if◌then◌else◌, ℕ, Bool, List, Result, Ok, Err, nat_eq}
+use Rattle.gimli_bytes.specs
+use specs.Prelude.{number_bytes, SectionId}
+use specs.Number.{udata, address_bytes}
+use specs.declared.address.Address.{Address}
+use specs.declared.error.Error.{Error}
+use specs.declared.error.Error.TheVariants.{InvalidReference}
 
 -- the address of each symbol, and what each offset into a section becomes: it counts from where the
 -- section begins; or a linker that merges texts moves each by itself

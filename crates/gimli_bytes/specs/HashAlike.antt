@@ -1,6 +1,5 @@
 -- What a hash says of an equality.
-use Rattle.std.specs.Prelude.{◌≡◌}
-use Rattle.std.specs.Prelude.{Bool, true}
+use Rattle.std.specs.Prelude.{◌≡◌, Bool, true}
 
 -- equal values hash alike: what is handed to a hasher is the same
 abbrev pub HashAlike : {A B : Type 0} → (A → A → Bool) → (A → B) → Type 0

@@ -1,18 +1,43 @@
 -- The bytes of a number as it is written, or the refusal of its value or its size. "is_big" says
 -- that the most significant byte comes first.
-use Rattle.std.specs.Prelude.{◌+◌, ◌-◌, ◌*◌, ◌/◌, ◌%◌, ◌^◌, ◌||◌, if◌then◌else◌, ◌∷◌, ◌++◌}
-use Rattle.gimli_bytes.specs.Prelude.{number_bytes, result_map}
-use Rattle.std.specs.Prelude.{ℕ, zero, suc, Bool, nat_lt}
-use Rattle.std.specs.Prelude.{nat_eq, List, [], length, Result, Ok, Err}
-use Rattle.std.specs.Prelude.{ℤ, pos, negsuc, bit_and}
+use Rattle.std.specs.Prelude.{
+  ◌+◌,
+  ◌-◌,
+  ◌*◌,
+  ◌/◌,
+  ◌%◌,
+  ◌^◌,
+  ◌||◌,
+  if◌then◌else◌,
+  ◌∷◌,
+  ◌++◌,
+  ℕ,
+  zero,
+  suc,
+  Bool,
+  nat_lt,
+  nat_eq,
+  List,
+  [],
+  length,
+  Result,
+  Ok,
+  Err,
+  ℤ,
+  pos,
+  negsuc,
+  bit_and,
+}
+use Rattle.gimli_bytes.specs
+use specs.Prelude.{number_bytes, result_map}
 use Rattle.std.specs.Int.{w64, cast_signed}
 use Rattle.gimli_core.specs.declared.common.Format.{Format}
 use Rattle.gimli_core.specs.declared.common.Format.TheVariants.{Dwarf32, Dwarf64}
 use Rattle.gimli_core.specs.declared.constants.DwEhPe.{DwEhPe}
-use Rattle.gimli_bytes.specs.declared.address.Address.{Address}
-use Rattle.gimli_bytes.specs.declared.address.Address.TheVariants.{Constant, Symbol}
-use Rattle.gimli_bytes.specs.declared.error.Error.{Error}
-use Rattle.gimli_bytes.specs.declared.error.Error.TheVariants.{
+use specs.declared.address.Address.{Address}
+use specs.declared.address.Address.TheVariants.{Constant, Symbol}
+use specs.declared.error.Error.{Error}
+use specs.declared.error.Error.TheVariants.{
   ValueTooLarge,
   UnsupportedWordSize,
   InitialLengthOverflow,

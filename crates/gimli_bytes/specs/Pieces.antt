@@ -1,6 +1,5 @@
 -- Bytes in pieces of one size.
-use Rattle.std.specs.Prelude.{◌≡◌, ◌+◌, ◌-◌, ◌*◌, ◌<◌, ◌≤◌, ◌∷◌}
-use Rattle.std.specs.Prelude.{ℕ, List, [], All, length, take}
+use Rattle.std.specs.Prelude.{◌≡◌, ◌+◌, ◌-◌, ◌*◌, ◌<◌, ◌≤◌, ◌∷◌, ℕ, List, [], All, length, take}
 use Rattle.std.specs.List.{concat}
 use Rattle.std.specs.Int.{div_ceil}
 

@@ -1,20 +1,20 @@
 -- What is written where addresses aren't known yet: bytes, and the places that a linker fills in
 -- (System V ABI,
 -- chapter 4, "Relocation").
-use Rattle.std.specs.Prelude.{◌≡◌, ◌⊎◌, ◌+◌, ◌%◌, ◌<◌, ◌^◌, ◌+ℤ◌, ◌&&◌, if◌then◌else◌, ◌∷◌, ◌++◌}
-use Rattle.gimli_bytes.specs.Prelude.{number_bytes, value_of, result_map, SectionId}
-use Rattle.std.specs.Prelude.{ℕ, ℤ, pos, negsuc, FitsSigned, unsigned_abs, Bool, nat_le, nat_lt}
-use Rattle.std.specs.Prelude.{List, [], length, take}
-use Rattle.std.specs.Prelude.{drop, All, Result, Ok, Err}
+use Rattle.std.specs.Prelude.{◌≡◌, ◌⊎◌, ◌+◌, ◌%◌, ◌<◌, ◌^◌, ◌+ℤ◌, ◌&&◌, if◌then◌else◌, ◌∷◌, ◌++◌, ℕ}
+use Rattle.std.specs.Prelude.{ℤ, pos, negsuc, FitsSigned, unsigned_abs, Bool, nat_le, nat_lt, List}
+use Rattle.std.specs.Prelude.{[], length, take, drop, All, Result, Ok, Err}
+use Rattle.gimli_bytes.specs
+use specs.Prelude.{number_bytes, value_of, result_map, SectionId}
 use Rattle.std.specs.List.{list_all, list_any}
 use Rattle.std.specs.Int.{w64, cast_signed, cast_unsigned}
-use Rattle.gimli_bytes.specs.Number.{udata, address_bytes}
-use Rattle.gimli_bytes.specs.Hand.{Hand, Placement, section_word, plain_reference}
-use Rattle.gimli_bytes.specs.Written.{overwrite_of, patch}
-use Rattle.gimli_bytes.specs.declared.address.Address.{Address}
-use Rattle.gimli_bytes.specs.declared.address.Address.TheVariants.{Constant, Symbol}
-use Rattle.gimli_bytes.specs.declared.error.Error.{Error}
-use Rattle.gimli_bytes.specs.declared.error.Error.TheVariants.{
+use specs.Number.{udata, address_bytes}
+use specs.Hand.{Hand, Placement, section_word, plain_reference}
+use specs.Written.{overwrite_of, patch}
+use specs.declared.address.Address.{Address}
+use specs.declared.address.Address.TheVariants.{Constant, Symbol}
+use specs.declared.error.Error.{Error}
+use specs.declared.error.Error.TheVariants.{
   InvalidRange,
   LengthOutOfBounds,
   OffsetOutOfBounds,
@@ -22,12 +22,12 @@ use Rattle.gimli_bytes.specs.declared.error.Error.TheVariants.{
   UnsupportedWordSize,
   ValueTooLarge,
 }
-use Rattle.gimli_bytes.specs.declared.relocation.Addends.{Addends}
-use Rattle.gimli_bytes.specs.declared.relocation.Addends.TheVariants.{Listed, InPlace}
-use Rattle.gimli_bytes.specs.declared.relocation.RelocationTarget.{RelocationTarget}
-use Rattle.gimli_bytes.specs.declared.relocation.RelocationTarget.TheVariants.{OfSymbol, OfSection}
-use Rattle.gimli_bytes.specs.declared.relocation.Relocation.{Relocation}
-use Rattle.gimli_bytes.specs.Relocatable.{Relocatable}
+use specs.declared.relocation.Addends.{Addends}
+use specs.declared.relocation.Addends.TheVariants.{Listed, InPlace}
+use specs.declared.relocation.RelocationTarget.{RelocationTarget}
+use specs.declared.relocation.RelocationTarget.TheVariants.{OfSymbol, OfSection}
+use specs.declared.relocation.Relocation.{Relocation}
+use specs.Relocatable.{Relocatable}
 
 -- ---- what a linker does
 
@@ -85,8 +85,7 @@ relocation_at v offset target addend size =
       offset = offset;
       size = size;
       target = target;
-      addend =
-          addend_in_list v.addends addend;
+      addend = addend_in_list v.addends addend;
     }
 
 -- these bytes, and one relocation more

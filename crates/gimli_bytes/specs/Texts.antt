@@ -1,7 +1,6 @@
 -- String tables as lists of texts.
-use Rattle.std.specs.Prelude.{◌≡◌, ◌≢◌, ◌+◌, ◌<◌, ◌∷◌, ◌++◌, if◌then◌else◌}
-use Rattle.std.specs.Prelude.{ℕ, List, [], length, take, slice_get}
-use Rattle.std.specs.Prelude.{sum_by, bytes_eq, All, AllPairs}
+use Rattle.std.specs.Prelude.{◌≡◌, ◌≢◌, ◌+◌, ◌<◌, ◌∷◌, ◌++◌, if◌then◌else◌, ℕ, List, [], length}
+use Rattle.std.specs.Prelude.{take, slice_get, sum_by, bytes_eq, All, AllPairs}
 use Rattle.std.specs.List.{list_any, position_or_len, flat_map}
 
 -- the texts of a table: no two are the same, and none has a zero byte, which ends a text in a

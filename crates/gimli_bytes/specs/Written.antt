@@ -1,16 +1,12 @@
 -- What a call of a writer leaves. The bytes that a call is to write are "wanted": the bytes, or the
 -- refusal of the value or the size.
-use Rattle.std.specs.Prelude.{◌≡◌, ◌⊎◌, ◌++◌, ◌+◌, if◌then◌else◌}
-use Rattle.std.specs.Prelude.{ℕ, List, length, Result, Ok, Err, nat_lt, take}
-use Rattle.std.specs.Prelude.{drop, IsTrue, OnOk, OnErr, IfErr}
-use Rattle.gimli_bytes.specs.Hand.{Hand, Placement, plain}
-use Rattle.gimli_bytes.specs.declared.error.Error.{Error}
-use Rattle.gimli_bytes.specs.declared.error.Error.TheVariants.{
-  OutOfMemory,
-  OffsetOutOfBounds,
-  LengthOutOfBounds,
-}
-use Rattle.gimli_bytes.specs.declared.sink.Sink.{Ghosts}
+use Rattle.std.specs.Prelude.{◌≡◌, ◌⊎◌, ◌++◌, ◌+◌, if◌then◌else◌, ℕ, List, length, Result, Ok, Err}
+use Rattle.std.specs.Prelude.{nat_lt, take, drop, IsTrue, OnOk, OnErr, IfErr}
+use Rattle.gimli_bytes.specs
+use specs.Hand.{Hand, Placement, plain}
+use specs.declared.error.Error.{Error}
+use specs.declared.error.Error.TheVariants.{OutOfMemory, OffsetOutOfBounds, LengthOutOfBounds}
+use specs.declared.sink.Sink.{Ghosts}
 
 -- the old bytes are a beginning of the new ones
 abbrev pub Begins : List ℕ → List ℕ → Type 0

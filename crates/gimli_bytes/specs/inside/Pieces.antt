@@ -1,6 +1,5 @@
 -- Bytes in pieces of one size.
-use Rattle.std.specs.Prelude.{◌+◌, ◌++◌}
-use Rattle.std.specs.Prelude.{ℕ, List, length, take, drop}
+use Rattle.std.specs.Prelude.{◌+◌, ◌++◌, ℕ, List, length, take, drop}
 
 -- bytes put over others from a place on
 abbrev pub put_over : List ℕ → ℕ → List ℕ → List ℕ

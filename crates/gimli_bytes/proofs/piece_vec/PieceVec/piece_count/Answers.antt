@@ -1,7 +1,8 @@
 use Rattle.std.specs.Prelude.{◌≡◌}
-use Rattle.gimli_bytes.proofs.Common.{◌∙◌, length, rules}
-use Rattle.gimli_bytes.proofs.PieceLemmas.{piece-count}
-use Rattle.gimli_bytes.proofs.piece_vec.PieceVec.piece_count.Goals as goal
+use Rattle.gimli_bytes.proofs
+use proofs.Common.{◌∙◌, length, rules}
+use proofs.PieceLemmas.{piece-count}
+use proofs.piece_vec.PieceVec.piece_count.Goals as goal
 
 pub returns : goal.returns
 returns g c =

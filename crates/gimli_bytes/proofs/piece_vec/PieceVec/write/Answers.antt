@@ -1,12 +1,19 @@
 use Rattle.std.specs.Prelude.{◌≡◌, ◌≤◌, ◌+◌, ◌-◌, ◌++◌}
-use Rattle.gimli_bytes.proofs.Common.{rules, length, arith}
-use Rattle.gimli_bytes.proofs.PieceLemmas.{count-below, HoldPieces-grown, HoldPieces-same, bytes-within, bytes-length}
-use Rattle.gimli_bytes.proofs.PieceLemmas.{bytes-more, no_piece}
-use Rattle.gimli_bytes.proofs.piece_vec.PieceVec.write.Goals as goal
+use Rattle.gimli_bytes.proofs
+use proofs.Common.{rules, length, arith}
+use proofs.PieceLemmas.{
+  count-below,
+  HoldPieces-grown,
+  HoldPieces-same,
+  bytes-within,
+  bytes-length,
+  bytes-more,
+  no_piece,
+}
+use proofs.piece_vec.PieceVec.write.Goals as goal
 
 pub overflow_sub-div_ceil : goal.overflow_sub-div_ceil
-overflow_sub-div_ceil g c =
-    grind (arith, rules, count-below)
+overflow_sub-div_ceil g c = grind (arith, rules, count-below)
 
 pub put-requires-clause-sizes : goal.put-requires-clause-sizes
 put-requires-clause-sizes g c =
@@ -34,17 +41,13 @@ invariant_of-self-2 g c =
     HoldPieces-same _ _ _ _ grown c.put.ensures.sizes c.put.ensures.count
 
 pub returns-clause-ok : goal.returns-clause-ok
-returns-clause-ok g c =
-    grind (arith, rules, bytes-more)
+returns-clause-ok g c = grind (arith, rules, bytes-more)
 
 pub returns-then-bytes-self-clause-room : goal.returns-then-bytes-self-clause-room
-returns-then-bytes-self-clause-room g c =
-    grind (arith, bytes-length)
+returns-then-bytes-self-clause-room g c = grind (arith, bytes-length)
 
 pub returns-in_err-added-clause-room : goal.returns-in_err-added-clause-room
-returns-in_err-added-clause-room g c =
-    grind (arith, rules, no_piece)
+returns-in_err-added-clause-room g c = grind (arith, rules, no_piece)
 
 pub returns-in_err-append-clause-room : goal.returns-in_err-append-clause-room
-returns-in_err-append-clause-room g c =
-    grind (arith, rules, no_piece)
+returns-in_err-append-clause-room g c = grind (arith, rules, no_piece)

@@ -1,9 +1,10 @@
-use Rattle.gimli_bytes.proofs.Common.{inl, refl}
-use Rattle.gimli_bytes.proofs.Parts.{begins_self}
-use Rattle.gimli_bytes.proofs.WrittenAs.{no_truth}
-use Rattle.gimli_bytes.proofs.Completing.{either, on_ok, on_err, grows_bytes, completed_bytes}
-use Rattle.gimli_bytes.proofs.RelocatableRefusals.{if_err, bytes_refused}
-use Rattle.gimli_bytes.proofs.relocatable_vec.RelocatableVecWriter.write.Goals as goal
+use Rattle.gimli_bytes.proofs
+use proofs.Common.{inl, refl}
+use proofs.Parts.{begins_self}
+use proofs.WrittenAs.{no_truth}
+use proofs.Completing.{either, on_ok, on_err, grows_bytes, completed_bytes}
+use proofs.RelocatableRefusals.{if_err, bytes_refused}
+use proofs.relocatable_vec.RelocatableVecWriter.write.Goals as goal
 
 pub returns : goal.returns
 returns g c =

@@ -1,9 +1,10 @@
-use Rattle.gimli_bytes.proofs.Common.{refl}
-use Rattle.gimli_bytes.proofs.Parts.{begins_self}
-use Rattle.gimli_bytes.proofs.WrittenAs.{no_truth}
-use Rattle.gimli_bytes.proofs.Completing.{either, on_ok, on_err, grows_address, completed_address}
-use Rattle.gimli_bytes.proofs.RelocatableRefusals.{if_err, address_refused, placed_refused}
-use Rattle.gimli_bytes.proofs.relocatable_vec.RelocatableVecWriter.write_address.Goals as goal
+use Rattle.gimli_bytes.proofs
+use proofs.Common.{refl}
+use proofs.Parts.{begins_self}
+use proofs.WrittenAs.{no_truth}
+use proofs.Completing.{either, on_ok, on_err, grows_address, completed_address}
+use proofs.RelocatableRefusals.{if_err, address_refused, placed_refused}
+use proofs.relocatable_vec.RelocatableVecWriter.write_address.Goals as goal
 
 pub returns : goal.returns
 returns g c =
@@ -12,8 +13,7 @@ returns g c =
     let r = c.write_address.result in
     let e = c.write_address.ensures in
     record {
-      keeps =
-          either r e.ok e.err (λ is. (grows_address v w c.args.address c.args.size is).begins) (λ same.
+      keeps = either r e.ok e.err (λ is. (grows_address v w c.args.address c.args.size is).begins) (λ same.
           rw same (begins_self v.bytes));
       ordered =
           either r e.ok e.err (λ is. (grows_address v w c.args.address c.args.size is).big_is) (λ same. rw same refl);

@@ -1,8 +1,9 @@
-use Rattle.gimli_bytes.proofs.Common.{inl, refl}
-use Rattle.gimli_bytes.proofs.WrittenAs.{no_truth}
-use Rattle.gimli_bytes.proofs.Completing.{either, on_ok, on_err, over_stays, stays_inside, completed_over}
-use Rattle.gimli_bytes.proofs.RelocatableRefusals.{if_err, bytes_at_refused}
-use Rattle.gimli_bytes.proofs.relocatable_vec.RelocatableVecWriter.write_at.Goals as goal
+use Rattle.gimli_bytes.proofs
+use proofs.Common.{inl, refl}
+use proofs.WrittenAs.{no_truth}
+use proofs.Completing.{either, on_ok, on_err, over_stays, stays_inside, completed_over}
+use proofs.RelocatableRefusals.{if_err, bytes_at_refused}
+use proofs.relocatable_vec.RelocatableVecWriter.write_at.Goals as goal
 
 pub returns : goal.returns
 returns g c =

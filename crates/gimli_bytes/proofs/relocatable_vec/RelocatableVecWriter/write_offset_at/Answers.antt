@@ -1,8 +1,9 @@
 use Rattle.std.specs.Prelude.{◌≡◌, ◌<◌, ◌^◌}
-use Rattle.gimli_bytes.proofs.Common.{◌∙◌, ap, sym, inl, arith, to_z, of_z, w64, cast_signed, of_z-to_z}
-use Rattle.gimli_bytes.proofs.Completing.{stays_inside_at, completed_offset_at}
-use Rattle.gimli_bytes.proofs.RelocatableRefusals.{if_err, place_at_refused}
-use Rattle.gimli_bytes.proofs.relocatable_vec.RelocatableVecWriter.write_offset_at.Goals as goal
+use Rattle.gimli_bytes.proofs
+use proofs.Common.{◌∙◌, ap, sym, inl, arith, to_z, of_z, w64, cast_signed, of_z-to_z}
+use proofs.Completing.{stays_inside_at, completed_offset_at}
+use proofs.RelocatableRefusals.{if_err, place_at_refused}
+use proofs.relocatable_vec.RelocatableVecWriter.write_offset_at.Goals as goal
 
 pub returns : goal.returns
 returns g c =
@@ -25,8 +26,7 @@ returns g c =
       stays = grind (arith, stays_inside_at);
       refused = grind (arith);
       ok = grind (arith);
-      completed =
-          grind (arith, completed_offset_at);
+      completed = grind (arith, completed_offset_at);
       err = grind (arith);
       own = if_err r (λ d is. inl (place_at_refused v at _ _ c.args.size d is)) e.cause;
       completed_own = λ places inside. if_err r (λ d is. inl (place_at_refused v at _ _ c.args.size d is)) e.cause;

@@ -1,9 +1,10 @@
-use Rattle.gimli_bytes.proofs.Common.{inl, refl, pos, OfSymbol}
-use Rattle.gimli_bytes.proofs.Parts.{begins_self}
-use Rattle.gimli_bytes.proofs.WrittenAs.{no_truth}
-use Rattle.gimli_bytes.proofs.Completing.{either, on_ok, on_err, grows_reference, completed_reference}
-use Rattle.gimli_bytes.proofs.RelocatableRefusals.{if_err, place_refused}
-use Rattle.gimli_bytes.proofs.relocatable_vec.RelocatableVecWriter.write_reference.Goals as goal
+use Rattle.gimli_bytes.proofs
+use proofs.Common.{inl, refl, pos, OfSymbol}
+use proofs.Parts.{begins_self}
+use proofs.WrittenAs.{no_truth}
+use proofs.Completing.{either, on_ok, on_err, grows_reference, completed_reference}
+use proofs.RelocatableRefusals.{if_err, place_refused}
+use proofs.relocatable_vec.RelocatableVecWriter.write_reference.Goals as goal
 
 pub returns : goal.returns
 returns g c =
@@ -12,8 +13,7 @@ returns g c =
     let r = c.write_reference.result in
     let e = c.write_reference.ensures in
     record {
-      keeps =
-          either r e.ok e.err (λ is. (grows_reference v w c.args.symbol c.args.size is).begins) (λ same.
+      keeps = either r e.ok e.err (λ is. (grows_reference v w c.args.symbol c.args.size is).begins) (λ same.
           rw same (begins_self v.bytes));
       ordered =
           either r e.ok e.err (λ is. (grows_reference v w c.args.symbol c.args.size is).big_is) (λ same. rw same refl);
@@ -24,8 +24,7 @@ returns g c =
       completed = λ at inside. on_ok r (λ is. completed_reference at v w c.args.symbol c.args.size inside is) e.ok;
       err = λ memory. absurd (no_truth memory);
       own = if_err r (λ d is. inl (place_refused v (OfSymbol c.args.symbol) (pos 0) c.args.size d is)) e.cause;
-      completed_own =
-          λ at inside.
+      completed_own = λ at inside.
           if_err r (λ d is. inl (place_refused v (OfSymbol c.args.symbol) (pos 0) c.args.size d is)) e.cause;
       untouched = λ keeps. absurd (no_truth keeps);
       none = λ all. on_err r (λ same. rw same refl) e.err;

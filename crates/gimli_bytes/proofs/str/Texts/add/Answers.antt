@@ -1,35 +1,30 @@
 use Rattle.std.specs.Prelude.{◌≡◌}
-use Rattle.gimli_bytes.proofs.Common
+use Rattle.gimli_bytes.proofs
+use proofs.Common
 use Common.{rules, sym, ap, ◌∙◌, false, true, arith, slice_get, with_text, index_of_text, texts_of}
-use Rattle.gimli_bytes.proofs.TextLemmas.{is_there, not_there, index_there, place_new, texts_new, with_text-there}
-use Rattle.gimli_bytes.proofs.TextLemmas.{byte_count-new, with_text-AreTexts}
-use Rattle.gimli_bytes.proofs.TextLemmas.{with_text-found, with_text-KeepsTexts}
-use Rattle.gimli_bytes.proofs.str.Texts.add.Goals as goal
+use proofs.TextLemmas.{is_there, not_there, index_there, place_new, texts_new, with_text-there, byte_count-new}
+use proofs.TextLemmas.{with_text-AreTexts, with_text-found, with_text-KeepsTexts}
+use proofs.str.Texts.add.Goals as goal
 
 pub returns-in-Some-clause-ok : goal.returns-in-Some-clause-ok
-returns-in-Some-clause-ok c =
-    grind (arith, is_there)
+returns-in-Some-clause-ok c = grind (arith, is_there)
 
 pub returns-in-Some-clause-id : goal.returns-in-Some-clause-id
-returns-in-Some-clause-id c =
-    rw (← c.self.view_is)
+returns-in-Some-clause-id c = rw (← c.self.view_is)
     (index_there c.self.inside.strings.keys c.args.text.now c.in-Some.index c.in-Some.ensures.index)
 
 added : (c : goal.After-self-1)
     → texts_of c.insert_full.new.self.keys ≡ with_text (texts_of c.self.inside.strings.keys) c.args.text.now
-added c =
-    ap texts_of c.in_ok-index.ensures.keys
+added c = ap texts_of c.in_ok-index.ensures.keys
     ∙ texts_new _ _ c.in_ok-copy.copy (search rules) c.in_default.ensures.found
 
 pub invariant_of-self-2 : goal.invariant_of-self-2
 invariant_of-self-2 c =
     let absent = is_there c.self.inside.strings.keys c.args.text.now false c.in_default.ensures.found in
     rw (added c) (record {
-      are_texts =
-          with_text-AreTexts (texts_of c.self.inside.strings.keys) c.args.text.now c.self.invariant.are_texts
+      are_texts = with_text-AreTexts (texts_of c.self.inside.strings.keys) c.args.text.now c.self.invariant.are_texts
           c.requires;
-      counted =
-          grind (arith, byte_count-new);
+      counted = grind (arith, byte_count-new);
     })
 
 pub returns-clause-ok : goal.returns-clause-ok
@@ -43,8 +38,7 @@ returns-clause-id c =
 
 pub returns-in-Some-clause-found : goal.returns-in-Some-clause-found
 returns-in-Some-clause-found c =
-    let there =
-    with_text-there (texts_of c.self.inside.strings.keys) c.args.text.now
+    let there = with_text-there (texts_of c.self.inside.strings.keys) c.args.text.now
     (is_there c.self.inside.strings.keys c.args.text.now true c.in-Some.ensures.found) in
     let place = index_there c.self.inside.strings.keys c.args.text.now c.in-Some.index c.in-Some.ensures.index in
     rw (← c.self.view_is) (ap (slice_get (texts_of c.self.inside.strings.keys)) place

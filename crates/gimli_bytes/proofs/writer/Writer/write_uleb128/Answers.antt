@@ -1,7 +1,8 @@
-use Rattle.gimli_bytes.proofs.Common.{arith}
-use Rattle.gimli_bytes.proofs.LebLemmas.{uleb_one}
-use Rattle.gimli_bytes.proofs.ShortestUleb.{uleb_shortest}
-use Rattle.gimli_bytes.proofs.writer.Writer.write_uleb128.Goals as goal
+use Rattle.gimli_bytes.proofs
+use proofs.Common.{arith}
+use proofs.LebLemmas.{uleb_one}
+use proofs.ShortestUleb.{uleb_shortest}
+use proofs.writer.Writer.write_uleb128.Goals as goal
 
 pub returns-then-val-lt128-clause-shortest : goal.returns-then-val-lt128-clause-shortest
 returns-then-val-lt128-clause-shortest g c = uleb_shortest c.args.val (omega arith)
