@@ -1,12 +1,12 @@
 -- The texts of a table of version 5 as values: their bytes spell these, and these stand for the texts.
-use Rattle.std.specs.Prelude.{◌≡◌, ◌<◌, ◌^◌}
+use Rattle.std.specs.Prelude.{◌≡◌, ◌≢◌, ◌<◌, ◌^◌}
 use Rattle.gimli_build.proofs
 use proofs.Common
-use Common.{ℕ, Bool, List, [], length, Ok, refl, arith, length-append, nat_eq, slice_get, unwrap_or, eqb-true}
-use Common.{append-nil, recursion_from_All, slice_get-get_or, OrderAndLimit, Value, SpellsForm, Format, Dwarf64}
-use Common.{DebugStr, DebugLineStr, String, DebugStrRef, DebugLineStrRef, Placement, counted, AreTexts, offset_of}
-use Common.{StringTables, LineText, Inline, InStrings, InLineStrings, IsWithin, HasNoZero, bytes_in, Sections, IsTextAt}
-use Common.{IsText, text_form, text_bytes, text_in_form, IsOffsetHeld, IsTextFound, IsFound}
+use Common.{sym, text_bytes, ℕ, Bool, List, [], length, Ok, refl, arith, length-append, nat_eq, slice_get, unwrap_or}
+use Common.{eqb-true, append-nil, recursion_from_All, slice_get-get_or, OrderAndLimit, Value, SpellsForm, Format}
+use Common.{Dwarf64, DebugStr, DebugLineStr, String, DebugStrRef, DebugLineStrRef, Placement, counted, AreTexts}
+use Common.{offset_of, StringTables, LineText, Inline, InStrings, InLineStrings, IsWithin, HasNoZero, bytes_in}
+use Common.{Sections, IsTextAt, IsText, text_form, text_in_form, IsOffsetHeld, IsTextFound, IsFound}
 use Rattle.gimli_core.specs.Form.{form_production}
 use proofs.writing.WrittenParts.{same_written}
 use proofs.spellings.EncodingSpellings.{offset-spelled, word-long}
@@ -44,9 +44,30 @@ module _ (at : Placement) (layout : OrderAndLimit) (format : Format) (texts : St
   text_spelled : (t : LineText) (bytes : List ℕ) → HasNoZero t → IsHeld layout.limit format at texts t
       → text_bytes (counted at) layout.is_big format texts t ≡ Ok bytes
       → (form_production layout format (text_form t)).Spells bytes (read_text at texts t)
-  text_spelled (Inline text) bytes clean held is = grind (arith, append-nil, recursion_from_All, same_written)
-  text_spelled (InStrings i) bytes clean held is = grind (arith, append-nil, offset-spelled)
-  text_spelled (InLineStrings i) bytes clean held is = grind (arith, append-nil, offset-spelled)
+  text_spelled (Inline text) bytes clean held is = (
+    text,
+    bytes,
+    [],
+    sym (append-nil bytes),
+    (recursion_from_All (λ b. b ≢ 0) _ clean, same_written _ _ is),
+    (refl, refl),
+  )
+  text_spelled (InStrings i) bytes clean held is = (
+    at.section DebugStr (offset_of texts.strings i),
+    bytes,
+    [],
+    sym (append-nil bytes),
+    offset-spelled _ _ _ _ held.0 held.1 is,
+    (refl, refl),
+  )
+  text_spelled (InLineStrings i) bytes clean held is = (
+    at.section DebugLineStr (offset_of texts.line_strings i),
+    bytes,
+    [],
+    sym (append-nil bytes),
+    offset-spelled _ _ _ _ held.0 held.1 is,
+    (refl, refl),
+  )
 
   -- a text that has the form of its table
   pub text-spelled : (form : ℕ) (t : LineText) (bytes : List ℕ) → IsReady texts t
