@@ -75,7 +75,7 @@ rows_same [] [] is = refl
 rows_same (r ∷ rows) (s ∷ others) is =
     let first : r ≡ s = cc in
     let rest : map row rows ≡ map row others = cc in
-    ap (λ x. x ∷ rows) first ∙ ap (λ xs. s ∷ xs) (rows_same rows others rest)
+    ap (λ x. x ∷ rows) first ∙ ap (λ xs. s ∷ xs) (rows_same _ _ rest)
 rows_same [] (s ∷ others) is = absurd cc
 rows_same (r ∷ rows) [] is = absurd cc
 

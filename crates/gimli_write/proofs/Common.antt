@@ -2,25 +2,7 @@
 use Rattle.gimli_write.specs.Prelude
 pub use Rattle.std.proofs.Common.{add-one, ap, append_assoc, arith, cond, drop, get_or, inl, inr, negsuc, refl, subst}
 pub use Rattle.std.proofs.Common.{suc, sym, take, zero, ◌∙◌}
-pub use Rattle.std.proofs.lemmas.Bool.{
-  and_from,
-  cases_lt,
-  eq-eqb,
-  eqb-true,
-  false≢true,
-  le-leb,
-  le-ltb,
-  leb-false,
-  leb-true,
-  lt-leb,
-  lt-ltb,
-  ltb-false,
-  not_from_false,
-  or_left,
-  or_parts,
-  or_right,
-  true≢false,
-}
+pub use Rattle.std.proofs.lemmas.Bool.{cases_lt, eq-eqb, eqb-true, le-ltb, lt-leb, lt-ltb, or_parts, true≢false}
 pub use Rattle.std.proofs.lemmas.List.{
   append-nil,
   at_drop_more,
@@ -77,16 +59,8 @@ pub use Rattle.gimli_line.specs.run.Instruction.{defines_file, files_after, ins_
 pub use Rattle.gimli_line.specs.run.InstructionGrammar.{SpellsInstruction, instruction_production}
 pub use Rattle.gimli_line.specs.run.InstructionReading.{ins_at}
 pub use Rattle.gimli_line.specs.run.Machine.{is_refused, next_registers, registers_after, reset_row, step_of}
-pub use Rattle.gimli_line.specs.run.OperationPointer.{
-  OperationPointer,
-  address_limit,
-  advanced_by,
-  is_tombstone,
-  is_too_large,
-  next_pointer,
-  pointer_at,
-  pointer_at_overflow,
-}
+pub use Rattle.gimli_line.specs.run.OperationPointer.{OperationPointer, address_limit, is_tombstone, is_too_large}
+pub use Rattle.gimli_line.specs.run.OperationPointer.{next_pointer, pointer_at, pointer_at_overflow}
 pub use Rattle.gimli_line.specs.run.Rows.{FaultIs, events_left, live_events}
 pub use Rattle.gimli_line.specs.run.Sequences.{HasFirstFault, events_of}
 pub use Rattle.gimli_line.specs.run.Unread.{Unread}
@@ -139,31 +113,10 @@ pub use specs.RoundTrip.{
   unit_entry_of,
 }
 pub use specs.TextReading.{text_from, text_of}
-pub use specs.convert.Conversion.{
-  AddsFiles,
-  AnswersAs,
-  Conversion,
-  IsConvertRefusal,
-  IsConverted,
-  IsReadRefusal,
-  IsRestRefusal,
-  Progress,
-  RestComesTo,
-  RestConvertsTo,
-  SourceComesTo,
-  after_held,
-  beside,
-  built_so_far,
-  outcome_with,
-  reading_of,
-  source_left,
-  still_to_read,
-  tables_of,
-  unless_failed,
-  version_of_source,
-  with_program,
-  without_built,
-}
+pub use specs.convert.Conversion.{AddsFiles, AnswersAs, Conversion, IsConvertRefusal, IsConverted, IsReadRefusal}
+pub use specs.convert.Conversion.{IsRestRefusal, Progress, RestComesTo, RestConvertsTo, SourceComesTo, after_held}
+pub use specs.convert.Conversion.{beside, built_so_far, outcome_with, source_left, still_to_read, tables_of}
+pub use specs.convert.Conversion.{unless_failed, version_of_source, with_program, without_built}
 pub use specs.convert.Items.{
   Reading,
   ReadsItems,
@@ -199,17 +152,8 @@ pub use specs.convert.KeptTables.{
   final_tables,
   final_tables_of_source,
 }
-pub use specs.convert.Outcome.{
-  ComesTo,
-  ItemComesTo,
-  Outcome,
-  after_item,
-  can_build,
-  outcome_at_end,
-  outcome_of,
-  with_tables,
-  without_items,
-}
+pub use specs.convert.Outcome.{ComesTo, ItemComesTo, Outcome, after_item, outcome_at_end, outcome_of, with_tables}
+pub use specs.convert.Outcome.{without_items}
 pub use specs.convert.Preparation.{
   Handed,
   SourceFile,
@@ -262,12 +206,12 @@ pub use specs.declared.read_back.RoundTrip.{RoundTrip}
 pub use specs.inside.TextReading.{HasFileTexts, HasOptionalText, HasText}
 pub use specs.inside.convert.SourceRun.{Shortens, StepsSource, step_made, step_reading}
 pub use Prelude.{Address, All, Bool, Built, BuiltItem, CanWrite, ConvertError, ConvertLineRow, Decodes, Encoding, Err}
-pub use Prelude.{Error, Events, File, Header, IfErr, IfOk, IfSome, Ins, InvalidAddress, InvalidAttributeValue}
+pub use Prelude.{Error, Events, File, Header, IfErr, IfOk, IfSome, Ins, InvalidAddress}
 pub use Prelude.{InvalidDirectoryIndex, InvalidFileIndex, IsOptionalText, IsText, KeepsTexts, LineEncoding, LineRow}
 pub use Prelude.{LineText, List, Made, MatchResult, MissingCompilationDirectory, MissingLineEndSequence, More, None}
 pub use Prelude.{OrderAndLimit, Ok, OnErr, OnOk, OneByOne, Option, Parameters, Read, ReadFile, ReadRow, Result}
 pub use Prelude.{RowsMatch, Sections, Some, SourceRow, SourceStep, StringTables, UnitEntry, UnsupportedLineInstruction}
-pub use Prelude.{Value, Write, [], bytes_in, decoded_at, directory_of, empty_built, false, file_seen, is_end, is_err}
-pub use Prelude.{is_some, is_under_tombstone, length, made_table, made_text, makes_row, map, nat_eq, nat_le, nat_lt}
-pub use Prelude.{not, ok_or, option_map, option_map_or, overflows, pos, previous_position, read_row, row, row_at}
+pub use Prelude.{Value, Write, [], bytes_in, decoded_at, directory_of, empty_built, false, file_seen, is_end}
+pub use Prelude.{is_under_tombstone, length, made_table, made_text, makes_row, map, nat_eq, nat_le}
+pub use Prelude.{not, ok_or, option_map, option_map_or, overflows, pos, read_row, row, row_at}
 pub use Prelude.{slice_get, texts_in, true, unwrap_or, ℕ}

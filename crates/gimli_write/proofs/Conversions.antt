@@ -1,16 +1,15 @@
 -- A conversion, one read after the other.
-use Rattle.std.specs.Prelude.{◌≡◌, ◌&&◌, if◌then◌else◌, ◌∷◌}
+use Rattle.std.specs.Prelude.{◌≡◌, ◌∷◌}
 use Rattle.gimli_write.proofs.Common
-use Common.{ℕ, true, false, not, List, [], refl, sym, ap, ◌∙◌, subst, inl, inr, Option}
-use Common.{Some, None, Result, Ok, Err, is_err, is_some, Error, File, Header, Ins, Sections, ConvertError, ◌>>=◌}
+use Common.{ℕ, true, false, List, [], refl, sym, ap, ◌∙◌, subst, inl, inr, Option}
+use Common.{Some, None, Result, Ok, Err, Error, File, Header, Ins, Sections, ConvertError, ◌>>=◌}
 use Common.{IsRefusedBy, SourceTables, TablesAndTexts, tables_with, with_path, directory_added, FileParts, with_parts}
 use Common.{file_added, Handed, tables_of_header, start_of_tables, first_texts, encoding_of, Reading, stops, defines}
-use Common.{offers, file_id, row_in, built_row, row_offered, row_or_end_offered, defines_first, after_definitions}
+use Common.{offers, file_id, row_in, row_or_end_offered, defines_first, after_definitions}
 use Common.{SourceRow, Row, SourceRun, reading_from, reading_upon, reading_left, final_tables_of_source, final_tables}
 use Common.{Conversion, without_built, IsReadRefusal, file_parts, version_of, source_path}
 use Rattle.gimli_write.specs
-use specs.declared.convert.rows.ConvertLineRow.TheVariants.{EndSequence}
-use specs.convert.TablesAtEnd.{lacks_file, tables_after_row}
+use specs.convert.TablesAtEnd.{lacks_file}
 use Rattle.gimli_write.proofs.MappedFiles.{took, same_ok, is_prepared, all_added_keeps}
 
 -- ---- tables without what is built
@@ -49,7 +48,7 @@ module _ (sections : Sections) (s : SourceRun) (tables : TablesAndTexts) (f : Fi
       → now ≡ defines (reading_upon sections s (file_added sections (without_built tables) f))
       → after_definitions now ≡ after_definitions old → (defines_first now ≡ true → defines_first old ≡ true)
       → IsRefusedBy (file_added sections tables f) e → IsReadRefusal old e
-  file_refusal old e here left first (inl memory) = inr (memory, first (ap defines_first here))
+  file_refusal old e here left first (inl memory) = inr (memory, first cc)
   file_refusal old e here left first (inr is) =
       inl (sym left ∙ ap after_definitions (here ∙ ap defines (file_refused e is)))
 
@@ -61,7 +60,7 @@ IsPlain tables = without_built tables ≡ tables
 pub prepared_plain : (sections : Sections) (h : Header) (given : Handed) (line_strings : List (List ℕ))
     {tables : TablesAndTexts}
     → tables_of_header sections h given line_strings ≡ Ok tables → without_built tables ≡ tables
-prepared_plain sections h given line_strings {tables} is =
+prepared_plain sections h given line_strings is =
     let encoding = encoding_of h given in
     let p = is_prepared sections h given line_strings is in
     all_added_keeps IsPlain (file_added sections) (λ l n f added plain.
@@ -77,25 +76,20 @@ prepared_plain sections h given line_strings {tables} is =
 
 module _ (version : ℕ) (tables : TablesAndTexts) (r : SourceRow) (rest : Reading)
     (ends_not : r.row.end_sequence ≡ false) where
-  by_file : row_or_end_offered version tables r rest ≡ row_offered (built_row version tables r) tables rest
-  by_file =
-      ap (λ b. if b then offers (EndSequence r.address_offset) tables rest
-      else row_offered (built_row version tables r) tables rest) ends_not
-
   pub row_taken : {file : ℕ} → Ok file ≡ file_id version tables r.row.file
       → row_or_end_offered version tables r rest ≡ offers (Row (row_in r file)) tables rest
-  row_taken is = by_file ∙ ap (λ x. row_offered (x >>= λ n. Ok (row_in r n)) tables rest) (sym is)
+  row_taken is = cc
 
   pub row_refused : {e : ConvertError} → Err e ≡ file_id version tables r.row.file
       → row_or_end_offered version tables r rest ≡ stops e
-  row_refused is = by_file ∙ ap (λ x. row_offered (x >>= λ n. Ok (row_in r n)) tables rest) (sym is)
+  row_refused is = cc
 
   -- so a file has its number, or none has
   pub file_found : {file : ℕ} → Ok file ≡ file_id version tables r.row.file → lacks_file version tables r ≡ false
-  file_found is = ap (λ b. not b && is_err (file_id version tables r.row.file)) ends_not ∙ ap (λ x. is_err x) (sym is)
+  file_found is = cc
 
   pub file_lacks : {e : ConvertError} → Err e ≡ file_id version tables r.row.file → lacks_file version tables r ≡ true
-  file_lacks is = ap (λ b. not b && is_err (file_id version tables r.row.file)) ends_not ∙ ap (λ x. is_err x) (sym is)
+  file_lacks is = cc
 
 -- ---- the state of a conversion, by its parts
 
@@ -128,14 +122,9 @@ module _ (sections : Sections) (source : SourceRun) (tables : SourceTables) (add
   pub held_last : taken ≡ None → lacks_file version_here now r ≡ false
       → final_tables (conversion sections source tables after taken failed) line_strings
       ≡ final_tables (conversion sections source tables address held failed) line_strings
-  held_last none found =
-      ap (λ o. if is_some failed then now else tables_after_row version_here now o rest) none
-      ∙ sym (ap (λ o. if is_some failed then now else tables_after_row version_here now o rest) is
-      ∙ ap (λ b. if is_some failed then now else (if b then now else rest)) found)
+  held_last none found = cc
 
   -- no file has its number
   pub held_stops : failed ≡ None → lacks_file version_here now r ≡ true
       → now ≡ final_tables (conversion sections source tables address held failed) line_strings
-  held_stops well lacks =
-      sym (ap (λ o. if is_some o then now else tables_after_row version_here now held rest) well
-      ∙ ap (λ o. tables_after_row version_here now o rest) is ∙ ap (λ b. if b then now else rest) lacks)
+  held_stops well lacks = cc

@@ -1,9 +1,9 @@
 -- The steps that a header is prepared by, one after the other.
 use Rattle.std.specs.Prelude.{◌≡◌}
 use Rattle.gimli_write.proofs.Common
-use Common.{ℕ, List, sym, ap, ◌∙◌, Result, Ok, Encoding, Header, Sections, ConvertError, ◌>>=◌, IsRefusedBy}
+use Common.{ℕ, List, Result, Ok, Encoding, Header, Sections, ConvertError, ◌>>=◌, IsRefusedBy}
 use Common.{TablesAndTexts, Handed, encoding_of, tables_at_start, lists_added, tables_of_header}
-use Rattle.gimli_write.proofs.ConvertSteps.{done_first, refused_first, refused_same}
+use Rattle.gimli_write.proofs.ConvertSteps.{refused_first, refused_same}
 
 -- ---- two steps that don't ask for each other, and what follows them
 
@@ -11,7 +11,7 @@ module _ {A B C : Type 0} (a : Result A ConvertError) (b : Result B ConvertError
     (x : A) (y : B) (first : a ≡ Ok x)
     (second : b ≡ Ok y) where
   pub at_third : (a >>= λ x. b >>= λ y. f x y) ≡ f x y
-  at_third = done_first _ first ∙ done_first _ second
+  at_third = cc
 
 -- ---- the preparation
 
@@ -21,9 +21,7 @@ module _ (s : Sections) (h : Header) (given : Handed) (line_strings : List (List
   start = tables_at_start s h encoding given.line_encoding given.name line_strings
 
   whole : (start >>= λ tables. lists_added s h tables) ≡ tables_of_header s h given line_strings
-  whole =
-      ap (λ e. tables_at_start s h e given.line_encoding given.name line_strings >>= λ tables. lists_added s h tables)
-      target
+  whole = cc
 
   pub refused_at_start : (e : ConvertError)
       → IsRefusedBy (tables_at_start s h encoding given.line_encoding given.name line_strings) e
@@ -33,7 +31,7 @@ module _ (s : Sections) (h : Header) (given : Handed) (line_strings : List (List
   pub at_listed : {tables : TablesAndTexts}
       → tables_at_start s h encoding given.line_encoding given.name line_strings ≡ Ok tables
       → lists_added s h tables ≡ tables_of_header s h given line_strings
-  at_listed is = sym (done_first _ is) ∙ whole
+  at_listed is = cc
 
   pub refused_at_listed : {tables : TablesAndTexts} (e : ConvertError)
       → tables_at_start s h encoding given.line_encoding given.name line_strings ≡ Ok tables

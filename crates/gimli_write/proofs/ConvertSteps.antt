@@ -12,19 +12,19 @@ use Common.{FileParts, with_parts, all_added}
 -- after a step that is done the next one follows
 pub done_first : {A B : Type 0} {r : Result A ConvertError} (f : A → Result B ConvertError) {x : A} → r ≡ Ok x
     → (r >>= f) ≡ f x
-done_first {r} f is = ap (λ r. r >>= f) is
+done_first f is = cc
 
 -- a call is refused where its first step is
 pub refused_first : {A B : Type 0} (r : Result A ConvertError) (f : A → Result B ConvertError) (e : ConvertError)
     → IsRefusedBy r e → IsRefusedBy (r >>= f) e
 refused_first r f e (inl memory) = inl memory
-refused_first r f e (inr is) = inr (ap (λ r. r >>= f) is)
+refused_first r f e (inr is) = inr cc
 
 -- the same refusal by another name
 pub refused_same : {A : Type 0} {r s : Result A ConvertError} (e : ConvertError) → r ≡ s → IsRefusedBy r e
     → IsRefusedBy s e
 refused_same e is (inl memory) = inl memory
-refused_same e is (inr refused) = inr (sym is ∙ refused)
+refused_same e is (inr refused) = inr cc
 
 -- ---- one directory, and one file
 
@@ -65,7 +65,7 @@ pub next_added : {A B : Type 0} (add : TablesAndTexts → B → Result TablesAnd
     → all_added add (map seen (drop i xs)) tables
     ≡ (add tables (seen x) >>= λ next. all_added add (map seen (drop (i + 1) xs)) next)
 next_added {A = A} add seen xs i {x} tables lt is =
-    at_drop_more (λ (l : List A). all_added add (map seen l) tables) _ i x lt
+    at_drop_more (λ l. all_added add (map seen l) tables) _ i x lt
     ∙ ap (λ y. add tables (seen y) >>= λ next. all_added add (map seen (drop (i + 1) xs)) next) (sym is)
 
 -- ---- the line strings

@@ -19,8 +19,7 @@ gathered_after start rows (offers item tables rest) = refl
 
 -- what is gathered, by what is read after them
 pub gathered_first : (start : Option ℕ) (rows : List LineRow) (old : Reading) {next : Reading}
-    → after_definitions old ≡ next
-    → sequence_from start rows old ≡ sequence_from start rows next
+    → after_definitions old ≡ next → sequence_from start rows old ≡ sequence_from start rows next
 gathered_first start rows old is = sym (gathered_after start rows old) ∙ ap (sequence_from start rows) is
 
 -- after a row
@@ -46,7 +45,7 @@ address_ends start (row ∷ rows) a old rest tables hands some = gathered_first 
 module _ (c d : Conversion) (line_strings : List (List ℕ)) (a : ℕ) where
   pub given_back : c.failed ≡ None → c.address ≡ None → d ≡ record c { address = Some a }
       → offers (SetAddress a) (tables_of c line_strings) (still_to_read c line_strings) ≡ still_to_read d line_strings
-  given_back well none is = by _ _ well none ∙ ap (λ x. still_to_read x line_strings) (sym is)
+  given_back well none is = cc
     where
       tables : TablesAndTexts
       tables = tables_of c line_strings
@@ -63,8 +62,7 @@ module _ (c d : Conversion) (line_strings : List (List ℕ)) (a : ℕ) where
 
 -- the end of what is read
 pub nothing_gathered : (start : Option ℕ) {rows : List LineRow} (old : Reading) {rest : Reading}
-    (tables : TablesAndTexts)
-    → after_definitions old ≡ ends tables → rest ≡ ends tables → rows ≡ []
+    (tables : TablesAndTexts) → after_definitions old ≡ ends tables → rest ≡ ends tables → rows ≡ []
     → sequence_from start rows old ≡ Ok (None, rest)
 nothing_gathered start old tables end left none = rw (none, left) (gathered_first start [] old end)
 
@@ -82,4 +80,4 @@ gather_refused start rows old e (inr memory) = inl memory.0
 
 -- files that are added, and then more
 pub added_then : (old between new : Built) → AddsFiles old between → AddsFiles between new → AddsFiles old new
-added_then old between new first second = second ∙ ap (λ p. let q : Built = record p { files = new.files } in q) first
+added_then old between new first second = cc

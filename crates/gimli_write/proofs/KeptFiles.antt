@@ -5,12 +5,6 @@ use Common.{List, [], sym, ap, ◌∙◌, arith, Some, length-append, get_or_app
 use Common.{Keeps, SourceTables, KeepsFiles}
 
 module _ {A : Type 0} where
-  pub keeps_self : (xs : List A) → Keeps xs xs
-  keeps_self xs = grind arith
-
-  pub keeps_then : (xs ys zs : List A) → Keeps xs ys → Keeps ys zs → Keeps xs zs
-  keeps_then xs ys zs first second = grind arith
-
   -- one more comes last
   pub keeps_more : (xs : List A) (x : A) → Keeps xs (xs ++ x ∷ [])
   keeps_more xs x = record {
@@ -20,7 +14,7 @@ module _ {A : Type 0} where
   }
 
 pub files_self : {c : SourceTables} → KeepsFiles c c
-files_self = grind (arith, keeps_self)
+files_self = grind arith
 
 pub files_then : {a b c : SourceTables} → KeepsFiles a b → KeepsFiles b c → KeepsFiles a c
-files_then first second = grind (arith, keeps_then)
+files_then first second = grind arith

@@ -14,7 +14,7 @@ use Common.{file_parts, with_parts, file_added, all_added, tables_after_definiti
 use Common.{working_directory, source_file, line_encoding_of, first_texts, start_of_tables, Handed, encoding_of}
 use Common.{lists_added, tables_of_header, KeepsTexts, with_text-KeepsTexts, with_tables, index_of_directory}
 use Common.{no_details, inl, inr, append_assoc, Error, directory_of, from_one, IsText, text_of, Read}
-use Common.{MissingCompilationDirectory, InvalidAttributeValue, without_zero, source_text, first_path, first_ids}
+use Common.{MissingCompilationDirectory, without_zero, source_text, first_path, first_ids}
 use Common.{needed_from_5, nat_eq, AllByRecursion, true≢false, eqb-true, append-nil, slice_get-map}
 use Common.{defined_files, has_file, index_of_file, with_details, with_file, keys_of, OneByOne, FileParts, ok_or}
 use Common.{All-from_recursion, IsOptionalText, InvalidDirectoryIndex, if_there, Outcome}
@@ -173,7 +173,7 @@ module _ (version : ℕ) (line_strings : List (List ℕ)) (text : List ℕ) wher
 -- the bytes of a text that is there
 pub made_bytes : {version : ℕ} (texts : StringTables) {text : List ℕ} → IsMade version texts.line_strings text
     → bytes_in texts (made_text version texts.line_strings text) ≡ text
-made_bytes {version} texts {text} so = by (nat_le version 4) so.any
+made_bytes texts {text} so = by _ so.any
   where
     by : (old : Bool) → (old ≡ false → list_any (bytes_eq text) texts.line_strings ≡ true)
         → bytes_in texts (if old then Inline text else InLineStrings (index_of_text texts.line_strings text)) ≡ text
@@ -187,7 +187,7 @@ made_bytes {version} texts {text} so = by (nat_le version 4) so.any
 -- so texts that are made the same are the same
 pub made_differ : {version : ℕ} {line_strings : List (List ℕ)} {a b : List ℕ} → IsMade version line_strings a
     → IsMade version line_strings b → made_text version line_strings a ≡ made_text version line_strings b → a ≡ b
-made_differ {line_strings} {a} {b} x y is =
+made_differ {line_strings} x y is =
     sym (made_bytes (texts_in [] line_strings) x) ∙ ap (bytes_in (texts_in [] line_strings)) is
     ∙ made_bytes (texts_in [] line_strings) y
 
@@ -251,7 +251,7 @@ module _ (P : TablesAndTexts → Type 0) where
       → (xs : List A) (tables : TablesAndTexts) {last : TablesAndTexts} → all_added add xs tables ≡ Ok last → P tables
       → P last
   all_added_keeps add step [] tables is p = subst P (same_ok _ is) p
-  all_added_keeps add step (x ∷ xs) tables {last} is p =
+  all_added_keeps add step (x ∷ xs) tables is p =
       let t = took _ _ is in
       all_added_keeps add step xs t.0 t.2 (step tables t.0 x t.1 p)
 
@@ -272,11 +272,11 @@ module _ (P : TablesAndTexts → Type 0) where
 
 pub made_keeps : (version : ℕ) (line_strings : List (List ℕ)) (text : List ℕ)
     → KeepsTexts line_strings (made_table version line_strings text)
-made_keeps version line_strings text = by (nat_le version 4)
+made_keeps version line_strings text = by _
   where
     by : (old : Bool) → KeepsTexts line_strings (if old then line_strings else with_text line_strings text)
-    by true = kept_self line_strings
-    by false = with_text-KeepsTexts line_strings text
+    by true = kept_self _
+    by false = with_text-KeepsTexts _ _
 
 -- the line strings after a text that may be there
 abbrev pub sources_table : ℕ → List (List ℕ) → Option (List ℕ) → List (List ℕ)
@@ -284,8 +284,8 @@ sources_table version paths source = option_map_or (made_table version paths) so
 
 sources_keep : (version : ℕ) (paths : List (List ℕ)) (source : Option (List ℕ))
     → KeepsTexts paths (sources_table version paths source)
-sources_keep version paths (Some text) = made_keeps version paths text
-sources_keep version paths None = kept_self paths
+sources_keep version paths (Some text) = made_keeps _ _ _
+sources_keep version paths None = kept_self _
 
 module _ (strings : List (List ℕ)) (version : ℕ) (line_strings : List (List ℕ)) where
   made_within : (text : List ℕ)
@@ -330,7 +330,7 @@ written_with_tables p tables program encoding can = record {
   directories = can.directories;
   paths = can.paths;
   sources = can.sources;
-  sources_end = λ new has. can.sources_end (subst (λ (e : Encoding). 5 ≤ e.version) (sym encoding) new) refl;
+  sources_end = grind arith;
 }
 
 pub ready_written : (strings : List (List ℕ)) (encoding : Encoding) (tables : TablesAndTexts)
@@ -461,7 +461,7 @@ started_ready strings encoding line_encoding h line_strings directory file =
 pub prepared_ready : (strings : List (List ℕ)) (sections : Sections) (h : Header) (given : Handed)
     (line_strings : List (List ℕ)) {tables : TablesAndTexts}
     → tables_of_header sections h given line_strings ≡ Ok tables → IsReady strings (encoding_of h given) tables
-prepared_ready strings sections h given line_strings {tables} is =
+prepared_ready strings sections h given line_strings is =
     let p = is_prepared sections h given line_strings is in
     let encoding = encoding_of h given in
     all_added_keeps (IsReady strings encoding) (file_added sections)
@@ -475,10 +475,6 @@ prepared_ready strings sections h given line_strings {tables} is =
 -- bytes that have no zero byte are kept
 kept_bytes : (bytes text : List ℕ) → without_zero bytes ≡ Ok text → bytes ≡ text
 kept_bytes bytes text is = grind arith
-  where
-    by : (b : Bool) → (if b then Err InvalidAttributeValue else Ok bytes) ≡ Ok text → bytes ≡ text
-    by true so = absurd cc
-    by false so = cc
 
 source_read : (r : Result (List ℕ) Error) {text : List ℕ}
     → (result_map_both (λ text. text) Read r >>= without_zero) ≡ Ok text → r ≡ Ok text
@@ -492,20 +488,11 @@ source_text_of sections v is = source_read _ is
 
 pub source_path_of : (version : ℕ) (sections : Sections) (v : Value) {path : List ℕ}
     → source_path version sections v ≡ Ok path → text_of sections v ≡ Ok path
-source_path_of version sections v {path} is = grind (arith, took, source_text_of)
-  where
-    by : (text : List ℕ) (b : Bool) → (if b then Err InvalidAttributeValue else Ok text) ≡ Ok path → text ≡ path
-    by text true so = absurd cc
-    by text false so = cc
+source_path_of version sections v is = grind (arith, source_text_of)
 
 first_path_of : (version : ℕ) (sections : Sections) (h : Header) (v : Value) (path : List ℕ)
     → first_path version sections h v ≡ Ok path → text_of sections v ≡ Ok path
 first_path_of version sections h v path is = grind arith
-  where
-    by : (old : Bool) → (if old then source_text sections v else source_path version sections v) ≡ Ok path
-        → text_of sections v ≡ Ok path
-    by true so = source_text_of _ v so
-    by false so = source_path_of _ _ v so
 
 -- ---- entries of tables
 
@@ -530,7 +517,7 @@ entry_at true handed done rest x (suc i) is = grind (arith, at_seam)
 entry_at false handed done rest x i is = grind (arith, at_seam)
 
 pub first_count : (version : ℕ) → length (first_ids version) ≡ begins_at (nat_le version 4)
-first_count version = by (nat_le version 4)
+first_count version = by _
   where
     by : (old : Bool) → length {A = ℕ} (if old then 0 ∷ [] else []) ≡ begins_at old
     by true = refl
@@ -620,15 +607,14 @@ module _ (sections : Sections) (h : Header) where
       → AreDirectories sections h next × (length next.directory_ids ≡ length tables.directory_ids + 1)
   directory_next tables next v here is so =
       let version = version_of tables in
-      let t = took (source_path version sections v) (λ path. Ok (with_path tables path)) is in
+      let t = took _ _ is in
       let path = t.0 in
       let after = made_table version tables.line_strings path in
       let text = made_text version tables.line_strings path in
       let new = new_id version tables.line_strings tables.program.directories path in
-      let read : IsText sections v path = text_read sections v (source_path_of version sections v t.1) in
-      subst (λ (l : TablesAndTexts).
-      AreDirectories sections h l × (length l.directory_ids ≡ length tables.directory_ids + 1))
-      (same_ok (with_path tables path) t.2) (
+      let read : IsText sections v path = text_read _ v (source_path_of _ _ v t.1) in
+      subst (λ l. AreDirectories sections h l × (length l.directory_ids ≡ length tables.directory_ids + 1))
+      (same_ok _ t.2) (
         record {
           each =
               λ d id at.
@@ -657,7 +643,7 @@ module _ (sections : Sections) (h : Header) where
       → all_added (directory_added sections) rest tables ≡ Ok last → AreDirectories sections h tables
       → AreDirectories sections h last
   directories_next done [] tables parts count is so = grind (arith, same_ok)
-  directories_next done (v ∷ rest) tables {last} parts count is so =
+  directories_next done (v ∷ rest) tables parts count is so =
       let t = took _ _ is in
       let here : directory_of h (length tables.directory_ids) ≡ Some v =
       ap (λ ds. if nat_le h.parameters.encoding.version 4
@@ -670,7 +656,7 @@ module _ (sections : Sections) (h : Header) where
   -- the working directory, up to version 4 of the source
   working_read : (version : ℕ) {directory : List ℕ} → working_directory version sections h ≡ Ok directory
       → IsDirectoryPath sections (directory_of h 0) directory
-  working_read version {directory} is = by (directory_of h 0) is
+  working_read version {directory} is = by _ is
     where
       none : (b : Bool) → (if b then Ok [] else Err MissingCompilationDirectory) ≡ Ok directory → directory ≡ []
       none true so = cc
@@ -725,14 +711,12 @@ module _ (sections : Sections) (h : Header) where
       (p : IsPrepared sections h given line_strings tables) → AreDirectories sections h p.with_directories
   directories_prepared given line_strings tables p =
       directories_next [] h.directories _ refl (first_count h.parameters.encoding.version ∙ omega arith) p.directories
-      (directories_first (encoding_of h given) p.line_encoding line_strings p.directory p.file
-      (working_read (encoding_of h given).version p.directory_is))
+      (directories_first (encoding_of h given) p.line_encoding line_strings _ p.file (working_read _ p.directory_is))
 
   -- a file changes none of them
   pub directories_stay : (tables : TablesAndTexts) {next : TablesAndTexts} (f : File)
-      → file_added sections tables f ≡ Ok next
-      → AreDirectories sections h tables → AreDirectories sections h next
-  directories_stay tables {next} f is so =
+      → file_added sections tables f ≡ Ok next → AreDirectories sections h tables → AreDirectories sections h next
+  directories_stay tables f is so =
       let version = version_of tables in
       let t = took (file_parts version sections tables.directory_ids f) (λ parts. Ok (with_parts tables f parts)) is in
       let parts = t.0 in
@@ -757,9 +741,9 @@ pub one_by_one_at : {A B : Type 0} (R : A → B → Type 0) (xs : List A) (ys : 
     → slice_get xs i ≡ Some x → (y : B) × (slice_get ys i ≡ Some y) × R x y
 one_by_one_at R [] ys i all is = absurd cc
 one_by_one_at R (a ∷ xs) [] i all is = elim all [ ]
-one_by_one_at {A = A} R (a ∷ xs) (b ∷ ys) zero {x} all is =
+one_by_one_at R (a ∷ xs) (b ∷ ys) zero {x} all is =
     let same : a ≡ x = cc in (b, refl, subst (λ z. R z b) same all.0)
-one_by_one_at R (a ∷ xs) (b ∷ ys) (suc i) {x} all is = one_by_one_at R xs ys i all.1 is
+one_by_one_at R (a ∷ xs) (b ∷ ys) (suc i) all is = one_by_one_at R xs ys i all.1 is
 
 pub one_by_one_back : {A B : Type 0} (R : A → B → Type 0) (xs : List A) (ys : List B) (i : ℕ) {y : B} → OneByOne R xs ys
     → slice_get ys i ≡ Some y → (x : A) × (slice_get xs i ≡ Some x)
@@ -767,7 +751,7 @@ one_by_one_back R [] [] i all is = absurd cc
 one_by_one_back R [] (b ∷ ys) i all is = elim all [ ]
 one_by_one_back R (a ∷ xs) [] i all is = elim all [ ]
 one_by_one_back R (a ∷ xs) (b ∷ ys) zero all is = (a, refl)
-one_by_one_back R (a ∷ xs) (b ∷ ys) (suc i) {y} all is = one_by_one_back R xs ys i all.1 is
+one_by_one_back R (a ∷ xs) (b ∷ ys) (suc i) all is = one_by_one_back R xs ys i all.1 is
 
 all_push : {A : Type 0} (P : A → Type 0) (xs : List A) (x : A) → AllByRecursion P xs → P x
     → AllByRecursion P (xs ++ x ∷ [])
@@ -807,7 +791,7 @@ module _ (files : List BuiltFile) (k : FileKey) (d : Details) where
 
   -- a file that was there keeps its index
   old_any : (l : FileKey) → has_file files l ≡ true → has_file (with_file files k (Some d)) l ≡ true
-  old_any l is = by (has_file files k)
+  old_any l is = by _
     where
       by : (b : Bool) → has_file (after b) l ≡ true
       by true = details_any (key_eq l) _ _ d ∙ is
@@ -815,7 +799,7 @@ module _ (files : List BuiltFile) (k : FileKey) (d : Details) where
 
   old_index : (l : FileKey) → has_file files l ≡ true
       → index_of_file (with_file files k (Some d)) l ≡ index_of_file files l
-  old_index l is = by (has_file files k)
+  old_index l is = by _
     where
       by : (b : Bool) → index_of_file (after b) l ≡ index_of_file files l
       by true = details_index (key_eq l) _ _ d
@@ -823,14 +807,14 @@ module _ (files : List BuiltFile) (k : FileKey) (d : Details) where
 
   -- the one that is added is there, at its index
   new_any : has_file (with_file files k (Some d)) k ≡ true
-  new_any = by (has_file files k) refl
+  new_any = by _ refl
     where
       by : (b : Bool) → has_file files k ≡ b → has_file (after b) k ≡ true
       by true is = details_any (key_eq k) _ _ d ∙ is
       by false is = any_new (λ f. key_eq k f.0) _ _ (same_key k)
 
   new_index : index_of_file (with_file files k (Some d)) k ≡ index_of_file files k
-  new_index = by (has_file files k) refl
+  new_index = by _ refl
     where
       by : (b : Bool) → has_file files k ≡ b → index_of_file (after b) k ≡ index_of_file files k
       by true is = details_index (key_eq k) _ _ d
@@ -878,10 +862,10 @@ module _ (files : List BuiltFile) (k : FileKey) (d : Details) where
 
   entry_kept : {l : FileKey} {e : Details} {i : ℕ} → l ≢ k → IsEntry files l e i
       → IsEntry (with_file files k (Some d)) l e i
-  entry_kept {l} {e} {i} other so = record {
+  entry_kept {l} other so = record {
     present = old_any l so.present;
-    index = so.index ∙ sym (old_index l so.present);
-    there = other_there l e i so.there other;
+    index = grind (arith, old_index);
+    there = grind (arith, other_there);
   }
 
 -- ---- one file of a source
@@ -953,7 +937,7 @@ known_longer (Some text) has so = record {
   timestamp = so.timestamp;
   size = so.size;
   md5 = so.md5;
-  source_is = so.source_is ∙ ap Some (sym (has.same text so.source_made));
+  source_is = grind arith;
   source_made = has.there text so.source_made;
 }
 known_longer None has so = record {
@@ -994,7 +978,7 @@ module _ (sections : Sections) (tables : TablesAndTexts) (g : File) (added : Fil
   }
 
   paths_stay : HasMade (version_of tables) paths with_it.line_strings
-  paths_stay = sources_has (version_of tables) paths added.source
+  paths_stay = sources_has _ _ _
 
   texts_stay : HasMade (version_of tables) tables.line_strings with_it.line_strings
   texts_stay = has_then (table_has (version_of tables) tables.line_strings added.path) paths_stay
@@ -1004,7 +988,7 @@ module _ (sections : Sections) (tables : TablesAndTexts) (g : File) (added : Fil
 
   own_key : key_of sections with_it added ≡ key_of sections tables added
   own_key =
-      ap (λ (t : LineText). let k : FileKey = (t, added.directory) in k)
+      ap (λ t. let k : FileKey = (t, added.directory) in k)
       (paths_stay.same added.path (is_made (version_of tables) tables.line_strings added.path)
       ∙ is_same (version_of tables) tables.line_strings added.path)
 
@@ -1019,8 +1003,8 @@ module _ (sections : Sections) (tables : TablesAndTexts) (g : File) (added : Fil
       timestamp = refl;
       size = refl;
       md5 = refl;
-      source_is = source_known (version_of tables) paths added.source;
-      source_made = source_there (version_of tables) paths added.source;
+      source_is = grind (arith, source_known);
+      source_made = grind (arith, source_there);
     };
     before = source;
     later = [];
@@ -1037,10 +1021,10 @@ module _ (sections : Sections) (tables : TablesAndTexts) (g : File) (added : Fil
     made = own_made;
     details = details_of;
     entry =
-        subst (λ (k : FileKey). IsEntry with_it.program.files k details_of
+        subst (λ k. IsEntry with_it.program.files k details_of
         (index_of_file tables.program.files (key_of sections tables added))) (sym own_key)
         (entry_new tables.program.files (key_of sections tables added) details_of);
-    of_last = own_last added (refl, refl);
+    of_last = own_last _ (refl, refl);
   }
 
   -- a file that was there
@@ -1052,8 +1036,7 @@ module _ (sections : Sections) (tables : TablesAndTexts) (g : File) (added : Fil
       old_key = key_of sections tables so.parts
 
       key_same : key_of sections with_it so.parts ≡ old_key
-      key_same =
-          ap (λ (t : LineText). let k : FileKey = (t, so.parts.directory) in k) (texts_stay.same so.parts.path so.made)
+      key_same = ap (λ t. let k : FileKey = (t, so.parts.directory) in k) (texts_stay.same so.parts.path so.made)
 
       with_entry : {d : Details} → IsEntry with_it.program.files old_key d id
           → IsOfLast sections with_it (source ++ g ∷ []) so.parts d → IsFileOf sections with_it (source ++ g ∷ []) f id
@@ -1062,22 +1045,17 @@ module _ (sections : Sections) (tables : TablesAndTexts) (g : File) (added : Fil
         parts_are = so.parts_are;
         made = texts_stay.there so.parts.path so.made;
         details = d;
-        entry = subst (λ (k : FileKey). IsEntry with_it.program.files k d id) (sym key_same) entry;
+        entry = subst (λ k. IsEntry with_it.program.files k d id) (sym key_same) entry;
         of_last = of_last;
       }
 
       -- the added file has its paths
       taken : SamePaths added so.parts → IsFileOf sections with_it (source ++ g ∷ []) f id
       taken same =
-          let is : key_of sections tables added ≡ old_key =
-          ap (λ (path : List ℕ).
-          let k : FileKey = (made_text (version_of tables) tables.line_strings path, added.directory) in k) same.0
-          ∙ ap (λ (n : ℕ).
-          let k : FileKey = (made_text (version_of tables) tables.line_strings so.parts.path, n) in k) same.1 in
-          with_entry (subst (λ (k : FileKey). IsEntry with_it.program.files k details_of id) is
+          let is : key_of sections tables added ≡ old_key = cc in
+          with_entry (subst (λ k. IsEntry with_it.program.files k details_of id) is
           (entry_replaced tables.program.files (key_of sections tables added) details_of
-          (subst (λ (k : FileKey). IsEntry tables.program.files k so.details id) (sym is) so.entry)))
-          (own_last so.parts same)
+          (subst (λ k. IsEntry tables.program.files k so.details id) (sym is) so.entry))) (own_last _ same)
 
       -- the added file has others
       left : (SamePaths added so.parts → ⊥) → IsFileOf sections with_it (source ++ g ∷ []) f id
@@ -1085,8 +1063,8 @@ module _ (sections : Sections) (tables : TablesAndTexts) (g : File) (added : Fil
           let other_key : old_key ≢ key_of sections tables added = λ is.
           let keys : key_of sections with_it so.parts ≡ key_of sections with_it added = key_same ∙ is ∙ sym own_key in
           other (
-            sym (made_differ (texts_stay.there so.parts.path so.made) own_made (ap (λ (k : FileKey). k.0) keys)),
-            sym (ap (λ (k : FileKey). k.1) is),
+            sym (made_differ (texts_stay.there so.parts.path so.made) own_made (ap (λ k. k.0) keys)),
+            sym (ap (λ k. k.1) is),
           ) in
           let l = so.of_last in
           with_entry (entry_kept tables.program.files (key_of sections tables added) details_of other_key so.entry)
@@ -1095,13 +1073,11 @@ module _ (sections : Sections) (tables : TablesAndTexts) (g : File) (added : Fil
             last_parts = l.last_parts;
             last_are = l.last_are;
             same = l.same;
-            known = known_longer l.last_parts.source texts_stay l.known;
+            known = known_longer _ texts_stay l.known;
             before = l.before;
             later = l.later ++ g ∷ [];
-            split = ap (λ (xs : List File). xs ++ g ∷ []) l.split ∙ append_assoc l.before (l.last ∷ l.later) (g ∷ []);
-            none_after =
-                all_push (HasOthers sections (version_of tables) tables.directory_ids so.parts) l.later g l.none_after
-                (record { own = added; own_is = added_are; other = other });
+            split = ap (λ xs. xs ++ g ∷ []) l.split ∙ append_assoc l.before (l.last ∷ l.later) (g ∷ []);
+            none_after = grind (arith, all_push);
           })
 
 -- ---- all files
@@ -1122,8 +1098,7 @@ file_next {sections} h {tables} g {source} is so =
     let R = IsFileOf sections (with_parts tables g parts) (source ++ g ∷ []) in
     subst (λ l. AreFiles sections h l (source ++ g ∷ [])) (same_ok _ t.2) (record {
       ids = so.ids ++ id ∷ [];
-      ids_are =
-          ap (λ l. l ++ id ∷ []) so.ids_are ∙ append_assoc (first_ids h.parameters.encoding.version) so.ids (id ∷ []);
+      ids_are = grind (arith, append_assoc);
       each =
           one_by_one_push R _ _ g _ (one_by_one_map _ R (file_old sections tables g parts t.1 source) _ _ so.each)
           (file_new sections tables g parts t.1 source);
@@ -1145,7 +1120,7 @@ pub files_defined : {sections : Sections} {h : Header} {first : TablesAndTexts} 
     {tables : TablesAndTexts} → tables_at sections first past ≡ Ok tables
     → AreFiles sections h first h.files → AreFiles sections h tables (defined_files h.files past)
 files_defined {sections} {h} [] is so = subst (λ l. AreFiles sections h l h.files) (same_ok _ is) so
-files_defined {sections} {h} {first} (i ∷ past) {tables} is so =
+files_defined {sections} {h} (i ∷ past) {tables} is so =
     let t = took _ _ is in
     one i t.2 (files_defined past t.1 so)
   where
@@ -1160,10 +1135,10 @@ files_defined {sections} {h} {first} (i ∷ past) {tables} is so =
 one_directory : (sections : Sections) (o : Option Value) {a b : List ℕ} → IsDirectoryPath sections o a
     → IsDirectoryPath sections o b → a ≡ b
 one_directory sections (Some v) {a} {b} x y = text_same _ v b a y x
-one_directory sections None x y = x ∙ sym y
+one_directory sections None x y = cc
 
 there_ok : (o : Option ℕ) {id : ℕ} → ok_or o InvalidDirectoryIndex ≡ Ok id → o ≡ Some id
-there_ok (Some n) is = ap Some (same_ok n is)
+there_ok (Some n) is = cc
 there_ok None is = absurd cc
 
 -- ---- the parts of a file
@@ -1176,7 +1151,7 @@ record AreRead (sections : Sections) (directory_ids : List ℕ) (parts : FilePar
 
 are_read : (sections : Sections) (version : ℕ) (directory_ids : List ℕ) (parts : FileParts) (f : File)
     → HasParts sections version directory_ids parts f → AreRead sections directory_ids parts f
-are_read sections version directory_ids parts f is = grind (arith, took, same_ok, text_read, source_path_of, there_ok)
+are_read sections version directory_ids parts f is = grind (arith, same_ok, text_read, source_path_of, there_ok)
 
 -- a source that is known stands for the text of the source
 source_is_text : (sections : Sections) (version : ℕ) (texts : StringTables) (o : Option Value)
@@ -1184,8 +1159,8 @@ source_is_text : (sections : Sections) (version : ℕ) (texts : StringTables) (o
     → if_there (source_text sections) o ≡ Ok source → IfSome source (IsMade version texts.line_strings)
     → IsOptionalText sections o (option_map (bytes_in texts) (option_map (made_text version texts.line_strings) source))
 source_is_text sections version texts (Some v) (Some text) is made =
-    grind (arith, took, made_bytes, text_read, source_text_of)
-source_is_text sections version texts (Some v) None is made = grind (arith, took)
+    grind (arith, made_bytes, text_read, source_text_of)
+source_is_text sections version texts (Some v) None is made = grind arith
 source_is_text sections version texts None (Some text) is made = absurd cc
 source_is_text sections version texts None None is made = tt
 
@@ -1213,7 +1188,7 @@ module _ (sections : Sections) (h : Header) (strings : List (List ℕ)) (tables 
       let same : own.0 ≡ directory = one_path _ _ _ _ own.2 at in
       record {
         own = read.path;
-        of_directory = subst (IsDirectoryPath sections (directory_of h f.directory_index)) same own.1;
+        of_directory = grind arith;
       }
 
   -- so a file with these paths has these parts
@@ -1223,16 +1198,15 @@ module _ (sections : Sections) (h : Header) (strings : List (List ℕ)) (tables 
       let read = are_read _ _ _ _ g is in
       let there = directories.each g.directory_index own.directory read.directory in
       let same : there.0 ≡ directory = one_directory _ _ there.1 has.of_directory in
-      let moved : IsDirectory directory own.directory =
-      subst (λ (path : List ℕ). IsDirectory path own.directory) same there.2 in
-      (text_same _ _ parts.path own.path has.own read.path, moved.at.index ∙ sym at.at.index)
+      let moved : IsDirectory directory own.directory = subst (λ path. IsDirectory path own.directory) same there.2 in
+      (text_same _ _ _ _ has.own read.path, moved.at.index ∙ sym at.at.index)
 
   others_after : (parts : FileParts) (directory : List ℕ) → IsDirectory directory parts.directory
       → (later : List File) → AllByRecursion (HasOthers sections (version_of tables) tables.directory_ids parts) later
       → AllByRecursion (λ g. HasPaths sections h parts.path directory g → ⊥) later
   others_after parts directory at [] all = tt
   others_after parts directory at (g ∷ later) all = (
-    λ has. all.0.other (parts_of parts all.0.own g directory all.0.own_is at has),
+    λ has. all.0.other (parts_of parts _ g directory all.0.own_is at has),
     others_after parts directory at later all.1,
   )
 

@@ -1,17 +1,17 @@
 -- What comes of a conversion that was done, and what the laws of conversions say of it.
-use Rattle.std.specs.Prelude.{◌≡◌, ◌&&◌, if◌then◌else◌, ◌∷◌, ◌++◌}
+use Rattle.std.specs.Prelude.{◌≡◌, if◌then◌else◌, ◌∷◌, ◌++◌}
 use Rattle.gimli_write.proofs.Common
-use Common.{ℕ, Bool, true, false, not, List, [], refl, sym, ap, subst, ◌∙◌, Option, Some, None, ok_or, Result, Ok, Err}
+use Common.{ℕ, Bool, true, false, List, [], refl, sym, ap, subst, ◌∙◌, Option, Some, None, ok_or, Result, Ok, Err}
 use Common.{append-nil, Value, Error, AddressOverflow, Address, texts_in, Parameters, defined_files, past_at_end, Ins}
-use Common.{makes_row, is_under_tombstone, overflows, after_address, after_row, after_end, Built, previous_position}
+use Common.{after_address, Built}
 use Common.{CanWrite, Sections, LineRow, ConvertError, Read, InvalidAddress, MissingLineEndSequence}
 use Common.{UnsupportedLineInstruction, SourceRow, ConvertLineRow, ◌>>=◌, source_path, TablesAndTexts, version_of}
 use Common.{with_path, directory_added, file_added, encoding_of, first_ids, tables_of_header, Reading, stops, offers}
 use Common.{source_row, built_row, address_offered, row_offered, row_or_end_offered, source_row_offered, reading_at}
 use Common.{end_reading, reading_with, tables_at, with_definition, reading_after, ReadsItems, Outcome, outcome_of}
-use Common.{with_tables, can_build, ToConvert, IsConverted, MatchResult, arith, AllByRecursion, All-from_recursion}
-use Common.{Encoding, ReadRow, Decodes, one_decoding, base_of, AddressesFit, RowsMatch, read_row, OneByOne, BuiltItem}
-use Common.{map, nat_eq, slice_get, unwrap_or, option_map, All, slice_get-map, slice_get_within, get_or_from_slice_get}
+use Common.{with_tables, ToConvert, IsConverted, MatchResult, arith, AllByRecursion, All-from_recursion}
+use Common.{ReadRow, Decodes, one_decoding, base_of, AddressesFit, RowsMatch, read_row, OneByOne, BuiltItem}
+use Common.{map, slice_get, unwrap_or, option_map, All, slice_get-map, slice_get_within, get_or_from_slice_get}
 use Common.{KeepsTexts, with_text, StringTables, with_text-KeepsTexts, row, Events, File, LineText, Inline, InStrings}
 use Common.{InLineStrings, IsWithin, bytes_in, FileAnswer, built_file}
 use Rattle.gimli_write.specs.convert.Mapped
@@ -42,7 +42,7 @@ use Rattle.std.proofs.Math.Pow.{pow_mono}
 use Rattle.gimli_build.specs.declared.built.items.BuiltItem.TheVariants.{SetAddress, Row, End}
 use proofs.MappedRows.{follows_start, Rest, rest_mapped}
 use Rattle.gimli_line.specs.run.EventsWithFiles.{FilesAtEnd}
-use Rattle.gimli_build.specs.Version5Tables.{needs_empty, first_form, sources, texts_after}
+use Rattle.gimli_build.specs.Version5Tables.{texts_after}
 use Rattle.gimli_write.specs.convert.DoneConversions.{UnitReadBack, UnitGives}
 use proofs.BuiltAnswers.{events_same, rows_same}
 use proofs.ConvertSteps.{kept_self}
@@ -80,32 +80,28 @@ module _ (convert_address : ℕ → Option Address) (c : Outcome) where
 
   item_goes : (o : ConvertLineRow) (tables : TablesAndTexts) (rest : Reading) (p : Built)
       → Comes (offers o tables rest) p → GoesOn rest p
-  item_goes (offer.SetAddress a) tables rest p is = by (convert_address a) is
+  item_goes (offer.SetAddress a) tables rest p is = by _ is
     where
       by : (o : Option Address)
           → ((ok_or o InvalidAddress >>= λ m. Ok (after_address m (with_tables tables p))) >>= λ n.
           outcome_of convert_address rest n) ≡ Ok c → GoesOn rest p
       by None so = absurd cc
-      by (Some m) so = built_goes true (after_address m (with_tables tables p)) p rest so refl refl
-  item_goes (offer.Row r) tables rest p is =
-      built_goes (can_build p.line_encoding (previous_position p.items) (item.Row r))
-      (after_row r (with_tables tables p)) p rest is refl refl
-  item_goes (offer.EndSequence offset) tables rest p is =
-      built_goes (can_build p.line_encoding (previous_position p.items) (item.End offset p.row.op_index))
-      (after_end offset (with_tables tables p)) p rest is refl refl
+      by (Some m) so = built_goes true _ p _ so refl refl
+  item_goes (offer.Row r) tables rest p is = built_goes _ _ p _ is refl refl
+  item_goes (offer.EndSequence offset) tables rest p is = built_goes _ _ p _ is refl refl
 
   point_goes : (version : ℕ) (tables : TablesAndTexts) (r : SourceRow) (rest : Reading) (p : Built)
       → Comes (row_or_end_offered version tables r rest) p → GoesOn rest p
-  point_goes version tables r rest p is = by r.row.end_sequence is
+  point_goes version tables r rest p is = by _ is
     where
       built : (o : Result LineRow ConvertError) → Comes (row_offered o tables rest) p → GoesOn rest p
-      built (Ok r) so = item_goes (offer.Row r) tables rest p so
+      built (Ok r) so = item_goes (offer.Row r) tables _ p so
       built (Err e) so = absurd cc
 
       by : (b : Bool) → Comes (if b then offers (offer.EndSequence r.address_offset) tables rest
           else row_offered (built_row version tables r) tables rest) p → GoesOn rest p
-      by true so = item_goes (offer.EndSequence r.address_offset) tables rest p so
-      by false so = built (built_row version tables r) so
+      by true so = item_goes (offer.EndSequence r.address_offset) tables _ p so
+      by false so = built _ so
 
   offered_goes : (version : ℕ) (tables : TablesAndTexts) (r : SourceRow) (rest : Reading) (p : Built)
       → Comes (source_row_offered version tables r rest) p → GoesOn rest p
@@ -126,22 +122,21 @@ module _ (convert_address : ℕ → Option Address) (c : Outcome) where
 
   at_goes : (parameters : Parameters) (tables : TablesAndTexts) (past : List Ins) (i : Ins) (rest : Reading) (p : Built)
       → Comes (reading_at parameters tables past i rest) p → GoesOn rest p
-  at_goes parameters tables past i rest p is =
-      by (overflows parameters past i) (makes_row i && not (is_under_tombstone parameters past)) is
+  at_goes parameters tables past i rest p is = by _ _ is
     where
       by : (o m : Bool) → Comes (if o then stops (Read AddressOverflow)
           else (if m then source_row_offered parameters.encoding.version tables (source_row parameters past i) rest
           else rest)) p → GoesOn rest p
       by true m so = absurd cc
-      by false true so = offered_goes parameters.encoding.version tables (source_row parameters past i) rest p so
-      by false false so = built_goes true p p rest so refl refl
+      by false true so = offered_goes _ _ (source_row parameters past i) _ p so
+      by false false so = built_goes true p p _ so refl refl
 
   nothing_goes : (sections : Sections) (first : TablesAndTexts) (past : List Ins) (end : Option Error)
       (there : Result TablesAndTexts ConvertError) (p : Built) → tables_at sections first past ≡ there
       → Comes (reading_with there (end_reading end)) p → EndsAs sections first past p c
   nothing_goes sections first past end (Err e) p at is = absurd cc
   nothing_goes sections first past (Some e) (Ok tables) p at is = absurd cc
-  nothing_goes sections first past None (Ok tables) p at is = by p.in_sequence is
+  nothing_goes sections first past None (Ok tables) p at is = by _ is
     where
       by : (b : Bool) → (if b then Err MissingLineEndSequence else Ok (finished tables p)) ≡ Ok c
           → EndsAs sections first past p c
@@ -207,8 +202,7 @@ pub record WasConverted (convert_address : ℕ → Option Address) (s : ToConver
 
 pub was_converted : (convert_address : ℕ → Option Address) (s : ToConvert) (line_strings : List (List ℕ)) (c : Outcome)
     → IsConverted convert_address s line_strings (Ok c) → WasConverted convert_address s line_strings c
-was_converted convert_address s line_strings c so =
-    by (tables_of_header s.sections s.header s.given line_strings) refl so.1
+was_converted convert_address s line_strings c so = by _ refl so.1
   where
     by : (r : Result TablesAndTexts ConvertError) → tables_of_header s.sections s.header s.given line_strings ≡ r
         → MatchResult r (λ first. ReadsItems s.layout s.sections s.header first s.header.program so.0
@@ -225,7 +219,7 @@ module _ {convert_address : ℕ → Option Address} {s : ToConvert} {line_string
   -- how its reading ends
   pub read_to_end : outcome_of convert_address
       (reading_after s.sections s.header.parameters w.first [] w.reads.list w.reads.end) w.first.program ≡ Ok c
-  read_to_end = ap (λ (r : Reading). outcome_of convert_address r w.first.program) (sym w.reads.given) ∙ w.is
+  read_to_end = cc
 
   comes : EndsAs s.sections w.first whole_past w.first.program c
   comes = outcome convert_address c s.sections s.header.parameters w.first [] w.reads.list w.reads.end _ read_to_end
@@ -297,19 +291,19 @@ module _ {convert_address : ℕ → Option Address} {s : ToConvert} {line_string
   whole =
       let seen = can.no_end_under_tombstone in
       rest_mapped s.sections s.header.parameters w.first (encoding_of s.header s.given).address_size c convert_address
-      can.itself (pow_mono (omega (arith, can.wide))) _ _ _ 0 _ _ (follows_start _)
+      can.itself (pow_mono (omega arith)) _ _ _ 0 _ _ (follows_start _)
       (subst (NoneEndsUnderTombstone s.header.parameters []) (decodes_once seen.decoding) seen.seen) (read_to_end w)
 
   -- what was built is what was built after the start
   all_items : whole.items ≡ c.program.items
-  all_items = sym (whole.built ∙ ap (λ (l : List BuiltItem). l ++ whole.items) (first_ready w []).items)
+  all_items = sym (whole.built ∙ ap (λ l. l ++ whole.items) (first_ready w []).items)
 
   pub rows_mapped : AreRowsMapped s.layout s.header s.header.program c
-  rows_mapped = grind (arith, whole, all_items)
+  rows_mapped = grind (arith, all_items)
 
   pub addresses_fit : AddressesFit c.program.encoding.address_size 0 (0, 0) c.program.items
   addresses_fit =
-      subst (λ (e : Encoding). AddressesFit e.address_size 0 (0, 0) c.program.items) (sym (encoding_kept w))
+      subst (λ e. AddressesFit e.address_size 0 (0, 0) c.program.items) (sym (encoding_kept w))
       (subst (AddressesFit (encoding_of s.header s.given).address_size 0 (0, 0)) all_items whole.fit)
 
   pub constants_set : HasConstantAddresses c.program
@@ -353,18 +347,17 @@ rows_again source_version version file_ids past (End offset op_index ∷ items) 
 
 -- a text that is within a table has the same bytes in a longer one
 bytes_longer : (strings : List (List ℕ)) {old new : List (List ℕ)} (t : LineText) → KeepsTexts old new
-    → IsWithin (texts_in strings old) t
-    → bytes_in (texts_in strings new) t ≡ bytes_in (texts_in strings old) t
+    → IsWithin (texts_in strings old) t → bytes_in (texts_in strings new) t ≡ bytes_in (texts_in strings old) t
 bytes_longer strings (Inline bytes) keeps within = refl
 bytes_longer strings (InStrings i) keeps within = refl
 bytes_longer strings (InLineStrings i) keeps within = ap (λ o. unwrap_or o []) (keeps.text i within)
 
 keeps_after : (p : Built) (texts : StringTables) → KeepsTexts texts.line_strings (texts_after p texts).line_strings
-keeps_after p texts = by (needs_empty p && nat_eq (first_form (sources p.files)) 0x1f)
+keeps_after p texts = by _
   where
     by : (b : Bool) → KeepsTexts texts.line_strings (if b then with_text texts.line_strings [] else texts.line_strings)
-    by true = with_text-KeepsTexts texts.line_strings []
-    by false = kept_self texts.line_strings
+    by true = with_text-KeepsTexts _ []
+    by false = kept_self _
 
 element : {A : Type 0} (P : A → Type 0) (xs : List A) (i : ℕ) {x : A} → All P xs → slice_get xs i ≡ Some x → P x
 element P xs i {x} all is = subst P (get_or_from_slice_get _ i x x is) (all i x (slice_get_within xs i x is))
@@ -374,7 +367,7 @@ element P xs i {x} all is = subst P (get_or_from_slice_get _ i x x is) (all i x 
 module _ (convert_address : ℕ → Option Address) (s : ToConvert) (line_strings : List (List ℕ)) (c : Outcome)
     (so : IsConverted convert_address s line_strings (Ok c)) where
   done : WasConverted convert_address s line_strings c
-  done = was_converted convert_address s line_strings c so
+  done = was_converted _ s _ c so
 
   pub conversion_written : (strings : List (List ℕ)) → CanWrite c.program (texts_in strings c.line_strings)
   conversion_written = can_write done
@@ -416,7 +409,7 @@ module _ (convert_address : ℕ → Option Address) (s : ToConvert) (line_string
         → (u : UnitReadBack c.program) → (found : List ReadRow) × UnitGives u found × OneByOne IsRow rows found
     unit_back rows events u =
         let found = u.back.rows (addresses_fit done can) in
-        (found.0, found.1, conversion_back rows found.0 events (λ fit. found.2))
+        (found.0, found.1, conversion_back _ found.0 events (λ fit. found.2))
 
   pub files_back : (strings : List (List ℕ)) {files : List File}
       → FilesAtEnd s.layout true s.header s.header.program files

@@ -1,18 +1,17 @@
 -- The rows and ends that a conversion builds are those of its source.
-use Rattle.std.specs.Prelude.{◌≡◌, ◌+◌, ◌-◌, ◌*◌, ◌<◌, ◌≤◌, ◌||◌, ◌&&◌, if◌then◌else◌, ◌∷◌, ◌^◌, ◌++◌}
+use Rattle.std.specs.Prelude.{◌≡◌, ◌+◌, ◌-◌, ◌*◌, ◌<◌, ◌≤◌, ◌&&◌, if◌then◌else◌, ◌∷◌, ◌^◌, ◌++◌}
 use Rattle.gimli_write.proofs.Common
-use Common.{ℕ, Bool, true, false, not, List, [], refl, sym, ap, ◌∙◌, arith, nat_le, Some, None, Special, Copy}
+use Common.{ℕ, Bool, true, false, not, List, [], refl, sym, ap, ◌∙◌, arith, Some, None, Special, Copy}
 use Common.{AdvancePc, ConstAddPc, FixedAddPc, EndSequence, SetAddress, Parameters, Ins, is_end, makes_row, row_at}
 use Common.{OperationPointer, address_limit, is_tombstone, is_too_large, pointer_at_overflow, next_pointer, pointer_at}
-use Common.{is_under_tombstone, base_at, pending_address, zero, suc, map, slice_get, subst, append_assoc, nat_eq}
+use Common.{is_under_tombstone, base_at, pending_address, zero, suc, map, slice_get, subst, append_assoc}
 use Common.{Option, ok_or, Result, Ok, Err, AllByRecursion, append-nil, Error, AddressOverflow, Address, Constant}
-use Common.{ReadRow, DefineFile, Event, row, fault, events_after, overflows, after_address, after_row, after_end, Built}
-use Common.{previous_position, AddressesFit, Sections, LineRow, BuiltItem, ConvertError, Read, InvalidFileIndex}
+use Common.{ReadRow, DefineFile, row, fault, events_after, overflows, after_address, after_row, after_end, Built}
+use Common.{AddressesFit, Sections, LineRow, BuiltItem, ConvertError, Read}
 use Common.{MissingLineEndSequence, InvalidAddress, UnsupportedLineInstruction, ◌>>=◌, TablesAndTexts, FileParts}
-use Common.{file_parts, with_parts, version_of, Reading, stops, offers, source_row, file_id, row_in, built_row}
+use Common.{with_parts, Reading, stops, offers, source_row, file_id, row_in, built_row}
 use Common.{address_offered, row_offered, row_or_end_offered, source_row_offered, reading_at, end_reading, reading_with}
 use Common.{tables_after_definition, tables_at, with_definition, reading_after, Outcome, outcome_of, with_tables}
-use Common.{can_build}
 use Rattle.std.proofs.lemmas.Nat.{pow_pos}
 use Rattle.gimli_line.proofs.NonDecreasingLaws.{rises}
 use Rattle.gimli_write.specs.convert.Mapped
@@ -29,13 +28,6 @@ use Rattle.gimli_write.specs.declared.convert.rows.ConvertLineRow.TheVariants as
 set_within : (parameters : Parameters) (a : ℕ) (p : OperationPointer) → p.address < address_limit parameters
     → (next_pointer parameters false (SetAddress a) p).address < address_limit parameters
 set_within parameters a p lt = grind arith
-  where
-    at_test : (b c : Bool) → nat_le (address_limit parameters - 2) a ≡ c
-        → (if b || c then p else (let q : OperationPointer = record { address = a; op_index = 0 } in q)).address
-        < address_limit parameters
-    at_test true c e = lt
-    at_test false true e = lt
-    at_test false false e = grind arith
 
 advance_within : (parameters : Parameters) (tombstone : Bool) (i : Ins) (p to : OperationPointer)
     → (pointer_at_overflow i p to).address ≡ p.address → p.address < address_limit parameters
@@ -43,20 +35,15 @@ advance_within : (parameters : Parameters) (tombstone : Bool) (i : Ins) (p to : 
     < address_limit parameters
 advance_within parameters true i p to stays lt = lt
 advance_within parameters false i p to stays lt = grind arith
-  where
-    at_test : (b : Bool) → is_too_large parameters to ≡ b
-        → (if b then pointer_at_overflow i p to else to).address < address_limit parameters
-    at_test true e = omega (arith, stays)
-    at_test false e = grind arith
 
 next_within : (parameters : Parameters) (tombstone : Bool) (i : Ins) (p : OperationPointer)
     → p.address < address_limit parameters → (next_pointer parameters tombstone i p).address < address_limit parameters
 next_within parameters tombstone EndSequence p lt = omega arith
 next_within parameters tombstone (SetAddress a) p lt = set_within parameters a p lt
 next_within parameters tombstone (Special o) p lt = grind (arith, advance_within)
-next_within parameters tombstone (AdvancePc n) p lt = grind (arith, advance_within)
-next_within parameters tombstone ConstAddPc p lt = grind (arith, advance_within)
-next_within parameters tombstone (FixedAddPc n) p lt = grind (arith, advance_within)
+next_within parameters tombstone (AdvancePc n) p lt = grind arith
+next_within parameters tombstone ConstAddPc p lt = grind arith
+next_within parameters tombstone (FixedAddPc n) p lt = grind arith
 next_within parameters tombstone i p lt = lt
 
 pub address_within : (parameters : Parameters) (past : List Ins)
@@ -83,7 +70,7 @@ pending_is_base (SetAddress b ∷ past) is = cc
 pending_is_base (EndSequence ∷ past) is = absurd cc
 pending_is_base (Special o ∷ past) is = absurd cc
 pending_is_base (Copy ∷ past) is = absurd cc
-pending_is_base (i ∷ past) {a} is = pending_is_base past is
+pending_is_base (i ∷ past) is = pending_is_base past is
 
 -- where nothing is under a tombstone, it isn't above the address reached
 pub base_below : (parameters : Parameters) (past : List Ins) → is_under_tombstone parameters past ≡ false
@@ -126,60 +113,35 @@ pub follows_end : (parameters : Parameters) (past : List Ins) (i : Ins) → is_e
 follows_end parameters past EndSequence closes = grind arith
 follows_end parameters past i closes = absurd cc
 
--- a point that makes a row and doesn't end a sequence
-record IsRowPoint (parameters : Parameters) (past : List Ins) (i : Ins) : Type 0 where
-  tombstone : is_under_tombstone parameters (i ∷ past) ≡ is_under_tombstone parameters past
-  none_pending : pending_address (i ∷ past) ≡ None
-  gave : gave_row parameters (i ∷ past) ≡ (not (is_under_tombstone parameters past) || gave_row parameters past)
-  base : base_at (i ∷ past) ≡ base_at past
-
-row_point : (parameters : Parameters) (past : List Ins) (i : Ins) → makes_row i ≡ true → is_end i ≡ false
-    → IsRowPoint parameters past i
-row_point parameters past EndSequence loud inner = absurd cc
-row_point parameters past (Special o) loud inner = grind arith
-row_point parameters past Copy loud inner = grind arith
-row_point parameters past i loud inner = absurd cc
-
-not_false : (b : Bool) → not b ≡ false → b ≡ true
-not_false true e = refl
-not_false false e = absurd cc
-
--- one that is under a tombstone
-quiet_row : (parameters : Parameters) (past : List Ins) (i : Ins) (base position : ℕ) → makes_row i ≡ true
-    → is_end i ≡ false → not (is_under_tombstone parameters past) ≡ false
-    → Follows parameters past base position → Follows parameters (i ∷ past) base position
-quiet_row parameters past i base position loud inner quiet f = grind (arith, row_point, not_false, rises)
-
 -- one that isn't
 pub follows_row : (parameters : Parameters) (past : List Ins) (i : Ins) → makes_row i ≡ true → is_end i ≡ false
     → is_under_tombstone parameters past ≡ false
     → Follows parameters (i ∷ past) (base_at past) ((pointer_at parameters (i ∷ past)).address - base_at past)
-follows_row parameters past i loud inner seen = grind (arith, row_point, base_below, rises)
+follows_row parameters past i loud inner seen = grind (arith, base_below, rises)
 
 -- a point that gives nothing
 pub follows_quiet : (parameters : Parameters) (past : List Ins) (i : Ins) (base position : ℕ)
     → (makes_row i && not (is_under_tombstone parameters past)) ≡ false
     → (is_end i ≡ true → is_under_tombstone parameters past ≡ true → gave_row parameters past ≡ false)
     → Follows parameters past base position → Follows parameters (i ∷ past) base position
-follows_quiet parameters past EndSequence base position quiet ends f = grind (arith, not_false)
-follows_quiet parameters past (SetAddress a) base position quiet ends f = grind (arith, rises, set_seen)
-follows_quiet parameters past (Special o) base position quiet ends f = grind (arith, quiet_row)
-follows_quiet parameters past Copy base position quiet ends f = grind (arith, quiet_row)
-follows_quiet parameters past i base position quiet ends f = grind (arith, rises)
+follows_quiet parameters past EndSequence base position quiet ends f = grind arith
+follows_quiet parameters past (SetAddress a) base position quiet ends f = grind (arith, set_seen)
+follows_quiet parameters past (Special o) base position quiet ends f = grind arith
+follows_quiet parameters past Copy base position quiet ends f = grind arith
+follows_quiet parameters past i base position quiet ends f = grind arith
 
 -- ---- ids stay
 
 slice_stays : {A : Type 0} (xs ys : List A) (i : ℕ) {x : A} → slice_get xs i ≡ Some x → slice_get (xs ++ ys) i ≡ Some x
 slice_stays [] ys i is = absurd cc
 slice_stays (y ∷ xs) ys zero is = is
-slice_stays (y ∷ xs) ys (suc i) {x} is = slice_stays xs ys i is
+slice_stays (y ∷ xs) ys (suc i) is = slice_stays xs ys i is
 
 -- ids that are there stay after an instruction
 pub ids_stay : (sections : Sections) (tables : TablesAndTexts) {next : TablesAndTexts} (i : Ins)
     → tables_after_definition sections tables i ≡ Ok next
     → (n id : ℕ) → slice_get tables.file_ids n ≡ Some id → slice_get next.file_ids n ≡ Some id
-ids_stay sections tables {next} (DefineFile f) is n id there =
-    by (file_parts (version_of tables) sections tables.directory_ids f) is
+ids_stay sections tables {next} (DefineFile f) is n id there = by _ is
   where
     by : (r : Result FileParts ConvertError) → (r >>= λ parts. Ok (with_parts tables f parts)) ≡ Ok next
         → slice_get next.file_ids n ≡ Some id
@@ -191,17 +153,7 @@ ids_stay sections tables i is n id there = grind arith
 
 file_id-is : (version : ℕ) (tables : TablesAndTexts) (n : ℕ) {id : ℕ} → file_id version tables n ≡ Ok id
     → IsFileId version tables.file_ids n id
-file_id-is version tables n {id} is = grind arith
-  where
-    there : (o : Option ℕ) → ok_or o InvalidFileIndex ≡ Ok id → o ≡ Some id
-    there (Some x) so = cc
-    there None so = absurd cc
-
-    by : (b : Bool) → (nat_le version 4 && nat_eq n 0) ≡ b
-        → (if b then Err InvalidFileIndex else ok_or (slice_get tables.file_ids n) InvalidFileIndex) ≡ Ok id
-        → IsFileId version tables.file_ids n id
-    by true at so = absurd cc
-    by false at so = grind arith
+file_id-is version tables n is = grind arith
 
 row_parts : (r : ReadRow) {address : ℕ} → r.tombstone ≡ false → r.address ≡ address → r.end_sequence ≡ false
     → r ≡ record r { tombstone = false; address = address; end_sequence = false }
@@ -232,7 +184,7 @@ module _ (sections : Sections) (parameters : Parameters) (first : TablesAndTexts
     -- nothing follows
     none_left : (past : List Ins) (end : Option Error) (base : ℕ) (position : ℕ × ℕ) (p : Built)
         → Comes (reading_after sections parameters first past [] end) p → Rest past [] end base position p
-    none_left past end base position p is = by (tables_at sections first past) refl end is
+    none_left past end base position p is = by _ refl _ is
       where
         closed : {tables : TablesAndTexts} → tables_at sections first past ≡ Ok tables → (b : Bool)
             → (if b then Err MissingLineEndSequence else Ok (finished tables p)) ≡ Ok c
@@ -244,13 +196,13 @@ module _ (sections : Sections) (parameters : Parameters) (first : TablesAndTexts
               rows = [];
               events = refl;
               items = [];
-              built = sym (ap (λ (c : Outcome). c.program.items) same) ∙ sym (append-nil p.items);
+              built = grind (arith, append-nil);
               mapped = refl;
               fit = tt;
               constants = tt;
               tables = tables;
               there = there;
-              stay = λ n id at. ap (λ (c : Outcome). slice_get c.file_ids n) (sym same) ∙ at;
+              stay = grind arith;
             }
 
         by : (there : Result TablesAndTexts ConvertError) → tables_at sections first past ≡ there
@@ -296,9 +248,7 @@ module _ (sections : Sections) (parameters : Parameters) (first : TablesAndTexts
           → Here base position p
       passed base position p none r = record {
         rows = r.rows;
-        events =
-            after_here parameters past i list end
-            ∙ ap (λ (here : List Event). here ++ events_after parameters (i ∷ past) list end) none ∙ r.events;
+        events = grind (arith, after_here);
         items = r.items;
         built = r.built;
         mapped = r.mapped;
@@ -318,18 +268,15 @@ module _ (sections : Sections) (parameters : Parameters) (first : TablesAndTexts
           → AddressesFit size base position (built ∷ items)) → Later after after_it next → Here base position p
       taken base after position after_it p next built one pushed constant mapped fit r = record {
         rows = here ∷ r.rows;
-        events =
-            after_here parameters past i list end
-            ∙ ap (λ (here : List Event). here ++ events_after parameters (i ∷ past) list end) one
-            ∙ ap (λ (events : List Event). row here ∷ events) r.events;
+        events = grind (arith, after_here);
         items = built ∷ r.items;
-        built = r.built ∙ ap (λ l. l ++ r.items) pushed ∙ append_assoc p.items (built ∷ []) r.items;
+        built = grind (arith, append_assoc);
         mapped = mapped r.items r.rows r.mapped;
         fit = fit r.items r.fit;
         constants = (constant, r.constants);
         tables = tables;
         there = at;
-        stay = λ n id is. r.stay n id (stays r.there n _ is);
+        stay = grind (arith, stays);
       }
 
       -- an address is set before what a point gives
@@ -340,9 +287,9 @@ module _ (sections : Sections) (parameters : Parameters) (first : TablesAndTexts
         rows = r.rows;
         events = r.events;
         items = item.SetAddress (Constant a) ∷ r.items;
-        built = r.built ∙ append_assoc p.items (item.SetAddress (Constant a) ∷ []) r.items;
+        built = grind (arith, append_assoc);
         mapped = r.mapped;
-        fit = (ahead, omega (arith, wide), r.fit);
+        fit = (ahead, omega arith, r.fit);
         constants = ((a, refl), r.constants);
         tables = r.tables;
         there = r.there;
@@ -373,10 +320,10 @@ module _ (sections : Sections) (parameters : Parameters) (first : TablesAndTexts
             let below : base_at past ≤ (pointer_at parameters past).address = base_below parameters past seen in
             let within : (pointer_at parameters past).address < address_limit parameters =
             address_within parameters past in
-            taken base 0 position (0, 0) p next built one refl tt
+            taken base 0 position _ p _ built one refl tt
             (λ items rows mapped. (record { address = omega arith; ends = closes }, mapped))
-            (λ items fit. (omega (arith, wide), fit)) (follow 0 (0, 0) next (follows_end parameters past i closes)
-            (was_built (can_build q.line_encoding (previous_position q.items) built) next is))
+            (λ items fit. (omega arith, fit)) (follow 0 (0, 0) next (follows_end parameters past i closes)
+            (was_built _ _ is))
 
         -- a row of a file that is there
         row_point_gives : (base : ℕ) (position : ℕ × ℕ) (p : Built) (file : ℕ) → is_end i ≡ false
@@ -388,34 +335,32 @@ module _ (sections : Sections) (parameters : Parameters) (first : TablesAndTexts
             let r : LineRow = row_in (source_row parameters past i) file in
             let built : BuiltItem = item.Row r in
             let next : Built = after_row r q in
-            let address : here.address ≡ (pointer_at parameters (i ∷ past)).address = rw inner refl in
+            let address : here.address ≡ (pointer_at parameters (i ∷ past)).address = cc in
             let at_base : base_at past ≤ here.address = base_below_row parameters past i seen inner in
             let within : (pointer_at parameters (i ∷ past)).address < address_limit parameters =
             address_within parameters (i ∷ past) in
             let sum : here.address ≡ base + offset = omega arith in
             let rest = follow (base_at past) (r.address_offset, r.op_index) next
-            (subst (λ (a : ℕ). Follows parameters (i ∷ past) (base_at past) (a - base_at past)) (sym address)
-            (follows_row parameters past i loud inner seen))
-            (was_built (can_build q.line_encoding (previous_position q.items) built) next is) in
-            let number : IsFileId version tables.file_ids here.file file = file_id-is version tables here.file known in
+            (subst (λ a. Follows parameters (i ∷ past) (base_at past) (a - base_at past)) (sym address)
+            (follows_row _ _ i loud inner seen)) (was_built _ _ is) in
+            let number : IsFileId version tables.file_ids here.file file = file_id-is _ tables _ known in
             let found : slice_get c.file_ids here.file ≡ Some file =
-            rest.stay here.file file (stays rest.there here.file file number.there) in
-            taken base (base_at past) position (r.address_offset, r.op_index) p next built one refl tt
-            (λ items rows mapped. (
+            rest.stay here.file file (stays rest.there _ _ number.there) in
+            taken base _ position _ p _ built one refl tt (λ items rows mapped. (
               record {
                 file = record { from_one = number.from_one; there = found };
-                others = row_parts here seen sum inner;
+                others = row_parts _ seen sum inner;
               },
-              subst (λ (b : ℕ). RowsMapped version c.file_ids b items rows) (sym same) mapped,
+              subst (λ b. RowsMapped version c.file_ids b items rows) (sym same) mapped,
             )) (λ items fit. (
               omega (arith, wide),
-              subst (λ (b : ℕ). AddressesFit size b (r.address_offset, r.op_index) items) (sym same) fit,
+              subst (λ b. AddressesFit size b (r.address_offset, r.op_index) items) (sym same) fit,
             )) rest
 
         -- a row, or an end
         any_point_gives : {base : ℕ} (position : ℕ × ℕ) (p : Built) → base ≡ base_at past
             → Comes (row_or_end_offered version tables (source_row parameters past i) later) p → Here base position p
-        any_point_gives {base} position p same is = by (is_end i) refl is
+        any_point_gives {base} position p same is = by _ refl is
           where
             known : (r : Result ℕ ConvertError) → file_id version tables here.file ≡ r → is_end i ≡ false
                 → Comes (row_offered (r >>= λ file. Ok (row_in (source_row parameters past i) file)) tables later) p
@@ -454,8 +399,7 @@ module _ (sections : Sections) (parameters : Parameters) (first : TablesAndTexts
       point_passes : (base : ℕ) (position : ℕ × ℕ) (p : Built) → Follows parameters past base position.0
           → (is_end i ≡ true → is_under_tombstone parameters past ≡ true → gave_row parameters past ≡ false)
           → Comes (reading_at parameters tables past i later) p → Follow → Here base position p
-      point_passes base position p f no_end_under_tombstone is follow =
-          by (overflows parameters past i) (makes_row i) (is_under_tombstone parameters past) refl refl refl is
+      point_passes base position p f no_end_under_tombstone is follow = by _ _ _ refl refl refl is
         where
           gives : (o m : Bool) {tombstone : Bool} → overflows parameters past i ≡ o → makes_row i ≡ m
               → is_under_tombstone parameters past ≡ tombstone → events_at parameters past i
@@ -469,8 +413,8 @@ module _ (sections : Sections) (parameters : Parameters) (first : TablesAndTexts
               → is_under_tombstone parameters past ≡ tombstone → (m && not tombstone) ≡ false → Comes later p
               → Here base position p
           quiet m tombstone at made seen none so =
-              passed base position p
-              (gives false m {tombstone = tombstone} at made seen ∙ ap (λ b. if b then row here ∷ [] else []) none)
+              passed _ _ p
+              (gives _ m {tombstone = tombstone} at made seen ∙ ap (λ b. if b then row here ∷ [] else []) none)
               (follow base position p (follows_quiet _ _ i _ _
               (ap (λ b. b && not (is_under_tombstone parameters past)) made ∙ ap (λ b. m && not b) seen ∙ none)
               no_end_under_tombstone f) so)
@@ -490,10 +434,9 @@ module _ (sections : Sections) (parameters : Parameters) (first : TablesAndTexts
         → Follows parameters past base position.0 → NoneEndsUnderTombstone parameters past list
         → outcome_of convert_address (reading_after sections parameters first past list end) p ≡ Ok c
         → Rest past list end base position p
-    rest_mapped past [] end base position p f seen is = none_left past end base position p is
+    rest_mapped past [] end base position p f seen is = none_left _ _ _ _ p is
     rest_mapped past (i ∷ list) end base position p f seen is =
-        by (λ base position p f so. rest_mapped (i ∷ past) list end base position p f seen.1 so)
-        (tables_at sections first past) refl is
+        by (λ base position p f so. rest_mapped _ _ _ _ _ p f seen.1 so) _ refl is
       where
         after : Reading
         after = reading_after sections parameters first (i ∷ past) list end
@@ -506,4 +449,4 @@ module _ (sections : Sections) (parameters : Parameters) (first : TablesAndTexts
         by follow (Err e) at so = absurd cc
         by follow (Ok tables) at so =
             point_passes past i list end tables at base position p f seen.0
-            (sym (definition_passed convert_address parameters tables past i after p) ∙ so) follow
+            (sym (definition_passed convert_address parameters _ past i _ p) ∙ so) follow

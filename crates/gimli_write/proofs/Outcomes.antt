@@ -2,11 +2,11 @@
 use Rattle.std.specs.Prelude.{◌≡◌, ◌⊎◌, ◌<◌, if◌then◌else◌}
 use Rattle.gimli_write.proofs.Common
 use Common.{ℕ, suc, arith, false, true, Bool, List, refl, sym, ap, ◌∙◌, subst, inl, inr, Option, Result, Ok, Err}
-use Common.{MatchResult, AddressOverflow, Address, Parameters, DefineFile, Ins, Built, ConvertError}
-use Common.{MissingLineEndSequence, Read, ConvertLineRow, Row, ◌>>=◌, IsRefusedBy, TablesAndTexts, Reading, ends, stops}
+use Common.{MatchResult, Address, Parameters, DefineFile, Ins, Built, ConvertError}
+use Common.{MissingLineEndSequence, ConvertLineRow, Row, ◌>>=◌, IsRefusedBy, TablesAndTexts, Reading, ends, stops}
 use Common.{defines, offers, reading_at, with_definition, after_definitions, ReadsItems, tables_of_header, ToConvert}
 use Common.{Outcome, after_item, with_tables, outcome_at_end, outcome_of, ItemComesTo, ComesTo, without_items}
-use Common.{Conversion, tables_of, still_to_read, AddsFiles, IsReadRefusal, Progress, reading_of, built_so_far}
+use Common.{Conversion, tables_of, still_to_read, AddsFiles, IsReadRefusal, Progress}
 use Common.{IsConverted, with_program, AnswersAs, outcome_with, RestComesTo, SourceComesTo, IsConvertRefusal}
 use Common.{RestConvertsTo, IsRestRefusal}
 use Rattle.std.specs.declared.vec.Vec.{Vec}
@@ -41,11 +41,6 @@ module _ (m : ℕ → Option Address) where
       (rest : Reading) (p : Built) → outcome_of m (reading_at parameters tables past i (with_definition i rest)) p
       ≡ outcome_of m (reading_at parameters tables past i rest) p
   definition_passed parameters tables past (DefineFile f) rest p = grind arith
-    where
-      by : (o : Bool) → outcome_of m (if o then stops (Read AddressOverflow) else defines rest) p
-          ≡ outcome_of m (if o then stops (Read AddressOverflow) else rest) p
-      by true = refl
-      by false = refl
   definition_passed parameters tables past i rest p = refl
 
 -- a refusal for another cause than memory has come to the same before
@@ -90,7 +85,7 @@ module _ (map : ℕ → Option Address → Type 0) where
         → MatchResult step (λ next. ComesTo map rest next outcome) (λ e. outcome ≡ Err e)
         → (step >>= λ next. outcome_of g rest next) ≡ outcome
     then_as rest later (Ok next) is = later next is
-    then_as rest later (Err e) is = sym is
+    then_as rest later (Err e) is = cc
 
     comes_as : (r : Reading) (p : Built) (outcome : Result Outcome ConvertError) → ComesTo map r p outcome
         → outcome_of g r p ≡ outcome
@@ -105,14 +100,14 @@ module _ (map : ℕ → Option Address → Type 0) where
       → RestComesTo map old (Ok (outcome_with answer new)) → RestConvertsTo map old answer new
   rest_converts old answer new is = record {
     answers = is;
-    as_function = λ g says. comes_as g says (reading_of old) (built_so_far old) (Ok (outcome_with answer new)) is;
+    as_function = grind (arith, comes_as);
   }
 
   pub rest_refused : (old : Progress) (e : ConvertError) → (e ≡ OutOfMemory) ⊎ RestComesTo map old (Err e)
       → IsRestRefusal map old e
   rest_refused old e is = record {
     answers = is;
-    as_function = λ g says. refused_then e (comes_as g says (reading_of old) (built_so_far old) (Err e)) is;
+    as_function = grind (arith, refused_then, comes_as);
   }
 
   -- ---- reads that are handed on
@@ -149,7 +144,7 @@ module _ (map : ℕ → Option Address → Type 0) where
 
       pub feed_refused : (e : ConvertError) → (e ≡ OutOfMemory) ⊎ ItemComesTo map row mid.tables.program (Err e)
           → (e ≡ OutOfMemory) ⊎ ComesTo map (still_to_read old before) old.tables.program (Err e)
-      feed_refused e = refused_then e (λ item. handed_first (Err e) (Err e) item refl)
+      feed_refused e = refused_then e (λ item. handed_first (Err e) _ item refl)
 
     pub read_refused : (e : ConvertError) → IsReadRefusal (still_to_read old before) e
         → (e ≡ OutOfMemory) ⊎ ComesTo map (still_to_read old before) old.tables.program (Err e)

@@ -27,6 +27,5 @@ reads_then {a = a} {b = b} {c = c} first second = record {
 
 -- what else changes in the conversion says nothing of a read
 pub reads_kept : {a : Progress} (b c : Progress) → c.conversion.tables ≡ b.conversion.tables
-    → c.line_strings ≡ b.line_strings
-    → ReadsOn a b → ReadsOn a c
+    → c.line_strings ≡ b.line_strings → ReadsOn a b → ReadsOn a c
 reads_kept b c tables texts reads = reads_then reads (reads_none b c tables texts)

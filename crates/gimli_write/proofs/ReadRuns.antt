@@ -33,8 +33,7 @@ is_memory OutOfMemory = inl refl
 is_memory e = inr (λ is. absurd cc)
 
 first_fault : {layout : OrderAndLimit} (h : Header) {events left : List EventWithFiles} (rest : List EventWithFiles)
-    (rows : List LineRow)
-    (files : List File) (e : Error) → EventsWithFiles layout true h h.program events
+    (rows : List LineRow) (files : List File) (e : Error) → EventsWithFiles layout true h h.program events
     → events_of events ≡ map row rows ++ events_of left → left ≡ record { event = fault e; files = files } ∷ rest
     → HasFirstFault layout h e
 first_fault h rest rows files e tells so_far next = record {

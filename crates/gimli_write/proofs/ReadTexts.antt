@@ -80,7 +80,7 @@ pub one_by_one_more : {A B C D : Type 0} (Related : A → B → Type 0) (f : C �
     → i < length xs → x ≡ get_or xs i x → OneByOne Related (map f (take i xs)) (map g ys) → Related (f x) (g y)
     → OneByOne Related (map f (take (i + 1) xs)) (map g (ys ++ y ∷ []))
 one_by_one_more Related f g xs ys i x y lt is all one =
-    rw (taken_more xs i lt is, map-append f (take i xs) (x ∷ []), map-append g ys (y ∷ []))
+    rw (taken_more _ i lt is, map-append f (take i xs) (x ∷ []), map-append g ys (y ∷ []))
     (one_by_one_push _ _ _ _ _ all one)
 
 -- what is true of all is true of one
@@ -88,5 +88,5 @@ pub mapped_at : {A C : Type 0} (P : A → Type 0) (f : C → A) (xs : List C) (i
     → x ≡ get_or xs i x → All P (map f xs) → P (f x)
 mapped_at P f xs i {x} lt is all =
     let within : i < length (map f xs) = rw (length-map xs f) lt in
-    let there = All-get_or P (map f xs) i (f x) within all in
-    rw is (rw (get_or-map f xs i x (f x) lt) at there)
+    let there = All-get_or P _ i (f x) within all in
+    rw is (rw (get_or-map f _ i x _ lt) at there)

@@ -1,14 +1,14 @@
 -- A unit that is read: it has one header, and no fault.
 use Rattle.std.specs.Prelude.{◌≡◌, ◌≢◌, ◌<◌, ◌^◌, ◌∷◌}
 use Rattle.gimli_write.proofs.Common
-use Common.{ℕ, Bool, List, [], length, drop, refl, sym, subst, inl, inr, arith, All, Result, Option, Some, None, IfOk}
-use Common.{IfErr, length-drop, append-nil, All-nil, All-cons, IfOk-weaker, MatchResult-weaker, OrderAndLimit, Value}
+use Common.{ℕ, Bool, List, [], length, drop, refl, sym, subst, inl, inr, arith, All, Result, Some, IfOk}
+use Common.{IfErr, length-drop, append-nil, All-nil, All-cons, IfOk-weaker, MatchResult-weaker, OrderAndLimit}
 use Common.{Error, OutOfMemory, Header, UnitEntry, SpellsUnit, HasUnitFault, ReadFile, one_header, no_fault, byte_count}
-use Common.{StringTables, Sections, IsOptionalText, OneByOne, HasText, HasOptionalText, HasFileTexts, Built}
+use Common.{StringTables, Sections, OneByOne, HasText, HasFileTexts, Built}
 use Common.{ConvertError, NoMemory, RoundTrip, answers, AreAnswers, AnswersProgram, IsRunRefusal, RefusesUnit}
 use Common.{slice_layout, unit_entry_of, sections_of}
 use Rattle.gimli_build.specs.Tables.{File}
-use Rattle.gimli_build.specs.ReadsBack.{IsDirectory, IsFile, ReadsBack, IsReadWell, ReadsBackAs, directories_from_zero}
+use Rattle.gimli_build.specs.ReadsBack.{IsFile, ReadsBack, IsReadWell, ReadsBackAs}
 use Rattle.gimli_bytes.specs.Hand.{unplaced}
 use Rattle.gimli_build.proofs.linking.FoundTexts.{written-found, written-held}
 use Rattle.gimli_write.specs.inside.RoundTrip.{BeginsUnit, CanRead, HasTexts, unit_entry_with}
@@ -22,7 +22,7 @@ pub same_unit : (limit size n : ℕ) {is_big other : Bool} {directory other_dire
     → SpellsUnit (record { is_big = other; limit = limit }) (unit_entry_with size other_directory)
     (drop n other_section) h
     → BeginsUnit (record { is_big = is_big; limit = limit }) (unit_entry_with size directory) (drop n section) h
-same_unit limit size n {is_big} {other} {directory} {other_directory} {section} h b d s spelled =
+same_unit limit size n {other} {directory} {other_directory} {section} h b d s spelled =
     subst (λ x. BeginsUnit (record { is_big = x; limit = limit }) (unit_entry_with size directory) (drop n section) h) b
     (subst (λ x. BeginsUnit (record { is_big = other; limit = limit }) (unit_entry_with size x) (drop n section) h) d
     (subst (λ x.
@@ -98,16 +98,9 @@ one_by_one_all Related P gives (x ∷ xs) (y ∷ ys) all =
 one_by_one_all Related P gives [] (y ∷ ys) all = absurd all
 one_by_one_all Related P gives (x ∷ xs) [] all = absurd all
 
-optional_there : (s : Sections) (v : Option Value) (text : Option (List ℕ)) → IsOptionalText s v text
-    → HasOptionalText s v
-optional_there s (Some v) (Some text) is = (text, is)
-optional_there s None None is = tt
-optional_there s (Some v) None is = absurd is
-optional_there s None (Some text) is = absurd is
-
 file_texts_there : {s : Sections} {p : Built} {texts : StringTables} {read : ReadFile} {built : File}
     → IsFile s p texts read built → HasFileTexts s read
-file_texts_there is = grind (arith, optional_there)
+file_texts_there is = grind arith
 
 -- the sections of the tables have lengths that 64 bits hold
 abbrev pub AreShort : StringTables → Type 0
@@ -122,10 +115,10 @@ module _ (is_big : Bool) (p : Built) (texts : StringTables) (section : List ℕ)
     order = refl;
     address_size = refl;
     directory = λ _. refl;
-    texts_found = λ new i d lt. written-found (sections_of texts) texts refl refl _;
+    texts_found = grind (arith, written-found);
     instructions_held = omega arith;
-    length_held = λ wide. (let rest = length-drop n section in omega (arith, rest));
-    texts_held = λ new wide i d lt. written-held texts held.0 held.1 _;
+    length_held = grind (arith, length-drop);
+    texts_held = grind (arith, written-held);
   }
 
   pub read_back : ReadsBack (slice_layout is_big) (unit_entry_of p texts) (sections_of texts) p texts (drop n section)
@@ -145,14 +138,11 @@ module _ (is_big other : Bool) (p : Built) (texts : StringTables) (section other
   back : ReadsBack (slice_layout is_big) (unit_entry_of p texts) (sections_of texts) p texts (drop n section)
   back = read_back is_big p texts section n whole fits held
 
-  is_unit_entry : unit_entry_with size directory ≡ unit_entry_of p texts
-  is_unit_entry = grind arith
-
   -- the unit by other names
   moved : (P : Bool → UnitEntry → List ℕ → Sections → Type 0)
       → P is_big (unit_entry_of p texts) section (sections_of texts)
       → P other (unit_entry_with size directory) other_section s
-  moved P is = grind (arith, is_unit_entry)
+  moved P is = grind arith
 
   moved_back : (P : Bool → Sections → Type 0) → P other s → P is_big (sections_of texts)
   moved_back P is = grind arith
@@ -165,17 +155,13 @@ module _ (is_big other : Bool) (p : Built) (texts : StringTables) (section other
     header = back.header;
     unit = begins;
     texts = record {
-      directories =
-          one_by_one_all (IsDirectory (sections_of texts) texts) (HasText (sections_of texts)) (λ v t is. (_, is))
-          (directories_from_zero back.header) p.directories back.directories;
-      files =
-          one_by_one_all (IsFile (sections_of texts) p texts) (HasFileTexts (sections_of texts))
-          (λ f built is. file_texts_there is) back.header.files p.files back.files;
+      directories = one_by_one_all _ (HasText (sections_of texts)) (λ v t is. (_, is)) _ _ back.directories;
+      files = one_by_one_all _ (HasFileTexts (sections_of texts)) (λ f built is. file_texts_there is) _ _ back.files;
     };
   })
 
   begins_there : BeginsUnit (slice_layout other) (unit_entry_with size directory) (drop n other_section) back.header
-  begins_there = grind (arith, moved, back, begins)
+  begins_there = grind (arith, back, begins)
 
   pub program_answered : (r : Result RoundTrip ConvertError)
       → ((h : Header) → BeginsUnit (slice_layout other) (unit_entry_with size directory) (drop n other_section) h

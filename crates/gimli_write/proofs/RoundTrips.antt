@@ -45,8 +45,7 @@ unit_refused is_big unit_entry e written r = absurd r.2
 
 -- the same by the bytes after the offset
 pub unit_not_answered : {is_big : Bool} (other : Bool) (wanted : ToWrite) (unit_entry : UnitEntry) (old new : List ℕ)
-    (n : ℕ)
-    (r : Result RoundTrip ConvertError)
+    (n : ℕ) (r : Result RoundTrip ConvertError)
     → other ≡ is_big → wanted.cause ≡ None → Appends wanted.bytes old new → n ≡ length old
     → IfErr r (RefusesUnit (slice_layout other) unit_entry (drop n new))
     → IfErr r (IsRefusal is_big wanted unit_entry old new)

@@ -60,7 +60,7 @@ module _ {R Offset Endian : Type 0} (bytes : R → List ℕ) (number : Offset �
         stopped = executed_stop Endian bytes number s u layout i taken.0 taken.1 taken.2 _ over;
         shorter = executed_shortens (with_unread s u) s new i _ made shorter;
         header = header;
-        layout = ap (λ v. v.layout) unread ∙ layout;
+        layout = cc;
       }
 
 -- k is the header that was lent, r2 the registers after the instruction

@@ -34,7 +34,7 @@ module _ (layout : OrderAndLimit) (h : Header) (bytes : List ℕ) where
       sym (one_decoding layout h _ _ _ (record {
         front = front ++ c.front;
         rest = c.rest;
-        parts = parts ∙ ap (λ xs. front ++ xs) c.parts ∙ sym (append_assoc front c.front c.rest);
+        parts = grind (arith, append_assoc);
         spelled = (front, c.front, refl, s, c.spelled);
         ended = c.ended;
       }))
@@ -48,7 +48,7 @@ module _ (layout : OrderAndLimit) (h : Header) (bytes : List ℕ) where
         front = front;
         rest = [];
         parts = sym (append-nil front);
-        spelled = (front, [], sym (append-nil front), s, refl);
+        spelled = grind (arith, append-nil);
         ended = refl;
       }) in
       omega (arith, length-append front rest, ap length parts)
@@ -168,16 +168,6 @@ ends_row p Copy r e loud = e
 ends_row p EndSequence r e loud = refl
 ends_row p i r e loud = absurd cc
 
-keeps_tombstone : (p : Parameters) (i : Ins) (r : LineRow) → address_operand i ≡ None
-    → (step_of p i r).tombstone ≡ r.tombstone
-keeps_tombstone p (SetAddress a) r e = absurd cc
-keeps_tombstone p i r e = refl
-
-keeps_end : (p : Parameters) (i : Ins) (r : LineRow) → makes_row i ≡ false
-    → (step_of p i r).end_sequence ≡ r.end_sequence
-keeps_end p EndSequence r e = absurd cc
-keeps_end p i r e = refl
-
 refusal_keeps_end : (p : Parameters) (i : Ins) (r : LineRow) → is_refused p i r ≡ true
     → (step_of p i r).end_sequence ≡ r.end_sequence
 refusal_keeps_end p EndSequence r e = absurd cc
@@ -187,14 +177,10 @@ no_end : (i : Ins) → makes_row i ≡ false → is_end i ≡ false
 no_end EndSequence e = absurd cc
 no_end i e = refl
 
-files_same : (i : Ins) (files : List File) → defines_file i ≡ false → files_after true i files ≡ files
-files_same (DefineFile f) files e = absurd cc
-files_same i files e = refl
-
 header_same : (i : Ins) (h : Header) {h2 : Header} → defines_file i ≡ false
     → h2 ≡ record h { files = files_after true i h.files }
     → h2 ≡ h
-header_same i h file is = grind (arith, files_same)
+header_same i h file is = grind arith
 
 -- a refusal of an instruction that defines no file
 pub is_overflow : (i : Ins) (e : Error) → (e ≢ AddressOverflow → defines_file i ≡ true) → defines_file i ≡ false
@@ -210,23 +196,18 @@ module _ (i : Ins) (old new : LineRow) (ready : IsReady old) where
   pub ready_at_refusal : (p : Parameters) (e : Error) → defines_file i ≡ false
       → (e ≢ AddressOverflow → defines_file i ≡ true)
       → (e ≡ AddressOverflow → (is_refused p i old ≡ true) × (new ≡ step_of p i old)) → IsReady new
-  ready_at_refusal p e file memory over = grind (arith, is_overflow, refusal_keeps_end)
+  ready_at_refusal p e file memory over = grind (arith, refusal_keeps_end)
 
   pub ready_when_quiet : (p : Parameters) → makes_row i ≡ false → new ≡ step_of p i old → IsReady new
-  ready_when_quiet p quiet step = grind (arith, keeps_end)
+  ready_when_quiet p quiet step = grind arith
 
 -- ---- what is done of an instruction that sets no address and defines no file
 
 module _ {R Endian Offset : Type 0} where
-  shown : (tombstone : Bool) (d : SourceRow) → ◌≡◌ {A = SourceStep R Endian Offset} (if tombstone then More else Made d)
-      (if not tombstone then Made d else More)
-  shown true d = refl
-  shown false d = refl
-
   same_or_other : {made tombstone other : Bool} {r d : SourceRow} → made ≡ true → tombstone ≡ other → r ≡ d
       → ◌≡◌ {A = SourceStep R Endian Offset} (if tombstone then More else Made r)
       (if made && not other then Made d else More)
-  same_or_other loud same row_is = grind (arith, shown)
+  same_or_other loud same row_is = grind arith
 
 module _ (i : Ins) (h h2 : Header) (r r2 : LineRow) (b : ℕ) (p : Option ℕ) (u : Unread)
     (address : address_operand i ≡ None) (file : defines_file i ≡ false)
@@ -241,18 +222,18 @@ module _ (i : Ins) (h h2 : Header) (r r2 : LineRow) (b : ℕ) (p : Option ℕ) (
 
   -- where it makes no row
   pub quiet_state : makes_row i ≡ false → state h2 r2 b p u ≡ state_after i (state h r b p u)
-  quiet_state quiet = grind (arith, next_is, no_end, state_same, header_kept)
+  quiet_state quiet = grind (arith, no_end, state_same, header_kept)
 
   -- where it makes one
   pub row_state : makes_row i ≡ true → r.end_sequence ≡ false → {k : Header} → k ≡ h2 → {r3 : LineRow}
       → r3 ≡ reset_row k.parameters r2 → {last : Bool} → last ≡ r2.end_sequence → {n : ℕ} → n ≡ (if last then 0 else b)
       → state h2 r3 n None u ≡ state_after i (state h r b p u)
-  row_state loud ready lent reset ended counts = grind (arith, header_kept, next_is, ends_row, state_same)
+  row_state loud ready lent reset ended counts = grind (arith, next_is, ends_row, state_same)
 
   pub made_is : {R Endian Offset : Type 0} {given : SourceStep R Endian Offset} {offset : ℕ}
       → given ≡ (if r2.tombstone then More else Made (record { set_address = p; address_offset = offset; row = r2 }))
       → makes_row i ≡ true → offset ≡ r2.address - b → given ≡ step_made (state h r b p u) i
-  made_is is loud counts = grind (arith, keeps_tombstone, same_or_other)
+  made_is is loud counts = grind (arith, same_or_other)
 
 -- ---- what is done of a set address
 
@@ -263,7 +244,7 @@ module _ (p : Parameters) (a : ℕ) (old new : LineRow) where
       e ≢ AddressOverflow → (e ≡ OutOfMemory) × (true ≡ true) × (defines_file (SetAddress a) ≡ true) × (new ≡ old))
       → new ≡ step_of p (SetAddress a) old
   address_done (Ok m) step over memory = step
-  address_done (Err e) step over memory = grind (arith, is_overflow)
+  address_done (Err e) step over memory = grind arith
 
   pub address_ready : IsReady old → new ≡ step_of p (SetAddress a) old → IsReady new
   address_ready ready step = grind arith
@@ -277,7 +258,7 @@ address_header a h h2 (Err e) files kept = kept
 pub address_state : (a : ℕ) (h h2 : Header) (r : LineRow) {r2 : LineRow} (b : ℕ) (p : Option ℕ) (u : Unread) → h2 ≡ h
     → r2 ≡ step_of h.parameters (SetAddress a) r
     → state h2 r2 a (Some a) u ≡ state_after (SetAddress a) (state h r b p u)
-address_state a h h2 r b p u header step = grind (arith, state_same)
+address_state a h h2 r b p u header step = grind arith
 
 -- ---- what is read from a step on
 
@@ -289,16 +270,10 @@ pub spelled_as : (layout : OrderAndLimit) {h k : Header} (front : List ℕ) {i j
     → SpellsInstruction layout k front i → SpellsInstruction layout h front j
 spelled_as layout front same is s = grind arith
 
-module _ (R Endian Offset : Type 0) (s old new : SourceRun) (i : Ins) where
-  shortens : length new.unread.bytes < length old.unread.bytes → (b : Bool)
-      → Shortens {R = R} {Endian = Endian} {Offset = Offset} (if b then Made (row_made s i) else More) old new
-  shortens lt true = lt
-  shortens lt false = lt
-
 module _ {R Endian Offset : Type 0} (s old new : SourceRun) (i : Ins) where
   pub executed_shortens : (r : Result (SourceStep R Endian Offset) ConvertError) → IfOk r (λ step. step ≡ step_made s i)
       → length new.unread.bytes < length old.unread.bytes → IfOk r (λ step. Shortens step old new)
-  executed_shortens (Ok step) made lt = grind (arith, shortens)
+  executed_shortens (Ok step) made lt = grind arith
   executed_shortens (Err e) made lt = tt
 
 module _ {R Offset : Type 0} (Endian : Type 0) (bytes : R → List ℕ) (number : Offset → ℕ) (s : SourceRun) (u : Unread)
@@ -336,7 +311,7 @@ module _ {R Offset : Type 0} (Endian : Type 0) (bytes : R → List ℕ) (number 
       → IfErr r (λ e. (sections : Sections) (tables : TablesAndTexts) → reading_left sections s tables ≡ stops e)
   executed_refusal (Ok step) over = tt
   executed_refusal (Err e) over =
-      λ sections tables. after_refusal sections tables s u layout i front parts spelled over.1 ∙ ap stops (sym over.0)
+      λ sections tables. after_refusal sections tables s u layout i front parts spelled over.1 ∙ ap stops cc
 
 -- an instruction that isn't a definition defines no file
 pub other_kind : {R Offset Endian : Type 0} (bytes : R → List ℕ) (number : Offset → ℕ)

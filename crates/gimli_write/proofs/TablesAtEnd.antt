@@ -1,8 +1,8 @@
 -- What one instruction of a source does to the tables that the source leaves.
 use Rattle.std.specs.Prelude.{◌≡◌, ◌≢◌, ◌&&◌, ◌||◌, if◌then◌else◌, ◌∷◌, ◌++◌}
 use Rattle.gimli_write.proofs.Common
-use Common.{ℕ, Bool, true, false, not, List, [], refl, sym, ap, ◌∙◌, Option, Some, Result, Ok, Err, OnOk, IfOk, IfErr}
-use Common.{OrderAndLimit, Error, AddressOverflow, File, DefineFile, Ins, makes_row, defines_file, SpellsInstruction}
+use Common.{ℕ, Bool, true, false, not, List, [], refl, sym, ap, ◌∙◌, Some, Result, Ok, Err, OnOk, IfOk, IfErr}
+use Common.{Error, AddressOverflow, File, DefineFile, Ins, makes_row, defines_file, SpellsInstruction}
 use Common.{instruction_production, decoded_at, is_refused, Unread, Sections, ConvertError, Read, SourceStep, More}
 use Common.{Made, TablesAndTexts, file_added, tables_after_definition, SourceRun, row_made, state_after, step_made}
 use Rattle.gimli_write.specs
@@ -57,17 +57,16 @@ module _ (sections : Sections) (tables : TablesAndTexts) (s : SourceRun) where
         else unless_refused tables (tables_after_definition sections tables i) (λ more.
         tables_at_end sections next more))
     first_last =
-        ap (λ (d : List Ins × Option Error). tables_after sections s tables d.0)
-        (decoded_some s.unread.layout s.header s.unread.bytes i front u.bytes parts spelled)
-        ∙ ap (λ (rest : TablesAndTexts). if refuses s tables i then tables else rest)
-        (by (tables_after_definition sections tables i))
+        ap (λ d. tables_after sections s tables d.0)
+        (decoded_some s.unread.layout s.header s.unread.bytes i _ _ parts spelled)
+        ∙ ap (λ rest. if refuses s tables i then tables else rest) (by _)
       where
         by : (there : Result TablesAndTexts ConvertError) → unless_refused tables there (λ more.
             tables_after sections (state_after i s) more (decoded_at s.unread.layout s.header u.bytes).0)
             ≡ unless_refused tables there (λ more. tables_at_end sections next more)
         by (Ok more) =
-            same_lists sections s.unread u (state_after i s) more (decoded_at s.unread.layout s.header u.bytes).0
-            ∙ ap (λ (n : OrderAndLimit). tables_after sections next more (decoded_at n s.header u.bytes).0) (sym layout)
+            same_lists _ _ u (state_after i s) _ (decoded_at s.unread.layout s.header u.bytes).0
+            ∙ ap (λ n. tables_after sections next more (decoded_at n s.header u.bytes).0) cc
         by (Err e) = refl
 
     pub refusal_last : is_refused s.header.parameters i s.row ≡ true → tables_at_end sections s tables ≡ tables
@@ -85,7 +84,7 @@ module _ (sections : Sections) (tables : TablesAndTexts) (s : SourceRun) where
           then tables_after_row s.header.parameters.encoding.version tables (Some (row_made s i))
           (tables_at_end sections next tables)
           else tables_at_end sections next tables)
-      done_last {shown} is =
+      done_last is =
           first_last ∙ ap (λ there. if refuses s tables i then tables
           else unless_refused tables there (λ more. tables_at_end sections next more)) (no_file _ i file) ∙ ap
           (λ b. if b || (makes_row i && not s.row.tombstone

@@ -80,9 +80,8 @@ module _ {A : Type 0} (text : A → LineText) where
       → CanWrite (after_file (text path, directory)
       (Some (record { timestamp = timestamp; size = size; md5 = md5; source = option_map text source })) p)
       (texts_in strings new)
-  written_with_parts {p} strings {old} {between} {new} path source directory timestamp size md5 first second within
-      source_there
-      ends can =
+  written_with_parts strings {old} {between} {new} path source directory timestamp size md5 first second within
+      source_there ends can =
       written_with_file _ _ _ (within_kept strings between new second _ (within strings))
       (source_within _ _ _ source_there) (λ new. source_so HasNoZero source ends)
       (written_later strings old new (kept_then first second) can)
@@ -97,10 +96,10 @@ writable_then before after = record { still = λ strings can. after.still string
 record WrittenTables (p : Built) (texts : StringTables) : Type 0 where
   program : p.is_none ≡ false
   directories : All (IsWithin texts) p.directories
-  paths : All (λ (f : BuiltFile). IsWithin texts f.0.0) p.files
-  sources : All (λ (f : BuiltFile). IfSome f.1.source (IsWithin texts)) p.files
+  paths : All (λ f. IsWithin texts f.0.0) p.files
+  sources : All (λ f. IfSome f.1.source (IsWithin texts)) p.files
   sources_end : 5 ≤ p.encoding.version → p.file_has_source ≡ true
-      → All (λ (f : BuiltFile). IfSome f.1.source HasNoZero) p.files
+      → All (λ f. IfSome f.1.source HasNoZero) p.files
 
 tables_written : {p : Built} {texts : StringTables} → CanWrite p texts → WrittenTables (without_items p) texts
 tables_written can = record {

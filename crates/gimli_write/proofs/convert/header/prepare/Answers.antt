@@ -24,8 +24,7 @@ returns-in_err-add_directories_and_files-clause-err g c =
     let p =
     err_from_is_err_and c.from_residual-in_err-add_directories_and_files.result
     c.from_residual-in_err-add_directories_and_files.ensures.1 in
-    rw (p.1, p.2)
-    (refused_at_listed s h given c.args.line_strings.now c.unwrap_or-encoding.result target
+    rw (p.1, p.2) (refused_at_listed s h given c.args.line_strings.now c.unwrap_or-encoding.result target
     c.in_err-add_directories_and_files.field-0.0
     c.in_ok-tables.ensures.ok c.in_err-add_directories_and_files.ensures.err)
 
