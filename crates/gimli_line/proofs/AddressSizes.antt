@@ -6,5 +6,4 @@ use Rattle.gimli_line.proofs.Common.{ℕ, Bool, Ok, arith, IsTrue, is_address_si
 pub sum_fits : (address length size sum : ℕ) → IsTrue (is_address_size size) → 4 < size → length < 2 ^ 64
     → sum ≡ (address + length) % 2 ^ 64 → address ≤ sum
     → address < 2 ^ 64 → Ok sum ≡ sized_sum address length size
-sum_fits address length size sum known large short is not_wrapped below =
-    grind (arith)
+sum_fits address length size sum known large short is not_wrapped below = grind (arith)

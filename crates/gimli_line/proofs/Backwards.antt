@@ -8,9 +8,9 @@ use Common.{SetAddress, DefineFile, SetDiscriminator, UnknownExtended, Parameter
 use Common.{pointer_at, is_under_tombstone, overflows, since_last_row, row, row_at, made_at, EventWithFiles, with_files}
 use Common.{made_after, given_of, events_of, events_after, files_at, past_at_end, initial, reset_row, step_of}
 use Common.{is_refused, made_step, next_registers, registers_after, made_from, run, files_from}
-use Rattle.gimli_line.specs.run.Registers.{sequence, nearest, is_odd, negates_statement, sets_basic_block}
-use Rattle.gimli_line.specs.run.Registers.{sets_prologue_end, sets_epilogue_begin}
-use Rattle.gimli_line.specs.run.Registers.{discriminator_operand, file_at, column_at, isa_at, is_stmt_at, line_after}
+use Rattle.gimli_line.specs
+use specs.run.Registers.{sequence, nearest, is_odd, negates_statement, sets_basic_block, sets_prologue_end}
+use specs.run.Registers.{sets_epilogue_begin, discriminator_operand, file_at, column_at, isa_at, is_stmt_at, line_after}
 
 -- the registers before a point
 abbrev pub registers : Parameters → List Ins → LineRow
@@ -48,8 +48,7 @@ goes_on h past (AdvancePc n) fits quiet = rw fits refl
 goes_on h past (AdvanceLine v) fits quiet = refl
 goes_on h past (SetFile n) fits quiet = refl
 goes_on h past (SetColumn n) fits quiet = refl
-goes_on h past NegateStatement fits quiet =
-    ap (λ (b : Bool). record (registers h past) { is_stmt = b })
+goes_on h past NegateStatement fits quiet = ap (λ (b : Bool). record (registers h past) { is_stmt = b })
     (turned (is_odd negates_statement (sequence past)) h.line_encoding.default_is_stmt)
 goes_on h past SetBasicBlock fits quiet = refl
 goes_on h past ConstAddPc fits quiet = rw fits refl
@@ -100,7 +99,7 @@ makes h past i false false fits quiet = rw (fits, quiet) refl
 -- and the registers after it
 goes_to : (h : Parameters) (i : Ins) (r : LineRow) (b : Bool) → (is_refused h i r || makes_row i) ≡ b
     → next_registers h i r ≡ (if b then reset_row h (step_of h i r) else step_of h i r)
-goes_to h i r b is = ap (λ (b : Bool). if b then reset_row h (step_of h i r) else step_of h i r) is
+goes_to h i r b is = ap (λ b. if b then reset_row h (step_of h i r) else step_of h i r) is
 
 goes : (h : Parameters) (past : List Ins) (i : Ins) (o m : Bool) → overflows h past i ≡ o → makes_row i ≡ m
     → next_registers h i (registers h past) ≡ registers h (i ∷ past)
@@ -131,13 +130,12 @@ files_from_start false files list = files_come false files [] list
 made_are : (a : Bool) (h : Parameters) (files : List File) (past list : List Ins) (end : Option Error)
     → made_from a h (registers h past) (files_at a files past) list end ≡ made_after h (files_at a files) past list end
 made_are a h files past [] end = refl
-made_are a h files past (i ∷ list) end =
-    rw (
-      makes h past i (overflows h past i) (makes_row i) refl refl,
-      goes h past i (overflows h past i) (makes_row i) refl refl,
-      files_go a files past i,
-    )
-    (ap (λ (rest : List EventWithFiles). with_files (files_at a files past) (made_at h past i) ++ rest)
+made_are a h files past (i ∷ list) end = rw (
+  makes h past i (overflows h past i) (makes_row i) refl refl,
+  goes h past i (overflows h past i) (makes_row i) refl refl,
+  files_go a files past i,
+)
+    (ap (λ rest. with_files (files_at a files past) (made_at h past i) ++ rest)
     (made_are a h files (i ∷ past) list end))
 
 -- from the start

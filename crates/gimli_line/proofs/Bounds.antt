@@ -8,9 +8,23 @@ use Common.{Each, times, refuse, choose, String, Format, Dwarf32, Dwarf64, Encod
 use Common.{TableEntry, path_of, file_of_entry, paths_production, files_production, formats_production}
 use Common.{entry_production, entries_production, table_production, directory_table, file_table, opening_production}
 use Common.{fields_production, HeaderOpening, SpellsUnit, HoldsCount, FileEntryFormat}
-use Rattle.gimli_core.specs.Form.{Shape, fixed, three_bytes, word_offset, leb, signed_leb, leb_offset, block, counted}
-use Rattle.gimli_core.specs.Form.{leb_counted, string, shape_among, shapes}
-use Rattle.gimli_core.specs.Form.{shape_production, form_production}
+use Rattle.gimli_core.specs.Form.{
+  Shape,
+  fixed,
+  three_bytes,
+  word_offset,
+  leb,
+  signed_leb,
+  leb_offset,
+  block,
+  counted,
+  leb_counted,
+  string,
+  shape_among,
+  shapes,
+  shape_production,
+  form_production,
+}
 
 -- ---- a value in a form has bytes
 
@@ -34,7 +48,7 @@ times_bounded zero l some bytes xs s = rw s.1 (omega arith)
 times_bounded (suc n) l some bytes xs s =
     let r = s.5 in
     let one = some s.1 s.0 s.4 in
-    let others = times_bounded n l some r.1 r.0 r.4 in
+    let others = times_bounded n l some _ _ r.4 in
     omega (arith, length-append s.1 s.2, ap length s.3, length-append r.1 r.2, ap length r.3, ap length r.5.1)
 
 -- so many values are that many
@@ -43,7 +57,7 @@ times_counted : {A : Type 0} (n : ℕ) (l : Production A) (bytes : List ℕ) (xs
 times_counted zero l bytes xs s = rw s.1 refl
 times_counted (suc n) l bytes xs s =
     let r = s.5 in
-    rw r.5.1 (ap suc (times_counted n l r.1 r.0 r.4))
+    rw r.5.1 (ap suc (times_counted n l _ _ r.4))
 
 -- values one after the other, each of which has bytes
 each_bounded : {A : Type 0} (Spells : List ℕ → A → Type 0)
@@ -56,33 +70,25 @@ each_bounded Spells some bytes (x ∷ xs) s =
 -- formats with a path are some
 pub formats_some : (bytes : List ℕ) (formats : List FileEntryFormat) → formats_production.Spells bytes formats
     → formats ≢ []
-formats_some bytes formats s none =
-    grind arith
+formats_some bytes formats s none = grind arith
 
 module _ (layout : OrderAndLimit) (format : Format) where
   shape_some : (shape : Shape) → HasBytes shape → (bytes : List ℕ) (v : Value)
       → (shape_production layout format shape).Spells bytes v → 0 < length bytes
   shape_some (fixed size make) some bytes v s = grind (arith, length-append)
-  shape_some (three_bytes make) some bytes v s =
-      grind (arith, length-append)
-  shape_some (word_offset make) some bytes v s =
-      grind (arith, length-append)
-  shape_some (leb make) some bytes v s =
-      grind (arith, length-append, groups_some)
-  shape_some (signed_leb make) some bytes v s =
-      grind (arith, length-append, groups_some)
-  shape_some (leb_offset make) some bytes v s =
-      grind (arith, length-append, groups_some)
+  shape_some (three_bytes make) some bytes v s = grind (arith, length-append)
+  shape_some (word_offset make) some bytes v s = grind (arith, length-append)
+  shape_some (leb make) some bytes v s = grind (arith, length-append, groups_some)
+  shape_some (signed_leb make) some bytes v s = grind (arith, length-append, groups_some)
+  shape_some (leb_offset make) some bytes v s = grind (arith, length-append, groups_some)
   shape_some (block size) some bytes v s = omega (arith, length-append s.1 s.2, ap length s.3)
   shape_some (counted size) some bytes v s = grind (arith, length-append)
-  shape_some leb_counted some bytes v s =
-      grind (arith, length-append, groups_some)
-  shape_some string some bytes v s =
-      grind (arith, length-append)
+  shape_some leb_counted some bytes v s = grind (arith, length-append, groups_some)
+  shape_some string some bytes v s = grind (arith, length-append)
 
   form_some : (form : ℕ) (bytes : List ℕ) (v : Value) → (form_production layout format form).Spells bytes v
       → 0 < length bytes
-  form_some form bytes v = at_shape (shape_among form shapes) refl
+  form_some form bytes v = at_shape _ refl
     where
       at_shape : (found : Option Shape) → shape_among form shapes ≡ found
           → (let l : Production Value = elim found
@@ -97,21 +103,19 @@ module _ (layout : OrderAndLimit) (format : Format) where
   entry_some : (formats : List FileEntryFormat) → formats ≢ [] → (bytes : List ℕ) (entry : TableEntry)
       → (entry_production layout format formats).Spells bytes entry → 0 < length bytes
   entry_some [] some bytes entry s = absurd (some refl)
-  entry_some (f ∷ formats) some bytes entry s =
-      grind (arith, length-append, form_some)
+  entry_some (f ∷ formats) some bytes entry s = grind (arith, length-append, form_some)
 
   -- a table's entries are as many as their count says, and no more than the bytes after it
   pub entries_bounded : (formats : List FileEntryFormat) → formats ≢ [] → (bytes : List ℕ) (entries : List TableEntry)
       → (entries_production layout format formats).Spells bytes entries → HoldsCount bytes (length entries)
-  entries_bounded formats some bytes entries s =
-      grind (arith, times_counted, times_bounded, entry_some)
+  entries_bounded formats some bytes entries s = grind (arith, times_counted, times_bounded, entry_some)
 
   table_bounded : (bytes : List ℕ) (table : List FileEntryFormat × List TableEntry)
       → (table_production layout format).Spells bytes table
       → length table.1 ≤ length bytes
   table_bounded bytes table s =
       let e = s.5 in
-      let b = entries_bounded s.0 (formats_some s.1 s.0 s.4) e.1 e.0 e.4 in
+      let b = entries_bounded _ (formats_some _ _ s.4) _ _ e.4 in
       omega (
         arith,
         length-append s.1 s.2,
@@ -120,19 +124,17 @@ module _ (layout : OrderAndLimit) (format : Format) where
         ap length e.3,
         length-append b.0 b.1,
         ap length b.2,
-        ap (λ (t : List FileEntryFormat × List TableEntry). length t.1) e.5.1,
+        ap (λ t. length t.1) e.5.1,
       )
 
 -- ---- the tables of a header
 
 paths_bounded : (bytes : List ℕ) (paths : List (List ℕ)) → paths_production.Spells bytes paths
     → length paths ≤ length bytes
-paths_bounded bytes paths s =
-    grind (arith, length-append, each_bounded)
+paths_bounded bytes paths s = grind (arith, length-append, each_bounded)
 
 files_bounded : (bytes : List ℕ) (files : List File) → files_production.Spells bytes files → length files ≤ length bytes
-files_bounded bytes files s =
-    grind (arith, length-append, each_bounded)
+files_bounded bytes files s = grind (arith, length-append, each_bounded)
 
 -- one production or the other
 chosen : {A : Type 0} {P : Type 0} (test : Bool) (l m : Production A) (bytes : List ℕ) (x : A) → (l.Spells bytes x → P)
@@ -145,52 +147,47 @@ module _ (layout : OrderAndLimit) (encoding : Encoding) where
   directories_bounded : (bytes : List ℕ) (table : List FileEntryFormat × List Value)
       → (directory_table layout encoding).Spells bytes table
       → length table.1 ≤ length bytes
-  directories_bounded bytes table =
-      chosen (nat_le encoding.version 4) _ _ bytes table
-      (λ s. omega (
-        arith,
-        length-append s.1 s.2,
-        ap length s.3,
-        paths_bounded s.1 s.0 s.4,
-        length-map {B = Value} s.0 String,
-        ap (λ (t : List FileEntryFormat × List Value). length t.1) s.5.1,
-      ))
+  directories_bounded bytes table = chosen (nat_le encoding.version 4) _ _ bytes table (λ s. omega (
+    arith,
+    length-append s.1 s.2,
+    ap length s.3,
+    paths_bounded s.1 s.0 s.4,
+    length-map {B = Value} s.0 String,
+    ap (λ t. length t.1) s.5.1,
+  ))
       (λ s. omega (
         arith,
         length-append s.1 s.2,
         ap length s.3,
         table_bounded layout encoding.format s.1 s.0 s.4,
         length-map s.0.1 path_of,
-        ap (λ (t : List FileEntryFormat × List Value). length t.1) s.5.1,
+        ap (λ t. length t.1) s.5.1,
       ))
 
   all_files_bounded : (bytes : List ℕ) (table : List FileEntryFormat × List File)
       → (file_table layout encoding).Spells bytes table
       → length table.1 ≤ length bytes
-  all_files_bounded bytes table =
-      chosen (nat_le encoding.version 4) _ _ bytes table
-      (λ s. omega (
-        arith,
-        length-append s.1 s.2,
-        ap length s.3,
-        files_bounded s.1 s.0 s.4,
-        ap (λ (t : List FileEntryFormat × List File). length t.1) s.5.1,
-      ))
+  all_files_bounded bytes table = chosen (nat_le encoding.version 4) _ _ bytes table (λ s. omega (
+    arith,
+    length-append s.1 s.2,
+    ap length s.3,
+    files_bounded s.1 s.0 s.4,
+    ap (λ t. length t.1) s.5.1,
+  ))
       (λ s. omega (
         arith,
         length-append s.1 s.2,
         ap length s.3,
         table_bounded layout encoding.format s.1 s.0 s.4,
         length-map s.0.1 file_of_entry,
-        ap (λ (t : List FileEntryFormat × List File). length t.1) s.5.1,
+        ap (λ t. length t.1) s.5.1,
       ))
 
 -- the bytes that the header length counts are that many, and stand in front of the program
 opening_counted : (layout : OrderAndLimit) (handed : ℕ) (format : Format) (bytes : List ℕ) (o : HeaderOpening)
     → (opening_production layout handed format).Spells bytes o
     → (length o.fields ≡ o.header_length) × (o.header_length ≤ length bytes)
-opening_counted layout handed format bytes o s =
-    grind (arith, length-append)
+opening_counted layout handed format bytes o s = grind (arith, length-append)
 
 fields_bounded : (layout : OrderAndLimit) (unit_entry : UnitEntry) (unit : ℕ) (o : HeaderOpening)
     (program bytes : List ℕ)
@@ -216,19 +213,6 @@ unit_bounded layout unit_entry bytes h u =
     let same : h ≡ f.0.0 = f.5.1 in
     rw same (
       omega (arith, length-append f.4.1.0 f.0.1, ap length f.4.1.1),
-      omega (
-        arith,
-        ap length fields.1,
-        length-append o.4.1.0 o.0.1,
-        ap length o.4.1.1,
-        ap length i.4.1,
-      ),
-      omega (
-        arith,
-        ap length u.2,
-        length-append s.1 s.2,
-        ap length s.3,
-        length-append i.1 i.2,
-        ap length i.3,
-      ),
+      omega (arith, ap length fields.1, length-append o.4.1.0 o.0.1, ap length o.4.1.1, ap length i.4.1),
+      omega (arith, ap length u.2, length-append s.1 s.2, ap length s.3, length-append i.1 i.2, ap length i.3),
     )

@@ -26,8 +26,7 @@ pub record ReadsOpen {A : Type 0} (l : Production A) (read : List ℕ → Read A
 -- ---- texts that aren't empty
 
 empty_text : (front xs rest : List ℕ) → text.Spells front xs → IsOpen (front ++ rest) → xs ≢ []
-empty_text front [] rest s clear e =
-    grind arith
+empty_text front [] rest s clear e = grind arith
 empty_text front (b ∷ xs) rest s clear e = absurd cc
 
 name_opens : (front xs : List ℕ) → path_text.Spells front xs → Opens front
@@ -38,7 +37,7 @@ pub reads_name : ReadsOpen path_text text_at
 reads_name = record {
   found = λ bytes xs rest clear e.
       let f = reads_text.found bytes xs rest e in
-      (f.0, f.1, (empty_text f.0 xs rest f.2 (rw f.1 at clear), f.2));
+      (f.0, f.1, (empty_text _ _ _ f.2 (rw f.1 at clear), f.2));
   only = grind (arith, reads_text);
   opens = name_opens;
   fault = grind (arith, reads_text);
@@ -54,11 +53,10 @@ module _ {A B : Type 0} (l : Production A) (next : A → Production B) (read : L
   both bytes = read bytes >>= after
 
   both_opens : (front : List ℕ) (y : B) → (l >>> next).Spells front y → Opens front
-  both_opens front y s =
-      grind arith
+  both_opens front y s = grind arith
 
   both_fault : (bytes : List ℕ) (e : Error) → IsOpen bytes → (both bytes).0 ≡ Err e → (l >>> next).Fault bytes e
-  both_fault bytes e clear is = elim (bind_fault (read bytes) after e is) [
+  both_fault bytes e clear is = elim (bind_fault _ _ e is) [
     | inl p ↦ inl (first.fault bytes e clear p)
     | inr a ↦ let p = first.found bytes a.0 a.1 clear a.2 in inr (a.0, p.0, a.1, p.1, p.2, (second a.0).fault a.1 e a.3)
   ]
@@ -93,7 +91,7 @@ data Next (bytes : List ℕ) : Type 0 where
 next_of : (bytes : List ℕ) → Next bytes
 next_of [] = other_byte tt refl
 next_of (b ∷ bytes) = elim (eqb_tells b 0) [
-  | inl p ↦ zero_byte bytes (ap (λ (n : ℕ). n ∷ bytes) p.1)
+  | inl p ↦ zero_byte bytes (ap (λ n. n ∷ bytes) p.1)
   | inr p ↦ other_byte p.1 p.0
 ]
 
@@ -105,8 +103,7 @@ opens_is : (front rest : List ℕ) → Opens front → is_closed (front ++ rest)
 opens_is front rest o = grind (arith)
 
 opens_longer : (front rest : List ℕ) → Opens front → length rest < length (front ++ rest)
-opens_longer front rest o =
-    grind (arith, length-append)
+opens_longer front rest o = grind (arith, length-append)
 
 module _ {A : Type 0} (l : Production A) (read : List ℕ → Read A) (r : ReadsOpen l read) where
   -- another value, and the further ones
@@ -132,8 +129,7 @@ module _ {A : Type 0} (l : Production A) (read : List ℕ → Read A) (r : Reads
           ([], refl, subst (λ (ys : List A). Each l.Spells [] ys) p.0 refl),
         )
     | other_byte clear is ↦
-        let a =
-        bind_ok (read bytes)
+        let a = bind_ok (read bytes)
         (λ x rest. closed_below more read rest >>= λ xs left. (let r : Read (List A) = (Ok (x ∷ xs), left) in r)) xs
         rest
         (rw is at e) in
@@ -202,8 +198,7 @@ module _ {A : Type 0} (l : Production A) (read : List ℕ → Read A) (r : Reads
       → l.Fault rest e → (closed_below more read (front ++ rest)).0 ≡ Err e
   unfolding closed_below
   closed_refused xs front rest e zero lt s clear f = absurd (omega arith)
-  closed_refused [] front rest e (suc more) lt s clear f =
-      rw (s, open_is rest clear) (bind_refused (read rest)
+  closed_refused [] front rest e (suc more) lt s clear f = rw (s, open_is rest clear) (bind_refused (read rest)
       (λ x left. closed_below more read left >>= λ xs end. (let r : Read (List A) = (Ok (x ∷ xs), end) in r)) e
       (r.refused rest e clear f))
   closed_refused (x ∷ xs) front rest e (suc more) lt s clear f =
@@ -215,8 +210,7 @@ module _ {A : Type 0} (l : Production A) (read : List ℕ → Read A) (r : Reads
       let here = another more (s.0 ++ (s.1 ++ rest)) (opens_is s.0 (s.1 ++ rest) o) in
       let first = r.only s.0 x (s.1 ++ rest) s.3 in
       let others = closed_refused xs s.1 rest e more (omega arith) s.4 clear f in
-      ap (λ (bytes : List ℕ). (closed_below (suc more) read bytes).0) regrouped
-      ∙ ap (λ (y : Read (List A)). y.0) here
+      ap (λ (bytes : List ℕ). (closed_below (suc more) read bytes).0) regrouped ∙ ap (λ (y : Read (List A)). y.0) here
       ∙ rw first (bind_refused (closed_below more read (s.1 ++ rest))
       (λ ys left. (let r : Read (List A) = (Ok (x ∷ ys), left) in r)) e others)
 

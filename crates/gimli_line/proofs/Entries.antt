@@ -46,8 +46,7 @@ module _ (layout : OrderAndLimit) (format : Format) {A : Type 0} (step : A → �
       → folded_at layout format step first formats bytes
       ≡ read_map (fold_of step first) (entry_at layout format formats bytes)
   folded_is first [] bytes = refl
-  folded_is first (f ∷ formats) bytes =
-      at_value (form_at layout format f.form.0 bytes) (λ value rest.
+  folded_is first (f ∷ formats) bytes = at_value _ (λ value rest.
       folded_is (step first f.content_type.0 value) formats rest)
     where
       after : (value : Value) (r : Read TableEntry)
@@ -63,11 +62,11 @@ module _ (layout : OrderAndLimit) (format : Format) {A : Type 0} (step : A → �
           → (r >>= λ value rest. folded_at layout format step (step first f.content_type.0 value) formats rest)
           ≡ read_map (fold_of step first) (r >>= λ value rest. entry_at layout format formats rest >>= λ values left.
           (Ok ((f.content_type.0, value) ∷ values), left))
-      at_value (Ok value, rest) others = others value rest ∙ after value (entry_at layout format formats rest)
+      at_value (Ok value, rest) others = others value rest ∙ after _ (entry_at layout format formats rest)
       at_value (Err e, rest) others = refl
 
 viewed_by : {A B : Type 0} (f g : A → B) → ((x : A) → f x ≡ g x) → (r : Read A) → read_map f r ≡ read_map g r
-viewed_by {A} {B} f g same (Ok x, rest) = ap (λ (y : B). let r : Read B = (Ok y, rest) in r) (same x)
+viewed_by {A} {B} f g same (Ok x, rest) = ap (λ y. let r : Read B = (Ok y, rest) in r) (same x)
 viewed_by f g same (Err e, rest) = refl
 
 module _ (layout : OrderAndLimit) (format : Format) where
@@ -75,7 +74,6 @@ module _ (layout : OrderAndLimit) (format : Format) where
   pub file_is : (formats : List FileEntryFormat) (bytes : List ℕ)
       → folded_at layout format file_with (plain_file [] 0 0 0) formats bytes
       ≡ read_map file_of_entry (entry_at layout format formats bytes)
-  file_is formats bytes =
-      folded_is layout format file_with (plain_file [] 0 0 0) formats bytes
-      ∙ viewed_by (fold_of file_with (plain_file [] 0 0 0)) file_of_entry (file_folded (plain_file [] 0 0 0))
-      (entry_at layout format formats bytes)
+  file_is formats bytes = folded_is _ _ _ _ _ _
+      ∙ viewed_by _ _ (file_folded _)
+      _

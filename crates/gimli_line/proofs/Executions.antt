@@ -6,9 +6,10 @@ use Common.{OrderAndLimit, byte_at, unsigned_at, signed_at, Executed, No, Quiet,
 use Common.{AdvanceLine, SetFile, SetColumn, NegateStatement, EndSequence, SetAddress, Header, Parameters, Ins}
 use Common.{makes_row, step_of, is_refused, Unread}
 use Rattle.std.proofs.Math.Dec.{eqb-suc-zero}
-use Rattle.gimli_line.specs.run.InstructionReading.{standard_at, ins_at}
-use Rattle.gimli_line.specs.run.Registers.{advanced_line}
-use Rattle.gimli_line.specs.run.Execution.{told_of, is_executed, IsExecuted, IsExecutedAs, ExecutesNext}
+use Rattle.gimli_line.specs
+use specs.run.InstructionReading.{standard_at, ins_at}
+use specs.run.Registers.{advanced_line}
+use specs.run.Execution.{told_of, is_executed, IsExecuted, IsExecutedAs, ExecutesNext}
 
 -- ---- the standard opcodes that are executed so, from the bytes after them
 
@@ -22,8 +23,7 @@ module _ (layout : OrderAndLimit) (h : Header) (bytes : List ℕ) (r : LineRow) 
       → IsExecutedAs h.parameters (standard_at layout h opcode bytes) bytes r (record r { is_stmt = not r.is_stmt })
       Quiet
   unfolding standard_at
-  negates is =
-      rw is
+  negates is = rw is
       (record { instruction = NegateStatement; reading = refl; defines = refl; refusal = refl; registers = refl }, refl)
 
 module _ (layout : OrderAndLimit) (h : Header) (bytes rest : List ℕ) (r : LineRow) (opcode : ℕ) where
@@ -31,17 +31,16 @@ module _ (layout : OrderAndLimit) (h : Header) (bytes rest : List ℕ) (r : Line
       → IsExecutedAs h.parameters (standard_at layout h opcode bytes) rest r
       (record r { line = advanced_line advance r.line }) Quiet
   unfolding standard_at
-  advances_line is advance read =
-      rw is (
-        record {
-          instruction = AdvanceLine advance;
-          reading = rw (← read) refl;
-          defines = refl;
-          refusal = refl;
-          registers = refl;
-        },
-        refl,
-      )
+  advances_line is advance read = rw is (
+    record {
+      instruction = AdvanceLine advance;
+      reading = rw (← read) refl;
+      defines = refl;
+      refusal = refl;
+      registers = refl;
+    },
+    refl,
+  )
 
   pub sets_file : opcode ≡ 4 → (file : ℕ) → (Ok file, rest) ≡ unsigned_at bytes
       → IsExecutedAs h.parameters (standard_at layout h opcode bytes) rest r (record r { file = file }) Quiet
@@ -60,17 +59,16 @@ module _ (layout : OrderAndLimit) (h : Header) (bytes rest : List ℕ) (r : Line
   pub sets_column : opcode ≡ 5 → (column : ℕ) → (Ok column, rest) ≡ unsigned_at bytes
       → IsExecutedAs h.parameters (standard_at layout h opcode bytes) rest r (record r { column = column }) Quiet
   unfolding standard_at
-  sets_column is column read =
-      rw is (
-        record {
-          instruction = SetColumn column;
-          reading = rw (← read) refl;
-          defines = refl;
-          refusal = refl;
-          registers = refl;
-        },
-        refl,
-      )
+  sets_column is column read = rw is (
+    record {
+      instruction = SetColumn column;
+      reading = rw (← read) refl;
+      defines = refl;
+      refusal = refl;
+      registers = refl;
+    },
+    refl,
+  )
 
 -- ---- a program whose first byte was taken
 
@@ -112,7 +110,7 @@ module _ (layout : OrderAndLimit) (h : Header) (bytes rest : List ℕ) where
       → IsExecutedAs h.parameters (ins_at layout h bytes) after old new told
   standard_executed opcode base is some lt read after old new told x =
       let below : nat_le h.parameters.opcode_base opcode
-      ≡ false = lt-leb h.parameters.opcode_base opcode (omega (arith)) in
+      ≡ false = lt-leb _ _ (omega (arith)) in
       rw (standard_first opcode some below read) x
 
 -- ---- what is told

@@ -16,14 +16,14 @@ module _ (old new : RunState) (r : LineRow) (files : List File) (next : RowIs li
       → events_left old ≡ (if not b then record { event = row r; files = files } ∷ events_left new else events_left new)
   first_given b is =
       let x : EventWithFiles = record { event = row r; files = files } in
-      ap given_of next.0 ∙ ap (λ (b : Bool). if not b then x ∷ events_left new else events_left new) is
+      ap given_of next.0 ∙ ap (λ b. if not b then x ∷ events_left new else events_left new) is
 
   -- nothing is given where it is under a tombstone
   pub hidden : r.tombstone ≡ true → events_left old ≡ events_left new
-  hidden under = first_given true under
+  hidden under = first_given _ under
 
   pub seen : r.tombstone ≡ false → RowIs live_events old new r files
-  seen is = (first_given false is, next.1, next.2)
+  seen is = (first_given _ is, next.1, next.2)
 
   pub any_rest_alone : new.appends ≡ old.appends → GivesRowsAlone old → GivesRowsAlone new
   any_rest_alone appends alone = by_flag r.tombstone refl

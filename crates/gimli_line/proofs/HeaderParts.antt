@@ -38,8 +38,7 @@ module _ {R Offset Directory File : Type 0} where
   }
 
   abbrev pub SameParts : (x y : HeaderParts R Offset Directory File) → Type 0
-  SameParts x y =
-      (x.parameters ≡ y.parameters)
+  SameParts x y = (x.parameters ≡ y.parameters)
       × ((x.offset ≡ y.offset)
       × ((x.unit_length ≡ y.unit_length)
       × ((x.header_length ≡ y.header_length)

@@ -8,14 +8,27 @@ use Common.{Reads, Error, reads_both, reads_done, reads_if, reads_times, reads_w
 use Common.{reads_byte, reads_some_bytes, reads_number, reads_text, reads_below_limit, reads_unsigned, reads_signed}
 use Common.{Special, UnknownStandard0, UnknownStandard1, UnknownStandardN, UnknownExtended, Ins, Header, bytes_of}
 use Common.{operand_of, file_production, bytes_at, operand_at, decoded_after, decoded_at}
-use Rattle.gimli_line.specs.run.InstructionGrammar.{Operand, none, uleb, sleb, uhalf, address, file, standard_opcodes}
-use Rattle.gimli_line.specs.run.InstructionGrammar.{extended_opcodes, operand_production}
-use Rattle.gimli_line.specs.run.InstructionGrammar.{unknown_production, standard_production, extended_operands}
-use Rattle.gimli_line.specs.run.InstructionGrammar.{extended_production, instruction_production}
-use Rattle.gimli_line.specs.run.InstructionGrammar.{SpellsInstruction, Decodes}
-use Rattle.gimli_line.specs.run.InstructionReading.{unknown_at, standard_at, extended_operands_at}
-use Rattle.gimli_line.specs.run.InstructionReading.{extended_at, ins_at}
-use Rattle.gimli_line.specs.run.InstructionReading.{decoded_upto}
+use Rattle.gimli_line.specs
+use specs.run.InstructionGrammar.{
+  Operand,
+  none,
+  uleb,
+  sleb,
+  uhalf,
+  address,
+  file,
+  standard_opcodes,
+  extended_opcodes,
+  operand_production,
+  unknown_production,
+  standard_production,
+  extended_operands,
+  extended_production,
+  instruction_production,
+  SpellsInstruction,
+  Decodes,
+}
+use specs.run.InstructionReading.{unknown_at, standard_at, extended_operands_at, extended_at, ins_at, decoded_upto}
 use Rattle.gimli_line.proofs.HeaderLaws.{reads_file, given_ok, given_err, answer_of}
 
 -- ---- the bytes of a production
@@ -23,7 +36,7 @@ use Rattle.gimli_line.proofs.HeaderLaws.{reads_file, given_ok, given_err, answer
 -- what stands in front of the rest
 pub front_at : (bytes front rest : List ℕ) → bytes ≡ front ++ rest → take (length bytes - length rest) bytes ≡ front
 front_at bytes front rest parts =
-    rw parts (take_at front rest (length (front ++ rest) - length rest) (omega (arith, length-append front rest)))
+    rw parts (take_at _ _ _ (omega (arith, length-append front rest)))
 
 module _ {A : Type 0} (l : Production A) (read : List ℕ → Read A) (r : Reads l read) where
   abbrev as_bytes : List ℕ → A → List ℕ → Read (List ℕ)
@@ -32,11 +45,11 @@ module _ {A : Type 0} (l : Production A) (read : List ℕ → Read A) (r : Reads
   bytes_found : (bytes xs rest : List ℕ) → bytes_at read bytes ≡ (Ok xs, rest)
       → (front : List ℕ) × (bytes ≡ front ++ rest) × (bytes_of l).Spells front xs
   bytes_found bytes xs rest e =
-      let a = bind_ok (read bytes) (as_bytes bytes) xs rest e in
-      let p = ok_parts (take (length bytes - length a.1) bytes) xs a.1 rest a.3 in
+      let a = bind_ok _ _ _ _ e in
+      let p = ok_parts _ _ _ _ a.3 in
       let f = r.found bytes a.0 a.1 a.2 in
-      let whole : bytes ≡ f.0 ++ rest = f.1 ∙ ap (λ (ys : List ℕ). f.0 ++ ys) p.1 in
-      (f.0, whole, (sym p.0 ∙ front_at bytes f.0 a.1 f.1, (a.0, f.2)))
+      let whole : bytes ≡ f.0 ++ rest = f.1 ∙ ap (λ ys. f.0 ++ ys) p.1 in
+      (f.0, whole, (sym p.0 ∙ front_at _ _ _ f.1, (a.0, f.2)))
 
   bytes_fault : (bytes : List ℕ) (e : Error) → (bytes_at read bytes).0 ≡ Err e → l.Fault bytes e
   bytes_fault bytes e is = grind (arith)
@@ -46,7 +59,7 @@ module _ {A : Type 0} (l : Production A) (read : List ℕ → Read A) (r : Reads
     found = bytes_found;
     only = λ front xs rest s. rw (r.only front s.1.0 rest s.1.1, front_at (front ++ rest) front rest refl, s.0) refl;
     fault = bytes_fault;
-    refused = λ bytes e f. bind_refused (read bytes) (as_bytes bytes) e (r.refused bytes e f);
+    refused = λ bytes e f. bind_refused _ _ e (r.refused bytes e f);
   }
 
 -- ---- instructions
@@ -54,17 +67,15 @@ module _ {A : Type 0} (l : Production A) (read : List ℕ → Read A) (r : Reads
 module _ (layout : OrderAndLimit) (h : Header) where
   reads_operand : (operand : Operand) → Reads (operand_production layout h operand) (operand_at layout h operand)
   reads_operand (none i) = reads_done i
-  reads_operand (uleb make) = reads_both unsigned _ _ _ reads_unsigned (λ n. reads_done (make n))
-  reads_operand (sleb make) = reads_both signed _ _ _ reads_signed (λ z. reads_done (make z))
+  reads_operand (uleb make) = reads_both _ _ _ _ reads_unsigned (λ n. reads_done _)
+  reads_operand (sleb make) = reads_both _ _ _ _ reads_signed (λ z. reads_done _)
   reads_operand (uhalf make) =
-      reads_both (number layout.is_big 2) _ _ _ (reads_number layout.is_big 2) (λ n. reads_done (make n))
-  reads_operand (address make) =
-      reads_both (number layout.is_big h.parameters.encoding.address_size) _ _ _
-      (reads_number layout.is_big h.parameters.encoding.address_size) (λ a.
-      reads_done (make a))
-  reads_operand (file make) =
-      reads_both text _ _ _ reads_text (λ path.
-      reads_both (file_production path) _ _ _ (reads_file path) (λ f. reads_done (make f)))
+      reads_both _ _ _ _ (reads_number _ 2) (λ n. reads_done _)
+  reads_operand (address make) = reads_both _ _ _ _
+      (reads_number _ _) (λ a.
+      reads_done _)
+  reads_operand (file make) = reads_both _ _ _ _ reads_text (λ path.
+      reads_both _ _ _ _ (reads_file _) (λ f. reads_done _))
 
   reads_unknown : (opcode count : ℕ)
       → Reads (unknown_production layout h opcode count) (unknown_at layout h opcode count)
@@ -72,8 +83,7 @@ module _ (layout : OrderAndLimit) (h : Header) where
   reads_unknown opcode zero = reads_done (UnknownStandard0 (record { 0 = opcode }))
   reads_unknown opcode (suc zero) =
       reads_both unsigned _ _ _ reads_unsigned (λ n. reads_done (UnknownStandard1 (record { 0 = opcode }) n))
-  reads_unknown opcode (suc (suc more)) =
-      reads_both (bytes_of (times (suc (suc more)) unsigned)) _ _ _
+  reads_unknown opcode (suc (suc more)) = reads_both (bytes_of (times (suc (suc more)) unsigned)) _ _ _
       (reads_bytes_of (times (suc (suc more)) unsigned) _ (reads_times (suc (suc more)) unsigned _ reads_unsigned))
       (λ operands. reads_done (UnknownStandardN (record { 0 = opcode }) operands))
 
@@ -81,11 +91,10 @@ module _ (layout : OrderAndLimit) (h : Header) where
   unfolding standard_at
   reads_standard opcode = at_operand (operand_of opcode standard_opcodes)
     where
-      at_operand : (found : Option Operand) → Reads {A = Ins}
-          (elim found [
-            | Some operand ↦ operand_production layout h operand
-            | None ↦ unknown_production layout h opcode (slice_index h.operand_counts (opcode - 1))
-          ])
+      at_operand : (found : Option Operand) → Reads {A = Ins} (elim found [
+        | Some operand ↦ operand_production layout h operand
+        | None ↦ unknown_production layout h opcode (slice_index h.operand_counts (opcode - 1))
+      ])
           (λ bytes. elim found [
             | Some operand ↦
                 operand_at layout h operand bytes
@@ -98,36 +107,32 @@ module _ (layout : OrderAndLimit) (h : Header) where
       → Reads (extended_operands layout h opcode operands) (extended_operands_at layout h opcode operands)
   unfolding extended_operands_at
   reads_extended_operands opcode operands =
-      at_operand (operand_of opcode (extended_opcodes h.parameters.encoding.version))
+      at_operand _
     where
-      at_operand : (found : Option Operand) → Reads {A = Ins}
-          (elim found [
-            | Some operand ↦ within operands (operand_production layout h operand) >>> (λ read. done read.0)
-            | None ↦ done (UnknownExtended (record { 0 = opcode }) operands)
-          ])
+      at_operand : (found : Option Operand) → Reads {A = Ins} (elim found [
+        | Some operand ↦ within operands (operand_production layout h operand) >>> (λ read. done read.0)
+        | None ↦ done (UnknownExtended (record { 0 = opcode }) operands)
+      ])
           (λ bytes. elim found [
             | Some operand ↦
                 within_at operands (operand_at layout h operand) bytes >>= (λ read rest. (Ok read.0, rest))
             | None ↦ (Ok (UnknownExtended (record { 0 = opcode }) operands), bytes)
           ])
-      at_operand (Some operand) =
-          reads_both (within operands (operand_production layout h operand)) _ _ _
-          (reads_within operands (operand_production layout h operand) _ (reads_operand operand)) (λ read.
-          reads_done read.0)
-      at_operand None = reads_done (UnknownExtended (record { 0 = opcode }) operands)
+      at_operand (Some operand) = reads_both _ _ _ _
+          (reads_within _ _ _ (reads_operand _)) (λ read.
+          reads_done _)
+      at_operand None = reads_done _
 
   reads_extended : Reads (extended_production layout h) (extended_at layout h)
   unfolding extended_at
-  reads_extended =
-      reads_both (below_limit layout unsigned) _ _ _ (reads_below_limit layout unsigned _ reads_unsigned)
+  reads_extended = reads_both (below_limit layout unsigned) _ _ _ (reads_below_limit layout unsigned _ reads_unsigned)
       (λ size. reads_both (some_bytes size) _ _ _ (reads_some_bytes size)
       (λ inside. reads_both (within inside byte) _ _ _ (reads_within inside byte _ reads_byte)
       (λ opened. reads_extended_operands opened.0 opened.1)))
 
   pub reads_instruction : Reads (instruction_production layout h) (ins_at layout h)
   unfolding ins_at
-  reads_instruction =
-      reads_both byte _ _ _ reads_byte
+  reads_instruction = reads_both byte _ _ _ reads_byte
       (λ opcode. reads_if (nat_eq opcode 0) (extended_production layout h) _ _ _ reads_extended
       (reads_if (nat_le h.parameters.opcode_base opcode) (done (Special opcode)) _ _ _ (reads_done (Special opcode))
       (reads_standard opcode)))
@@ -136,8 +141,7 @@ module _ (layout : OrderAndLimit) (h : Header) where
 
   -- an instruction has bytes
   pub takes_bytes : (front : List ℕ) (i : Ins) → SpellsInstruction layout h front i → 0 < length front
-  takes_bytes front i s =
-      grind (arith)
+  takes_bytes front i s = grind (arith)
 
   decoding_is : (more : ℕ) (bytes : List ℕ) → length bytes ≤ more
       → Decodes layout h bytes (decoded_upto layout h more bytes).0 (decoded_upto layout h more bytes).1
@@ -220,9 +224,8 @@ module _ (layout : OrderAndLimit) (h : Header) where
       at_more (suc more) (b ∷ bytes) le rest first fewer others = rw (first, ← others more (omega arith)) refl
 
   -- a program is decoded so
-  pub is_decoded : (bytes : List ℕ)
-      → Decodes layout h bytes (decoded_at layout h bytes).0 (decoded_at layout h bytes).1
-  is_decoded bytes = decoding_is (length bytes) bytes (omega arith)
+  pub is_decoded : (bytes : List ℕ) → Decodes layout h bytes (decoded_at layout h bytes).0 (decoded_at layout h bytes).1
+  is_decoded bytes = decoding_is _ _ (omega arith)
 
   -- and no other way
   pub one_decoding : (bytes : List ℕ) (list : List Ins) (end : Option Error) → Decodes layout h bytes list end
@@ -235,7 +238,7 @@ module _ (layout : OrderAndLimit) (h : Header) where
   unfolding decoded_upto
   decoded_bounded zero bytes = omega arith
   decoded_bounded (suc more) [] = omega arith
-  decoded_bounded (suc more) (b ∷ bytes) = after (λ rest. decoded_bounded more rest) (ins_at layout h (b ∷ bytes))
+  decoded_bounded (suc more) (b ∷ bytes) = after (λ rest. decoded_bounded _ _) _
     where
       after : ((rest : List ℕ) → length (decoded_upto layout h more rest).0 ≤ more) → (r : Read Ins)
           → length (decoded_after layout h (decoded_upto layout h more) r).0 ≤ suc more
@@ -246,6 +249,6 @@ module _ (layout : OrderAndLimit) (h : Header) where
       → length list ≤ length bytes
   instructions_bounded bytes list end c =
       let same : length list
-      ≡ length (decoded_at layout h bytes).0 = ap (λ (p : List Ins × Option Error). length p.0)
-      (one_decoding bytes list end c) in
+      ≡ length (decoded_at layout h bytes).0 = ap (λ p. length p.0)
+      (one_decoding _ _ _ c) in
       omega (arith, decoded_bounded (length bytes) bytes)

@@ -7,11 +7,25 @@ use Common.{number, some_bytes, text, unsigned, signed, below_limit, IsWanting, 
 use Common.{UnknownStandard0, UnknownStandard1, UnknownStandardN, UnknownExtended, Header, file_production, operand_of}
 use Common.{bytes_of, Ins}
 use Rattle.gimli_core.specs.Production.{◌>>=◌}
-use Rattle.gimli_line.specs.run.InstructionGrammar.{Operand, none, uleb, sleb, uhalf, address, file, standard_opcodes}
-use Rattle.gimli_line.specs.run.InstructionGrammar.{extended_opcodes, operand_production}
-use Rattle.gimli_line.specs.run.InstructionGrammar.{unknown_production, standard_production, extended_operands}
-use Rattle.gimli_line.specs.run.InstructionGrammar.{extended_production, instruction_production}
-use Rattle.gimli_line.specs.run.InstructionGrammar.{IsInstructionRefusal}
+use Rattle.gimli_line.specs
+use specs.run.InstructionGrammar.{
+  Operand,
+  none,
+  uleb,
+  sleb,
+  uhalf,
+  address,
+  file,
+  standard_opcodes,
+  extended_opcodes,
+  operand_production,
+  unknown_production,
+  standard_production,
+  extended_operands,
+  extended_production,
+  instruction_production,
+  IsInstructionRefusal,
+}
 
 -- a production that is refused as an instruction may be
 record IsKnown {A : Type 0} (layout : OrderAndLimit) (l : Production A) : Type 0 where
@@ -59,22 +73,20 @@ module _ (layout : OrderAndLimit) where
   choose_known false l m first other = other
 
   times_known : {A : Type 0} (n : ℕ) (l : Production A) → IsKnown layout l → IsKnown layout (times n l)
-  times_known zero l known = done_known []
+  times_known zero l known = done_known _
   times_known (suc n) l known =
-      then_known l _ known (λ x. then_known (times n l) _ (times_known n l known) (λ xs. done_known (x ∷ xs)))
+      then_known l _ known (λ x. then_known _ _ (times_known n l known) (λ xs. done_known _))
 
   bytes_of_known : {A : Type 0} (l : Production A) → IsKnown layout l → IsKnown layout (bytes_of l)
   bytes_of_known l known = grind arith
 
-  within_known : {A : Type 0} (inside : List ℕ) (l : Production A) → IsKnown layout l
-      → IsKnown layout (within inside l)
+  within_known : {A : Type 0} (inside : List ℕ) (l : Production A) → IsKnown layout l → IsKnown layout (within inside l)
   within_known inside l known = grind arith
 
   -- a number that the reader's offsets don't hold is below 2 ^ 64
   limit_known : IsKnown layout (below_limit layout unsigned)
   limit_known = record {
-    known = λ bytes e f.
-        elim f [ inl p ↦ unsigned_known.known bytes e p | inr p ↦ at_check p.0 p.1 p.4 p.2 e p.5 ];
+    known = λ bytes e f. elim f [ inl p ↦ unsigned_known.known bytes e p | inr p ↦ at_check p.0 p.1 p.4 p.2 e p.5 ];
   }
     where
       at_check : (n : ℕ) (front : List ℕ) → SpellsUleb128 64 front n → (rest : List ℕ) (e : Error)
@@ -86,23 +98,22 @@ module _ (layout : OrderAndLimit) where
   -- ---- instructions
 
   file_known : (path : List ℕ) → IsKnown layout (file_production path)
-  file_known path =
-      grind (arith)
+  file_known path = grind (arith)
 
   module _ (h : Header) where
     operand_known : (operand : Operand) → IsKnown layout (operand_production layout h operand)
     operand_known (none i) = done_known i
-    operand_known (uleb make) = then_known unsigned _ unsigned_known (λ n. done_known (make n))
-    operand_known (sleb make) = then_known signed _ signed_known (λ z. done_known (make z))
+    operand_known (uleb make) = then_known _ _ unsigned_known (λ n. done_known _)
+    operand_known (sleb make) = then_known _ _ signed_known (λ z. done_known _)
     operand_known (uhalf make) =
-        then_known (number layout.is_big 2) _ (number_known layout.is_big 2) (λ n. done_known (make n))
+        then_known _ _ (number_known _ 2) (λ n. done_known _)
     operand_known (address make) =
-        then_known (number layout.is_big h.parameters.encoding.address_size) _
-        (number_known layout.is_big h.parameters.encoding.address_size) (λ a.
-        done_known (make a))
+        then_known _ _
+        (number_known _ _) (λ a.
+        done_known _)
     operand_known (file make) =
-        then_known text _ text_known (λ path.
-        then_known (file_production path) _ (file_known path) (λ f. done_known (make f)))
+        then_known _ _ text_known (λ path.
+        then_known _ _ (file_known _) (λ f. done_known _))
 
     unknown_known : (opcode count : ℕ) → IsKnown layout (unknown_production layout h opcode count)
     unknown_known opcode zero = done_known (UnknownStandard0 (record { 0 = opcode }))
@@ -117,27 +128,25 @@ module _ (layout : OrderAndLimit) where
     standard_known : (opcode : ℕ) → IsKnown layout (standard_production layout h opcode)
     standard_known opcode = at_operand (operand_of opcode standard_opcodes)
       where
-        at_operand : (found : Option Operand) → IsKnown {A = Ins} layout
-            (elim found [
-              | Some operand ↦ operand_production layout h operand
-              | None ↦ unknown_production layout h opcode (slice_index h.operand_counts (opcode - 1))
-            ])
+        at_operand : (found : Option Operand) → IsKnown {A = Ins} layout (elim found [
+          | Some operand ↦ operand_production layout h operand
+          | None ↦ unknown_production layout h opcode (slice_index h.operand_counts (opcode - 1))
+        ])
         at_operand (Some operand) = operand_known operand
         at_operand None = unknown_known opcode (slice_index h.operand_counts (opcode - 1))
 
     operands_known : (opcode : ℕ) (operands : List ℕ) → IsKnown layout (extended_operands layout h opcode operands)
-    operands_known opcode operands = at_operand (operand_of opcode (extended_opcodes h.parameters.encoding.version))
+    operands_known opcode operands = at_operand _
       where
-        at_operand : (found : Option Operand) → IsKnown {A = Ins} layout
-            (elim found [
-              | Some operand ↦ within operands (operand_production layout h operand) >>= (λ read. done read.0)
-              | None ↦ done (UnknownExtended (record { 0 = opcode }) operands)
-            ])
+        at_operand : (found : Option Operand) → IsKnown {A = Ins} layout (elim found [
+          | Some operand ↦ within operands (operand_production layout h operand) >>= (λ read. done read.0)
+          | None ↦ done (UnknownExtended (record { 0 = opcode }) operands)
+        ])
         at_operand (Some operand) =
-            then_known (within operands (operand_production layout h operand)) _
-            (within_known operands (operand_production layout h operand) (operand_known operand)) (λ read.
-            done_known read.0)
-        at_operand None = done_known (UnknownExtended (record { 0 = opcode }) operands)
+            then_known _ _
+            (within_known _ _ (operand_known _)) (λ read.
+            done_known _)
+        at_operand None = done_known _
 
     extended_known : IsKnown layout (extended_production layout h)
     extended_known =

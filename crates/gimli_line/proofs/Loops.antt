@@ -22,15 +22,13 @@ viewed_same (Err e, rest) = refl
 module _ {A B : Type 0} (f : A → B) where
   regroup : (xs : List B) (x : A) (v : B) → f x ≡ v → (r : Read (List A))
       → collected xs f (r >>= λ ys rest. (Ok (x ∷ ys), rest)) ≡ collected (xs ++ v ∷ []) f r
-  regroup xs x v is (Ok ys, rest) =
-      grind (arith, append_assoc)
+  regroup xs x v is (Ok ys, rest) = grind (arith, append_assoc)
   regroup xs x v is (Err e, rest) = refl
 
   -- what was read, where it is seen
   seen_item : (r : Read A) (v : B) (left : List ℕ) → (Ok v, left) ≡ read_map f r
       → (x : A) × (r ≡ (Ok x, left)) × (f x ≡ v)
-  seen_item r v left e =
-      grind (arith)
+  seen_item r v left e = grind (arith)
 
   seen_fault : (r : Read A) (e : Error) (left : List ℕ) → (Err e, left) ≡ read_map f r → r.0 ≡ Err e
   seen_fault (Ok x, rest) e left is = grind arith
@@ -48,11 +46,11 @@ module _ {A B : Type 0} (f : A → B) where
         → collected xs f (times_at (count - i) read bytes) ≡ total
         → collected (xs ++ v ∷ []) f (times_at (count - (i + 1)) read left) ≡ total
     times_goes_on xs count i bytes v left total lt e so_far =
-        let a = seen_item (read bytes) v left e in
+        let a = seen_item _ v _ e in
         let k : count - i ≡ suc (count - (i + 1)) = omega arith in
         let one : collected xs f (times_at (count - i) read bytes)
         ≡ collected (xs ++ v ∷ []) f (times_at (count - (i + 1)) read left) =
-        rw (k, a.1) (regroup xs a.0 v a.2 (times_at (count - (i + 1)) read left)) in
+        rw (k, a.1) (regroup _ _ v a.2 _) in
         sym one ∙ so_far
 
     pub times_ends : (xs : List B) (count i : ℕ) (bytes : List ℕ) (e : Error) (left : List ℕ) (total : Read (List B))
@@ -61,24 +59,23 @@ module _ {A B : Type 0} (f : A → B) where
         → collected xs f (times_at (count - i) read bytes) ≡ total → total.0 ≡ Err e
     times_ends xs count i bytes e left total lt is so_far =
         let k : count - i ≡ suc (count - (i + 1)) = omega arith in
-        let refused = seen_fault (read bytes) e left is in
-        let inner =
-        bind_refused (read bytes)
+        let refused = seen_fault _ e _ is in
+        let inner = bind_refused _
         (λ x rest. times_at (count - (i + 1)) read rest >>= λ ys end. (let s : Read (List A) = (Ok (x ∷ ys), end) in s))
         e
         refused in
         let one : (collected xs f (times_at (count - i) read bytes)).0
         ≡ Err e = rw k
-        (bind_refused (times_at (suc (count - (i + 1))) read bytes)
+        (bind_refused _
         (λ ys rest. (let s : Read (List B) = (Ok (xs ++ map f ys), rest) in s)) e inner) in
-        ap (λ (r : Read (List B)). r.0) (sym so_far) ∙ one
+        ap (λ r. r.0) (sym so_far) ∙ one
 
     pub times_done : (xs : List B) (count i : ℕ) (bytes : List ℕ) (total : Read (List B)) → count ≤ i
         → collected xs f (times_at (count - i) read bytes) ≡ total
         → total ≡ (Ok xs, bytes)
     times_done xs count i bytes total le so_far =
         let k : count - i ≡ 0 = omega arith in
-        let one : collected xs f (times_at (count - i) read bytes) ≡ (Ok xs, bytes) = rw k (none_left xs bytes) in
+        let one : collected xs f (times_at (count - i) read bytes) ≡ (Ok xs, bytes) = rw k (none_left _ _) in
         sym so_far ∙ one
 
   -- ---- items up to a zero byte
@@ -103,7 +100,7 @@ module _ {A B : Type 0} (f : A → B) where
     bound_free zero m bytes lt also = absurd (omega arith)
     bound_free (suc n) zero bytes lt also = absurd (omega arith)
     bound_free (suc n) (suc m) bytes lt also =
-        at_test (is_closed bytes) refl (read bytes) refl (λ rest fewer more. bound_free n m rest fewer more)
+        at_test _ refl _ refl (λ rest fewer more. bound_free n m _ fewer more)
       where
         at_test : (test : Bool) → is_closed bytes ≡ test → (one : Read A) → read bytes ≡ one
             → ((rest : List ℕ) → length rest < n → length rest < m
@@ -111,7 +108,7 @@ module _ {A B : Type 0} (f : A → B) where
             → closed_below (suc n) read bytes ≡ closed_below (suc m) read bytes
         at_test true is one same others = rw is refl
         at_test false is (Ok x, rest) same others =
-            let fewer = shrinks bytes x rest (is_open bytes is) same in
+            let fewer = shrinks _ x _ (is_open _ is) same in
             rw (is, same, others rest (omega arith) (omega arith)) refl
         at_test false is (Err e, rest) same others = rw (is, same) refl
 
@@ -120,11 +117,11 @@ module _ {A B : Type 0} (f : A → B) where
         → list_to_zero_at read bytes ≡ (list_to_zero_at read left >>= λ ys rest. (Ok (x ∷ ys), rest))
     unfolding closed_below
     step bytes x left is same =
-        let fewer = shrinks bytes x left (is_open bytes is) same in
+        let fewer = shrinks _ x _ (is_open _ is) same in
         let further : closed_below (length bytes) read left
         ≡ list_to_zero_at read left = bound_free (length bytes) (suc (length left)) left fewer (omega arith) in
         rw (is, same)
-        (ap (λ (s : Read (List A)). s >>= λ ys rest. (let t : Read (List A) = (Ok (x ∷ ys), rest) in t)) further)
+        (ap (λ s. s >>= λ ys rest. (let t : Read (List A) = (Ok (x ∷ ys), rest) in t)) further)
 
     pub closed_goes_on : (xs : List B) (bytes : List ℕ) (v : B) (left : List ℕ) (total : Read (List B))
         → is_closed bytes ≡ false
@@ -132,16 +129,16 @@ module _ {A B : Type 0} (f : A → B) where
         → collected xs f (list_to_zero_at read bytes) ≡ total
         → collected (xs ++ v ∷ []) f (list_to_zero_at read left) ≡ total
     closed_goes_on xs bytes v left total is e so_far =
-        let a = seen_item (read bytes) v left e in
+        let a = seen_item _ v _ e in
         let one : collected xs f (list_to_zero_at read bytes) ≡ collected (xs ++ v ∷ []) f (list_to_zero_at read left) =
-        ap (collected xs f) (step bytes a.0 left is a.1) ∙ regroup xs a.0 v a.2 (list_to_zero_at read left) in
+        ap (collected xs f) (step _ _ _ is a.1) ∙ regroup _ _ v a.2 _ in
         sym one ∙ so_far
 
     pub closed_smaller : (bytes : List ℕ) (v : B) (left : List ℕ) → is_closed bytes ≡ false
         → (Ok v, left) ≡ read_map f (read bytes)
         → length left < length bytes
     closed_smaller bytes v left is e =
-        let a = seen_item (read bytes) v left e in shrinks bytes a.0 left (is_open bytes is) a.1
+        let a = seen_item _ v _ e in shrinks _ _ _ (is_open _ is) a.1
 
     pub closed_ends : (xs : List B) (bytes : List ℕ) (e : Error) (left : List ℕ) (total : Read (List B))
         → is_closed bytes ≡ false
@@ -149,22 +146,21 @@ module _ {A B : Type 0} (f : A → B) where
         → collected xs f (list_to_zero_at read bytes) ≡ total → total.0 ≡ Err e
     unfolding closed_below
     closed_ends xs bytes e left total is same so_far =
-        let refused = seen_fault (read bytes) e left same in
+        let refused = seen_fault _ e _ same in
         let inner : (list_to_zero_at read bytes).0
-        ≡ Err e = rw is (bind_refused (read bytes)
+        ≡ Err e = rw is (bind_refused _
         (λ x rest. closed_below (length bytes) read rest >>= λ ys end.
         (let s : Read (List A) = (Ok (x ∷ ys), end) in s)) e refused) in
-        let one =
-        bind_refused (list_to_zero_at read bytes)
+        let one = bind_refused _
         (λ ys rest. (let s : Read (List B) = (Ok (xs ++ map f ys), rest) in s)) e inner in
-        ap (λ (r : Read (List B)). r.0) (sym so_far) ∙ one
+        ap (λ r. r.0) (sym so_far) ∙ one
 
     pub closed_done : (xs : List B) (bytes left : List ℕ) (total : Read (List B)) → bytes ≡ 0 ∷ left
         → collected xs f (list_to_zero_at read bytes) ≡ total
         → total ≡ (Ok xs, left)
     unfolding closed_below
     closed_done xs bytes left total is so_far =
-        let one : collected xs f (list_to_zero_at read bytes) ≡ (Ok xs, left) = rw is (none_left xs left) in
+        let one : collected xs f (list_to_zero_at read bytes) ≡ (Ok xs, left) = rw is (none_left _ _) in
         sym so_far ∙ one
 
 -- ---- what a text says of the zero byte
@@ -174,13 +170,12 @@ pub text_closed : (bytes text rest : List ℕ) → (IsTrue true ↔ (text ≡ []
 text_closed bytes text rest empty e =
     let none = empty.0 refl in
     let a = reads_text.found bytes text rest (sym e) in
-    let front : a.0 ≡ 0 ∷ [] = a.2.1 ∙ ap (λ (xs : List ℕ). xs ++ 0 ∷ []) none in
-    a.1 ∙ ap (λ (xs : List ℕ). xs ++ rest) front
+    let front : a.0 ≡ 0 ∷ [] = a.2.1 ∙ ap (λ xs. xs ++ 0 ∷ []) none in
+    a.1 ∙ ap (λ xs. xs ++ rest) front
 
 pub text_free : (bytes text rest : List ℕ) → (IsTrue false ↔ (text ≡ [])) → (Ok text, rest) ≡ text_at bytes
     → is_closed bytes ≡ false
-text_free bytes text rest empty e =
-    grind (arith)
+text_free bytes text rest empty e = grind (arith)
 
 pub text_refused : (bytes rest : List ℕ) (e : Error) → (Err e, rest) ≡ text_at bytes → is_closed bytes ≡ false
 text_refused bytes rest e is = grind (arith)
@@ -190,13 +185,11 @@ text_refused bytes rest e is = grind (arith)
 pub named_is : (bytes path mid : List ℕ) (answer : Read File) → (Ok path, mid) ≡ text_at bytes
     → answer ≡ plain_file_at path mid
     → answer ≡ read_map (λ x. x) (named_file_at bytes)
-named_is bytes path mid answer e is =
-    grind (arith)
+named_is bytes path mid answer e is = grind (arith)
 
 pub named_fault : (bytes mid : List ℕ) (e : Error) → (Err e, mid) ≡ text_at bytes
     → (Err e, mid) ≡ read_map (λ x. x) (named_file_at bytes)
-named_fault bytes mid e is =
-    grind (arith)
+named_fault bytes mid e is = grind (arith)
 
 -- ---- the entries of a table of version 5, whose count is read first
 
@@ -209,7 +202,7 @@ module _ (layout : OrderAndLimit) (format : Format) {B : Type 0} (f : TableEntry
   entries_start bytes count left is =
       let all : count - 0 ≡ count = omega arith in
       rw all
-      (ap (λ (r : Read ℕ). read_map (map f) (r >>= λ n rest. times_at n (entry_at layout format formats) rest)) is)
+      (ap (λ r. read_map (map f) (r >>= λ n rest. times_at n (entry_at layout format formats) rest)) is)
 
 -- the order of bytes, which a loop keeps
 pub entry_kept : (format : Format) {B : Type 0} (f : TableEntry → B) (formats : List FileEntryFormat) (now first : Bool)
@@ -218,5 +211,4 @@ pub entry_kept : (format : Format) {B : Type 0} (f : TableEntry → B) (formats 
     → now ≡ first
     → answer ≡ read_map f (entry_at (layout_of now limit) format formats bytes)
     → answer ≡ read_map f (entry_at (layout_of first limit) format formats bytes)
-entry_kept format f formats now first limit bytes answer same is =
-    grind arith
+entry_kept format f formats now first limit bytes answer same is = grind arith

@@ -17,14 +17,10 @@ pub rises : (parameters : Parameters) (tombstone : Bool) (i : Ins) (p : Operatio
     → p.address ≤ (next_pointer parameters tombstone i p).address
 rises parameters tombstone EndSequence p inner = absurd cc
 rises parameters tombstone (SetAddress a) p inner = set_rises parameters a p
-rises parameters tombstone (Special o) p inner =
-    grind (arith)
-rises parameters tombstone (AdvancePc n) p inner =
-    grind (arith)
-rises parameters tombstone ConstAddPc p inner =
-    grind (arith)
-rises parameters tombstone (FixedAddPc n) p inner =
-    grind (arith)
+rises parameters tombstone (Special o) p inner = grind (arith)
+rises parameters tombstone (AdvancePc n) p inner = grind (arith)
+rises parameters tombstone ConstAddPc p inner = grind (arith)
+rises parameters tombstone (FixedAddPc n) p inner = grind (arith)
 rises parameters tombstone i p inner = omega arith
 
 -- ---- rows
@@ -40,8 +36,7 @@ module _ (parameters : Parameters) where
       → NeverBelow (pointer_at parameters (i ∷ past)).address rest
       → (o m : Bool) → NeverBelow (pointer_at parameters past).address
       (filter is_given
-      (if o then fault AddressOverflow ∷ [] else (if m then row (row_at parameters past i) ∷ [] else []))
-      ++ rest)
+      (if o then fault AddressOverflow ∷ [] else (if m then row (row_at parameters past i) ∷ [] else [])) ++ rest)
   after_point past i rest inner n o m = at_test o m
     where
       later : NeverBelow (pointer_at parameters past).address rest
@@ -56,19 +51,16 @@ module _ (parameters : Parameters) where
       at_test : (o m : Bool)
           → NeverBelow (pointer_at parameters past).address
           (filter is_given
-          (if o then fault AddressOverflow ∷ [] else (if m then row (row_at parameters past i) ∷ [] else []))
-          ++ rest)
+          (if o then fault AddressOverflow ∷ [] else (if m then row (row_at parameters past i) ∷ [] else [])) ++ rest)
       at_test true m = later
-      at_test false true = given (not (is_under_tombstone parameters past))
+      at_test false true = given _
       at_test false false = later
 
   pub non_decreasing : (past list : List Ins) → AreOneSequence list
       → NeverBelow (pointer_at parameters past).address (events_after parameters past list None)
   non_decreasing past [] one = tt
-  non_decreasing past (i ∷ []) one =
-      grind (arith)
-  non_decreasing past (i ∷ j ∷ list) one =
-      rw (after_here parameters past i (j ∷ list) None)
+  non_decreasing past (i ∷ []) one = grind (arith)
+  non_decreasing past (i ∷ j ∷ list) one = rw (after_here parameters past i (j ∷ list) None)
       (after_point past i (events_after parameters (i ∷ past) (j ∷ list) None) one.0
       (non_decreasing (i ∷ past) (j ∷ list) one.1)
       (overflows parameters past i) (makes_row i))
@@ -76,4 +68,4 @@ module _ (parameters : Parameters) where
   pub never_down : (past list : List Ins) → AreOneSequence list → NeverBelow 0 (events_after parameters past list None)
   never_down past list one =
       weaker 0 (pointer_at parameters past).address (omega arith) (events_after parameters past list None)
-      (non_decreasing past list one)
+      (non_decreasing _ _ one)

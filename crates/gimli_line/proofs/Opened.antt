@@ -23,9 +23,8 @@ module _ (is_big : Bool) (limit : ℕ) (unit_entry : UnitEntry) where
       → (Ok opened, program) ≡ opening_at layout unit_entry.address_size unit.1 inside
       → (header_at layout unit_entry bytes).0 ≡ (fields_at layout unit_entry unit.0 opened program opened.fields).0
   unfolding header_at
-  header_answer bytes unit rest inside left opened program length whole opening =
-      rw (← length, ← whole, ← opening)
-      (last_answer (fields_at layout unit_entry unit.0 opened program opened.fields) left)
+  header_answer bytes unit rest inside left opened program length whole opening = rw (← length, ← whole, ← opening)
+      (last_answer _ _)
 
   -- the fields take no address size
   size_free : (size unit : ℕ) (opened : HeaderOpening) (program : List ℕ)
@@ -48,12 +47,11 @@ module _ (is_big : Bool) (limit : ℕ) (unit_entry : UnitEntry) where
   header_answers view result size now later bytes unit rest inside left opened program length whole same opening kept
       answers =
       let again : (Ok opened, program) ≡ opening_at layout unit_entry.address_size unit.1 inside = opening
-      ∙ ap (λ (b : Bool). opening_at (layout_of b limit) unit_entry.address_size unit.1 inside) same in
-      let is = header_answer bytes unit rest inside left opened program length whole again in
-      let others =
-      ap (λ (b : Bool).
+      ∙ ap (λ b. opening_at (layout_of b limit) unit_entry.address_size unit.1 inside) same in
+      let is = header_answer _ _ _ _ _ _ _ length whole again in
+      let others = ap (λ b.
       (fields_at (layout_of b limit) (record unit_entry { address_size = size }) unit.0 opened program
       opened.fields).0)
       kept in
-      let free = ap (λ (r : Read Header). r.0) (size_free size unit.0 opened program) in
-      subst (λ (r : Result Header Error). IsAnswer view result r) (others ∙ free ∙ sym is) answers
+      let free = ap (λ r. r.0) (size_free _ _ _ _) in
+      subst (λ r. IsAnswer view result r) (others ∙ free ∙ sym is) answers

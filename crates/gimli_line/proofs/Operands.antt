@@ -17,14 +17,13 @@ module _ {A : Type 0} (read : List ℕ → Read A) where
   passes_on count i bytes x left total lt is so_far =
       let k : count - i ≡ suc (count - (i + 1)) = omega arith in
       let one : without_value (times_at (count - i) read bytes) ≡ without_value (times_at (count - (i + 1)) read left) =
-      rw (k, ← is) (after_item x (times_at (count - (i + 1)) read left)) in
+      rw (k, ← is) (after_item x _) in
       sym one ∙ so_far
 
   pub pass_ends : (count i : ℕ) (bytes : List ℕ) (e : Error) (left : List ℕ) (total : Read (Unit {0})) → i < count
       → (Err e, left) ≡ read bytes
       → without_value (times_at (count - i) read bytes) ≡ total → (Err e, left) ≡ total
-  pass_ends count i bytes e left total lt is so_far =
-      grind arith
+  pass_ends count i bytes e left total lt is so_far = grind arith
 
 -- what was passed over stood in front of what is left
 pub passed_front : (count : ℕ) (bytes left : List ℕ) (u : Unit {0})
@@ -32,7 +31,7 @@ pub passed_front : (count : ℕ) (bytes left : List ℕ) (u : Unit {0})
     → (front : List ℕ) × (bytes ≡ front ++ left)
 passed_front count bytes left u is =
     let a =
-    bind_ok (times_at count unsigned_at bytes) (λ xs rest. (let s : Read (Unit {0}) = (Ok tt, rest) in s)) u left
+    bind_ok _ (λ xs rest. (let s : Read (Unit {0}) = (Ok tt, rest) in s)) u _
     (sym is) in
-    let f = (reads_times count unsigned unsigned_at reads_unsigned).found bytes a.0 a.1 a.2 in
-    (f.0, f.1 ∙ ap (λ (xs : List ℕ). f.0 ++ xs) (ok_parts tt u a.1 left a.3).1)
+    let f = (reads_times _ _ _ reads_unsigned).found bytes a.0 a.1 a.2 in
+    (f.0, f.1 ∙ ap (λ xs. f.0 ++ xs) (ok_parts tt u _ _ a.3).1)

@@ -23,7 +23,7 @@ module _ {R Offset Endian : Type 0} (is_big : R → Bool) where
   pub files_pushed : (first now : Bool) (xs longer : List (FileEntry R Offset Endian)) (x : FileEntry R Offset Endian)
       → longer ≡ xs ++ x ∷ [] → now ≡ first
       → All (FileHasOrder is_big first) xs → FileHasOrder is_big now x → All (FileHasOrder is_big first) longer
-  files_pushed = pushed (FileHasOrder is_big)
+  files_pushed = pushed _
 
   pub file_kept : (first now : Bool) (x : FileEntry R Offset Endian) → now ≡ first → FileHasOrder is_big now x
       → FileHasOrder is_big first x

@@ -5,10 +5,11 @@ use Common.{ℕ, arith, Bool, false, true, List, Some, refl, subst, ◌∙◌, O
 use Common.{byte_at, number_at, split_at, text_at, unsigned_at, within_at, Quiet, Address, Row, LineRow, AdvancePc}
 use Common.{ConstAddPc, DefineFile, EndSequence, SetAddress, SetDiscriminator, File, Header, plain_file_at, Parameters}
 use Common.{operand_of, Ins, defines_file, step_of, is_refused}
-use Rattle.gimli_line.specs.header.FormReading.{offset_at}
-use Rattle.gimli_line.specs.run.InstructionGrammar.{file, extended_opcodes}
-use Rattle.gimli_line.specs.run.InstructionReading.{standard_at, extended_at, extended_operands_at, ins_at}
-use Rattle.gimli_line.specs.run.Execution.{IsExecuted, IsExecutedAs}
+use Rattle.gimli_line.specs
+use specs.header.FormReading.{offset_at}
+use specs.run.InstructionGrammar.{file, extended_opcodes}
+use specs.run.InstructionReading.{standard_at, extended_at, extended_operands_at, ins_at}
+use specs.run.Execution.{IsExecuted, IsExecutedAs}
 use Rattle.gimli_line.proofs.Executions.{standard_first}
 
 -- ---- opcodes below the opcode base
@@ -22,13 +23,13 @@ module _ (layout : OrderAndLimit) (h : Header) (bytes rest : List ℕ) where
       → IsExecuted h.parameters (ins_at layout h bytes) after old new refused
   below_executed opcode base k same is some lt read i after found defines old new refused step refusal =
       let below : nat_le h.parameters.opcode_base opcode
-      ≡ false = lt-leb h.parameters.opcode_base opcode (omega (arith, lt, is)) in
+      ≡ false = lt-leb _ _ (omega (arith, lt, is)) in
       record {
         instruction = i;
-        reading = standard_first layout h bytes rest opcode some below read ∙ found;
+        reading = standard_first _ h _ _ _ some below read ∙ found;
         defines = defines;
-        refusal = subst (λ (p : Parameters). is_refused p i old ≡ refused) same refusal;
-        registers = subst (λ (p : Parameters). new ≡ step_of p i old) same step;
+        refusal = subst (λ p. is_refused p i old ≡ refused) same refusal;
+        registers = subst (λ p. new ≡ step_of p i old) same step;
       }
 
 module _ (layout : OrderAndLimit) (h : Header) (bytes : List ℕ) (opcode : ℕ) where
@@ -70,8 +71,7 @@ module _ (layout : OrderAndLimit) (h : Header) (inside operands rest : List ℕ)
       → (within_at inside byte_at rest >>= λ opened left. extended_operands_at layout h opened.0 opened.1 left)
       ≡ (Ok (DefineFile f), rest)
   unfolding extended_operands_at
-  defines is old path left text f after found =
-      rw (← read, is)
+  defines is old path left text f after found = rw (← read, is)
       (rw (extended_operands_at, file_opcode h.parameters.encoding.version old) (rw (← text) (rw (← found) refl)))
 
 module _ (layout : OrderAndLimit) (h : Header) (inside operands rest : List ℕ) (opcode : ℕ)
@@ -81,8 +81,7 @@ module _ (layout : OrderAndLimit) (h : Header) (inside operands rest : List ℕ)
       (within_at inside byte_at rest >>= λ opened left. extended_operands_at layout h opened.0 opened.1 left) rest r
       (record r { end_sequence = true }) Row
   unfolding extended_operands_at
-  ends is =
-      rw (← read, is)
+  ends is = rw (← read, is)
       (record { instruction = EndSequence; reading = refl; defines = refl; refusal = refl; registers = refl }, refl)
 
   pub sets_discriminator : opcode ≡ 4 → (n : ℕ) (left : List ℕ) → (Ok n, left) ≡ unsigned_at operands
@@ -90,17 +89,16 @@ module _ (layout : OrderAndLimit) (h : Header) (inside operands rest : List ℕ)
       (within_at inside byte_at rest >>= λ opened left. extended_operands_at layout h opened.0 opened.1 left) rest r
       (record r { discriminator = n }) Quiet
   unfolding extended_operands_at
-  sets_discriminator is n left operand =
-      rw (← read, is) (
-        record {
-          instruction = SetDiscriminator n;
-          reading = rw (← operand) refl;
-          defines = refl;
-          refusal = refl;
-          registers = refl;
-        },
-        refl,
-      )
+  sets_discriminator is n left operand = rw (← read, is) (
+    record {
+      instruction = SetDiscriminator n;
+      reading = rw (← operand) refl;
+      defines = refl;
+      refusal = refl;
+      registers = refl;
+    },
+    refl,
+  )
 
   pub sets_address : opcode ≡ 2 → (a : ℕ) (left : List ℕ)
       → (Ok a, left) ≡ number_at layout.is_big h.parameters.encoding.address_size operands
@@ -110,14 +108,13 @@ module _ (layout : OrderAndLimit) (h : Header) (inside operands rest : List ℕ)
       new
       (Address a)
   unfolding extended_operands_at
-  sets_address is a left operand k same new step =
-      rw (← read, is) (
-        record {
-          instruction = SetAddress a;
-          reading = rw (← operand) refl;
-          defines = refl;
-          refusal = refl;
-          registers = subst (λ (p : Parameters). new ≡ step_of p (SetAddress a) r) same step;
-        },
-        refl,
-      )
+  sets_address is a left operand k same new step = rw (← read, is) (
+    record {
+      instruction = SetAddress a;
+      reading = rw (← operand) refl;
+      defines = refl;
+      refusal = refl;
+      registers = subst (λ p. new ≡ step_of p (SetAddress a) r) same step;
+    },
+    refl,
+  )

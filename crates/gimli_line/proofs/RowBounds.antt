@@ -67,7 +67,7 @@ module _ (layout : OrderAndLimit) (h : Header) where
   unfolding decoded_upto
   upto_bounded zero bytes = omega arith
   upto_bounded (suc more) [] = omega arith
-  upto_bounded (suc more) (b ∷ bytes) = after (λ rest. upto_bounded more rest) (ins_at layout h (b ∷ bytes))
+  upto_bounded (suc more) (b ∷ bytes) = after (λ rest. upto_bounded _ _) _
     where
       after : ((rest : List ℕ)
           → length (decoded_upto layout h more rest).0 + length (end_events (decoded_upto layout h more rest).1)
@@ -81,7 +81,7 @@ module _ (layout : OrderAndLimit) (h : Header) where
 
   taken_bounded : (bytes : List ℕ)
       → length (decoded_at layout h bytes).0 + length (end_events (decoded_at layout h bytes).1) ≤ length bytes
-  taken_bounded bytes = upto_bounded (length bytes) bytes
+  taken_bounded bytes = upto_bounded _ _
 
   decoded_bounded : (bytes : List ℕ) (list : List Ins) (end : Option Error) → Decodes layout h bytes list end
       → length list + length (end_events end) ≤ length bytes
@@ -96,13 +96,12 @@ module _ (layout : OrderAndLimit) (h : Header) where
 
   pub made_bounded : (appends : Bool) (bytes : List ℕ) (events : List EventWithFiles)
       → Makes layout appends h bytes events → length events ≤ length bytes
-  made_bounded appends bytes events m =
-      omega (
-        arith,
-        ap length m.made,
-        few_after h.parameters (files_at appends h.files) [] m.list m.end,
-        decoded_bounded bytes m.list m.end m.decoding,
-      )
+  made_bounded appends bytes events m = omega (
+    arith,
+    ap length m.made,
+    few_after h.parameters (files_at appends h.files) [] m.list m.end,
+    decoded_bounded bytes m.list m.end m.decoding,
+  )
 
   pub events_bounded : (bytes : List ℕ) (events : List Event) → Events layout h bytes events
       → length events ≤ length bytes
@@ -111,7 +110,7 @@ module _ (layout : OrderAndLimit) (h : Header) where
       omega (
         arith,
         ap length given.given,
-        length-map (given_of made) (λ (t : EventWithFiles). t.event),
+        length-map (given_of made) (λ t. t.event),
         few_given made,
         few_after h.parameters (λ before. []) [] given.list given.end,
         decoded_bounded bytes given.list given.end given.decoding,
@@ -131,8 +130,7 @@ module _ (layout : OrderAndLimit) (h : Header) where
       )
 
 pub made_left_bounded : (rows : RunState) → length (made_left rows) ≤ length rows.unread.bytes
-made_left_bounded rows =
-    grind (arith, few_from, taken_bounded)
+made_left_bounded rows = grind (arith, few_from, taken_bounded)
 
 pub left_bounded : (rows : RunState) → length (events_left rows) ≤ length rows.unread.bytes
 left_bounded rows = grind (arith, few_given, made_left_bounded)

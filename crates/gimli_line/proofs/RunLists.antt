@@ -20,7 +20,7 @@ given_here files (row r ∷ here) later = by (not r.tombstone) (given_here files
     by : (b : Bool) → events_of rest ≡ filter is_given here ++ events_of (given_of later)
         → events_of (if b then record { event = row r; files = files } ∷ rest else rest)
         ≡ (if b then row r ∷ filter is_given here else filter is_given here) ++ events_of (given_of later)
-    by true same = ap (λ (es : List Event). row r ∷ es) same
+    by true same = ap (λ es. row r ∷ es) same
     by false same = same
 
 -- what a point gives
@@ -47,8 +47,7 @@ files_aside a c h r files others (i ∷ list) end =
 
 pub given_from_start : (a : Bool) (h : Parameters) (files : List File) (list : List Ins) (end : Option Error)
     → events_of (given_of (made_from a h (initial h) files list end)) ≡ program_events h list end
-given_from_start a h files list end =
-    files_aside a false h (initial h) files [] list end
+given_from_start a h files list end = files_aside a false h (initial h) files [] list end
     ∙ ap (λ (es : List EventWithFiles). events_of (given_of es)) (made_start false h [] list end)
 
 pub given_without_files : (a : Bool) (h : Header) (list : List Ins) (end : Option Error)
@@ -66,8 +65,7 @@ given_joined a h r files [] more end = refl
 given_joined a h r files (i ∷ list) more end =
     let here = made_step h i r in
     let next = next_registers h i r in
-    let rest =
-    events_of
+    let rest = events_of
     (given_of (made_from a h (registers_from h next list) (files_from a (files_after a i files) list) more end)) in
     let first : run h r (i ∷ list) ≡ filter is_given here ++ run h next list =
     given_here [] here (made_from false h next (files_after false i []) list None)
@@ -80,9 +78,7 @@ given_joined a h r files (i ∷ list) more end =
 
 pub runs_joined : (h : Parameters) (r : LineRow) (list more : List Ins)
     → run h r (list ++ more) ≡ run h r list ++ run h (registers_from h r list) more
-runs_joined h r list more =
-    given_joined false h r [] list more None
-    ∙ ap (λ (xs : List Event). run h r list ++ xs)
+runs_joined h r list more = given_joined false h r [] list more None ∙ ap (λ (xs : List Event). run h r list ++ xs)
     (files_aside false false h (registers_from h r list) (files_from false [] list) [] more None)
 
 pub run_of_one : (h : Parameters) (i : Ins) (r : LineRow) → run h r (i ∷ []) ≡ filter is_given (made_step h i r)

@@ -1,6 +1,7 @@
 -- Splitting a program into sequences gives its rows through the last end.
 use Rattle.std.specs.Prelude.{◌<◌, ◌≡◌, ◌-◌, if◌then◌else◌, ◌||◌, ◌∷◌, ◌++◌, ◌≢◌}
-use Rattle.gimli_line.proofs.Common
+use Rattle.gimli_line.proofs
+use proofs.Common
 use Common.{ℕ, Bool, true, false, List, [], length, take, map, Option, Some, None, refl, sym, ap, ◌∙◌, subst}
 use Common.{append_assoc, arith, inl, inr, AllByRecursion, list_any, flat_map, length-append, append-nil, map-append}
 use Common.{OrderAndLimit, Each, Error, OutOfMemory, LineRow, Parameters, HeaderSource, KeepsSource, Header}
@@ -9,16 +10,16 @@ use Common.{defined_files, past_at_end, ends_sequence, through_last_end, initial
 use Common.{PassesOver, with_reset_row, registers_from, files_from, live_events, start_of_run, whole_run, FaultComes}
 use Common.{FaultIs, KeepsRun}
 use Rattle.std.specs.Option.{unwrap_or}
-use Rattle.gimli_line.specs.run.InstructionGrammar.{SpellsInstruction}
-use Rattle.gimli_line.specs.inside.run.Unread.{front_of}
-use Rattle.gimli_line.specs.run.Sequences.{Sequence, IsSequence, HasRun, HaveRuns, AreSequences}
-use Rattle.gimli_line.specs.run.Sequences.{HasFirstFault}
-use Rattle.gimli_line.specs.inside.run.SequenceSplit.{SequenceSplit, with_row, RowSplit, with_kept_row}
-use Rattle.gimli_line.proofs.Backwards.{starts, files_from_start}
-use Rattle.gimli_line.proofs.RunLists.{given_joined, given_from_start}
-use Rattle.gimli_line.proofs.InstructionLaws.{front_at, is_decoded}
-use Rattle.gimli_line.proofs.Sources.{fits_less, keeps_both}
-use Rattle.gimli_line.proofs.Runs.{decodes_on, bare_decoding, passes_both}
+use Rattle.gimli_line.specs
+use specs.run.InstructionGrammar.{SpellsInstruction}
+use specs.inside.run.Unread.{front_of}
+use specs.run.Sequences.{Sequence, IsSequence, HasRun, HaveRuns, AreSequences, HasFirstFault}
+use specs.inside.run.SequenceSplit.{SequenceSplit, with_row, RowSplit, with_kept_row}
+use proofs.Backwards.{starts, files_from_start}
+use proofs.RunLists.{given_joined, given_from_start}
+use proofs.InstructionLaws.{front_at, is_decoded}
+use proofs.Sources.{fits_less, keeps_both}
+use proofs.Runs.{decodes_on, bare_decoding, passes_both}
 
 -- ---- through the last end
 
@@ -46,8 +47,7 @@ through_one : (rows : List LineRow) (last : LineRow) (later : List Event) → la
     → through_last_end ((map row rows ++ row last ∷ []) ++ later)
     ≡ (map row rows ++ row last ∷ []) ++ through_last_end later
 through_one [] last later closed = grind (arith)
-through_one (r ∷ rows) last later closed =
-    rw (one_ends (r ∷ rows) last later closed)
+through_one (r ∷ rows) last later closed = rw (one_ends (r ∷ rows) last later closed)
     (ap (λ xs. row r ∷ xs) (through_one rows last later closed))
 
 -- ---- sequences that are closed
@@ -64,9 +64,8 @@ runs_push h _ [] s run all one = absurd all
 runs_push h (p ∷ parts) (r ∷ runs) s run all one = (all.0, runs_push h parts runs s run all.1 one)
 
 joined_push : (runs : List (List Event)) (run : List Event) → joined_runs (runs ++ run ∷ []) ≡ joined_runs runs ++ run
-joined_push [] run = append-nil run
-joined_push (r ∷ runs) run =
-    ap (λ xs. r ++ xs) (joined_push runs run) ∙ sym (append_assoc r _ run)
+joined_push [] run = append-nil _
+joined_push (r ∷ runs) run = ap (λ xs. r ++ xs) (joined_push runs run) ∙ sym (append_assoc r _ run)
 
 through_events : (events : List Event) (start end : ℕ) → IsSequence events start end → (later : List Event)
     → through_last_end (events ++ later) ≡ events ++ through_last_end later
@@ -78,10 +77,8 @@ through_runs : (h : Header) (parts : List Sequence) (runs : List (List Event)) �
 through_runs h [] [] all later = refl
 through_runs h [] _ all later = absurd all
 through_runs h _ [] all later = absurd all
-through_runs h (s ∷ parts) (run ∷ runs) all later =
-    ap through_last_end (append_assoc run _ later)
-    ∙ through_events run s.start s.end all.0.is _
-    ∙ ap (λ xs. run ++ xs) (through_runs h parts runs all.1 later)
+through_runs h (s ∷ parts) (run ∷ runs) all later = ap through_last_end (append_assoc run _ later)
+    ∙ through_events run s.start s.end all.0.is _ ∙ ap (λ xs. run ++ xs) (through_runs h parts runs all.1 later)
     ∙ sym (append_assoc run _ _)
 
 -- the files of a header mean nothing to the run of a sequence
@@ -98,16 +95,14 @@ runs_over c (s ∷ parts) (run ∷ runs) all = (run_over c s run all.0, runs_ove
 complete_runs : (h c : Header) (parts : List Sequence) (runs : List (List Event)) → without_files c ≡ without_files h
     → HaveRuns (without_files h) parts runs
     → HaveRuns c parts runs
-complete_runs h c parts runs same all =
-    grind (arith, runs_over)
+complete_runs h c parts runs same all = grind (arith, runs_over)
 
 -- over the complete header too
 pub runs_are_kept : (n : OrderAndLimit) (h c : Header) (parts : List Sequence) (runs : List (List Event))
     → AreSequences n h c parts
     → HaveRuns (without_files h) parts runs
     → HaveRuns c parts runs
-runs_are_kept n h c parts runs are all =
-    grind (arith, complete_runs)
+runs_are_kept n h c parts runs are all = grind (arith, complete_runs)
 
 -- ---- the state of the split after some rows
 
@@ -148,8 +143,7 @@ starts_splitting h source unread = record {
   closed = tt;
   unended = tt;
   start_is = refl;
-  passes =
-      grind (arith);
+  passes = grind (arith);
 }
 
 -- the same, with the rows of each sequence
@@ -163,14 +157,13 @@ pub starts_keeping : (h : Header) (source : HeaderSource) (unread : Unread)
     → Keeping h (record { parts = []; unread = unread; start = None }) (record { closed = []; unended = [] }) []
     (with_reset_row (start_of_run true h source unread))
 unfolding starts_splitting
-starts_keeping h source unread = record { splitting = starts_splitting h source unread; unended = refl; closed = refl }
+starts_keeping h source unread = record { splitting = starts_splitting h _ _; unended = refl; closed = refl }
 
 -- the rows of each sequence are its run
 pub kept_runs : (h : Header) (k : SequenceSplit) (kept : RowSplit) (done : List LineRow) (point : RunState)
     → Keeping h k kept done point
     → HaveRuns (without_files h) k.parts (map (map row) kept.closed)
-kept_runs h k kept done point keeping =
-    grind arith
+kept_runs h k kept done point keeping = grind arith
 
 open_push : (rows : List LineRow) (r : LineRow) → AreOpen rows → r.end_sequence ≡ false → AreOpen (rows ++ r ∷ [])
 open_push [] r o e = (e, tt)
@@ -179,15 +172,13 @@ open_push (q ∷ rows) r o e = (o.0, open_push rows r o.1 e)
 module _ (h : Header) (k : SequenceSplit) (done : List LineRow) (point next : RunState) (c : Splitting h k done point)
     (p : PassesOver point (with_reset_row next) (row next.row ∷ [])) where
   whole : PassesOver (began h c.source c.files k.unread) (with_reset_row next) (map row c.rows ++ row next.row ∷ [])
-  whole =
-      grind (arith, passes_both)
+  whole = grind (arith, passes_both)
 
   abbrev last_run : List Event
   last_run = map row c.rows ++ row next.row ∷ []
 
   more_done : map row (done ++ next.row ∷ []) ≡ joined_runs c.runs ++ last_run
-  more_done =
-      grind (arith, map-append, append_assoc)
+  more_done = grind (arith, map-append, append_assoc)
 
   goes_open : next.row.end_sequence ≡ false
       → Splitting h (record k { start = Some (unwrap_or k.start next.row.address) }) (done ++ next.row ∷ [])
@@ -197,13 +188,11 @@ module _ (h : Header) (k : SequenceSplit) (done : List LineRow) (point next : Ru
     rows = c.rows ++ next.row ∷ [];
     source = c.source;
     files = c.files;
-    done_is =
-        grind (arith, more_done, map-append);
+    done_is = grind (arith, more_done, map-append);
     closed = c.closed;
     unended = grind (arith, open_push);
     start_is = grind (arith);
-    passes =
-        grind (arith, map-append, whole);
+    passes = grind (arith, map-append, whole);
   }
 
   abbrev ended : Sequence
@@ -227,12 +216,11 @@ module _ (h : Header) (k : SequenceSplit) (done : List LineRow) (point next : Ru
     closed = grind (arith, runs_push, closes);
     unended = tt;
     start_is = refl;
-    passes =
-        grind (arith);
+    passes = grind (arith);
   }
 
   pub goes_splitting : Splitting h (with_row next.row next.unread k) (done ++ next.row ∷ []) (with_reset_row next)
-  goes_splitting = at_test next.row.end_sequence refl
+  goes_splitting = at_test _ refl
     where
       at_test : (b : Bool) → next.row.end_sequence ≡ b
           → Splitting h (if b then record { parts = k.parts ++ ended ∷ []; unread = next.unread; start = None }
@@ -245,14 +233,14 @@ module _ (h : Header) (k : SequenceSplit) (done : List LineRow) (point next : Ru
       → Keeping h (with_row next.row next.unread k) (with_kept_row next.row kept) (done ++ next.row ∷ [])
       (with_reset_row next)
   unfolding goes_open goes_closed
-  goes_keeping kept same all = at_test next.row.end_sequence refl
+  goes_keeping kept same all = at_test _ refl
     where
       whole_rows : List LineRow
       whole_rows = kept.unended ++ next.row ∷ []
 
       whole_same : last_run ≡ map row whole_rows
       whole_same =
-          sym (map-append row c.rows (next.row ∷ [])) ∙ ap (λ (xs : List LineRow). map row (xs ++ next.row ∷ [])) same
+          sym (map-append _ _ _) ∙ ap (λ xs. map row (xs ++ next.row ∷ [])) same
 
       at_test : (b : Bool) → next.row.end_sequence ≡ b
           → Keeping h (if b then record { parts = k.parts ++ ended ∷ []; unread = next.unread; start = None }
@@ -264,14 +252,13 @@ module _ (h : Header) (k : SequenceSplit) (done : List LineRow) (point next : Ru
       at_test true e = record {
         splitting = goes_closed e;
         unended = refl;
-        closed =
-            ap (λ (runs : List (List Event)). runs ++ last_run ∷ []) all
-            ∙ ap (λ (run : List Event). map (map row) kept.closed ++ run ∷ []) whole_same
-            ∙ sym (map-append (map row) kept.closed (whole_rows ∷ []));
+        closed = ap (λ runs. runs ++ last_run ∷ []) all
+            ∙ ap (λ run. map (map row) kept.closed ++ run ∷ []) whole_same
+            ∙ sym (map-append _ _ _);
       }
-      at_test false e = record {
+      at_test _ e = record {
         splitting = goes_open e;
-        unended = ap (λ (xs : List LineRow). xs ++ next.row ∷ []) same;
+        unended = ap (λ xs. xs ++ next.row ∷ []) same;
         closed = all;
       }
 
@@ -282,14 +269,13 @@ module _ (h : Header) (k : SequenceSplit) (done : List LineRow) (point next : Ru
 -- a row takes bytes
 pub row_takes : (a b : RunState) (e : Event) (es : List Event) → PassesOver a b (e ∷ es)
     → length b.unread.bytes < length a.unread.bytes
-row_takes a b e es p = at_list p.list p.front p.parts p.spelled p.given
+row_takes a b e es p = at_list _ _ p.parts p.spelled p.given
   where
     at_list : (list : List Ins) (front : List ℕ) → a.unread.bytes ≡ front ++ b.unread.bytes
         → Each (SpellsInstruction a.unread.layout a.fixed) front list
         → run a.fixed.parameters a.row list ≡ e ∷ es → length b.unread.bytes < length a.unread.bytes
     at_list [] front parts s given = absurd cc
-    at_list (i ∷ list) front parts s given =
-        grind (arith, length-append)
+    at_list (i ∷ list) front parts s given = grind (arith, length-append)
 
 -- ---- the end of a run without a fault
 
@@ -300,27 +286,22 @@ module _ (source : HeaderSource) (h c : Header) (k : SequenceSplit) (done : List
       → AreSequences source.layout h c k.parts
   are_sequences splitting p empty fixed files = record {
     list = p.list;
-    decoding =
-        grind (arith);
+    decoding = grind (arith);
     rows = done;
     given = given;
     files = c_is;
     runs = splitting.runs;
     each = grind (arith, complete_runs);
-    joined =
-        sym (ap through_last_end (given ∙ splitting.done_is)
-        ∙ through_runs _ k.parts splitting.runs splitting.closed _
-        ∙ ap (λ xs. joined_runs splitting.runs ++ xs)
-        (through_none (map row splitting.rows) (none_ends splitting.rows splitting.unended))
-        ∙ append-nil _);
+    joined = sym (ap through_last_end (given ∙ splitting.done_is)
+        ∙ through_runs _ k.parts splitting.runs splitting.closed _ ∙ ap (λ xs. joined_runs splitting.runs ++ xs)
+        (through_none (map row splitting.rows) (none_ends splitting.rows splitting.unended)) ∙ append-nil _);
   }
     where
       given : program_events h.parameters p.list None ≡ map row done
       given = grind (arith, starts)
 
       c_is : c ≡ record h { files = defined_files h.files (past_at_end [] p.list) }
-      c_is =
-          grind (arith, files_from_start)
+      c_is = grind (arith, files_from_start)
 
 -- ---- a fault
 
@@ -330,8 +311,7 @@ passes_left a b es p =
     let c = decoded_at a.unread.layout a.fixed b.unread.bytes in
     let here = registers_from a.fixed.parameters a.row p.list in
     let files = files_from a.appends a.files p.list in
-    let rest : live_events b ≡ given_of (made_from a.appends a.fixed.parameters here files c.0 c.1) =
-    cc in
+    let rest : live_events b ≡ given_of (made_from a.appends a.fixed.parameters here files c.0 c.1) = cc in
     ap (λ d.
     events_of (given_of (made_from a.appends a.fixed.parameters a.row a.files d.0 d.1)))
     (decodes_on a.unread.layout a.fixed a.unread.bytes p.list p.front b.unread.bytes p.parts p.spelled)
@@ -349,13 +329,10 @@ has_first_fault source h done old new e p is =
     record {
       list = c.0;
       end = c.1;
-      decoding =
-          grind (arith, bare_decoding, is_decoded);
+      decoding = grind (arith, bare_decoding, is_decoded);
       rows = done;
       rest = events_of _;
-      given =
-          sym (given_from_start true h.parameters h.files c.0 c.1)
-          ∙ passes_left _ _ _ p
+      given = sym (given_from_start true h.parameters h.files c.0 c.1) ∙ passes_left _ _ _ p
           ∙ ap (λ t. map row done ++ events_of t) is.0;
     }
 
@@ -373,8 +350,7 @@ module _ (h : Header) (source : HeaderSource) (Split : List LineRow → RunState
   whole_row = with_reset_row (whole_run h source)
 
   pub split_starts : (rows : RunState) → rows ≡ whole_run h source → Split [] whole_row → IsSplit Split h source rows
-  split_starts rows start split =
-      grind (arith)
+  split_starts rows start split = grind (arith)
 
   module _ (rows next : RunState) (so_far : IsSplit Split h source rows) (keeps : KeepsRun rows next) where
     pub split_goes : (Longer : List LineRow → RunState → Type 0)
@@ -383,12 +359,11 @@ module _ (h : Header) (source : HeaderSource) (Split : List LineRow → RunState
     split_goes Longer p split = record {
       done = so_far.done ++ next.row ∷ [];
       split = split;
-      passes =
-          subst (λ (es : List Event). PassesOver whole_row (with_reset_row next) es)
-          (sym (map-append row so_far.done (next.row ∷ [])))
-          (passes_both whole_row (with_reset_row rows) (with_reset_row next) (map row so_far.done) (row next.row ∷ [])
+      passes = subst (λ es. PassesOver whole_row (with_reset_row next) es)
+          (sym (map-append _ _ _))
+          (passes_both _ _ _ _ _
           so_far.passes p);
-      keeps = keeps_both (whole_run h source) rows next so_far.keeps keeps;
+      keeps = keeps_both _ _ _ so_far.keeps keeps;
     }
 
     pub split_faults : (e : Error) → e ≢ OutOfMemory → FaultIs live_events (with_reset_row rows) next e
@@ -399,16 +374,14 @@ module _ (h : Header) (source : HeaderSource) (Split : List LineRow → RunState
     -- the program that is left is that of the run
     pub split_source : (last : HeaderSource) → last ≡ next.source
         → KeepsSource (λ order. source.layout.is_big ≡ order) source last
-    split_source last same =
-        subst (KeepsSource (λ order. source.layout.is_big ≡ order) source) (sym same)
-        (fits_less _ _ _ _ (λ order is adds. is) (keeps_both (whole_run h source) rows next so_far.keeps keeps).source)
+    split_source last same = subst (KeepsSource (λ order. source.layout.is_big ≡ order) source) (sym same)
+        (fits_less _ _ _ _ (λ order is adds. is) (keeps_both _ _ _ so_far.keeps keeps).source)
 
     pub split_ends : (c : Header) (k : SequenceSplit) → Splitting h k so_far.done (with_reset_row rows)
         → next.unread.bytes ≡ []
         → PassesOver (with_reset_row rows) next [] → without_files c ≡ next.fixed → c.files ≡ next.files
         → AreSequences source.layout h c k.parts
-    split_ends c k splitting empty p =
-        are_sequences source h c k so_far.done (with_reset_row rows) next splitting
-        (subst (λ (es : List Event). PassesOver whole_row next es) (append-nil (map row so_far.done))
-        (passes_both whole_row (with_reset_row rows) next (map row so_far.done) [] so_far.passes p))
+    split_ends c k splitting empty p = are_sequences _ h c k _ _ _ splitting
+        (subst (λ es. PassesOver whole_row next es) (append-nil _)
+        (passes_both _ _ _ _ _ so_far.passes p))
         empty

@@ -34,9 +34,8 @@ still_adds : (a b : RunState) → KeepsRun a b → (order : Bool) → AddsInOrde
 still_adds a b keeps order adds = λ appends. ap (λ n. n.is_big) keeps.unread ∙ adds (sym keeps.appends ∙ appends)
 
 pub keeps_same : (x y : RunState) → x ≡ y → KeepsRun x y
-keeps_same x y same =
-    subst (KeepsRun x) same
-    (record { fixed = refl; appends = refl; unread = refl; source = source_kept (AddsInOrder x) x.source })
+keeps_same x y same = subst (KeepsRun x) same
+    (record { fixed = refl; appends = refl; unread = refl; source = source_kept _ _ })
 
 pub keeps_both : (x y z : RunState) → KeepsRun x y → KeepsRun y z → KeepsRun x z
 keeps_both x y z p q = record {
@@ -44,7 +43,7 @@ keeps_both x y z p q = record {
   appends = q.appends ∙ p.appends;
   unread = q.unread ∙ p.unread;
   source =
-      source_both (AddsInOrder x) x.source y.source z.source p.source (fits_less _ _ _ _ (still_adds x y p) q.source);
+      source_both _ _ _ _ p.source (fits_less _ _ _ _ (still_adds x y p) q.source);
 }
 
 -- a run goes on, and the header is seen then
@@ -54,8 +53,7 @@ pub sees_after : {R Offset Endian : Type 0} (is_big : R → Bool) (number : Offs
     → SeesHeader is_big number y h → SeesHeader is_big number x h
 sees_after is_big number x y h p q = record {
   fixed = q.fixed ∙ p.fixed;
-  source =
-      source_both (AddsInOrder x) x.source y.source (source_of is_big number h) p.source
+  source = source_both _ _ _ _ p.source
       (fits_less _ _ _ _ (still_adds x y p) q.source);
 }
 
@@ -64,5 +62,5 @@ sees_after is_big number x y h p q = record {
 pub still_one : (x y : RunState) → KeepsRun x y → IsOfOneOrder x → IsOfOneOrder y
 still_one x y keeps one = record {
   readers = rw keeps.source.layout (keeps.source.order x.source.layout.is_big one.unread one.readers);
-  unread = rw keeps.source.layout (still_adds x y keeps x.source.layout.is_big one.unread);
+  unread = rw keeps.source.layout (still_adds x y keeps _ one.unread);
 }

@@ -27,20 +27,18 @@ module _ {B : Type 0} (plain : List ℕ → Read (List B)) (view : TableEntry �
 
     pub table_4_end : (e : Error) → encoding.version ≤ 4 → (plain bytes).0 ≡ Err e → here.0 ≡ Err e
     unfolding table_of
-    table_4_end e old is =
-        rw (le-leb encoding.version 4 old)
-        (bind_refused (plain bytes) (λ items rest. (let s : Read Table = (Ok ([], items), rest) in s)) e is)
+    table_4_end e old is = rw (le-leb encoding.version 4 old)
+        (bind_refused _ (λ items rest. (let s : Read Table = (Ok ([], items), rest) in s)) e is)
 
     pub formats_end : (e : Error) → 4 < encoding.version → (formats_at bytes).0 ≡ Err e → here.0 ≡ Err e
     unfolding table_of
-    formats_end e new is = rw (lt-leb encoding.version 4 new) (bind_refused (formats_at bytes) _ e is)
+    formats_end e new is = rw (lt-leb encoding.version 4 new) (bind_refused _ _ e is)
 
   module _ (now first : Bool) (limit : ℕ) (encoding : Encoding) (bytes mid : List ℕ)
       (formats lent : List FileEntryFormat) (new : 4 < encoding.version)
       (head : formats_at bytes ≡ (Ok formats, mid)) (kept : now ≡ first) (same : lent ≡ formats) where
     abbrev items_at : Bool → List FileEntryFormat → Read (List B)
-    items_at is_big formats =
-        read_map (map view) (entries_at (layout_of is_big limit) encoding.format formats mid)
+    items_at is_big formats = read_map (map view) (entries_at (layout_of is_big limit) encoding.format formats mid)
 
     abbrev before : Read Table
     before = table_of plain view (layout_of first limit) encoding bytes
@@ -57,5 +55,5 @@ module _ {B : Type 0} (plain : List ℕ → Read (List B)) (view : TableEntry �
     table_5_end e tail =
         let again : (items_at first formats).0 ≡ Err e = rw (← kept, ← same) tail in
         rw (lt-leb encoding.version 4 new, head)
-        (bind_refused (items_at first formats) (λ items end. (let s : Read Table = (Ok (formats, items), end) in s)) e
+        (bind_refused _ (λ items end. (let s : Read Table = (Ok (formats, items), end) in s)) e
         again)

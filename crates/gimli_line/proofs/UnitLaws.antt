@@ -12,19 +12,17 @@ use Rattle.gimli_line.specs.UnitReading.{any_unit_at, after_unit, offsets_upto, 
 module _ (layout : OrderAndLimit) where
   pub reads_any_unit : Reads (any_unit layout) (any_unit_at layout)
   unfolding any_unit_at
-  reads_any_unit =
-      reads_both (unit_length layout) _ _ _ (reads_unit_length layout) (λ unit. reads_some_bytes unit.0)
+  reads_any_unit = reads_both _ _ _ _ (reads_unit_length _) (λ unit. reads_some_bytes _)
 
   -- a unit has bytes
   unit_some : (unit content : List ℕ) → (any_unit layout).Spells unit content → 0 < length unit
-  unit_some unit content s =
-      grind (arith, length-append)
+  unit_some unit content s = grind (arith, length-append)
 
   -- what comes after the bytes that were read is an end of them, and is shorter
   after_end : (bytes : List ℕ) (r : Read (List ℕ)) → any_unit_at layout bytes ≡ r
       → (front : List ℕ) × (bytes ≡ front ++ after_unit r)
   after_end bytes (Ok content, rest) is = let f = reads_any_unit.found bytes content rest is in (f.0, f.1)
-  after_end bytes (Err e, rest) is = (bytes, sym (append-nil bytes))
+  after_end bytes (Err e, rest) is = (bytes, sym (append-nil _))
 
   after_less : (bytes : List ℕ) (r : Read (List ℕ)) → bytes ≢ [] → any_unit_at layout bytes ≡ r
       → length (after_unit r) < length bytes
@@ -54,16 +52,15 @@ module _ (layout : OrderAndLimit) where
     -- a greater bound changes nothing
     enough : (more less : ℕ) (bytes : List ℕ) → length bytes ≤ more → length bytes ≤ less
         → offsets_upto layout end more bytes ≡ offsets_upto layout end less bytes
-    enough more less [] le lower = upto_none more ∙ sym (upto_none less)
+    enough more less [] le lower = upto_none _ ∙ sym (upto_none _)
     enough zero less (b ∷ bytes) le lower = absurd (omega arith)
     enough (suc more) zero (b ∷ bytes) le lower = absurd (omega arith)
     enough (suc more) (suc less) (b ∷ bytes) le lower =
         let some : b ∷ bytes ≢ [] = λ none. absurd cc in
-        let fewer = after_less (b ∷ bytes) (any_unit_at layout (b ∷ bytes)) some refl in
-        upto_some more (b ∷ bytes) some
-        ∙ ap (λ (os : List ℕ). (end - length (b ∷ bytes)) ∷ os)
+        let fewer = after_less _ _ some refl in
+        upto_some _ _ some ∙ ap (λ os. (end - length (b ∷ bytes)) ∷ os)
         (enough more less (after_unit (any_unit_at layout (b ∷ bytes))) (omega arith) (omega arith))
-        ∙ sym (upto_some less (b ∷ bytes) some)
+        ∙ sym (upto_some _ _ some)
 
     pub offsets_none : (bytes : List ℕ) → bytes ≡ [] → offsets_at layout end bytes ≡ []
     offsets_none bytes none = rw none (upto_none 0)
@@ -74,21 +71,20 @@ module _ (layout : OrderAndLimit) where
     offsets_some [] some = absurd (some refl)
     offsets_some (b ∷ bytes) some =
         let after = after_unit (any_unit_at layout (b ∷ bytes)) in
-        let fewer = after_less (b ∷ bytes) (any_unit_at layout (b ∷ bytes)) some refl in
-        upto_some (length bytes) (b ∷ bytes) some
-        ∙ ap (λ (os : List ℕ). (end - length (b ∷ bytes)) ∷ os)
-        (enough (length bytes) (length after) after (omega arith) (omega arith))
+        let fewer = after_less _ _ some refl in
+        upto_some _ _ some ∙ ap (λ os. (end - length (b ∷ bytes)) ∷ os)
+        (enough _ _ _ (omega arith) (omega arith))
 
   -- the offsets that are found are those of the units
   upto_units : (end more offset : ℕ) (bytes : List ℕ) → length bytes ≤ more → offset + length bytes ≡ end
       → AreUnits layout offset bytes (offsets_upto layout end more bytes)
   upto_units end more offset [] le ends =
-      subst (λ (os : List ℕ). AreUnits layout offset [] os) (sym (upto_none end more)) refl
+      subst (λ os. AreUnits layout offset [] os) (sym (upto_none _ _)) refl
   upto_units end zero offset (b ∷ bytes) le ends = absurd (omega arith)
   upto_units end (suc more) offset (b ∷ bytes) le ends =
       let some : b ∷ bytes ≢ [] = λ none. absurd cc in
-      subst (λ (os : List ℕ). AreUnits layout offset (b ∷ bytes) os) (sym (upto_some end more (b ∷ bytes) some))
-      (omega arith, at_answer some (λ next rest. upto_units end more next rest) (any_unit_at layout (b ∷ bytes)) refl)
+      subst (λ os. AreUnits layout offset (b ∷ bytes) os) (sym (upto_some _ _ _ some))
+      (omega arith, at_answer some (λ next rest. upto_units _ _ _ _) _ refl)
     where
       at_answer : b ∷ bytes ≢ []
           → ((next : ℕ) (rest : List ℕ) → length rest ≤ more → next + length rest ≡ end
@@ -99,28 +95,26 @@ module _ (layout : OrderAndLimit) where
           ⊎ (BeginsWithNoUnit layout (b ∷ bytes) × (offsets_upto layout end more (after_unit r) ≡ []))
       at_answer some others (Ok content, rest) is =
           let f = reads_any_unit.found (b ∷ bytes) content rest is in
-          let long = unit_some f.0 content f.2 in
+          let long = unit_some _ _ f.2 in
           inl (record {
             unit = f.0;
             content = content;
             rest = rest;
             parts = f.1;
             spelled = f.2;
-            follow =
-                others (offset + length f.0) rest (omega (arith, length-append f.0 rest, ap length f.1))
+            follow = others (offset + length f.0) rest (omega (arith, length-append f.0 rest, ap length f.1))
                 (omega (arith, length-append f.0 rest, ap length f.1));
           })
-      at_answer some others (Err e, rest) is =
-          inr (
-            record { some = some; error = e; fault = reads_any_unit.fault (b ∷ bytes) e (rw is refl) },
-            upto_none end more,
-          )
+      at_answer some others (Err e, rest) is = inr (
+        record { some = some; error = e; fault = reads_any_unit.fault (b ∷ bytes) e (rw is refl) },
+        upto_none _ _,
+      )
 
   -- and there are no others
   only_units : (offsets : List ℕ) (end more offset : ℕ) (bytes : List ℕ) → length bytes ≤ more
       → offset + length bytes ≡ end
       → AreUnits layout offset bytes offsets → offsets ≡ offsets_upto layout end more bytes
-  only_units [] end more offset bytes le ends s = sym (rw s (upto_none end more))
+  only_units [] end more offset bytes le ends s = sym (rw s (upto_none _ _))
   only_units (o ∷ offsets) end more offset [] le ends s = elim s.1 [
     | inl u ↦
         absurd (omega (arith, unit_some u.unit u.content u.spelled, length-append u.unit u.rest, ap length u.parts))
@@ -146,7 +140,7 @@ module _ (layout : OrderAndLimit) where
             )
             r.1
       ] in
-      ap (λ (n : ℕ). n ∷ offsets) first ∙ ap (λ (os : List ℕ). (end - length (b ∷ bytes)) ∷ os) others
+      ap (λ n. n ∷ offsets) first ∙ ap (λ os. (end - length (b ∷ bytes)) ∷ os) others
       ∙ sym (upto_some end more (b ∷ bytes) some)
 
   pub are_units : (section : List ℕ) → AreUnits layout 0 section (offsets_at layout (length section) section)
@@ -159,12 +153,12 @@ module _ (layout : OrderAndLimit) where
   one_list offset bytes offsets others s t =
       let end = offset + length bytes in
       only_units offsets end (length bytes) offset bytes (omega arith) refl s
-      ∙ sym (only_units others end (length bytes) offset bytes (omega arith) refl t)
+      ∙ sym (only_units _ _ _ _ _ (omega arith) refl t)
 
   pub some_list : (offset : ℕ) (bytes : List ℕ) → (offsets : List ℕ) × AreUnits layout offset bytes offsets
   some_list offset bytes = (
     offsets_upto layout (offset + length bytes) (length bytes) bytes,
-    upto_units (offset + length bytes) (length bytes) offset bytes (omega arith) refl,
+    upto_units _ _ _ _ (omega arith) refl,
   )
 
   -- ---- a unit with a header
@@ -174,26 +168,24 @@ module _ (layout : OrderAndLimit) where
       → (header_production layout unit_entry).Spells unit h
       → (content : List ℕ) × (any_unit layout).Spells unit content
       × (length unit ≡ initial_length_size h.parameters.encoding.format + h.unit_length)
-  unit_size unit_entry unit h s =
-      grind (arith, append-nil, length-append)
+  unit_size unit_entry unit h s = grind (arith, append-nil, length-append)
 
   pub unit_ends : (unit_entry : UnitEntry) (offset : ℕ) (bytes : List ℕ) (h : Header)
       → SpellsUnit layout unit_entry bytes h
       → offset_after offset h ≤ offset + length bytes
-  unit_ends unit_entry offset bytes h u =
-      grind (arith, length-append)
+  unit_ends unit_entry offset bytes h u = grind (arith, length-append)
 
   pub unit_follows : (unit_entry : UnitEntry) (offset next : ℕ) (bytes offsets : List ℕ) (h : Header)
       → SpellsUnit layout unit_entry bytes h
       → AreUnits layout offset bytes (offset ∷ next ∷ offsets) → next ≡ offset_after offset h
   unit_follows unit_entry offset next bytes offsets h u s = elim s.1 [
     | inl b ↦
-        let p = unit_size unit_entry u.0 h u.3 in
+        let p = unit_size _ _ h u.3 in
         let read : any_unit_at layout bytes ≡ (Ok p.0, u.1) = ap (any_unit_at layout) u.2
         ∙ reads_any_unit.only u.0 p.0 u.1 p.1 in
         let again : any_unit_at layout bytes ≡ (Ok b.content, b.rest) = ap (any_unit_at layout) b.parts
         ∙ reads_any_unit.only b.unit b.content b.rest b.spelled in
-        let same : u.1 ≡ b.rest = ap (λ (r : Read (List ℕ)). r.1) (sym read ∙ again) in
+        let same : u.1 ≡ b.rest = ap (λ r. r.1) (sym read ∙ again) in
         omega (
           arith,
           ap length same,
@@ -234,5 +226,4 @@ module _ (layout : OrderAndLimit) where
       offsets_some (length section) (drop offset section) some
       ∙ ap
       (λ (n : ℕ). n ∷ offsets_at layout (length section) (after_unit (any_unit_at layout (drop offset section))))
-      first
-      ∙ ap (λ (xs : List ℕ). offset ∷ offsets_at layout (length section) xs) (sym is ∙ sym rest)
+      first ∙ ap (λ (xs : List ℕ). offset ∷ offsets_at layout (length section) xs) (sym is ∙ sym rest)

@@ -1,8 +1,9 @@
 -- Which unit a section has at an offset, and why it has none (DWARF 5, section 6.2.4).
-use Rattle.gimli_line.specs.Prelude.{ℕ, drop, Error}
-use Rattle.gimli_line.specs.header.Header.{UnitEntry, SeenHeader}
-use Rattle.gimli_line.specs.header.HeaderGrammar.{SpellsUnit, HasUnitFault}
-use Rattle.gimli_line.specs.run.Unread.{Unread}
+use Rattle.gimli_line.specs
+use specs.Prelude.{ℕ, drop, Error}
+use specs.header.Header.{UnitEntry, SeenHeader}
+use specs.header.HeaderGrammar.{SpellsUnit, HasUnitFault}
+use specs.run.Unread.{Unread}
 
 -- from the offset on the section begins with a unit, and this is its header
 abbrev pub SpellsUnitAt : {R Offset Endian : Type 0} → Unread → ℕ → UnitEntry

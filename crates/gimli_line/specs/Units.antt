@@ -1,10 +1,11 @@
 -- The units of a section, one after the other (DWARF 5, sections 6.2.4 and 7.4).
 use Rattle.std.specs.Prelude.{◌≡◌, ◌≢◌, ◌⊎◌, ◌+◌, ◌∷◌, ◌++◌}
-use Rattle.gimli_line.specs.Prelude.{ℕ, List, [], length, OrderAndLimit, Error}
+use Rattle.gimli_line.specs
+use specs.Prelude.{ℕ, List, [], length, OrderAndLimit, Error}
 use Rattle.gimli_core.specs.Numbers.{initial_length_size}
 use Rattle.gimli_core.specs.Production.{Production, ◌>>=◌, some_bytes, unit_length}
-use Rattle.gimli_line.specs.header.Header.{Header, UnitEntry}
-use Rattle.gimli_line.specs.run.Unread.{Unread}
+use specs.header.Header.{Header, UnitEntry}
+use specs.run.Unread.{Unread}
 
 -- a unit, whatever its content is: a length that an offset of the reader holds, and as many bytes
 -- as it says

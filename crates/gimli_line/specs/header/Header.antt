@@ -1,13 +1,14 @@
 -- A header: what it says, and how contracts see it.
 use Rattle.std.specs.Prelude.{◌∷◌, ◌++◌, if◌then◌else◌}
-use Rattle.gimli_line.specs.Prelude
+use Rattle.gimli_line.specs
+use specs.Prelude
 use Prelude.{ℕ, zero, suc, Bool, List, [], Option, None, option_map, replicate, nat_le, nat_eq}
-use Prelude.{slice_get, list_any}
-use Prelude.{Vec, Global, Value, AttributeValue, String, DebugLineOffset, OrderAndLimit}
-use Rattle.gimli_line.specs.header.Parameters.{Parameters}
-use Rattle.gimli_line.specs.header.File.{File}
-use Rattle.gimli_line.specs.declared.header.file_entry.FileEntry.{FileEntry}
-use Rattle.gimli_line.specs.declared.header.file_entry.FileEntryFormat.{FileEntryFormat}
+use Prelude.{slice_get, list_any, Vec, Global, Value, AttributeValue, String, DebugLineOffset}
+use Prelude.{OrderAndLimit}
+use specs.header.Parameters.{Parameters}
+use specs.header.File.{File}
+use specs.declared.header.file_entry.FileEntry.{FileEntry}
+use specs.declared.header.file_entry.FileEntryFormat.{FileEntryFormat}
 
 -- what a header says, with lists of bytes in place of readers
 pub record Header : Type 0 where

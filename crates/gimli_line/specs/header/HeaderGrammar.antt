@@ -1,29 +1,47 @@
 -- How the header of a unit is spelled, production by production, and which refusal comes where a
 -- production isn't there (DWARF 5, section 6.2.4; DWARF 4, section 6.2.4).
 use Rattle.std.specs.Prelude.{◌≡◌, ◌-◌, ◌≤◌, ◌∷◌, ◌++◌, ◌&&◌, if◌then◌else◌}
-use Rattle.gimli_line.specs.Prelude
+use Rattle.gimli_line.specs
+use specs.Prelude
 use Prelude.{ℕ, List, [], length, map, replicate, min, count_by, Bool, not, nat_eq, nat_le, Option}
-use Prelude.{Some, None}
-use Prelude.{option_map, Value, udata_value, Encoding, LineEncoding, Format, Block, String, Error}
-use Prelude.{UnknownVersion}
-use Prelude.{UnsupportedAddressSize, UnsupportedSegmentSize, MinimumInstructionLengthZero}
-use Prelude.{MaximumOperationsPerInstructionZero, LineRangeZero, OpcodeBaseZero}
-use Prelude.{MissingFileEntryFormatPath}
-use Prelude.{OrderAndLimit}
+use Prelude.{Some, None, option_map, Value, udata_value, Encoding, LineEncoding, Format, Block}
+use Prelude.{String, Error, UnknownVersion, UnsupportedAddressSize, UnsupportedSegmentSize}
+use Prelude.{MinimumInstructionLengthZero, MaximumOperationsPerInstructionZero, LineRangeZero}
+use Prelude.{OpcodeBaseZero, MissingFileEntryFormatPath, OrderAndLimit}
 use Rattle.std.specs.Int.{w8, cast_signed}
 use Rattle.gimli_core.specs.Numbers.{is_address_size, SpellsUleb128}
-use Rattle.gimli_core.specs.Production.{Production, ◌>>=◌, ◌>>◌, done, check, choose, times}
-use Rattle.gimli_core.specs.Production.{list_to_zero, within, byte, number, some_bytes, unsigned}
-use Rattle.gimli_core.specs.Production.{unsigned_16}
-use Rattle.gimli_core.specs.Production.{offset_word, unit_length}
+use Rattle.gimli_core.specs.Production.{
+  Production,
+  ◌>>=◌,
+  ◌>>◌,
+  done,
+  check,
+  choose,
+  times,
+  list_to_zero,
+  within,
+  byte,
+  number,
+  some_bytes,
+  unsigned,
+  unsigned_16,
+  offset_word,
+  unit_length,
+}
 use Rattle.gimli_core.specs.Form.{form_production}
-use Rattle.gimli_line.specs.LineNumbers.{DW_LNCT_path, DW_LNCT_directory_index, DW_LNCT_timestamp}
-use Rattle.gimli_line.specs.LineNumbers.{DW_LNCT_size, DW_LNCT_MD5, DW_LNCT_LLVM_source}
-use Rattle.gimli_line.specs.header.Parameters.{Parameters}
-use Rattle.gimli_line.specs.header.File.{File}
-use Rattle.gimli_line.specs.header.Header.{Header, UnitEntry, plain_file}
-use Rattle.gimli_line.specs.header.Productions.{path_text, positive}
-use Rattle.gimli_line.specs.declared.header.file_entry.FileEntryFormat.{FileEntryFormat}
+use specs.LineNumbers.{
+  DW_LNCT_path,
+  DW_LNCT_directory_index,
+  DW_LNCT_timestamp,
+  DW_LNCT_size,
+  DW_LNCT_MD5,
+  DW_LNCT_LLVM_source,
+}
+use specs.header.Parameters.{Parameters}
+use specs.header.File.{File}
+use specs.header.Header.{Header, UnitEntry, plain_file}
+use specs.header.Productions.{path_text, positive}
+use specs.declared.header.file_entry.FileEntryFormat.{FileEntryFormat}
 
 -- ---- tables up to version 4 (DWARF 4, section 6.2.4, parts 11 and 12)
 

@@ -1,14 +1,15 @@
 -- The parts of a header, which `==` of headers compares, and how many entries its tables have.
 use Rattle.std.specs.Prelude.{◌≡◌, ◌+◌}
-use Rattle.gimli_line.specs.Prelude
+use Rattle.gimli_line.specs
+use specs.Prelude
 use Prelude.{ℕ, Bool, List, length, map, Option, option_map, Decides, Value, value_by}
 use Prelude.{AttributeValue, DebugLineOffset}
 use Rattle.gimli_core.specs.Equality.{ComparesBy, both}
-use Rattle.gimli_line.specs.header.File.{File, FileOrders, file_by}
-use Rattle.gimli_line.specs.header.Header.{Header, SeenHeader}
-use Rattle.gimli_line.specs.header.Parameters.{Parameters}
-use Rattle.gimli_line.specs.declared.header.file_entry.FileEntry.{FileEntry}
-use Rattle.gimli_line.specs.declared.header.file_entry.FileEntryFormat.{FileEntryFormat}
+use specs.header.File.{File, FileOrders, file_by}
+use specs.header.Header.{Header, SeenHeader}
+use specs.header.Parameters.{Parameters}
+use specs.declared.header.file_entry.FileEntry.{FileEntry}
+use specs.declared.header.file_entry.FileEntryFormat.{FileEntryFormat}
 
 -- all that a header holds, wherever in memory its lists stand: its readers, offsets, directories
 -- and files are of these types

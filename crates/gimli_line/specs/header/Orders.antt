@@ -1,9 +1,9 @@
 -- The orders of bytes of the readers that a header takes from its section.
 use Rattle.std.specs.Prelude.{◌≡◌}
-use Rattle.gimli_line.specs.Prelude.{ℕ, Bool, List, map, Option, option_map, All, OrderAndLimit}
-use Rattle.gimli_line.specs.Prelude.{value_order, IsOrder}
-use Rattle.gimli_line.specs.header.File.{FileOrders, file_orders, AreFileOrders}
-use Rattle.gimli_line.specs.header.Header.{SeenHeader}
+use Rattle.gimli_line.specs
+use specs.Prelude.{ℕ, Bool, List, map, Option, option_map, All, OrderAndLimit, value_order, IsOrder}
+use specs.header.File.{FileOrders, file_orders, AreFileOrders}
+use specs.header.Header.{SeenHeader}
 
 -- those of the directory and of the name that a caller handed in, where there are any: such readers
 -- keep their own order

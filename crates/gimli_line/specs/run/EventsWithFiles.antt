@@ -10,8 +10,7 @@ pub use Rattle.gimli_line.specs.run.Events.{EventWithFiles, with_files, files_at
 
 -- what a program makes that is decoded into these instructions and this end
 abbrev pub program_made : Bool → Header → List Ins → Option Error → List EventWithFiles
-program_made appends h list end =
-    made_after h.parameters (files_at appends h.files) [] list end
+program_made appends h list end = made_after h.parameters (files_at appends h.files) [] list end
 
 -- what the bytes of a program make from its start
 pub record Makes (layout : OrderAndLimit) (appends : Bool) (h : Header) (bytes : List ℕ)

@@ -1,23 +1,23 @@
 -- What is done where an instruction is refused, and instructions that are executed from their
 -- bytes, without a value of their own between.
 use Rattle.std.specs.Prelude.{◌≡◌, ◌≢◌}
-use Rattle.gimli_line.specs.Prelude.{ℕ, List, Bool, true, false, Ok, Error, AddressOverflow}
-use Rattle.gimli_line.specs.Prelude.{OutOfMemory, Read}
-use Rattle.gimli_line.specs.declared.run.from_bytes.Executed.{Executed}
-use Rattle.gimli_line.specs.declared.run.from_bytes.Executed.TheVariants.{No, Quiet, Address, Row}
-use Rattle.gimli_line.specs.declared.run.instruction.LineInstruction.TheVariants.{
+use Rattle.gimli_line.specs
+use specs.Prelude.{ℕ, List, Bool, true, false, Ok, Error, AddressOverflow, OutOfMemory, Read}
+use specs.declared.run.from_bytes.Executed.{Executed}
+use specs.declared.run.from_bytes.Executed.TheVariants.{No, Quiet, Address, Row}
+use specs.declared.run.instruction.LineInstruction.TheVariants.{
   Special,
   Copy,
   EndSequence,
   SetAddress,
 }
-use Rattle.gimli_line.specs.declared.run.row.LineRow.{LineRow}
-use Rattle.gimli_line.specs.header.Header.{Header}
-use Rattle.gimli_line.specs.header.Parameters.{Parameters}
-use Rattle.gimli_line.specs.run.Instruction.{Ins, defines_file}
-use Rattle.gimli_line.specs.run.InstructionReading.{ins_at}
-use Rattle.gimli_line.specs.run.Machine.{step_of, is_refused}
-use Rattle.gimli_line.specs.run.Unread.{Unread}
+use specs.declared.run.row.LineRow.{LineRow}
+use specs.header.Header.{Header}
+use specs.header.Parameters.{Parameters}
+use specs.run.Instruction.{Ins, defines_file}
+use specs.run.InstructionReading.{ins_at}
+use specs.run.Machine.{step_of, is_refused}
+use specs.run.Unread.{Unread}
 
 -- a refusal that is `AddressOverflow`: the address would pass the greatest one of its size; the
 -- registers go on, but for the address

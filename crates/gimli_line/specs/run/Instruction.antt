@@ -1,10 +1,11 @@
 -- Instructions, with lists of bytes in place of readers and numbers in place of offsets.
 use Rattle.std.specs.Prelude.{◌≡◌}
-use Rattle.gimli_line.specs.Prelude.{ℕ, List, Bool, true, false, Some, None}
-use Rattle.gimli_line.specs.header.File.{File, file_seen, FileHasOrder, FileOrders, file_orders}
-use Rattle.gimli_line.specs.header.Header.{Header, files_with}
-use Rattle.gimli_line.specs.declared.run.instruction.LineInstruction.{LineInstruction}
-use Rattle.gimli_line.specs.declared.run.instruction.LineInstruction.TheVariants.{
+use Rattle.gimli_line.specs
+use specs.Prelude.{ℕ, List, Bool, true, false, Some, None}
+use specs.header.File.{File, file_seen, FileHasOrder, FileOrders, file_orders}
+use specs.header.Header.{Header, files_with}
+use specs.declared.run.instruction.LineInstruction.{LineInstruction}
+use specs.declared.run.instruction.LineInstruction.TheVariants.{
   Special,
   Copy,
   AdvancePc,

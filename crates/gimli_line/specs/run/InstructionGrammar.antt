@@ -1,14 +1,27 @@
 -- How instructions are spelled, and how a program is decoded into them (DWARF 5, sections 6.2.3 and
 -- 6.2.5).
 use Rattle.std.specs.Prelude.{◌≡◌, ◌≢◌, ◌<◌, ◌^◌, ◌-◌, ◌∷◌, ◌++◌, if◌then◌else◌}
-use Rattle.gimli_line.specs.Prelude
+use Rattle.gimli_line.specs
+use specs.Prelude
 use Prelude.{ℕ, zero, suc, List, [], nat_eq, nat_le, Option, Some, None, ℤ, slice_index, Error}
-use Prelude.{UnexpectedEof}
-use Prelude.{BadUnsignedLeb128, BadSignedLeb128, UnsupportedOffset, OrderAndLimit}
-use Rattle.gimli_core.specs.Production.{Production, ◌>>=◌, done, choose, times, within, byte}
-use Rattle.gimli_core.specs.Production.{number, some_bytes, text, unsigned, signed, below_limit}
-use Rattle.gimli_core.specs.Production.{Each}
-use Rattle.gimli_line.specs.declared.run.instruction.LineInstruction.TheVariants.{
+use Prelude.{UnexpectedEof, BadUnsignedLeb128, BadSignedLeb128, UnsupportedOffset, OrderAndLimit}
+use Rattle.gimli_core.specs.Production.{
+  Production,
+  ◌>>=◌,
+  done,
+  choose,
+  times,
+  within,
+  byte,
+  number,
+  some_bytes,
+  text,
+  unsigned,
+  signed,
+  below_limit,
+  Each,
+}
+use specs.declared.run.instruction.LineInstruction.TheVariants.{
   Special,
   Copy,
   AdvancePc,
@@ -31,18 +44,29 @@ use Rattle.gimli_line.specs.declared.run.instruction.LineInstruction.TheVariants
   SetDiscriminator,
   UnknownExtended,
 }
-use Rattle.gimli_line.specs.LineNumbers.{DW_LNS_copy, DW_LNS_advance_pc, DW_LNS_advance_line}
-use Rattle.gimli_line.specs.LineNumbers.{DW_LNS_set_file, DW_LNS_set_column, DW_LNS_negate_stmt}
-use Rattle.gimli_line.specs.LineNumbers.{DW_LNS_set_basic_block, DW_LNS_const_add_pc}
-use Rattle.gimli_line.specs.LineNumbers.{DW_LNS_fixed_advance_pc, DW_LNS_set_prologue_end}
-use Rattle.gimli_line.specs.LineNumbers.{DW_LNS_set_epilogue_begin, DW_LNS_set_isa}
-use Rattle.gimli_line.specs.LineNumbers.{DW_LNE_end_sequence, DW_LNE_set_address}
-use Rattle.gimli_line.specs.LineNumbers.{DW_LNE_define_file, DW_LNE_set_discriminator}
-use Rattle.gimli_line.specs.run.Instruction.{Ins}
-use Rattle.gimli_line.specs.header.File.{File}
-use Rattle.gimli_line.specs.header.Header.{Header}
-use Rattle.gimli_line.specs.header.HeaderGrammar.{file_production}
-use Rattle.gimli_line.specs.header.Productions.{bytes_of, operand_of}
+use specs.LineNumbers.{
+  DW_LNS_copy,
+  DW_LNS_advance_pc,
+  DW_LNS_advance_line,
+  DW_LNS_set_file,
+  DW_LNS_set_column,
+  DW_LNS_negate_stmt,
+  DW_LNS_set_basic_block,
+  DW_LNS_const_add_pc,
+  DW_LNS_fixed_advance_pc,
+  DW_LNS_set_prologue_end,
+  DW_LNS_set_epilogue_begin,
+  DW_LNS_set_isa,
+  DW_LNE_end_sequence,
+  DW_LNE_set_address,
+  DW_LNE_define_file,
+  DW_LNE_set_discriminator,
+}
+use specs.run.Instruction.{Ins}
+use specs.header.File.{File}
+use specs.header.Header.{Header}
+use specs.header.HeaderGrammar.{file_production}
+use specs.header.Productions.{bytes_of, operand_of}
 
 -- ---- opcodes and their operands
 

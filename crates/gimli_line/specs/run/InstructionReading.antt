@@ -1,25 +1,33 @@
 -- What is taken of instructions, and what is left; and the instructions of a whole program.
 use Rattle.std.specs.Prelude.{◌-◌, ◌∷◌, if◌then◌else◌}
-use Rattle.gimli_line.specs.Prelude
+use Rattle.gimli_line.specs
+use specs.Prelude
 use Prelude.{ℕ, zero, suc, List, [], length, take, nat_eq, nat_le, Option, Some, None, Ok, Err}
-use Prelude.{slice_index}
-use Prelude.{OrderAndLimit, Read, ◌>>=◌, byte_at, split_at, text_at, number_at, unsigned_at}
-use Prelude.{signed_at, times_at}
-use Prelude.{within_at, Error}
-use Rattle.gimli_line.specs.declared.run.instruction.LineInstruction.TheVariants.{
+use Prelude.{slice_index, OrderAndLimit, Read, ◌>>=◌, byte_at, split_at, text_at, number_at}
+use Prelude.{unsigned_at, signed_at, times_at, within_at, Error}
+use specs.declared.run.instruction.LineInstruction.TheVariants.{
   Special,
   UnknownStandard0,
   UnknownStandard1,
   UnknownStandardN,
   UnknownExtended,
 }
-use Rattle.gimli_line.specs.run.Instruction.{Ins}
-use Rattle.gimli_line.specs.header.Header.{Header}
-use Rattle.gimli_line.specs.header.Productions.{operand_of}
-use Rattle.gimli_line.specs.header.FormReading.{offset_at}
-use Rattle.gimli_line.specs.header.HeaderReading.{plain_file_at}
-use Rattle.gimli_line.specs.run.InstructionGrammar.{Operand, none, uleb, sleb, uhalf, address, file}
-use Rattle.gimli_line.specs.run.InstructionGrammar.{standard_opcodes, extended_opcodes}
+use specs.run.Instruction.{Ins}
+use specs.header.Header.{Header}
+use specs.header.Productions.{operand_of}
+use specs.header.FormReading.{offset_at}
+use specs.header.HeaderReading.{plain_file_at}
+use specs.run.InstructionGrammar.{
+  Operand,
+  none,
+  uleb,
+  sleb,
+  uhalf,
+  address,
+  file,
+  standard_opcodes,
+  extended_opcodes,
+}
 
 -- the bytes that are taken, in place of the value
 abbrev pub bytes_at : {A : Type 0} → (List ℕ → Read A) → List ℕ → Read (List ℕ)

@@ -1,9 +1,9 @@
 -- The line machine: one register record, and what an instruction does to it (DWARF 5, sections
 -- 6.2.2 and 6.2.5).
 use Rattle.std.specs.Prelude.{◌≤◌, ◌&&◌, ◌||◌, if◌then◌else◌, ◌∷◌, ◌++◌}
-use Rattle.gimli_line.specs.Prelude.{Bool, true, false, not, List, [], Option, Some, None, Error}
-use Rattle.gimli_line.specs.Prelude.{AddressOverflow}
-use Rattle.gimli_line.specs.declared.run.instruction.LineInstruction.TheVariants.{
+use Rattle.gimli_line.specs
+use specs.Prelude.{Bool, true, false, not, List, [], Option, Some, None, Error, AddressOverflow}
+use specs.declared.run.instruction.LineInstruction.TheVariants.{
   Special,
   AdvancePc,
   AdvanceLine,
@@ -20,15 +20,28 @@ use Rattle.gimli_line.specs.declared.run.instruction.LineInstruction.TheVariants
   SetAddress,
   SetDiscriminator,
 }
-use Rattle.gimli_line.specs.declared.run.row.LineRow.{LineRow}
-use Rattle.gimli_line.specs.header.Parameters.{Parameters}
-use Rattle.gimli_line.specs.header.File.{File}
-use Rattle.gimli_line.specs.run.Instruction.{Ins, makes_row, files_after}
-use Rattle.gimli_line.specs.run.Registers.{line_advance, advanced_line}
-use Rattle.gimli_line.specs.run.OperationPointer.{OperationPointer, next_pointer, target_pointer}
-use Rattle.gimli_line.specs.run.OperationPointer.{is_too_large, is_tombstone}
-use Rattle.gimli_line.specs.run.Events.{Event, row, fault, end_events, EventWithFiles, with_files}
-use Rattle.gimli_line.specs.run.Events.{given_of, events_of}
+use specs.declared.run.row.LineRow.{LineRow}
+use specs.header.Parameters.{Parameters}
+use specs.header.File.{File}
+use specs.run.Instruction.{Ins, makes_row, files_after}
+use specs.run.Registers.{line_advance, advanced_line}
+use specs.run.OperationPointer.{
+  OperationPointer,
+  next_pointer,
+  target_pointer,
+  is_too_large,
+  is_tombstone,
+}
+use specs.run.Events.{
+  Event,
+  row,
+  fault,
+  end_events,
+  EventWithFiles,
+  with_files,
+  given_of,
+  events_of,
+}
 
 -- the registers at the start of a sequence
 abbrev pub initial : Parameters → LineRow

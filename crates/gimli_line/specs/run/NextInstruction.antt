@@ -1,10 +1,11 @@
 -- What is taken of the instructions that are still to come (DWARF 5, section 6.2.5).
 use Rattle.std.specs.Prelude.{◌≡◌, ◌≢◌, ◌++◌}
-use Rattle.gimli_line.specs.Prelude.{ℕ, List, [], Option, Some, None, Error}
-use Rattle.gimli_line.specs.header.Header.{Header}
-use Rattle.gimli_line.specs.run.Instruction.{Ins}
-use Rattle.gimli_line.specs.run.InstructionGrammar.{SpellsInstruction, instruction_production}
-use Rattle.gimli_line.specs.run.Unread.{Unread}
+use Rattle.gimli_line.specs
+use specs.Prelude.{ℕ, List, [], Option, Some, None, Error}
+use specs.header.Header.{Header}
+use specs.run.Instruction.{Ins}
+use specs.run.InstructionGrammar.{SpellsInstruction, instruction_production}
+use specs.run.Unread.{Unread}
 
 -- a spelling of the instruction is taken from the front; or there is none, since no bytes are left
 abbrev pub TakesNext : Header → Unread → Unread → Option Ins → Type 0

@@ -1,8 +1,9 @@
 -- Row addresses within a sequence.
 use Rattle.std.specs.Prelude.{◌≡◌, ◌≤◌, ◌∷◌}
-use Rattle.gimli_line.specs.Prelude.{ℕ, false, List, []}
-use Rattle.gimli_line.specs.run.Instruction.{Ins, is_end}
-use Rattle.gimli_line.specs.run.Events.{Event, row, fault}
+use Rattle.gimli_line.specs
+use specs.Prelude.{ℕ, false, List, []}
+use specs.run.Instruction.{Ins, is_end}
+use specs.run.Events.{Event, row, fault}
 
 -- no row has an address below the one before it, nor the first below `low`
 abbrev pub NeverBelow : ℕ → List Event → Type 0

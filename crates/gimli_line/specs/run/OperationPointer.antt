@@ -3,9 +3,10 @@
 -- a linker that drops code leaves its rows in the program, at an address that stands for nothing.
 -- The past of a point is the list of the instructions before it, the nearest first.
 use Rattle.std.specs.Prelude.{◌+◌, ◌-◌, ◌*◌, ◌/◌, ◌%◌, ◌^◌, ◌||◌, ◌&&◌, if◌then◌else◌, ◌∷◌}
-use Rattle.gimli_line.specs.Prelude
+use Rattle.gimli_line.specs
+use specs.Prelude
 use Prelude.{ℕ, Bool, false, not, nat_lt, nat_le, nat_eq, List, [], Option, Some, None, option_map}
-use Rattle.gimli_line.specs.declared.run.instruction.LineInstruction.TheVariants.{
+use specs.declared.run.instruction.LineInstruction.TheVariants.{
   Special,
   AdvancePc,
   ConstAddPc,
@@ -13,8 +14,8 @@ use Rattle.gimli_line.specs.declared.run.instruction.LineInstruction.TheVariants
   EndSequence,
   SetAddress,
 }
-use Rattle.gimli_line.specs.header.Parameters.{Parameters}
-use Rattle.gimli_line.specs.run.Instruction.{Ins, makes_row}
+use specs.header.Parameters.{Parameters}
+use specs.run.Instruction.{Ins, makes_row}
 
 pub record OperationPointer : Type 0 where
   pub address : ℕ

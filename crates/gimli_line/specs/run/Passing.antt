@@ -1,15 +1,16 @@
 -- What a run passes over on its way.
 use Rattle.std.specs.Prelude.{◌≡◌, ◌∷◌, ◌++◌}
-use Rattle.gimli_line.specs.Prelude.{Bool, List, [], ℕ}
+use Rattle.gimli_line.specs
+use specs.Prelude.{Bool, List, [], ℕ}
 use Rattle.gimli_core.specs.Production.{Each}
-use Rattle.gimli_line.specs.declared.run.row.LineRow.{LineRow}
-use Rattle.gimli_line.specs.header.Parameters.{Parameters}
-use Rattle.gimli_line.specs.run.Instruction.{Ins, files_after}
-use Rattle.gimli_line.specs.header.File.{File}
-use Rattle.gimli_line.specs.run.InstructionGrammar.{SpellsInstruction}
-use Rattle.gimli_line.specs.run.Events.{Event}
-use Rattle.gimli_line.specs.run.Machine.{reset_row, next_registers, run}
-use Rattle.gimli_line.specs.run.RunState.{RunState}
+use specs.declared.run.row.LineRow.{LineRow}
+use specs.header.Parameters.{Parameters}
+use specs.run.Instruction.{Ins, files_after}
+use specs.header.File.{File}
+use specs.run.InstructionGrammar.{SpellsInstruction}
+use specs.run.Events.{Event}
+use specs.run.Machine.{reset_row, next_registers, run}
+use specs.run.RunState.{RunState}
 
 -- the registers after these instructions, from these on
 abbrev pub registers_from : Parameters → LineRow → List Ins → LineRow

@@ -2,9 +2,9 @@
 -- (DWARF 5, sections 6.2.2 and 6.2.5). The past of a point is the list of the instructions before
 -- it, the nearest first.
 use Rattle.std.specs.Prelude.{◌+◌, ◌-◌, ◌%◌, ◌^◌, if◌then◌else◌, ◌∷◌, ◌+ℤ◌}
-use Rattle.gimli_line.specs.Prelude.{ℕ, suc, Bool, true, false, not, List, [], Option, Some, None}
-use Rattle.gimli_line.specs.Prelude.{ℤ, pos, negsuc}
-use Rattle.gimli_line.specs.declared.run.instruction.LineInstruction.TheVariants.{
+use Rattle.gimli_line.specs
+use specs.Prelude.{ℕ, suc, Bool, true, false, not, List, [], Option, Some, None, ℤ, pos, negsuc}
+use specs.declared.run.instruction.LineInstruction.TheVariants.{
   Special,
   AdvanceLine,
   SetFile,
@@ -16,8 +16,8 @@ use Rattle.gimli_line.specs.declared.run.instruction.LineInstruction.TheVariants
   SetIsa,
   SetDiscriminator,
 }
-use Rattle.gimli_line.specs.header.Parameters.{Parameters}
-use Rattle.gimli_line.specs.run.Instruction.{Ins, is_end}
+use specs.header.Parameters.{Parameters}
+use specs.run.Instruction.{Ins, is_end}
 
 -- the sequence of a point: the instructions after the last end
 abbrev pub sequence : List Ins → List Ins

@@ -1,8 +1,9 @@
 -- The column of a row.
-use Rattle.gimli_line.specs.Prelude.{ℕ}
+use Rattle.gimli_line.specs
+use specs.Prelude.{ℕ}
 use Rattle.std.specs.Int.NonZero.{non_zero_u64_get}
-use Rattle.gimli_line.specs.declared.run.row.ColumnType.{ColumnType}
-use Rattle.gimli_line.specs.declared.run.row.ColumnType.TheVariants.{LeftEdge, Column}
+use specs.declared.run.row.ColumnType.{ColumnType}
+use specs.declared.run.row.ColumnType.TheVariants.{LeftEdge, Column}
 
 -- the left edge stands for 0, a column for its number
 abbrev pub column_number : ColumnType → ℕ

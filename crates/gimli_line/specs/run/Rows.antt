@@ -1,22 +1,22 @@
 -- What a row iterator still makes and gives.
 use Rattle.std.specs.Prelude.{◌≡◌, ◌≢◌, ◌⊎◌, ◌∷◌, ◌++◌}
-use Rattle.gimli_line.specs.Prelude
+use Rattle.gimli_line.specs
+use specs.Prelude
 use Prelude.{ℕ, Bool, true, false, List, [], All, Option, Some, None, Result, Ok, Err, Error}
-use Prelude.{AddressOverflow}
-use Prelude.{OutOfMemory}
+use Prelude.{AddressOverflow, OutOfMemory}
 use Rattle.std.specs.Borrow.{Bor}
-use Rattle.gimli_line.specs.declared.run.row.LineRow.{LineRow}
-use Rattle.gimli_line.specs.header.File.{File}
-use Rattle.gimli_line.specs.header.Header.{Header, SeenHeader, without_files}
-use Rattle.gimli_line.specs.header.Orders.{HeaderSource, source_of, AreOneOrder, KeepsSource}
-use Rattle.gimli_line.specs.run.Instruction.{Ins, defines_file}
-use Rattle.gimli_line.specs.run.InstructionGrammar.{SpellsInstruction}
-use Rattle.gimli_line.specs.run.InstructionReading.{decoded_at}
-use Rattle.gimli_line.specs.run.Events.{Event, row, fault, EventWithFiles, given_of}
-use Rattle.gimli_line.specs.run.Machine.{initial, made_from}
-use Rattle.gimli_line.specs.run.Unread.{Unread, whole_program}
-use Rattle.gimli_line.specs.run.RunState.{RunState}
-use Rattle.gimli_line.specs.run.Passing.{with_reset_row, files_from, PassesOver}
+use specs.declared.run.row.LineRow.{LineRow}
+use specs.header.File.{File}
+use specs.header.Header.{Header, SeenHeader, without_files}
+use specs.header.Orders.{HeaderSource, source_of, AreOneOrder, KeepsSource}
+use specs.run.Instruction.{Ins, defines_file}
+use specs.run.InstructionGrammar.{SpellsInstruction}
+use specs.run.InstructionReading.{decoded_at}
+use specs.run.Events.{Event, row, fault, EventWithFiles, given_of}
+use specs.run.Machine.{initial, made_from}
+use specs.run.Unread.{Unread, whole_program}
+use specs.run.RunState.{RunState}
+use specs.run.Passing.{with_reset_row, files_from, PassesOver}
 
 -- ---- what is still to come
 
@@ -41,8 +41,7 @@ events_left a = live_events (with_reset_row a)
 
 -- the files after the last instruction that is still to come
 abbrev pub files_at_end : RunState → List File
-files_at_end a =
-    files_from a.appends a.files (decoded_at a.unread.layout a.fixed a.unread.bytes).0
+files_at_end a = files_from a.appends a.files (decoded_at a.unread.layout a.fixed a.unread.bytes).0
 
 -- an event, and the files that the header has then
 abbrev pub event_of : Event → RunState → EventWithFiles

@@ -1,10 +1,11 @@
 -- What a row iterator is, for its callers.
-use Rattle.gimli_line.specs.Prelude.{Bool, List}
-use Rattle.gimli_line.specs.declared.run.row.LineRow.{LineRow}
-use Rattle.gimli_line.specs.header.Header.{Header}
-use Rattle.gimli_line.specs.header.File.{File}
-use Rattle.gimli_line.specs.header.Orders.{HeaderSource}
-use Rattle.gimli_line.specs.run.Unread.{Unread}
+use Rattle.gimli_line.specs
+use specs.Prelude.{Bool, List}
+use specs.declared.run.row.LineRow.{LineRow}
+use specs.header.Header.{Header}
+use specs.header.File.{File}
+use specs.header.Orders.{HeaderSource}
+use specs.run.Unread.{Unread}
 
 pub record RunState : Type 0 where
   -- the header without its files, and these

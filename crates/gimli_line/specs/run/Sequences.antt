@@ -8,8 +8,16 @@ use Rattle.gimli_line.specs.declared.run.sequences.LineSequence.{LineSequence}
 use Rattle.gimli_line.specs.header.Header.{Header}
 use Rattle.gimli_line.specs.run.Instruction.{Ins}
 use Rattle.gimli_line.specs.run.InstructionGrammar.{Decodes}
-use Rattle.gimli_line.specs.run.Events.{Event, row, fault, Events, program_events, defined_files}
-use Rattle.gimli_line.specs.run.Events.{past_at_end, through_last_end}
+use Rattle.gimli_line.specs.run.Events.{
+  Event,
+  row,
+  fault,
+  Events,
+  program_events,
+  defined_files,
+  past_at_end,
+  through_last_end,
+}
 pub use Rattle.gimli_line.specs.run.Events.{events_of}
 use Rattle.gimli_line.specs.run.Unread.{Unread}
 

@@ -1,10 +1,11 @@
 -- What rows that start with the header of a program and with instructions give.
-use Rattle.gimli_line.specs.Prelude.{Bool}
-use Rattle.gimli_line.specs.header.Header.{Header}
-use Rattle.gimli_line.specs.run.Unread.{Unread}
-use Rattle.gimli_line.specs.run.RunState.{RunState}
-use Rattle.gimli_line.specs.run.Rows.{events_left, files_at_end}
-use Rattle.gimli_line.specs.run.EventsWithFiles.{EventsWithFiles, FilesAtEnd}
+use Rattle.gimli_line.specs
+use specs.Prelude.{Bool}
+use specs.header.Header.{Header}
+use specs.run.Unread.{Unread}
+use specs.run.RunState.{RunState}
+use specs.run.Rows.{events_left, files_at_end}
+use specs.run.EventsWithFiles.{EventsWithFiles, FilesAtEnd}
 
 -- the events to come are those of the instructions, with the files of the header at each
 abbrev pub GivesEvents : Bool → Header → Unread → RunState → Type 0

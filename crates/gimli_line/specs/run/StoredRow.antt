@@ -1,8 +1,9 @@
 -- A row as a list of rows keeps it.
-use Rattle.gimli_line.specs.declared.run.row.LineRow.{LineRow}
-use Rattle.gimli_line.specs.declared.run.row_list.NarrowRow.{NarrowRow}
-use Rattle.gimli_line.specs.declared.run.row_list.StoredRow.{StoredRow}
-use Rattle.gimli_line.specs.declared.run.row_list.StoredRow.TheVariants.{Narrow, Wide}
+use Rattle.gimli_line.specs
+use specs.declared.run.row.LineRow.{LineRow}
+use specs.declared.run.row_list.NarrowRow.{NarrowRow}
+use specs.declared.run.row_list.StoredRow.{StoredRow}
+use specs.declared.run.row_list.StoredRow.TheVariants.{Narrow, Wide}
 
 -- the row that has these numbers
 abbrev pub row_of_narrow : NarrowRow → LineRow

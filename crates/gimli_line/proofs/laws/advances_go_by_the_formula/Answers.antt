@@ -9,9 +9,7 @@ one_operation : (address op_index n minimum : ℕ) → n < 2 ^ 64 → op_index <
       address = address + minimum * ((op_index + n) % 2 ^ 64 / 1) % 2 ^ 64;
       op_index = (op_index + n) % 2 ^ 64 % 1;
     }
-one_operation address op_index n minimum short within =
-    grind arith
+one_operation address op_index n minimum short within = grind arith
 
 pub returns : goal.returns
-returns c parameters n p short within =
-    grind arith
+returns c parameters n p short within = grind arith

@@ -1,7 +1,8 @@
 use Rattle.std.specs.Prelude.{◌≡◌}
-use Rattle.gimli_line.proofs.Common.{refl, unsigned_Decides, FileEntry}
-use Rattle.gimli_line.proofs.Equality.{both, whole}
-use Rattle.gimli_line.proofs.laws.equal_files_are_same.Goals as goal
+use Rattle.gimli_line.proofs
+use proofs.Common.{refl, unsigned_Decides, FileEntry}
+use proofs.Equality.{both, whole}
+use proofs.laws.equal_files_are_same.Goals as goal
 
 module _ {R Offset Endian : Type 0} where
   -- a file of these parts
@@ -34,6 +35,6 @@ returns g c readers offsets x y =
     let source = c.equal_sources_are_same.ensures readers offsets x.source y.source in
     let md5 = c.equal_digests_are_same.ensures x.md5 y.md5 in
     whole
-    (both path (both (unsigned_Decides x.directory_index y.directory_index)
-    (both (unsigned_Decides x.timestamp y.timestamp) (both (unsigned_Decides x.size y.size) (both md5 source)))))
+    (both path (both (unsigned_Decides _ _)
+    (both (unsigned_Decides _ _) (both (unsigned_Decides _ _) (both md5 source)))))
     (joined x y) (parted x y)

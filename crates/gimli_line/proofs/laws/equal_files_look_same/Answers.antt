@@ -1,9 +1,10 @@
 use Rattle.std.specs.Prelude.{◌≡◌}
-use Rattle.gimli_line.proofs.Common
+use Rattle.gimli_line.proofs
+use proofs.Common
 use Common.{Bool, List, Option, Some, None, ℕ, refl, ap, option_map, unsigned_Decides, Value, value_by, AttributeValue}
 use Common.{File, FileOrders, file_by, FileEntry}
-use Rattle.gimli_line.proofs.Equality.{both, whole, zipped}
-use Rattle.gimli_line.proofs.laws.equal_files_look_same.Goals as goal
+use proofs.Equality.{both, whole, zipped}
+use proofs.laws.equal_files_look_same.Goals as goal
 
 -- a file as it is seen, of its parts as they are seen
 abbrev seen_of : Value × Option Bool → ℕ → ℕ → ℕ → List ℕ → Option (Value × Option Bool) → File × FileOrders
@@ -28,8 +29,7 @@ module _ {R Offset Endian : Type 0} (bytes : R → List ℕ) (is_big : R → Boo
   by = value_by bytes is_big number
 
   abbrev SameParts : (x y : FileEntry R Offset Endian) → Type 0
-  SameParts x y =
-      (by x.path_name ≡ by y.path_name)
+  SameParts x y = (by x.path_name ≡ by y.path_name)
       × ((x.directory_index ≡ y.directory_index)
       × ((x.timestamp ≡ y.timestamp)
       × ((x.size ≡ y.size) × ((x.md5 ≡ y.md5) × (option_map by x.source ≡ option_map by y.source)))))
@@ -43,9 +43,9 @@ module _ {R Offset Endian : Type 0} (bytes : R → List ℕ) (is_big : R → Boo
   joined : (x y : FileEntry R Offset Endian) → SameParts x y
       → file_by bytes is_big number x ≡ file_by bytes is_big number y
   joined x y p = rw (← rebuilt x x.source refl, ← rebuilt y y.source refl)
-      (same (by x.path_name) (by y.path_name) p.0 x.directory_index y.directory_index p.1.0 x.timestamp y.timestamp
-      p.1.1.0 x.size y.size p.1.1.1.0 x.md5 y.md5
-      p.1.1.1.1.0 (option_map by x.source) (option_map by y.source) p.1.1.1.1.1)
+      (same _ _ p.0 _ _ p.1.0 _ _
+      p.1.1.0 _ _ p.1.1.1.0 _ _
+      p.1.1.1.1.0 _ _ p.1.1.1.1.1)
 
   sources : (s : Option (AttributeValue R Offset Endian))
       → zipped (option_map (λ v. (by v).0) s) (option_map (λ v. (by v).1) s) ≡ option_map by s
@@ -57,15 +57,15 @@ module _ {R Offset Endian : Type 0} (bytes : R → List ℕ) (is_big : R → Boo
   parted x y e =
       let source : zipped (file_by bytes is_big number x).0.source (file_by bytes is_big number x).1.1
       ≡ zipped (file_by bytes is_big number y).0.source (file_by bytes is_big number y).1.1 = ap
-      (λ (z : File × FileOrders). zipped z.0.source z.1.1) e in (
-        ap (λ (z : File × FileOrders). (z.0.path_name, z.1.0)) e,
+      (λ z. zipped z.0.source z.1.1) e in (
+        ap (λ z. (z.0.path_name, z.1.0)) e,
         (
-          ap (λ (z : File × FileOrders). z.0.directory_index) e,
+          ap (λ z. z.0.directory_index) e,
           (
-            ap (λ (z : File × FileOrders). z.0.timestamp) e,
+            ap (λ z. z.0.timestamp) e,
             (
-              ap (λ (z : File × FileOrders). z.0.size) e,
-              (ap (λ (z : File × FileOrders). z.0.md5) e, rw (← sources x.source, ← sources y.source) source),
+              ap (λ z. z.0.size) e,
+              (ap (λ z. z.0.md5) e, rw (← sources x.source, ← sources y.source) source),
             ),
           ),
         ),

@@ -1,7 +1,8 @@
-use Rattle.gimli_line.proofs.Common.{refl, ap, unsigned_Decides, slice_eq-Decides, DebugLineOffset}
-use Rattle.gimli_line.proofs.Equality.{both, whole, options}
-use Rattle.gimli_line.proofs.HeaderParts.{joined_parameters, parted_parameters, joined_offset, joined, parted}
-use Rattle.gimli_line.proofs.laws.equal_headers_are_same.Goals as goal
+use Rattle.gimli_line.proofs
+use proofs.Common.{refl, ap, unsigned_Decides, slice_eq-Decides, DebugLineOffset}
+use proofs.Equality.{both, whole, options}
+use proofs.HeaderParts.{joined_parameters, parted_parameters, joined_offset, joined, parted}
+use proofs.laws.equal_headers_are_same.Goals as goal
 
 pub returns : goal.returns
 returns g c readers offsets x y =
@@ -9,22 +10,19 @@ returns g c readers offsets x y =
     let files = c.equal_files_are_same.ensures readers offsets in
     let formats = c.equal_parts_are_same.ensures.formats in
     let encodings = c.equal_encodings_are_same.ensures in
-    let parameters =
-    whole
+    let parameters = whole
     (both (encodings.encodings x.parameters.encoding y.parameters.encoding)
     (both (encodings.encodings_of_rows x.parameters.line_encoding y.parameters.line_encoding)
-    (unsigned_Decides x.parameters.opcode_base y.parameters.opcode_base)))
+    (unsigned_Decides _ _)))
     (joined_parameters x.parameters y.parameters) (parted_parameters x.parameters y.parameters) in
-    let offset =
-    whole (offsets x.offset.0 y.offset.0) (joined_offset x.offset y.offset)
+    let offset = whole (offsets x.offset.0 y.offset.0) (joined_offset x.offset y.offset)
     (ap (λ (o : DebugLineOffset g.row.R-Offset.Denot). o.0)) in
     let directory_formats =
     slice_eq-Decides formats x.directory_entry_format.items y.directory_entry_format.items _ refl in
     let directories = slice_eq-Decides values x.include_directories.items y.include_directories.items _ refl in
     let file_formats = slice_eq-Decides formats x.file_name_entry_format.items y.file_name_entry_format.items _ refl in
     let files_same = slice_eq-Decides files x.file_names.items y.file_names.items _ refl in
-    let lists =
-    both directory_formats (both directories (both file_formats (both files_same
+    let lists = both directory_formats (both directories (both file_formats (both files_same
     (both (readers x.program_buf y.program_buf)
     (both (options readers x.comp_dir y.comp_dir) (options files x.comp_file y.comp_file)))))) in
     whole

@@ -1,7 +1,8 @@
 use Rattle.std.specs.Prelude.{◌≡◌}
-use Rattle.gimli_line.proofs.Common.{refl, unsigned_Decides, booleans_Decides, LineRow}
-use Rattle.gimli_line.proofs.Equality.{both, whole}
-use Rattle.gimli_line.proofs.laws.equal_parts_are_same.Goals as goal
+use Rattle.gimli_line.proofs
+use proofs.Common.{refl, unsigned_Decides, booleans_Decides, LineRow}
+use proofs.Equality.{both, whole}
+use proofs.laws.equal_parts_are_same.Goals as goal
 
 -- a row of these parts
 abbrev rebuilt : LineRow → LineRow
@@ -22,8 +23,7 @@ rebuilt r = record {
 }
 
 pub returns-clause-rows : goal.returns-clause-rows
-returns-clause-rows c x y =
-    whole
+returns-clause-rows c x y = whole
     (both (booleans_Decides x.tombstone y.tombstone) (both (unsigned_Decides x.address y.address)
     (both (unsigned_Decides x.op_index y.op_index)
     (both (unsigned_Decides x.file y.file) (both (unsigned_Decides x.line y.line)

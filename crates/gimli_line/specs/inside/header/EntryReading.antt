@@ -1,14 +1,21 @@
 -- What is taken of an entry of version 5, value by value.
 use Rattle.std.specs.Prelude.{if◌then◌else◌, ◌∷◌}
-use Rattle.gimli_line.specs.Prelude
+use Rattle.gimli_line.specs
+use specs.Prelude
 use Prelude.{ℕ, nat_eq, List, [], Option, Some, None, Ok, OrderAndLimit, Value, udata_value, Read}
 use Prelude.{◌>>=◌, Format}
-use Rattle.gimli_line.specs.LineNumbers.{DW_LNCT_path, DW_LNCT_directory_index, DW_LNCT_timestamp}
-use Rattle.gimli_line.specs.LineNumbers.{DW_LNCT_size, DW_LNCT_MD5, DW_LNCT_LLVM_source}
-use Rattle.gimli_line.specs.header.File.{File}
-use Rattle.gimli_line.specs.header.HeaderGrammar.{TableEntry, digest}
-use Rattle.gimli_line.specs.inside.header.FormReading.{form_at}
-use Rattle.gimli_line.specs.declared.header.file_entry.FileEntryFormat.{FileEntryFormat}
+use specs.LineNumbers.{
+  DW_LNCT_path,
+  DW_LNCT_directory_index,
+  DW_LNCT_timestamp,
+  DW_LNCT_size,
+  DW_LNCT_MD5,
+  DW_LNCT_LLVM_source,
+}
+use specs.header.File.{File}
+use specs.header.HeaderGrammar.{TableEntry, digest}
+use specs.inside.header.FormReading.{form_at}
+use specs.declared.header.file_entry.FileEntryFormat.{FileEntryFormat}
 
 -- what a value of this content type makes of what stood before
 abbrev pub value_after : {A : Type 0} → ℕ → (Value → Option A) → ℕ → Value → A → A

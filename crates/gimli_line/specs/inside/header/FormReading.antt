@@ -1,11 +1,23 @@
 -- What is taken of the values of tables of version 5, and what is left.
 use Rattle.gimli_line.specs.Prelude
 use Prelude.{ℕ, List, drop, Some, None, Ok, Err, OrderAndLimit, Value, Read, ◌>>=◌, split_at}
-use Prelude.{text_at, number_at}
-use Prelude.{unsigned_at, signed_at, word_at, Format, UnknownForm, Block, String}
-use Rattle.gimli_core.specs.Form.{Shape, fixed, three_bytes, word_offset, leb, signed_leb}
-use Rattle.gimli_core.specs.Form.{leb_offset, block, counted, leb_counted, string, shape_among}
-use Rattle.gimli_core.specs.Form.{shapes}
+use Prelude.{text_at, number_at, unsigned_at, signed_at, word_at, Format, UnknownForm, Block}
+use Prelude.{String}
+use Rattle.gimli_core.specs.Form.{
+  Shape,
+  fixed,
+  three_bytes,
+  word_offset,
+  leb,
+  signed_leb,
+  leb_offset,
+  block,
+  counted,
+  leb_counted,
+  string,
+  shape_among,
+  shapes,
+}
 use Rattle.gimli_line.specs.header.FormReading.{offset_at}
 
 -- that many bytes, as a block

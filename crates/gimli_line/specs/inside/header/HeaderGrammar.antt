@@ -1,13 +1,10 @@
 -- How the header of a unit is spelled, production by production, and which refusal comes where a
 -- production isn't there (DWARF 5, section 6.2.4; DWARF 4, section 6.2.4).
-use Rattle.gimli_line.specs.Prelude.{ℕ, List}
-use Rattle.gimli_line.specs.header.File.{File}
-use Rattle.gimli_line.specs.declared.header.file_entry.FileEntryFormat.{FileEntryFormat}
-use Rattle.gimli_line.specs.header.HeaderGrammar.{
-  paths_production,
-  files_production,
-  formats_production,
-}
+use Rattle.gimli_line.specs
+use specs.Prelude.{ℕ, List}
+use specs.header.File.{File}
+use specs.declared.header.file_entry.FileEntryFormat.{FileEntryFormat}
+use specs.header.HeaderGrammar.{paths_production, files_production, formats_production}
 
 -- texts that aren't empty, closed by an empty one
 abbrev pub SpellsPaths : List ℕ → List (List ℕ) → Type 0

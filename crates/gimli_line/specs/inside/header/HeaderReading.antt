@@ -1,27 +1,31 @@
 -- What is taken of a header, step by step, and what is left.
 use Rattle.std.specs.Prelude.{◌-◌, ◌∷◌, ◌&&◌, if◌then◌else◌}
-use Rattle.gimli_line.specs.Prelude
+use Rattle.gimli_line.specs
+use specs.Prelude
 use Prelude.{ℕ, List, [], map, min, count_by, Bool, not, nat_eq, nat_le, option_map, Ok, Err}
-use Prelude.{OrderAndLimit, Value}
-use Prelude.{Read, ◌>>=◌, byte_at, split_at, text_at, number_at, unsigned_at, unsigned_16_at}
-use Prelude.{word_at}
-use Prelude.{initial_length_at, address_size_at, times_at, within_at, Encoding, LineEncoding}
-use Prelude.{Format, String, Error}
-use Prelude.{UnknownVersion, UnsupportedSegmentSize, MinimumInstructionLengthZero}
-use Prelude.{MaximumOperationsPerInstructionZero}
-use Prelude.{LineRangeZero, OpcodeBaseZero, MissingFileEntryFormatPath}
+use Prelude.{OrderAndLimit, Value, Read, ◌>>=◌, byte_at, split_at, text_at, number_at, unsigned_at}
+use Prelude.{unsigned_16_at, word_at, initial_length_at, address_size_at, times_at, within_at}
+use Prelude.{Encoding, LineEncoding, Format, String, Error, UnknownVersion, UnsupportedSegmentSize}
+use Prelude.{MinimumInstructionLengthZero, MaximumOperationsPerInstructionZero, LineRangeZero}
+use Prelude.{OpcodeBaseZero, MissingFileEntryFormatPath}
 use Rattle.std.specs.Int.{w8, cast_signed}
-use Rattle.gimli_line.specs.header.Parameters.{Parameters}
-use Rattle.gimli_line.specs.header.File.{File}
-use Rattle.gimli_line.specs.header.Header.{Header, UnitEntry, plain_file}
-use Rattle.gimli_line.specs.inside.header.Outcome.{read_map}
-use Rattle.gimli_line.specs.inside.header.TableReading.{list_to_zero_at}
-use Rattle.gimli_line.specs.inside.header.FormReading.{form_at}
-use Rattle.gimli_line.specs.LineNumbers.{DW_LNCT_path}
-use Rattle.gimli_line.specs.header.HeaderGrammar.{TableEntry, is_content, path_of, file_of_entry}
-use Rattle.gimli_line.specs.header.HeaderGrammar.{HeaderOpening, handed_value}
-use Rattle.gimli_line.specs.declared.header.file_entry.FileEntryFormat.{FileEntryFormat}
-use Rattle.gimli_line.specs.header.HeaderReading.{plain_file_at}
+use specs.header.Parameters.{Parameters}
+use specs.header.File.{File}
+use specs.header.Header.{Header, UnitEntry, plain_file}
+use specs.inside.header.Outcome.{read_map}
+use specs.inside.header.TableReading.{list_to_zero_at}
+use specs.inside.header.FormReading.{form_at}
+use specs.LineNumbers.{DW_LNCT_path}
+use specs.header.HeaderGrammar.{
+  TableEntry,
+  is_content,
+  path_of,
+  file_of_entry,
+  HeaderOpening,
+  handed_value,
+}
+use specs.declared.header.file_entry.FileEntryFormat.{FileEntryFormat}
+use specs.header.HeaderReading.{plain_file_at}
 
 -- a byte that isn't 0
 unfoldable pub positive_at : Error → List ℕ → Read ℕ

@@ -1,7 +1,19 @@
 -- What a call returns of what is read.
 use Rattle.std.specs.Prelude.{◌≡◌, ◌≢◌}
-use Rattle.gimli_line.specs.Prelude.{ℕ, List, map, Result, Ok, Err, Vec, Global, Read, ◌>>=◌, Error}
-use Rattle.gimli_line.specs.Prelude.{OutOfMemory}
+use Rattle.gimli_line.specs.Prelude.{
+  ℕ,
+  List,
+  map,
+  Result,
+  Ok,
+  Err,
+  Vec,
+  Global,
+  Read,
+  ◌>>=◌,
+  Error,
+  OutOfMemory,
+}
 
 -- what a call returned, its value seen by view, and the bytes that it left are what reading gives,
 -- unless memory was missing

@@ -1,7 +1,21 @@
 -- What is taken of tables that a zero byte closes, and what is left.
 use Rattle.std.specs.Prelude.{if◌then◌else◌, ◌∷◌}
-use Rattle.gimli_line.specs.Prelude.{ℕ, zero, suc, Bool, false, nat_eq, List, [], length, Ok, Err}
-use Rattle.gimli_line.specs.Prelude.{Read, ◌>>=◌, eof}
+use Rattle.gimli_line.specs.Prelude.{
+  ℕ,
+  zero,
+  suc,
+  Bool,
+  false,
+  nat_eq,
+  List,
+  [],
+  length,
+  Ok,
+  Err,
+  Read,
+  ◌>>=◌,
+  eof,
+}
 
 -- a zero byte comes next
 abbrev pub is_closed : List ℕ → Bool

@@ -1,13 +1,14 @@
 -- What one step of a row iterator does.
 use Rattle.std.specs.Prelude.{◌≡◌, ◌<◌, ◌∷◌}
-use Rattle.gimli_line.specs.Prelude.{List, [], length, IfErr, IfOk, Result, Error, filter}
-use Rattle.gimli_line.specs.declared.run.rows.RowStep.{RowStep}
-use Rattle.gimli_line.specs.declared.run.rows.RowStep.TheVariants.{Done, Made, More}
-use Rattle.gimli_line.specs.run.Events.{Event, row, is_given}
-use Rattle.gimli_line.specs.declared.run.row.LineRow.{LineRow}
-use Rattle.gimli_line.specs.run.RunState.{RunState}
-use Rattle.gimli_line.specs.run.Passing.{with_reset_row, PassesOver}
-use Rattle.gimli_line.specs.run.Rows.{event_of, live_made, made_left, FaultIs, KeepsRun}
+use Rattle.gimli_line.specs
+use specs.Prelude.{List, [], length, IfErr, IfOk, Result, Error, filter}
+use specs.declared.run.rows.RowStep.{RowStep}
+use specs.declared.run.rows.RowStep.TheVariants.{Done, Made, More}
+use specs.run.Events.{Event, row, is_given}
+use specs.declared.run.row.LineRow.{LineRow}
+use specs.run.RunState.{RunState}
+use specs.run.Passing.{with_reset_row, PassesOver}
+use specs.run.Rows.{event_of, live_made, made_left, FaultIs, KeepsRun}
 
 -- instructions were executed, and nothing came of them
 pub record ReadsOn (old new : RunState) : Type 0 where

@@ -1,11 +1,12 @@
 -- Splitting a program into sequences, row by row.
 use Rattle.std.specs.Prelude.{if◌then◌else◌, ◌∷◌, ◌++◌}
-use Rattle.gimli_line.specs.Prelude.{ℕ, List, [], Option, Some, None}
+use Rattle.gimli_line.specs
+use specs.Prelude.{ℕ, List, [], Option, Some, None}
 use Rattle.std.specs.Option.{unwrap_or}
-use Rattle.gimli_line.specs.declared.run.row.LineRow.{LineRow}
-use Rattle.gimli_line.specs.run.Unread.{Unread}
-use Rattle.gimli_line.specs.inside.run.Unread.{front_of}
-use Rattle.gimli_line.specs.run.Sequences.{Sequence}
+use specs.declared.run.row.LineRow.{LineRow}
+use specs.run.Unread.{Unread}
+use specs.inside.run.Unread.{front_of}
+use specs.run.Sequences.{Sequence}
 
 -- the sequences so far; and of the one that is open, the instructions from its start on and the
 -- address of its first row

@@ -1,6 +1,7 @@
-use Rattle.gimli_line.proofs.Common.{err_from_is_err_and}
-use Rattle.gimli_line.proofs.HeaderLaws.{reads_header, unit_answered}
-use Rattle.gimli_line.proofs.debug_line.DebugLine.program.Goals as goal
+use Rattle.gimli_line.proofs
+use proofs.Common.{err_from_is_err_and}
+use proofs.HeaderLaws.{reads_header, unit_answered}
+use proofs.debug_line.DebugLine.program.Goals as goal
 
 pub returns-in_err-header-clause-refusal : goal.returns-in_err-header-clause-refusal
 returns-in_err-header-clause-refusal g c =
@@ -9,6 +10,5 @@ returns-in_err-header-clause-refusal g c =
     (reads_header _ _).fault _ _ (c.in_err-header.ensures.read other))
 
 pub returns-clause-unit : goal.returns-clause-unit
-returns-clause-unit g c =
-    rw (← c.input_at-input.ensures.bytes, ← c.input_at-input.ensures.order)
+returns-clause-unit g c = rw (← c.input_at-input.ensures.bytes, ← c.input_at-input.ensures.order)
     (unit_answered _ _ _ _ c.in_ok-header.ensures.read)

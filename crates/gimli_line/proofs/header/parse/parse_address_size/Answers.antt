@@ -8,8 +8,8 @@ use Rattle.gimli_line.proofs.header.parse.parse_address_size.Goals as goal
 -- an address size that is read is one of the four
 known : (bytes : List ℕ) (n : ℕ) (rest : List ℕ) → (Ok n, rest) ≡ address_size_at bytes → IsTrue (is_address_size n)
 unfolding address_size_at
-known [] n rest e = let p = ap (λ (r : Read ℕ). r.0) e in absurd cc
-known (b ∷ bytes) n rest e = at_test (is_address_size b) refl (ap (λ (r : Read ℕ). r.0) e)
+known [] n rest e = let p = ap (λ r. r.0) e in absurd cc
+known (b ∷ bytes) n rest e = at_test _ refl (ap (λ r. r.0) e)
   where
     at_test : (test : Bool) → is_address_size b ≡ test → Ok n ≡ (if test then Ok b else Err (UnsupportedAddressSize b))
         → IsTrue (is_address_size n)

@@ -1,6 +1,7 @@
-use Rattle.gimli_line.proofs.Common.{◌∙◌, sym, err_from_is_err_and, format_at}
-use Rattle.gimli_line.proofs.Loops.{viewed_same, times_goes_on, times_ends}
-use Rattle.gimli_line.proofs.header.tables.parse_all_formats.Goals as goal
+use Rattle.gimli_line.proofs
+use proofs.Common.{◌∙◌, sym, err_from_is_err_and, format_at}
+use proofs.Loops.{viewed_same, times_goes_on, times_ends}
+use proofs.header.tables.parse_all_formats.Goals as goal
 
 pub returns-in_err-format-clause-read : goal.returns-in_err-format-clause-read
 returns-in_err-format-clause-read g c =
@@ -12,8 +13,7 @@ returns-in_err-format-clause-read g c =
 
 pub loop-preserved : goal.loop-preserved
 loop-preserved g c = record {
-  so_far =
-      rw c.in_ok-push.ensures.ok (times_goes_on (λ x. x) format_at _ _ c.loop.counter _ _ _ _ c.loop-test.true
+  so_far = rw c.in_ok-push.ensures.ok (times_goes_on (λ x. x) format_at _ _ c.loop.counter _ _ _ _ c.loop-test.true
       (c.in_ok-format.ensures.read ∙ sym (viewed_same (format_at (g.R.Reader.bytes c.loop.input))))
       c.loop.invariant.so_far);
   order = c.parse_format.ensures.order ∙ c.loop.invariant.order;

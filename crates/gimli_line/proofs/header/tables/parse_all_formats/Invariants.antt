@@ -1,7 +1,8 @@
 use Rattle.std.specs.Prelude.{◌≡◌, ◌-◌}
-use Rattle.gimli_line.proofs.Common.{times_at, format_at}
-use Rattle.gimli_line.proofs.Loops.{collected}
-use Rattle.gimli_line.proofs.header.tables.parse_all_formats.Given as goal
+use Rattle.gimli_line.proofs
+use proofs.Common.{times_at, format_at}
+use proofs.Loops.{collected}
+use proofs.header.tables.parse_all_formats.Given as goal
 
 abbrev pub invariant-loop : goal.invariant-loop
 invariant-loop g l = record {

@@ -1,7 +1,8 @@
 use Rattle.std.specs.Prelude.{◌≡◌}
-use Rattle.gimli_line.proofs.Common.{length, map, All, value_seen, ValueHasOrder, String, read_map, paths_at}
-use Rattle.gimli_line.proofs.Loops.{collected}
-use Rattle.gimli_line.proofs.header.tables.parse_directories.Given as goal
+use Rattle.gimli_line.proofs
+use proofs.Common.{length, map, All, value_seen, ValueHasOrder, String, read_map, paths_at}
+use proofs.Loops.{collected}
+use proofs.header.tables.parse_directories.Given as goal
 
 abbrev pub invariant-loop-directories : goal.invariant-loop-directories
 invariant-loop-directories g l = record {

@@ -1,7 +1,8 @@
-use Rattle.gimli_line.proofs.Common.{◌∙◌, map_push, err_from_is_err_and, path_of}
-use Rattle.gimli_line.proofs.Order.{values_pushed}
-use Rattle.gimli_line.proofs.Loops.{times_goes_on, times_ends, times_done, entry_kept}
-use Rattle.gimli_line.proofs.header.tables.parse_directories_v5.Goals as goal
+use Rattle.gimli_line.proofs
+use proofs.Common.{◌∙◌, map_push, err_from_is_err_and, path_of}
+use proofs.Order.{values_pushed}
+use proofs.Loops.{times_goes_on, times_ends, times_done, entry_kept}
+use proofs.header.tables.parse_directories_v5.Goals as goal
 
 pub returns-in_err-directory-clause-read : goal.returns-in_err-directory-clause-read
 returns-in_err-directory-clause-read g c =
@@ -14,7 +15,7 @@ loop-preserved g c = record {
   so_far =
       let is = entry_kept _ path_of _ _ _ _ _ _ c.loop.invariant.order c.in_ok-directory.ensures.read in
       rw (c.in_ok-push.ensures.ok, map_push)
-      (times_goes_on path_of _ _ _ c.loop.counter _ _ _ _ c.loop-test.true is c.loop.invariant.so_far);
+      (times_goes_on path_of _ _ _ _ _ _ _ _ c.loop-test.true is c.loop.invariant.so_far);
   order = c.parse_directory_v5.ensures.order ∙ c.loop.invariant.order;
   parts =
       values_pushed g.R.Reader.is_big _ _ _ _ _ c.in_ok-push.ensures.ok c.loop.invariant.order c.loop.invariant.parts
@@ -22,4 +23,4 @@ loop-preserved g c = record {
 }
 
 pub returns-clause-read : goal.returns-clause-read
-returns-clause-read g c = times_done path_of _ _ _ c.loop.counter _ _ c.loop-test.false c.loop.invariant.so_far
+returns-clause-read g c = times_done path_of _ _ _ _ _ _ c.loop-test.false c.loop.invariant.so_far

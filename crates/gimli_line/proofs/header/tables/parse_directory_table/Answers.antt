@@ -1,6 +1,7 @@
-use Rattle.gimli_line.proofs.Common.{err_from_is_err_and, path_of}
-use Rattle.gimli_line.proofs.Tables.{table_up_to_4, table_4_end, formats_end, table_from_5, table_5_end}
-use Rattle.gimli_line.proofs.header.tables.parse_directory_table.Goals as goal
+use Rattle.gimli_line.proofs
+use proofs.Common.{err_from_is_err_and, path_of}
+use proofs.Tables.{table_up_to_4, table_4_end, formats_end, table_from_5, table_5_end}
+use proofs.header.tables.parse_directory_table.Goals as goal
 
 pub returns-in_err-directories-clause-read : goal.returns-in_err-directories-clause-read
 returns-in_err-directories-clause-read g c =
@@ -19,8 +20,7 @@ returns-in_err-formats-clause-read g c =
 
 pub returns-in_err-directories-2-clause-read : goal.returns-in_err-directories-2-clause-read
 returns-in_err-directories-2-clause-read g c =
-    let p =
-    err_from_is_err_and c.from_residual-in_err-directories-2.result
+    let p = err_from_is_err_and c.from_residual-in_err-directories-2.result
     c.from_residual-in_err-directories-2.ensures.1 in
     rw (p.1, p.2) (λ other.
     table_5_end _ path_of _ _ _ _ _ _ _ _ c.if-encoding-le4.false c.in_ok-formats.ensures.read
@@ -28,7 +28,6 @@ returns-in_err-directories-2-clause-read g c =
     (c.in_err-directories-2.ensures.read other))
 
 pub returns-clause-read : goal.returns-clause-read
-returns-clause-read g c =
-    table_from_5 _ path_of _ _ _ _ _ _ _ _ c.if-encoding-le4.false c.in_ok-formats.ensures.read
+returns-clause-read g c = table_from_5 _ path_of _ _ _ _ _ _ _ _ c.if-encoding-le4.false c.in_ok-formats.ensures.read
     c.parse_formats.ensures.order c.deref.ensures.value _ _
     c.in_ok-directories-2.ensures.read

@@ -1,7 +1,8 @@
-use Rattle.gimli_line.proofs.Common.{err_from_is_err_and, file_of_entry}
-use Rattle.gimli_line.proofs.Tables.{table_up_to_4, table_4_end, formats_end, table_from_5, table_5_end}
-use Rattle.gimli_line.proofs.Order.{files_kept}
-use Rattle.gimli_line.proofs.header.tables.parse_file_table.Goals as goal
+use Rattle.gimli_line.proofs
+use proofs.Common.{err_from_is_err_and, file_of_entry}
+use proofs.Tables.{table_up_to_4, table_4_end, formats_end, table_from_5, table_5_end}
+use proofs.Order.{files_kept}
+use proofs.header.tables.parse_file_table.Goals as goal
 
 pub returns-then-encoding-le4-clause-read : goal.returns-then-encoding-le4-clause-read
 returns-then-encoding-le4-clause-read g c =
@@ -15,7 +16,7 @@ returns-clause-read g c =
 
 pub returns-clause-parts : goal.returns-clause-parts
 returns-clause-parts g c =
-    files_kept g.R.Reader.is_big _ _ _ c.parse_formats.ensures.order c.in_ok-files-2.ensures.parts
+    files_kept _ _ _ _ c.parse_formats.ensures.order c.in_ok-files-2.ensures.parts
 
 pub returns-in_err-files-clause-read : goal.returns-in_err-files-clause-read
 returns-in_err-files-clause-read g c =

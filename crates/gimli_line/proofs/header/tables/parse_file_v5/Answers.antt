@@ -1,7 +1,8 @@
-use Rattle.gimli_line.proofs.Common.{refl}
-use Rattle.gimli_line.proofs.Order.{file_kept}
-use Rattle.gimli_line.proofs.Entries.{file_is}
-use Rattle.gimli_line.proofs.header.tables.parse_file_v5.Goals as goal
+use Rattle.gimli_line.proofs
+use proofs.Common.{refl}
+use proofs.Order.{file_kept}
+use proofs.Entries.{file_is}
+use proofs.header.tables.parse_file_v5.Goals as goal
 
 pub loop-entry_format-init : goal.loop-entry_format-init
 loop-entry_format-init g c = record {

@@ -1,22 +1,23 @@
-use Rattle.gimli_line.proofs.Common.{◌∙◌, map_push, err_from_is_err_and, named_file_at}
-use Rattle.gimli_line.proofs.Order.{files_pushed}
-use Rattle.gimli_line.proofs.HeaderLaws.{reads_named_file, named_file}
-use Rattle.gimli_line.proofs.Loops.{closed_goes_on, closed_ends, closed_done, closed_smaller, text_closed, text_free}
-use Rattle.gimli_line.proofs.Loops.{text_refused, named_is, named_fault}
-use Rattle.gimli_line.proofs.header.tables.parse_files.Goals as goal
+use Rattle.gimli_line.proofs
+use proofs.Common.{◌∙◌, map_push, err_from_is_err_and, named_file_at}
+use proofs.Order.{files_pushed}
+use proofs.HeaderLaws.{reads_named_file, named_file}
+use proofs.Loops.{closed_goes_on, closed_ends, closed_done, closed_smaller, text_closed, text_free, text_refused}
+use proofs.Loops.{named_is, named_fault}
+use proofs.header.tables.parse_files.Goals as goal
 
 pub returns-in_err-path_name-clause-read : goal.returns-in_err-path_name-clause-read
 returns-in_err-path_name-clause-read g c =
     let p = err_from_is_err_and c.from_residual.result c.from_residual.ensures.1 in
     rw (p.1, p.2) (λ _.
-    closed_ends (λ x. x) named_file named_file_at reads_named_file _ (g.R.Reader.bytes c.loop-files.input) _ _ _
+    closed_ends (λ x. x) named_file named_file_at reads_named_file _ _ _ _ _
     (text_refused (g.R.Reader.bytes c.loop-files.input) _ _ c.in_err-path_name.ensures.read)
     (named_fault (g.R.Reader.bytes c.loop-files.input) _ _ c.in_err-path_name.ensures.read)
     c.loop-files.invariant.so_far)
 
 pub returns-then-is_empty-clause-read : goal.returns-then-is_empty-clause-read
 returns-then-is_empty-clause-read g c =
-    closed_done (λ x. x) named_file named_file_at reads_named_file _ (g.R.Reader.bytes c.loop-files.input) _ _
+    closed_done (λ x. x) named_file named_file_at reads_named_file _ _ _ _
     (text_closed (g.R.Reader.bytes c.loop-files.input) _ _ c.if-is_empty.ensures c.in_ok-path_name.ensures.read)
     c.loop-files.invariant.so_far
 
@@ -24,28 +25,26 @@ pub returns-in_err-file-clause-read : goal.returns-in_err-file-clause-read
 returns-in_err-file-clause-read g c =
     let p = err_from_is_err_and c.from_residual-in_err-file.result c.from_residual-in_err-file.ensures.1 in
     rw (p.1, p.2) (λ _.
-    closed_ends (λ x. x) named_file named_file_at reads_named_file _ (g.R.Reader.bytes c.loop-files.input) _ _ _
+    closed_ends (λ x. x) named_file named_file_at reads_named_file _ _ _ _ _
     (text_free (g.R.Reader.bytes c.loop-files.input) _ _ c.if-is_empty.ensures c.in_ok-path_name.ensures.read)
     (named_is (g.R.Reader.bytes c.loop-files.input) _ _ _ c.in_ok-path_name.ensures.read c.in_err-file.ensures.read)
     c.loop-files.invariant.so_far)
 
 pub loop-files-smaller : goal.loop-files-smaller
 loop-files-smaller g c =
-    closed_smaller (λ x. x) named_file named_file_at reads_named_file (g.R.Reader.bytes c.loop-files.input) _ _
+    closed_smaller (λ x. x) named_file named_file_at reads_named_file _ _ _
     (text_free (g.R.Reader.bytes c.loop-files.input) _ _ c.if-is_empty.ensures c.in_ok-path_name.ensures.read)
     (named_is (g.R.Reader.bytes c.loop-files.input) _ _ _ c.in_ok-path_name.ensures.read c.in_ok-file.ensures.read)
 
 pub loop-files-preserved : goal.loop-files-preserved
 loop-files-preserved g c = record {
-  so_far =
-      rw (c.in_ok-push.ensures.ok, map_push)
-      (closed_goes_on (λ x. x) named_file named_file_at reads_named_file _ (g.R.Reader.bytes c.loop-files.input) _ _ _
+  so_far = rw (c.in_ok-push.ensures.ok, map_push)
+      (closed_goes_on (λ x. x) named_file named_file_at reads_named_file _ _ _ _ _
       (text_free (g.R.Reader.bytes c.loop-files.input) _ _ c.if-is_empty.ensures c.in_ok-path_name.ensures.read)
       (named_is (g.R.Reader.bytes c.loop-files.input) _ _ _ c.in_ok-path_name.ensures.read c.in_ok-file.ensures.read)
       c.loop-files.invariant.so_far);
   order = c.parse.ensures.order ∙ c.read_null_terminated_slice.ensures.order ∙ c.loop-files.invariant.order;
-  parts =
-      files_pushed g.R.Reader.is_big _ _ _ _ _ c.in_ok-push.ensures.ok
+  parts = files_pushed g.R.Reader.is_big _ _ _ _ _ c.in_ok-push.ensures.ok
       (c.in_ok-path_name.ensures.part ∙ c.loop-files.invariant.order) c.loop-files.invariant.parts
       c.in_ok-file.ensures.file;
 }

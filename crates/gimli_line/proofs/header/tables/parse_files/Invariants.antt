@@ -1,8 +1,9 @@
 use Rattle.std.specs.Prelude.{◌≡◌}
-use Rattle.gimli_line.proofs.Common.{length, map, All, file_seen, FileHasOrder}
+use Rattle.gimli_line.proofs
+use proofs.Common.{length, map, All, file_seen, FileHasOrder}
 use Rattle.gimli_line.specs.inside.header.HeaderReading.{files_at}
-use Rattle.gimli_line.proofs.Loops.{collected}
-use Rattle.gimli_line.proofs.header.tables.parse_files.Given as goal
+use proofs.Loops.{collected}
+use proofs.header.tables.parse_files.Given as goal
 
 abbrev pub invariant-loop-files : goal.invariant-loop-files
 invariant-loop-files g l = record {

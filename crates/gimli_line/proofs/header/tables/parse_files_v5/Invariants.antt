@@ -1,8 +1,9 @@
 use Rattle.std.specs.Prelude.{◌≡◌, ◌-◌}
-use Rattle.gimli_line.proofs.Common
+use Rattle.gimli_line.proofs
+use proofs.Common
 use Common.{All, times_at, map, layout_of, file_seen, FileHasOrder, read_map, file_of_entry, entry_at, entries_at}
-use Rattle.gimli_line.proofs.Loops.{collected}
-use Rattle.gimli_line.proofs.header.tables.parse_files_v5.Given as goal
+use proofs.Loops.{collected}
+use proofs.header.tables.parse_files_v5.Given as goal
 
 abbrev pub invariant-loop : goal.invariant-loop
 invariant-loop g l =

@@ -1,15 +1,15 @@
-use Rattle.gimli_line.proofs.Common.{rules, ap, sym, ◌∙◌, nat_le, layout_of, Header, Parameters}
-use Rattle.gimli_line.proofs.OtherExecutions.{opened, defines}
-use Rattle.gimli_line.proofs.run.from_bytes.read_defined_file.Goals as goal
+use Rattle.gimli_line.proofs
+use proofs.Common.{rules, ap, sym, ◌∙◌, nat_le, layout_of, Header, Parameters}
+use proofs.OtherExecutions.{opened, defines}
+use proofs.run.from_bytes.read_defined_file.Goals as goal
 
 pub returns-in-Ok-parse-clause-read : goal.returns-in-Ok-parse-clause-read
 returns-in-Ok-parse-clause-read g c =
-    let n = layout_of (g.R.Reader.is_big c.args.input.now) g.R.Offset.ReaderOffset.limit in
+    let n = layout_of _ _ in
     let h = c.args.header.now.meaning in
     let whole = opened n h _ _ _ _ _ c.in-Some.ensures.read c.in-Ok.ensures.read in
-    let same = ap (λ (m : Header). m.parameters) (ap (λ v. v.meaning) c.header.view_is) in
+    let same = ap (λ m. m.parameters) (ap (λ v. v.meaning) c.header.view_is) in
     let old = ap (λ (k : Parameters). nat_le k.encoding.version 4) (sym same) ∙ search rules in
-    whole
-    ∙ defines n h _ _ _ c.in-Ok-read_u8.opcode c.in-Ok-read_u8.ensures.read (search rules) old _ _
+    whole ∙ defines n h _ _ _ c.in-Ok-read_u8.opcode c.in-Ok-read_u8.ensures.read (search rules) old _ _
     c.in-Ok-read_null_terminated_slice.ensures.read _ _
     c.in-Ok-parse.ensures.read

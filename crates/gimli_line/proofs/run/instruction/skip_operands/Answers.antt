@@ -1,6 +1,7 @@
-use Rattle.gimli_line.proofs.Common.{rules, err_from_is_err_and, unsigned_at}
-use Rattle.gimli_line.proofs.Operands.{passes_on, pass_ends}
-use Rattle.gimli_line.proofs.run.instruction.skip_operands.Goals as goal
+use Rattle.gimli_line.proofs
+use proofs.Common.{rules, err_from_is_err_and, unsigned_at}
+use proofs.Operands.{passes_on, pass_ends}
+use proofs.run.instruction.skip_operands.Goals as goal
 
 pub returns-in_err-read_uleb128-clause-read : goal.returns-in_err-read_uleb128-clause-read
 returns-in_err-read_uleb128-clause-read g c =
@@ -10,8 +11,7 @@ returns-in_err-read_uleb128-clause-read g c =
 
 pub loop-preserved : goal.loop-preserved
 loop-preserved g c = record {
-  so_far =
-      passes_on unsigned_at _ c.loop.counter _ _ _ _ c.loop-test.true c.in_ok-read_uleb128.ensures.read
+  so_far = passes_on unsigned_at _ c.loop.counter _ _ _ _ c.loop-test.true c.in_ok-read_uleb128.ensures.read
       c.loop.invariant.so_far;
   order = search rules;
 }

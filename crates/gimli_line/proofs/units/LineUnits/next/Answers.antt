@@ -1,7 +1,8 @@
 use Rattle.std.specs.Prelude.{◌≡◌, ◌≢◌}
-use Rattle.gimli_line.proofs.Common.{Result, Ok, Err, IfErr, sym, ap, ◌∙◌, rules, Error, OutOfMemory}
-use Rattle.gimli_line.proofs.UnitLaws.{offsets_none, offsets_step, rest_is_end}
-use Rattle.gimli_line.proofs.units.LineUnits.next.Goals as goal
+use Rattle.gimli_line.proofs
+use proofs.Common.{Result, Ok, Err, IfErr, sym, ap, ◌∙◌, rules, Error, OutOfMemory}
+use proofs.UnitLaws.{offsets_none, offsets_step, rest_is_end}
+use proofs.units.LineUnits.next.Goals as goal
 
 -- where memory isn't missing, a refusal is one of the unit
 refusal_is : {A : Type 0} (outcome : Result A Error) (IsRefusal : Error → Type 0) → (outcome ≡ Err OutOfMemory → ⊥)
@@ -29,6 +30,5 @@ returns-clause-next g c =
     ends)
 
 pub returns-clause-refusal : goal.returns-clause-refusal
-returns-clause-refusal g c =
-    refusal_is _ _ (λ is. let t = c.is_out_of_memory.ensures.1 is in absurd (search rules))
+returns-clause-refusal g c = refusal_is _ _ (λ is. let t = c.is_out_of_memory.ensures.1 is in absurd (search rules))
     (rw (← c.self.view_is) c.program-program.ensures.refusal)

@@ -1,6 +1,7 @@
-use Rattle.gimli_line.proofs.Common.{◌∙◌}
-use Rattle.gimli_line.proofs.Opened.{header_answers}
-use Rattle.gimli_line.proofs.header.program_header.LineProgramHeader.parse.Goals as goal
+use Rattle.gimli_line.proofs
+use proofs.Common.{◌∙◌}
+use proofs.Opened.{header_answers}
+use proofs.header.program_header.LineProgramHeader.parse.Goals as goal
 
 pub returns-clause-read : goal.returns-clause-read
 returns-clause-read g c =

@@ -1,6 +1,7 @@
-use Rattle.gimli_line.proofs.Common.{refl, sym, ap, ◌∙◌, Header}
-use Rattle.gimli_line.proofs.Executions.{special_executed, standard_executed, executes_it, executes_none}
-use Rattle.gimli_line.proofs.run.instruction.LineInstructions.execute_common.Goals as goal
+use Rattle.gimli_line.proofs
+use proofs.Common.{refl, sym, ap, ◌∙◌, Header}
+use proofs.Executions.{special_executed, standard_executed, executes_it, executes_none}
+use proofs.run.instruction.LineInstructions.execute_common.Goals as goal
 
 pub returns-in-Err-clause-err : goal.returns-in-Err-clause-err
 returns-in-Err-clause-err g c =
@@ -15,7 +16,7 @@ returns-in-Err-clause-err g c =
 
 pub returns-in-Ok-exec_special_opcode-clause-ok : goal.returns-in-Ok-exec_special_opcode-clause-ok
 returns-in-Ok-exec_special_opcode-clause-ok g c =
-    let same = ap (λ (m : Header). m.parameters) (ap (λ v. v.meaning) c.header.view_is) in
+    let same = ap (λ m. m.parameters) (ap (λ v. v.meaning) c.header.view_is) in
     rw (← c.self.view_is) (
       special_executed _ _ _ _ _ _ _ same c.opcode_base.ensures c.exec_special_opcode.ensures.some
           c.if-opcode-opcode_base.true

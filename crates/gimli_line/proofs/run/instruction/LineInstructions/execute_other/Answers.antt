@@ -1,8 +1,9 @@
 use Rattle.std.specs.Prelude.{◌≡◌}
-use Rattle.gimli_line.proofs.Common.{rules, ◌∙◌, refl, sym, ap, arith, layout_of, AdvancePc, ConstAddPc, Header}
-use Rattle.gimli_line.proofs.Executions.{executes_it}
-use Rattle.gimli_line.proofs.OtherExecutions.{below_executed, advance_read, const_add_read, extended_first}
-use Rattle.gimli_line.proofs.run.instruction.LineInstructions.execute_other.Goals as goal
+use Rattle.gimli_line.proofs
+use proofs.Common.{rules, ◌∙◌, refl, sym, ap, arith, layout_of, AdvancePc, ConstAddPc, Header}
+use proofs.Executions.{executes_it}
+use proofs.OtherExecutions.{below_executed, advance_read, const_add_read, extended_first}
+use proofs.run.instruction.LineInstructions.execute_other.Goals as goal
 
 pub returns-then-is_executed-clause-ok : goal.returns-then-is_executed-clause-ok
 returns-then-is_executed-clause-ok g c =
@@ -14,12 +15,11 @@ returns-then-is_executed-clause-ok g c =
     (rw first (rw c.in-Ok.ensures.order at (c.exec_extended_opcode-executed.ensures.executed is))))
 
 pub returns-else-is_executed-clause-ok : goal.returns-else-is_executed-clause-ok
-returns-else-is_executed-clause-ok g c =
-    grind (arith)
+returns-else-is_executed-clause-ok g c = grind (arith)
 
 pub returns-in-Err-clause-err : goal.returns-in-Err-clause-err
 returns-in-Err-clause-err g c =
-    let same = ap (λ (m : Header). m.parameters) (ap (λ v. v.meaning) c.header.view_is) in
+    let same = ap (λ m. m.parameters) (ap (λ v. v.meaning) c.header.view_is) in
     let is : c.in-Ok.opcode ≡ 2 = search rules in
     let over = c.in-Err.ensures.overflow in
     rw (← c.self.view_is) (
@@ -33,7 +33,7 @@ returns-in-Err-clause-err g c =
 
 pub returns-in-Ok-apply_operation_advance-clause-ok : goal.returns-in-Ok-apply_operation_advance-clause-ok
 returns-in-Ok-apply_operation_advance-clause-ok g c =
-    let same = ap (λ (m : Header). m.parameters) (ap (λ v. v.meaning) c.header.view_is) in
+    let same = ap (λ m. m.parameters) (ap (λ v. v.meaning) c.header.view_is) in
     let is : c.in-Ok.opcode ≡ 2 = search rules in
     rw (← c.self.view_is) (
       below_executed _ _ _ _ _ _ _ same c.opcode_base.ensures (omega (arith)) c.if-opcode-opcode_base.false
@@ -46,7 +46,7 @@ returns-in-Ok-apply_operation_advance-clause-ok g c =
 
 pub returns-in-Err-exec_const_add_pc-clause-err : goal.returns-in-Err-exec_const_add_pc-clause-err
 returns-in-Err-exec_const_add_pc-clause-err g c =
-    let same = ap (λ (m : Header). m.parameters) (ap (λ v. v.meaning) c.header.view_is) in
+    let same = ap (λ m. m.parameters) (ap (λ v. v.meaning) c.header.view_is) in
     let is : c.in-Ok.opcode ≡ 8 = search rules in
     let over = c.in-Err-exec_const_add_pc.ensures.overflow in
     rw (← c.self.view_is) (
@@ -58,7 +58,7 @@ returns-in-Err-exec_const_add_pc-clause-err g c =
 
 pub returns-in-Ok-exec_const_add_pc-clause-ok : goal.returns-in-Ok-exec_const_add_pc-clause-ok
 returns-in-Ok-exec_const_add_pc-clause-ok g c =
-    let same = ap (λ (m : Header). m.parameters) (ap (λ v. v.meaning) c.header.view_is) in
+    let same = ap (λ m. m.parameters) (ap (λ v. v.meaning) c.header.view_is) in
     let is : c.in-Ok.opcode ≡ 8 = search rules in
     rw (← c.self.view_is) (
       below_executed _ _ _ _ _ _ _ same c.opcode_base.ensures (omega (arith)) c.if-opcode-opcode_base.false

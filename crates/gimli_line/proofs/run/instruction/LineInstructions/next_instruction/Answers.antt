@@ -1,16 +1,16 @@
-use Rattle.gimli_line.proofs.Common.{rules, ap, sym, Ins, Read}
-use Rattle.gimli_line.proofs.InstructionLaws.{reads_instruction}
-use Rattle.gimli_line.proofs.run.instruction.LineInstructions.next_instruction.Goals as goal
+use Rattle.gimli_line.proofs
+use proofs.Common.{rules, ap, sym, Ins, Read}
+use proofs.InstructionLaws.{reads_instruction}
+use proofs.run.instruction.LineInstructions.next_instruction.Goals as goal
 
 pub returns-in-Ok-clause-next : goal.returns-in-Ok-clause-next
 returns-in-Ok-clause-next g c =
     rw (← c.self.view_is) ((reads_instruction _ c.args.header.now.meaning).found _ _ _ (sym c.in-Ok.ensures.read))
 
 pub returns-in-Err-clause-refusal : goal.returns-in-Err-clause-refusal
-returns-in-Err-clause-refusal g c =
-    rw (← c.self.view_is) (
-      λ none. absurd (search rules),
-      c.empty.ensures.left,
-      (reads_instruction _ c.args.header.now.meaning).fault _ _
-          (sym (ap (λ (r : Read Ins). r.0) c.in-Err.ensures.read)),
-    )
+returns-in-Err-clause-refusal g c = rw (← c.self.view_is) (
+  λ none. absurd (search rules),
+  c.empty.ensures.left,
+  (reads_instruction _ _).fault _ _
+      (sym (ap (λ r. r.0) c.in-Err.ensures.read)),
+)

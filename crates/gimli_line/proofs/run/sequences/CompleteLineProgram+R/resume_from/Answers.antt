@@ -1,7 +1,8 @@
-use Rattle.gimli_line.proofs.Common.{false, source_of}
-use Rattle.gimli_line.proofs.EventsWithFilesLaws.{started_events, started_files}
-use Rattle.gimli_line.proofs.ResumedRuns.{gives_run, gives_rows_alone}
-use Rattle.gimli_line.proofs.run.sequences.CompleteLineProgram+R.resume_from.Goals as goal
+use Rattle.gimli_line.proofs
+use proofs.Common.{false, source_of}
+use proofs.EventsWithFilesLaws.{started_events, started_files}
+use proofs.ResumedRuns.{gives_run, gives_rows_alone}
+use proofs.run.sequences.CompleteLineProgram+R.resume_from.Goals as goal
 
 pub returns-clause-events : goal.returns-clause-events
 returns-clause-events g c =

@@ -1,11 +1,20 @@
-use Rattle.gimli_line.proofs.Common
+use Rattle.gimli_line.proofs
+use proofs.Common
 use Common.{[], map, ap, ◌∙◌, err_from_is_err_and, without_files, row, source_of, Unread, with_reset_row}
 use Rattle.gimli_line.specs.run.Sequences.{sequence_of}
-use Rattle.gimli_line.proofs.ResumedRuns.{resume_to_rows}
-use Rattle.gimli_line.proofs.SequenceLaws.{split_starts, split_goes, split_faults, split_source, split_ends, has_front}
-use Rattle.gimli_line.proofs.SequenceLaws.{row_takes}
-use Rattle.gimli_line.proofs.SequenceLaws.{starts_splitting, goes_splitting}
-use Rattle.gimli_line.proofs.run.sequences.IncompleteLineProgram+R.sequences.Goals as goal
+use proofs.ResumedRuns.{resume_to_rows}
+use proofs.SequenceLaws.{
+  split_starts,
+  split_goes,
+  split_faults,
+  split_source,
+  split_ends,
+  has_front,
+  row_takes,
+  starts_splitting,
+  goes_splitting,
+}
+use proofs.run.sequences.IncompleteLineProgram+R.sequences.Goals as goal
 
 pub rows-init : goal.rows-init
 rows-init g c =

@@ -1,12 +1,12 @@
-use Rattle.gimli_line.proofs.Common
+use Rattle.gimli_line.proofs
+use proofs.Common
 use Common.{[], map, List, subst, sym, ap, ◌∙◌, err_from_is_err_and, without_files, Event, row, source_of, Unread}
 use Common.{with_reset_row}
 use Rattle.gimli_line.specs.run.Sequences.{Sequence, sequence_of, HaveRuns}
-use Rattle.gimli_line.proofs.ResumedRuns.{resume_to_rows}
-use Rattle.gimli_line.proofs.SequenceLaws.{split_starts, split_goes, split_faults, split_source, split_ends, has_front}
-use Rattle.gimli_line.proofs.SequenceLaws.{row_takes}
-use Rattle.gimli_line.proofs.SequenceLaws.{starts_keeping, goes_keeping, kept_runs, runs_are_kept}
-use Rattle.gimli_line.proofs.run.sequences.IncompleteLineProgram+R.sequences_with_rows.Goals as goal
+use proofs.ResumedRuns.{resume_to_rows}
+use proofs.SequenceLaws.{split_starts, split_goes, split_faults, split_source, split_ends, has_front, row_takes}
+use proofs.SequenceLaws.{starts_keeping, goes_keeping, kept_runs, runs_are_kept}
+use proofs.run.sequences.IncompleteLineProgram+R.sequences_with_rows.Goals as goal
 
 pub run-init : goal.run-init
 run-init g c =
@@ -75,8 +75,7 @@ returns-clause-each g c =
     let parts = map sequence_of c.into_sequences.result.items in
     let i = c.run.invariant in
     let runs : List (List Event) = map (map row) c.run.kept.closed in
-    let have =
-    subst (λ (xs : List Sequence). HaveRuns (without_files h) xs runs) (sym c.into_sequences.ensures)
+    let have = subst (λ (xs : List Sequence). HaveRuns (without_files h) xs runs) (sym c.into_sequences.ensures)
     (kept_runs h c.run.split c.run.kept i.done (with_reset_row c.run.run) i.split) in
     rw c.into_rows.ensures
     (runs_are_kept c.args.self.layout h c.header.inside.header.meaning parts runs (returns-clause-ok g c) have)
