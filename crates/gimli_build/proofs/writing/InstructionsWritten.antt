@@ -3,7 +3,7 @@ use Rattle.std.specs.Prelude.{◌≡◌, ◌++◌, ◌∷◌, ◌+◌, ◌-◌, 
 use Rattle.gimli_build.proofs.Common
 use Common.{List, [], ℕ, Ok, Err, refl, Bool, true, false, Some, None, nat_le, sym, Result, result_map, Error, Ghosts}
 use Common.{Ins, instructions_bytes, instruction_bytes, result_append, Writes, always, none-some, flat_map-append}
-use Common.{LineEncoding, ConstAddPc, operation_part, row_maker, constant_advance}
+use Common.{LineEncoding, ConstAddPc, AdvancePc, operation_part, row_maker, constant_advance}
 
 pub bytes_append : (is js : List Ins) → instructions_bytes (is ++ js) ≡ instructions_bytes is ++ instructions_bytes js
 bytes_append is js = flat_map-append instruction_bytes is js
@@ -23,6 +23,12 @@ pub by_constant : (e : LineEncoding) (s n : ℕ) → nat_le (s + n * e.line_rang
     → nat_le (s + (n - constant_advance e) * e.line_range) 255 ≡ true
     → operation_part e s n ≡ ConstAddPc ∷ row_maker e (s + (n - constant_advance e) * e.line_range) ∷ []
 by_constant e s n over rest = rw (over, rest) refl
+
+-- with it none does either
+pub by_advance : (e : LineEncoding) (s n : ℕ) → nat_le (s + n * e.line_range) 255 ≡ false
+    → nat_le (s + (n - constant_advance e) * e.line_range) 255 ≡ false
+    → operation_part e s n ≡ AdvancePc n ∷ row_maker e s ∷ []
+by_advance e s n over rest = rw (over, rest) refl
 
 -- ---- calls that append the bytes of instructions
 

@@ -8,10 +8,11 @@ use std::marker::Model;
 /// What was built in a line program, as it was given.
 #[derive(Clone, Copy, Debug, PartialEq, Eq)]
 pub enum BuiltItem {
-    /// An address that was set: offsets after it count from there.
-    SetAddress(Address),
+    // Rows are first, since most items are rows, and the first variant is tested first.
     /// A row that was generated.
     Row(LineRow),
+    /// An address that was set: offsets after it count from there.
+    SetAddress(Address),
     /// The end of a sequence.
     End {
         /// How many bytes the end is after the address that was last set.

@@ -89,7 +89,8 @@ fn place_after<'a>(initial: &'a LineRow, item: &'a BuiltItem) -> &'a LineRow
     }
 }
 
-/// Appends the instructions of one item that follows `previous` at the position of `place`.
+/// Appends the instructions of one item that follows `previous` at the position of `place`. None of
+/// its arms stands apart: the room for the result of such a call would be cleared for each row.
 #[inline(always)]
 fn write_item<W: Writer>(
     w: &mut W,
@@ -153,9 +154,7 @@ pub(crate) fn write_row<W: Writer>(
     Ok(())
 }
 
-/// Appends the instructions of an end that is `count` operations after the row before. Ends are
-/// few, so it stands apart from rows.
-#[inline(never)]
+/// Appends the instructions of an end that is `count` operations after the row before.
 pub(crate) fn write_end<W: Writer>(w: &mut W, count: u64) -> Result<()>
     ensures { Writes W.Sink w.old w.new result (always (Ok (instructions_bytes
         (when (not (nat_eq count 0)) (AdvancePc count) ++ EndSequence ∷ [])))) }
@@ -281,13 +280,12 @@ fn write_operation_advance<W: Writer>(
         return write_instruction(w, maker(line_encoding, special));
     }
     let rest = count.saturating_sub(u64::from(u8::MAX - OPCODE_BASE) / range);
-    if let Some(shorter) = special_opcode(opcode, rest, range) {
-        write_instruction(w, LineInstruction::ConstAddPc)?;
-        return write_instruction(w, maker(line_encoding, shorter));
-    }
-    write_instruction(w, LineInstruction::AdvancePc(count))?;
-    write_instruction(w, maker(line_encoding, opcode))?;
-    Ok(())
+    let (first, last) = match special_opcode(opcode, rest, range) {
+        Some(shorter) => (LineInstruction::ConstAddPc, shorter),
+        None => (LineInstruction::AdvancePc(count), opcode),
+    };
+    write_instruction(w, first)?;
+    write_instruction(w, maker(line_encoding, last))
 }
 
 /// The special opcode that advances by `count` operations more than `opcode` does; none where no

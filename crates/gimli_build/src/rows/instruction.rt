@@ -76,7 +76,6 @@ pub(crate) fn write_if<W: Writer>(w: &mut W, due: bool, instruction: LineInstruc
 
 /// Appends a set address of `size` bytes: the instruction's opening, and then the address, whose
 /// refusal is handed on.
-#[inline(never)]
 pub(crate) fn write_set_address<W: Writer>(w: &mut W, address: &Address, size: u8) -> Result<()>
     ensures { Writes W.Sink w.old w.new result
         (λ hand. set_address_bytes hand (W.is_big w.old) address.now size) }
