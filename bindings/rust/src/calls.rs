@@ -208,6 +208,13 @@ pub struct Relocation {
     pub section: u32,
 }
 
+#[repr(C)]
+#[derive(Clone, Copy, Debug, Default)]
+pub struct Element {
+    pub array: u64,
+    pub index: u64,
+}
+
 declared! {
     gimli_line_version();
     gimli_line_index_open([index: u8], found: *mut Index);
@@ -246,11 +253,11 @@ declared! {
     );
     gimli_line_proved_write(
         encoding: *const Encoding, big: bool, details: u64, [texts: u8], [directories: Name], [files: FileName],
-        [rows: Row], [mut unit: u8], size: *mut usize, [mut numbers: u64]
+        [rows: Row], [mut unit: u8], size: *mut usize, [mut numbers: u64], element: *mut Element
     );
     gimli_line_proved_write_relocatable(
         encoding: *const Encoding, big: bool, details: u64, in_place: bool, [texts: u8], [directories: Name],
         [files: FileName], [rows: Row], [symbols: Symbol], [mut unit: u8], size: *mut usize,
-        [mut relocations: Relocation], count: *mut usize, [mut numbers: u64]
+        [mut relocations: Relocation], count: *mut usize, [mut numbers: u64], element: *mut Element
     );
 }

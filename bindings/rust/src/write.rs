@@ -3,6 +3,7 @@
 use crate::calls::{self, call, whole};
 use crate::error::Error;
 use crate::row::LineRow;
+use std::fmt;
 
 /// What a unit is encoded by.
 #[repr(C)]
@@ -156,10 +157,10 @@ impl Contents {
     ///
     /// # Errors
     ///
-    /// What is wrong with the contents, as `gimli_line_proved_write` of the header says it: [`Error::UNKNOWN_VERSION`],
-    /// [`Error::NO_SOURCE_FILE`], [`Error::NO_SUCH_FILE`], [`Error::NO_SUCH_DIRECTORY`], [`Error::ROW_OUT_OF_ORDER`] and the like; or
-    /// [`Error::OUT_OF_MEMORY`].
-    pub fn write(&self) -> Result<Vec<u8>, Error> {
+    /// What is wrong with the contents, as `gimli_line_write` of the header says it: [`Error::UNKNOWN_VERSION`],
+    /// [`Error::NO_SOURCE_FILE`], [`Error::NO_SUCH_FILE`], [`Error::NO_SUCH_DIRECTORY`], [`Error::ROW_OUT_OF_ORDER`] and the like, with
+    /// the first directory, file or row that it is true of; or [`Error::OUT_OF_MEMORY`].
+    pub fn write(&self) -> Result<Vec<u8>, Refusal> {
         Ok(self.written()?.0)
     }
 
@@ -169,22 +170,24 @@ impl Contents {
     /// # Errors
     ///
     /// Those of [`Contents::write`].
-    pub fn file_numbers(&self) -> Result<Vec<u64>, Error> {
+    pub fn file_numbers(&self) -> Result<Vec<u64>, Refusal> {
         Ok(self.written()?.1)
     }
 
     /// The unit, and the number of each file in it.
-    fn written(&self) -> Result<(Vec<u8>, Vec<u64>), Error> {
+    fn written(&self) -> Result<(Vec<u8>, Vec<u64>), Refusal> {
         let mut numbers = vec![0; self.files.len()];
+        let mut element = calls::Element::default();
         let unit = whole(self.size(), |unit, size| {
             // The pointers are those of slices and of locals.
             Error::of(unsafe {
                 call!(gimli_line_proved_write(
                     &self.encoding, self.big_endian, self.details, [self.texts], [self.directories], [self.files], [self.rows],
-                    [mut unit], size, [mut numbers]
+                    [mut unit], size, [mut numbers], &mut element
                 ))
             })
-        })?;
+        });
+        let unit = unit.map_err(|error| Refusal::new(error, element))?;
         Ok((unit, numbers))
     }
 
@@ -195,30 +198,82 @@ impl Contents {
     /// # Errors
     ///
     /// Those of [`Contents::write`].
-    pub fn write_relocatable(&self, symbols: &[Symbol], addends: Addends) -> Result<RelocatableUnit, Error> {
+    pub fn write_relocatable(&self, symbols: &[Symbol], addends: Addends) -> Result<RelocatableUnit, Refusal> {
         let symbols: Vec<_> =
             symbols.iter().map(|it| calls::Symbol { symbol: it.symbol, addend: it.addend }).collect();
         let in_place = addends == Addends::InPlace;
         let mut relocations = vec![calls::Relocation::default(); symbols.len()];
         let mut numbers: [u64; 0] = [];
+        let mut element = calls::Element::default();
         let unit = whole(self.size(), |unit, size| {
             let mut count = 0;
             // The pointers are those of slices and of locals.
             let answer = Error::of(unsafe {
                 call!(gimli_line_proved_write_relocatable(
                     &self.encoding, self.big_endian, self.details, in_place, [self.texts], [self.directories], [self.files], [self.rows],
-                    [symbols], [mut unit], size, [mut relocations], &mut count, [mut numbers]
+                    [symbols], [mut unit], size, [mut relocations], &mut count, [mut numbers], &mut element
                 ))
             });
             relocations.resize(count, calls::Relocation::default());
             answer
-        })?;
+        });
+        let unit = unit.map_err(|error| Refusal::new(error, element))?;
         Ok(RelocatableUnit { unit, relocations: relocations.iter().map(Relocation::new).collect() })
     }
 
     /// As many bytes as most units take.
     fn size(&self) -> usize {
         64 + self.texts.len() + 4 * self.rows.len()
+    }
+}
+
+/// Which directory, file or row: the first that was added has the index 0.
+#[derive(Clone, Copy, Debug, PartialEq, Eq, Hash)]
+pub enum Element {
+    /// The directory with this index.
+    Directory(usize),
+    /// The file with this index.
+    File(usize),
+    /// The row with this index.
+    Row(usize),
+}
+
+/// Why contents aren't written.
+#[derive(Clone, Copy, Debug, PartialEq, Eq, Hash)]
+pub struct Refusal {
+    /// What is wrong.
+    pub error: Error,
+    /// What it is wrong with; none where that is no directory, file or row.
+    pub element: Option<Element>,
+}
+
+impl Refusal {
+    fn new(error: Error, element: calls::Element) -> Refusal {
+        let index = element.index as usize;
+        let element = match element.array {
+            1 => Some(Element::Directory(index)),
+            2 => Some(Element::File(index)),
+            3 => Some(Element::Row(index)),
+            _ => None,
+        };
+        Refusal { error, element }
+    }
+}
+
+impl fmt::Display for Refusal {
+    fn fmt(&self, f: &mut fmt::Formatter<'_>) -> fmt::Result {
+        match self.element {
+            Some(element) => write!(f, "{element:?}: {}", self.error),
+            None => self.error.fmt(f),
+        }
+    }
+}
+
+impl std::error::Error for Refusal {}
+
+impl From<Refusal> for Error {
+    fn from(refusal: Refusal) -> Error {
+        refusal.error
     }
 }
 

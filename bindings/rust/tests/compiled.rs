@@ -390,7 +390,7 @@ fn what_is_written_is_read() {
         assert_eq!(again[..200], rows);
         assert_eq!(sections_of(&unit).path(0, first, &[]), Ok(b"/source/main.c".to_vec()));
         contents.row(LineRow::at(0).with_file(9));
-        assert_eq!(contents.write(), Err(Error::NO_SUCH_FILE));
+        assert_eq!(contents.write().map_err(Error::from), Err(Error::NO_SUCH_FILE));
     }
-    assert_eq!(Contents::new(Encoding::new(6)).write(), Err(Error::UNKNOWN_VERSION));
+    assert_eq!(Contents::new(Encoding::new(6)).write().map_err(Error::from), Err(Error::UNKNOWN_VERSION));
 }

@@ -2,7 +2,8 @@
 //! ends well.
 
 use gimli_line_proved::{
-    Addends, CompilationSections, Contents, Encoding, Error, FileDetails, Index, LineRow, Relocation, Sections, Symbol,
+    Addends, CompilationSections, Contents, Element, Encoding, Error, FileDetails, Index, LineRow, Refusal, Relocation, Sections,
+    Symbol,
 };
 use std::fs;
 use std::path::{Path, PathBuf};
@@ -135,7 +136,28 @@ fn symbols_are_placed() {
         }
     }
     let refused = Contents::new(Encoding::new(6)).write_relocatable(&symbols, Addends::Listed);
-    assert_eq!(refused, Err(Error::UNKNOWN_VERSION));
+    assert_eq!(refused, Err(Refusal { error: Error::UNKNOWN_VERSION, element: None }));
+}
+
+#[test]
+fn a_refusal_has_its_element() {
+    for version in [4, 5] {
+        let refused = |change: &dyn Fn(&mut Contents)| {
+            let mut contents = contents(version);
+            change(&mut contents);
+            let refused = contents.write().expect_err("it is refused");
+            assert_eq!(contents.write_relocatable(&[], Addends::Listed), Err(refused));
+            refused
+        };
+        let first = usize::from(version >= 5);
+        let refusal = refused(&|it| it.directory(b"a\0b"));
+        assert_eq!(refusal, Refusal { error: Error::ZERO_IN_TEXT, element: Some(Element::Directory(first)) });
+        assert_eq!(refusal.to_string(), format!("Directory({first}): a text has a zero byte"));
+        let refusal = refused(&|it| (0..2).for_each(|_| it.file(b"no.c", 7)));
+        assert_eq!(refusal, Refusal { error: Error::NO_SUCH_DIRECTORY, element: Some(Element::File(1)) });
+        let refusal = refused(&|it| (0..2).for_each(|_| it.row(LineRow::at(0).with_file(9))));
+        assert_eq!(refusal, Refusal { error: Error::NO_SUCH_FILE, element: Some(Element::Row(6)) });
+    }
 }
 
 #[test]

@@ -457,6 +457,13 @@ typedef struct gimli_line_relocation {
     uint32_t section; /* 0: the target is the symbol. In these units it always is, since all their texts stand in them */
 } gimli_line_relocation;
 
+/* What a write was refused for: an element of an array of gimli_line_contents. */
+enum gimli_line_array { GIMLI_LINE_NO_ARRAY = 0, GIMLI_LINE_DIRECTORIES = 1, GIMLI_LINE_FILES = 2, GIMLI_LINE_ROWS = 3 };
+typedef struct gimli_line_element {
+    uint64_t array; /* one of gimli_line_array: none where the number speaks of no element */
+    uint64_t index; /* in that array, from 0 on */
+} gimli_line_element;
+
 /* What is written, as one value. Set all of it but struct_size to 0 first; an array of no elements may stay null. */
 typedef struct gimli_line_contents {
     size_t struct_size; /* sizeof(gimli_line_contents), by which a later library knows the struct */
@@ -476,12 +483,15 @@ typedef struct gimli_line_contents {
     size_t symbol_count;
     uint64_t *numbers; /* where a call puts the number that each file has in the unit; may stay null */
     size_t number_room;
+    gimli_line_element *refused; /* where a call puts the element that it was refused for; may stay null */
 } gimli_line_contents;
 
 /* Writes a unit with these directories, files and rows to the front of `unit`, and its number of bytes to *size.
  * GIMLI_LINE_NO_ROOM where it is longer than `room`: *size is its length then, and nothing is written to `unit`. Where any other
  * number than 0 is answered, *size is 0, and nothing is written to `unit`. Each of these but GIMLI_LINE_OUT_OF_MEMORY says what is
- * wrong with what was handed over (GIMLI_LINE_UNKNOWN_OPTIONS: struct_size); where several things are, it is the number of one of them.
+ * wrong with what was handed over (GIMLI_LINE_UNKNOWN_OPTIONS: struct_size; then nothing is put into *contents->refused). It is a fault
+ * of the encoding, or else of the first element that has one, of the directories, then the files, then the rows, and *contents->refused
+ * gets that element: GIMLI_LINE_FILES and 3 say files[3]. It gets none where the number speaks of no element, or is 0.
  *
  * The names of directories and files stand among the `text_length` bytes of `texts`. Both have the indices that gimli_line_file and
  * gimli_line_row have: up to version 4 from 1 on, in version 5 from 0 on. A directory or a file (the same path in the same directory: the

@@ -219,20 +219,24 @@ gimli_line_status gimli_line_build_id(const void *file, size_t length, uint8_t *
 }
 
 gimli_line_status gimli_line_write(const gimli_line_contents *in, uint8_t *unit, size_t room, size_t *size) {
+    gimli_line_element element;
     *size = 0;
     if (in->struct_size != sizeof *in) return GIMLI_LINE_UNKNOWN_OPTIONS;
     return status_of(gimli_line_proved_write(&in->encoding, in->big, in->details, READ(in->texts), in->text_length, READ(in->directories),
                                              in->directory_count, READ(in->files), in->file_count, READ(in->rows), in->row_count,
-                                             AT((void *)unit), room, size, AT(in->numbers), in->number_room));
+                                             AT((void *)unit), room, size, AT(in->numbers), in->number_room,
+                                             in->refused != NULL ? in->refused : &element));
 }
 
 gimli_line_status gimli_line_write_relocatable(const gimli_line_contents *in, uint8_t *unit, size_t room, size_t *size,
                                                gimli_line_relocation *relocations, size_t relocation_room, size_t *count) {
+    gimli_line_element element;
     *size = *count = 0;
     if (in->struct_size != sizeof *in) return GIMLI_LINE_UNKNOWN_OPTIONS;
     return status_of(gimli_line_proved_write_relocatable(&in->encoding, in->big, in->details, in->in_place, READ(in->texts),
                                                          in->text_length, READ(in->directories), in->directory_count, READ(in->files),
                                                          in->file_count, READ(in->rows), in->row_count, READ(in->symbols), in->symbol_count,
                                                          AT((void *)unit), room, size, AT(relocations), relocation_room, count,
-                                                         AT(in->numbers), in->number_room));
+                                                         AT(in->numbers), in->number_room,
+                                                         in->refused != NULL ? in->refused : &element));
 }

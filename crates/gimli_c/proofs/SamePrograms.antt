@@ -9,6 +9,7 @@ use Rattle.gimli_build.specs.LineText.{LineText}
 use Rattle.gimli_build.specs.Tables.{File}
 use Rattle.gimli_build.specs.declared.built.row.LineRow.{LineRow}
 use Rattle.gimli_build.specs.declared.built.items.BuiltItem.{BuiltItem}
+use Rattle.gimli_c.specs.declared.check.GimliElement.{GimliElement}
 use Rattle.gimli_c.specs.Causes.{HasCause, HasHandedFault}
 use Rattle.gimli_c.specs.inside.Causes.{HasNone}
 use Rattle.gimli_c.specs.Causes.HasCause.{of_handed, of_unit}
@@ -80,9 +81,10 @@ same_cause h is_big p q a b =
     ap cause (is_program_of h p a) ∙ same ∙ sym (ap cause (is_program_of h q b))
 
 -- where a program that is built was written, nothing has a cause
-pub no_cause : (h : Handed) (p : Built) (status : ℕ) → HasNone (HasHandedFault h) → IsBuiltOf h p
+pub no_cause : (h : Handed) (p : Built) (at : GimliElement) (status : ℕ)
+    → ((e : GimliElement) → HasNone (HasHandedFault h e)) → IsBuiltOf h p
     → first_cause h.is_big p.encoding p no_texts ≡ None
-    → HasCause h status → ⊥
-no_cause h p status well built none (of_handed fault) = well status fault
-no_cause h p status well built none (of_unit unit) =
+    → HasCause h at status → ⊥
+no_cause h p at status well built none (of_handed fault) = well at status fault
+no_cause h p at status well built none (of_unit is unit) =
     none-some unit.cause (sym none ∙ same_cause h h.is_big p unit.program built unit.built ∙ unit.first)

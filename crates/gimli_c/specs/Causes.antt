@@ -1,13 +1,15 @@
 -- Why what is handed over to be written is refused, number by number (DWARF 5, sections 6.2.2 and
 -- 6.2.4).
-use Rattle.std.specs.Prelude.{◌≡◌, ◌⊎◌, ◌≤◌, ◌<◌, ℕ, ◌+◌, ◌-◌, ◌^◌, false, nat_le, if◌then◌else◌}
-use Rattle.std.specs.Prelude.{List, [], ◌∷◌, length, Any, Option, Some, None}
+use Rattle.std.specs.Prelude.{◌≡◌, ◌≢◌, ◌⊎◌, ◌≤◌, ◌<◌, ℕ, zero, suc, ◌+◌, ◌-◌, ◌^◌, false, nat_le}
+use Rattle.std.specs.Prelude.{if◌then◌else◌, List, [], ◌∷◌, length, Any, Option, Some, None}
+use Rattle.std.specs.Prelude.{slice_get}
 use Rattle.gimli_core.specs.declared.common.LineEncoding.{LineEncoding}
 use Rattle.gimli_bytes.specs.declared.error.Error.{Error}
 use Rattle.gimli_bytes.specs.Texts.{no_texts}
 use Rattle.gimli_build.specs.Advance.{CanFollow}
 use Rattle.gimli_build.specs.Built.{Built}
 use Rattle.gimli_build.specs.Cause.{first_cause}
+use Rattle.gimli_c.specs.declared.check.GimliElement.{GimliElement}
 use Rattle.gimli_c.specs.declared.encoding.GimliEncoding.{GimliEncoding}
 use Rattle.gimli_c.specs.declared.text.GimliName.{GimliName}
 use Rattle.gimli_c.specs.declared.tables.GimliFileName.{GimliFileName}
@@ -16,9 +18,35 @@ use Rattle.gimli_c.specs.declared.status.TheConstants.{UNSUPPORTED_LINE_ENCODING
 use Rattle.gimli_c.specs.declared.status.TheConstants.{TEXT_OUT_OF_BOUNDS, ZERO_IN_TEXT, EMPTY_TEXT}
 use Rattle.gimli_c.specs.declared.status.TheConstants.{NO_SOURCE_FILE, NO_SUCH_DIRECTORY}
 use Rattle.gimli_c.specs.declared.status.TheConstants.{NO_SUCH_FILE, ROW_OUT_OF_ORDER, UNKNOWN_FLAG}
-use Rattle.gimli_c.specs.Handed.{text_handed, line_encoding_of, ends, base_of, base_after}
+use Rattle.gimli_c.specs.declared.status.TheConstants.{OUT_OF_MEMORY}
+use Rattle.gimli_c.specs.Handed.{IsRefusal, text_handed, line_encoding_of, ends, base_of}
+use Rattle.gimli_c.specs.Handed.{base_after}
 use Rattle.gimli_c.specs.Handing.{Handed, IsBuiltOf, write_status}
 use Rattle.gimli_c.specs.Refused.{encoding_fault, HasBadLines}
+
+-- ---- what a refusal speaks of
+
+-- no element
+abbrev pub nowhere : GimliElement
+nowhere = record { array = 0; index = 0 }
+
+-- an element stands in an earlier array than another one, or in the same and not after it: the
+-- arrays are the directories (1), the files (2) and the rows (3)
+abbrev pub IsNotAfter : GimliElement → GimliElement → Type 0
+IsNotAfter a b = (a.array < b.array) ⊎ ((a.array ≡ b.array) × (a.index ≤ b.index))
+
+-- this holds of the element with an index
+abbrev pub HoldsAt : {X : Type 0} → (X → Type 0) → List X → ℕ → Type 0
+HoldsAt {X} P xs i = (x : X) × (slice_get xs i ≡ Some x) × P x
+
+-- this number says that memory lacks, or has its cause at this element, and none before it has a
+-- fault
+pub record IsRefusedFor (Cause Fault : GimliElement → ℕ → Type 0) (status : ℕ) (at : GimliElement)
+    : Type 0 where
+  pub number : IsRefusal status
+  pub cause : status ≢ OUT_OF_MEMORY → Cause at status
+  pub memory : status ≡ OUT_OF_MEMORY → at ≡ nowhere
+  pub first : (other : GimliElement) (s : ℕ) → Fault other s → IsNotAfter at other
 
 -- why an encoding is refused
 pub data HasEncodingFault (e : GimliEncoding) (status : ℕ) : Type 0 where
@@ -58,14 +86,17 @@ pub data HasFileFault (version : ℕ) (texts : List ℕ) (end : ℕ) (file : Gim
 -- why the tables are refused: a directory or a file is, or there is none in version 5, which begins
 -- with one of each
 pub data HasTableFault (version : ℕ) (texts : List ℕ) (directories : List GimliName)
-    (files : List GimliFileName) (status : ℕ) : Type 0 where
-  no_source : status ≡ NO_SOURCE_FILE → 5 ≤ version → (directories ≡ []) ⊎ (files ≡ [])
-      → HasTableFault version texts directories files status
-  directory_fault : Any (λ n. HasTextFault version texts n status) directories
-      → HasTableFault version texts directories files status
-  file_fault : Any
-      (λ f. HasFileFault version texts (first_index version + length directories) f status) files
-      → HasTableFault version texts directories files status
+    (files : List GimliFileName) (at : GimliElement) (status : ℕ) : Type 0 where
+  no_source : status ≡ NO_SOURCE_FILE → at ≡ nowhere → 5 ≤ version
+      → (directories ≡ []) ⊎ (files ≡ []) → HasTableFault version texts directories files at status
+  directory_fault : at.array ≡ 1
+      → HoldsAt (λ n. HasTextFault version texts n status) directories at.index
+      → HasTableFault version texts directories files at status
+  file_fault : at.array ≡ 2
+      → HoldsAt
+      (λ f. HasFileFault version texts (first_index version + length directories) f status)
+      files at.index
+      → HasTableFault version texts directories files at status
 
 -- ---- rows
 
@@ -96,13 +127,14 @@ pub data HasRowFault (e : LineEncoding) (version files base : ℕ) (position : �
 abbrev pub position_after : Option ℕ → GimliRow → ℕ × ℕ
 position_after base r = if ends r then (0, 0) else (r.address - base_of base r, r.op_index)
 
--- one of these rows is refused; the row before them is at this position, and its sequence, if it
--- goes on, began at the address
-abbrev pub HasRowsFault : LineEncoding → ℕ → ℕ → Option ℕ → ℕ × ℕ → List GimliRow → ℕ → Type 0
-HasRowsFault e version files base position [] status = ⊥
-HasRowsFault e version files base position (r ∷ rows) status =
+-- the row with an index is refused of these; the row before them is at this position, and its
+-- sequence, if it goes on, began at the address
+abbrev pub HasRowsFault : LineEncoding → ℕ → ℕ → Option ℕ → ℕ × ℕ → List GimliRow → ℕ → ℕ → Type 0
+HasRowsFault e version files base position [] i status = ⊥
+HasRowsFault e version files base position (r ∷ rows) zero status =
     HasRowFault e version files (base_of base r) position r status
-    ⊎ HasRowsFault e version files (base_after base r) (position_after base r) rows status
+HasRowsFault e version files base position (r ∷ rows) (suc i) status =
+    HasRowsFault e version files (base_after base r) (position_after base r) rows i status
 
 -- ---- all
 
@@ -116,15 +148,19 @@ pub record HasUnitFault (h : Handed) (status : ℕ) : Type 0 where
   pub status_is : status ≡ write_status cause
 
 -- why what is handed over is refused before anything is written
-pub data HasHandedFault (h : Handed) (status : ℕ) : Type 0 where
-  of_encoding : HasEncodingFault h.encoding status → HasHandedFault h status
-  of_tables : HasTableFault h.encoding.version h.texts h.directories h.files status
-      → HasHandedFault h status
-  of_rows : HasRowsFault (line_encoding_of h.encoding) h.encoding.version (length h.files) None
-      (0, 0) h.rows status
-      → HasHandedFault h status
+pub data HasHandedFault (h : Handed) (at : GimliElement) (status : ℕ) : Type 0 where
+  of_encoding : at ≡ nowhere → HasEncodingFault h.encoding status → HasHandedFault h at status
+  of_tables : HasTableFault h.encoding.version h.texts h.directories h.files at status
+      → HasHandedFault h at status
+  of_rows : at.array ≡ 3
+      → HasRowsFault (line_encoding_of h.encoding) h.encoding.version (length h.files) None (0, 0)
+      h.rows at.index status
+      → HasHandedFault h at status
 
 -- the cause of a number
-pub data HasCause (h : Handed) (status : ℕ) : Type 0 where
-  of_handed : HasHandedFault h status → HasCause h status
-  of_unit : HasUnitFault h status → HasCause h status
+pub data HasCause (h : Handed) (at : GimliElement) (status : ℕ) : Type 0 where
+  of_handed : HasHandedFault h at status → HasCause h at status
+  of_unit : at ≡ nowhere → HasUnitFault h status → HasCause h at status
+
+abbrev pub IsRefused : Handed → ℕ → GimliElement → Type 0
+IsRefused h = IsRefusedFor (HasCause h) (HasHandedFault h)

@@ -18,6 +18,8 @@ use Rattle.gimli_bytes.specs.declared.relocation.RelocationTarget.TheVariants.{O
 use Rattle.gimli_build.specs.Built.{Built}
 use Rattle.gimli_build.specs.Unit.{unit_bytes}
 use Rattle.gimli_c.specs.declared.relocatable.GimliRelocation.{GimliRelocation}
+use Rattle.gimli_c.specs.declared.check.GimliElement.{GimliElement}
+use Rattle.gimli_c.specs.Causes.{HasHandedFault, IsRefusedFor, nowhere}
 use Rattle.gimli_c.specs.Handing.{Handed, IsBuiltOf, numbers_of, write_status}
 use Rattle.gimli_c.specs.Written.{slots_with}
 
@@ -49,9 +51,14 @@ relocation_seen r = record {
 abbrev pub addends_of : Bool → Addends
 addends_of in_place = if in_place then InPlace else Listed
 
--- the number of what a writer refuses
-abbrev pub IsWriterRefusal : ℕ → Type 0
-IsWriterRefusal status = (error : Error) × (status ≡ write_status error)
+-- the cause of a number: that of what is handed over, or the number of what a writer refuses
+abbrev pub HasRelocatableCause : Handed → GimliElement → ℕ → Type 0
+HasRelocatableCause h at status =
+    HasHandedFault h at status
+    ⊎ ((at ≡ nowhere) × (error : Error) × (status ≡ write_status error))
+
+abbrev pub IsRefusedRelocatable : Handed → ℕ → GimliElement → Type 0
+IsRefusedRelocatable h = IsRefusedFor (HasRelocatableCause h) (HasHandedFault h)
 
 -- wherever a linker puts the symbols: once it has filled the places in, the bytes are the unit of
 -- the program, in which each symbol and its addend are the sum of both

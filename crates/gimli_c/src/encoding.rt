@@ -2,10 +2,12 @@
 
 ghost use Rattle.std.specs.Prelude.{◌≡◌, ℕ, Err, IfErr, IfOk, None, Some};
 ghost use Rattle.gimli_build.specs.Conditions.{Accepts};
-ghost use Rattle.gimli_c.specs.Causes.{HasEncodingFault};
+ghost use Rattle.gimli_c.specs.Causes.{HasEncodingFault, nowhere};
+ghost use Rattle.gimli_c.specs.inside.Causes.{refusal_of};
 ghost use Rattle.gimli_c.specs.Handed.{IsRefusal, encoding_of, line_encoding_of};
 ghost use Rattle.gimli_c.specs.Refused.{encoding_fault, HasBadLines};
 
+use crate::check::{Refusal, refusal_of};
 use crate::location::is_address_size;
 use crate::status::{
     UNKNOWN_VERSION, UNSUPPORTED_ADDRESS_SIZE, UNSUPPORTED_LINE_ENCODING, UNSUPPORTED_OFFSET_SIZE,
@@ -36,27 +38,29 @@ pub struct GimliEncoding {
     pub line_range: u8,
 }
 
-/// The encodings of a unit, or the number of a refusal.
-pub(crate) fn encodings(given: &GimliEncoding) -> Result<(Encoding, LineEncoding), u32>
+/// The encodings of a unit, or why they are refused.
+pub(crate) fn encodings(given: &GimliEncoding) -> Result<(Encoding, LineEncoding), Refusal>
     ensures encoding { IfOk result (λ e. e.0 ≡ encoding_of given.now) }
     ensures lines { IfOk result (λ e. e.1 ≡ line_encoding_of given.now) }
     ensures accepts { IfOk result (λ e. Accepts e.0 e.1) }
     ensures well { IfOk result (λ e. encoding_fault given.now ≡ None) }
-    ensures fault { (s : ℕ) → encoding_fault given.now ≡ Some s → result ≡ Err s }
-    ensures bad_lines { HasBadLines given.now → result ≡ Err UNSUPPORTED_LINE_ENCODING }
-    ensures err { IfErr result IsRefusal }
-    ensures cause { IfErr result (HasEncodingFault given.now) }
+    ensures fault { (s : ℕ) → encoding_fault given.now ≡ Some s → result ≡ Err (refusal_of s) }
+    ensures bad_lines { HasBadLines given.now
+        → result ≡ Err (refusal_of UNSUPPORTED_LINE_ENCODING) }
+    ensures err { IfErr result (λ r. IsRefusal r.status) }
+    ensures nowhere { IfErr result (λ r. r.at ≡ nowhere) }
+    ensures cause { IfErr result (λ r. HasEncodingFault given.now r.status) }
 {
     if given.version < 2 || given.version > 5 {
-        return Err(UNKNOWN_VERSION);
+        return Err(refusal_of(UNKNOWN_VERSION));
     }
     if !is_address_size(given.address_size) {
-        return Err(UNSUPPORTED_ADDRESS_SIZE);
+        return Err(refusal_of(UNSUPPORTED_ADDRESS_SIZE));
     }
     let format = match given.offset_size {
         4 => Format::Dwarf32,
         8 => Format::Dwarf64,
-        _ => return Err(UNSUPPORTED_OFFSET_SIZE),
+        _ => return Err(refusal_of(UNSUPPORTED_OFFSET_SIZE)),
     };
     let encoding = Encoding {
         address_size: given.address_size,
@@ -71,7 +75,7 @@ pub(crate) fn encodings(given: &GimliEncoding) -> Result<(Encoding, LineEncoding
         line_range: given.line_range,
     };
     if !LineProgram::accepts(encoding, lines) {
-        return Err(UNSUPPORTED_LINE_ENCODING);
+        return Err(refusal_of(UNSUPPORTED_LINE_ENCODING));
     }
     Ok((encoding, lines))
 }

@@ -1,7 +1,7 @@
 //! The rows of a unit that is written.
 
 ghost use Rattle.std.specs.Prelude.{◌≡◌, ◌≢◌, ◌<◌, ◌≤◌, ◌+◌, ◌-◌, ◌^◌, [], ◌∷◌, false, true};
-ghost use Rattle.std.specs.Prelude.{length, IfErr};
+ghost use Rattle.std.specs.Prelude.{ℕ, length, IfErr};
 ghost use Rattle.std.specs.Prelude.{IfNone, IfOk, IfSome, OnOk, None, slice_get, unwrap_or};
 ghost use Rattle.gimli_bytes.specs.Texts.{no_texts};
 ghost use Rattle.gimli_build.specs.declared.built.items.BuiltItem.{BuiltItem};
@@ -9,12 +9,13 @@ ghost use Rattle.gimli_build.specs.Conditions.{CanWrite};
 ghost use Rattle.gimli_build.specs.Built.{previous_position};
 ghost use Rattle.gimli_c.specs.Causes.{CanStand, HasRowFault, HasRowsFault, LacksFile};
 ghost use Rattle.gimli_c.specs.Causes.{position_after};
-ghost use Rattle.gimli_c.specs.inside.Causes.{HasNone};
+ghost use Rattle.gimli_c.specs.inside.Causes.{HasNone, IsFirstOf};
 ghost use Rattle.gimli_c.specs.Handed.{IsRefusal, base_after, base_of, ends, id_of_file};
 ghost use Rattle.gimli_c.specs.Handed.{items_handed, items_of_row, items_of_start, row_handed};
 ghost use Rattle.gimli_c.specs.Handed.{row_of_file, sequence_after, start_of};
 ghost use Rattle.gimli_c.specs.inside.Handed.{AddsItems};
 
+use crate::check::{ROWS, Refusal, refusal_at};
 use crate::row::{
     ALL_FLAGS, BASIC_BLOCK, END_SEQUENCE, EPILOGUE_BEGIN, GimliRow, IS_STMT, PROLOGUE_END, has_flag,
 };
@@ -39,24 +40,25 @@ pub(crate) fn add_rows(
     ids: &[FileId],
     symbols: &[GimliSymbol],
     rows: &[GimliRow],
-) -> Result<(), u32>
+) -> Result<(), Refusal>
     requires { CanWrite program.old no_texts }
     ensures can { CanWrite program.new no_texts }
     ensures ok { OnOk result (AddsItems program.old program.new
         (items_handed program.old.encoding.version ids.now symbols.now 0 None rows.now)) }
-    ensures well { previous_position program.old.items ≡ (0, 0) → OnOk result (HasNone
+    ensures well { previous_position program.old.items ≡ (0, 0) → OnOk result ((i : ℕ) → HasNone
         (HasRowsFault program.old.line_encoding program.old.encoding.version (length ids.now)
-        None (0, 0) rows.now)) }
-    ensures err { IfErr result IsRefusal }
-    ensures cause { previous_position program.old.items ≡ (0, 0)
-        → IfErr result (λ s. s ≢ OUT_OF_MEMORY →
-        HasRowsFault program.old.line_encoding program.old.encoding.version (length ids.now)
-        None (0, 0) rows.now s) }
+        None (0, 0) rows.now i)) }
+    ensures cause { previous_position program.old.items ≡ (0, 0) → IfErr result (λ r.
+        IsFirstOf 3 (HasRowsFault program.old.line_encoding program.old.encoding.version
+        (length ids.now) None (0, 0) rows.now) r) }
 {
     let mut base = None;
     let mut sequence = 0;
-    for row in rows {
-        base = add_row(program, ids, symbol_at(symbols, sequence), base, row)?;
+    for (index, row) in rows.iter().enumerate() {
+        base = match add_row(program, ids, symbol_at(symbols, sequence), base, row) {
+            Ok(base) => base,
+            Err(status) => return Err(refusal_at(status, ROWS, index)),
+        };
         sequence = sequence_after(sequence, row);
     }
     Ok(())

@@ -6,6 +6,7 @@
 #![tactic(auto)]
 
 mod build_id;
+mod check;
 mod comp_dir;
 mod directory;
 mod elf;
@@ -30,6 +31,7 @@ mod version;
 mod write;
 
 pub use build_id::gimli_line_proved_elf_build_id;
+pub use check::{DIRECTORIES, FILES, GimliElement, NO_ARRAY, ROWS};
 pub use comp_dir::gimli_line_proved_comp_dir;
 pub use directory::gimli_line_proved_read_directory;
 pub use elf::{GimliElf, gimli_line_proved_elf_open, gimli_line_proved_elf_section};

@@ -5,21 +5,23 @@ ghost use Rattle.std.specs.Prelude.{map};
 ghost use Rattle.gimli_bytes.specs.Relocations.{are_inside};
 ghost use Rattle.gimli_bytes.specs.Texts.{no_texts};
 ghost use Rattle.gimli_build.specs.Conditions.{CanWrite};
-ghost use Rattle.gimli_c.specs.Causes.{HasHandedFault};
+ghost use Rattle.gimli_c.specs.declared.check.GimliElement.{GimliElement};
+ghost use Rattle.gimli_c.specs.Causes.{HasHandedFault, nowhere};
 ghost use Rattle.gimli_c.specs.Handed.{IsRefusal};
 ghost use Rattle.gimli_c.specs.Handing.{handed_of};
 ghost use Rattle.gimli_c.specs.Refused.{encoding_fault, HasBadLines};
 ghost use Rattle.gimli_c.specs.Relocated.{addends_of, relocation_seen, section_seen, target_seen};
-ghost use Rattle.gimli_c.specs.Relocated.{GivesRelocatable, IsUnitOnceLinked, IsWriterRefusal};
+ghost use Rattle.gimli_c.specs.Relocated.{GivesRelocatable, IsRefusedRelocatable, IsUnitOnceLinked};
 ghost use Rattle.gimli_c.specs.Relocated.{NeedsRelocatableRoom};
 ghost use Rattle.gimli_c.specs.Written.{slots_with};
 
+use crate::check::{GimliElement, NOWHERE};
 use crate::encoding::GimliEncoding;
 use crate::file::copy_bytes;
 use crate::items::GimliSymbol;
 use crate::location::order;
 use crate::row::GimliRow;
-use crate::status::{NO_ROOM, OK, OUT_OF_MEMORY, UNSUPPORTED_LINE_ENCODING};
+use crate::status::{NO_ROOM, OK, UNSUPPORTED_LINE_ENCODING};
 use crate::tables::GimliFileName;
 use crate::text::GimliName;
 use crate::write::{built, copy_numbers, write_status};
@@ -164,6 +166,7 @@ pub extern "C" fn gimli_line_proved_write_relocatable(
     relocations: &mut [GimliRelocation],
     count: &mut usize,
     numbers: &mut [u64],
+    element: &mut GimliElement,
 ) -> u32
     ensures ok { result ≡ OK → GivesRelocatable (handed_of encoding.now is_big details texts.now
         directories.now files.now rows.now symbols.now) unit.old unit.new size.new relocations.old
@@ -173,18 +176,20 @@ pub extern "C" fn gimli_line_proved_write_relocatable(
         relocations.old count.new }
     ensures fault { (s : ℕ) → encoding_fault encoding.now ≡ Some s → result ≡ s }
     ensures bad_lines { HasBadLines encoding.now → result ≡ UNSUPPORTED_LINE_ENCODING }
-    ensures number { result ≢ OK → result ≢ NO_ROOM → IsRefusal result }
-    ensures cause { result ≢ OK → result ≢ NO_ROOM → result ≢ OUT_OF_MEMORY → HasHandedFault
-        (handed_of encoding.now is_big details texts.now directories.now files.now rows.now
-        symbols.now) result ⊎ IsWriterRefusal result }
-    ensures refused { (s : ℕ) → HasHandedFault (handed_of encoding.now is_big details texts.now
-        directories.now files.now rows.now symbols.now) s → IsRefusal result }
+    ensures cause { result ≢ OK → result ≢ NO_ROOM → IsRefusedRelocatable (handed_of encoding.now
+        is_big details texts.now directories.now files.now rows.now symbols.now) result
+        element.new }
+    ensures refused { (at : GimliElement) → (s : ℕ) → HasHandedFault (handed_of encoding.now is_big
+        details texts.now directories.now files.now rows.now symbols.now) at s
+        → IsRefusal result }
+    ensures no_element { (result ≡ OK) ⊎ (result ≡ NO_ROOM) → element.new ≡ nowhere }
     ensures err { result ≢ OK → (unit.new ≡ unit.old) × (relocations.new ≡ relocations.old)
         × (numbers.new ≡ numbers.old) }
     ensures none { result ≢ OK → result ≢ NO_ROOM → (size.new ≡ 0) × (count.new ≡ 0) }
 {
     *size = 0;
     *count = 0;
+    *element = NOWHERE;
     let made = match built(
         alloc,
         encoding,
@@ -196,7 +201,10 @@ pub extern "C" fn gimli_line_proved_write_relocatable(
         symbols,
     ) {
         Ok(made) => made,
-        Err(status) => return status,
+        Err(why) => {
+            *element = why.at;
+            return why.status;
+        }
     };
     let section = match relocatable_of(alloc, &made.0, is_big, addends_of(in_place)) {
         Ok(section) => section,

@@ -1,12 +1,13 @@
 //! Texts that are handed over.
 
-ghost use Rattle.std.specs.Prelude.{◌≡◌, ◌≢◌, ◌≤◌, All, Any, IfErr, IfOk, MatchBool, OnOk};
+ghost use Rattle.std.specs.Prelude.{◌≡◌, ◌≢◌, ◌≤◌, All, Any, IfNone, IfSome, MatchBool};
 ghost use Rattle.gimli_build.specs.LineText.{Inline, line_text, HasNoZero, IsNotEmpty};
 ghost use Rattle.gimli_c.specs.Causes.{HasTextFault};
 ghost use Rattle.gimli_c.specs.inside.Causes.{HasNone};
 ghost use Rattle.gimli_c.specs.Handed.{IsRefusal, text_handed};
+ghost use Rattle.gimli_c.specs.Causes.{StandsAmong};
 
-use crate::status::{EMPTY_TEXT, OUT_OF_MEMORY, TEXT_OUT_OF_BOUNDS, ZERO_IN_TEXT};
+use crate::status::{EMPTY_TEXT, TEXT_OUT_OF_BOUNDS, ZERO_IN_TEXT};
 use gimli_build::LineString;
 use std::alloc::Global;
 
@@ -20,35 +21,48 @@ pub struct GimliName {
     pub size: u64,
 }
 
-/// A text of a program of this version, or the number of a refusal. No text has a zero byte, and up
-/// to version 4 none is empty.
+/// Why a text is refused in a program of this version, by its number; none where it isn't. No text
+/// has a zero byte, and up to version 4 none is empty.
+pub(crate) fn text_fault(version: u16, texts: &[u8], name: GimliName) -> Option<u32>
+    ensures some { IfSome result (HasTextFault version texts.now name) }
+    ensures number { IfSome result IsRefusal }
+    ensures none { IfNone result (HasNone (HasTextFault version texts.now name)) }
+    ensures stands { IfNone result (StandsAmong texts.now name) }
+    ensures no_zero { IfNone result (All (λ b. b ≢ 0) (text_handed texts.now name)) }
+    ensures not_empty { IfNone result (version ≤ 4 → name.size ≢ 0) }
+{
+    let count = texts.len() as u64;
+    if name.first > count || name.size > count - name.first {
+        return Some(TEXT_OUT_OF_BOUNDS);
+    }
+    if has_zero(&texts[name.first as usize..(name.first + name.size) as usize]) {
+        return Some(ZERO_IN_TEXT);
+    }
+    if version <= 4 && name.size == 0 {
+        return Some(EMPTY_TEXT);
+    }
+    None
+}
+
+/// A text of a program of this version; none where memory lacks, or the text is refused.
 pub(crate) fn text_of(
     alloc: Global,
     version: u16,
     texts: &[u8],
     name: GimliName,
-) -> Result<LineString, u32>
-    ensures ok { IfOk result (λ text. line_text text ≡ Inline (text_handed texts.now name)) }
-    ensures no_zero { IfOk result (λ text. HasNoZero (line_text text)) }
-    ensures not_empty { IfOk result (λ text. version ≤ 4 → IsNotEmpty (line_text text)) }
-    ensures well { OnOk result (HasNone (HasTextFault version texts.now name)) }
-    ensures err { IfErr result IsRefusal }
-    ensures cause { IfErr result (λ s. s ≢ OUT_OF_MEMORY → HasTextFault version texts.now name s) }
+) -> Option<LineString>
+    ensures ok { IfSome result (λ text. line_text text ≡ Inline (text_handed texts.now name)) }
+    ensures no_zero { IfSome result (λ text. HasNoZero (line_text text)) }
+    ensures not_empty { IfSome result (λ text. version ≤ 4 → IsNotEmpty (line_text text)) }
 {
-    let count = texts.len() as u64;
-    if name.first > count || name.size > count - name.first {
-        return Err(TEXT_OUT_OF_BOUNDS);
+    match text_fault(version, texts, name) {
+        Some(_) => return None,
+        None => {}
     }
     let bytes = &texts[name.first as usize..(name.first + name.size) as usize];
-    if has_zero(bytes) {
-        return Err(ZERO_IN_TEXT);
-    }
-    if version <= 4 && bytes.is_empty() {
-        return Err(EMPTY_TEXT);
-    }
     match bytes.to_vec(alloc) {
-        Ok(copy) => Ok(LineString::String(copy)),
-        Err(_) => Err(OUT_OF_MEMORY),
+        Ok(copy) => Some(LineString::String(copy)),
+        Err(_) => None,
     }
 }
 

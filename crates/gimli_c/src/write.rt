@@ -9,14 +9,16 @@ ghost use Rattle.gimli_build.specs.ReadsBack.{ReadsBackAs};
 ghost use Rattle.gimli_build.specs.Conditions.{CanWrite};
 ghost use Rattle.gimli_bytes.specs.Written.{Appends};
 ghost use Rattle.gimli_build.specs.Unit.{unit_bytes};
-ghost use Rattle.gimli_c.specs.Causes.{HasCause, HasHandedFault};
-ghost use Rattle.gimli_c.specs.inside.Causes.{HasNone};
+ghost use Rattle.gimli_c.specs.declared.check.GimliElement.{GimliElement};
+ghost use Rattle.gimli_c.specs.Causes.{HasCause, HasHandedFault, IsRefused, nowhere};
+ghost use Rattle.gimli_c.specs.inside.Causes.{HasNone, IsRefusedOf, refusal_of};
 ghost use Rattle.gimli_c.specs.Handed.{IsRefusal};
 ghost use Rattle.gimli_c.specs.Refused.{encoding_fault, HasBadLines};
 ghost use Rattle.gimli_c.specs.Handing.{GivesUnitOf, IsBuiltWith, NeedsRoom, handed_of};
 ghost use Rattle.gimli_c.specs.Handing.{numbers_of, program_with, write_status};
 ghost use Rattle.gimli_c.specs.Written.{slots_with};
 
+use crate::check::{GimliElement, NOWHERE, Refusal, check_tables, refusal_of};
 use crate::encoding::{GimliEncoding, encodings};
 use crate::file::{HAS_MD5, HAS_SIZE, HAS_TIMESTAMP, copy_bytes};
 use crate::items::{GimliSymbol, add_rows};
@@ -36,7 +38,8 @@ use std::alloc::Global;
 /// Writes a unit with these directories, files and rows to the front of `unit`; `size` is how many
 /// bytes it has. `NO_ROOM` where there are fewer in `unit`: then `size` says how many it takes, and
 /// nothing is written. Where another number than these is answered, `size` is 0; each but
-/// `OUT_OF_MEMORY` has its cause in what is handed over. Texts stand among the bytes of `texts`. A
+/// `OUT_OF_MEMORY` has its cause in what is handed over, and `element` is the first that has one:
+/// directories are tested first, then files, then rows. Texts stand among the bytes of `texts`. A
 /// directory or a file that comes twice is there once; rows have its number then. `numbers` gets
 /// that of each file, as far as there is room, where the unit is written. `details` is the sum of
 ///  `HAS_TIMESTAMP`, `HAS_SIZE` and `HAS_MD5`, each where version 5 is to have that detail;
@@ -55,6 +58,7 @@ pub extern "C" fn gimli_line_proved_write(
     unit: &mut [u8],
     size: &mut usize,
     numbers: &mut [u64],
+    element: &mut GimliElement,
 ) -> u32
     ensures ok { result ≡ OK → GivesUnitOf (handed_of encoding.now is_big details texts.now
         directories.now files.now rows.now []) unit.old unit.new size.new numbers.old numbers.new }
@@ -62,16 +66,16 @@ pub extern "C" fn gimli_line_proved_write(
         directories.now files.now rows.now []) unit.old size.new }
     ensures fault { (s : ℕ) → encoding_fault encoding.now ≡ Some s → result ≡ s }
     ensures bad_lines { HasBadLines encoding.now → result ≡ UNSUPPORTED_LINE_ENCODING }
-    ensures number { result ≢ OK → result ≢ NO_ROOM → IsRefusal result }
-    ensures cause { result ≢ OK → result ≢ NO_ROOM → result ≢ OUT_OF_MEMORY → HasCause
-        (handed_of encoding.now is_big details texts.now directories.now files.now rows.now [])
-        result }
-    ensures refused { (s : ℕ) → HasCause (handed_of encoding.now is_big details texts.now
-        directories.now files.now rows.now []) s → IsRefusal result }
+    ensures cause { result ≢ OK → result ≢ NO_ROOM → IsRefused (handed_of encoding.now is_big
+        details texts.now directories.now files.now rows.now []) result element.new }
+    ensures refused { (at : GimliElement) → (s : ℕ) → HasCause (handed_of encoding.now is_big
+        details texts.now directories.now files.now rows.now []) at s → IsRefusal result }
+    ensures no_element { (result ≡ OK) ⊎ (result ≡ NO_ROOM) → element.new ≡ nowhere }
     ensures err { result ≢ OK → (unit.new ≡ unit.old) × (numbers.new ≡ numbers.old) }
     ensures none { result ≢ OK → result ≢ NO_ROOM → size.new ≡ 0 }
 {
     *size = 0;
+    *element = NOWHERE;
     let made = match built(
         alloc,
         encoding,
@@ -83,7 +87,10 @@ pub extern "C" fn gimli_line_proved_write(
         &[],
     ) {
         Ok(made) => made,
-        Err(status) => return status,
+        Err(why) => {
+            *element = why.at;
+            return why.status;
+        }
     };
     let section = match section_of(alloc, &made.0, is_big) {
         Ok(section) => section,
@@ -121,27 +128,40 @@ pub(crate) fn built(
     files: &[GimliFileName],
     rows: &[GimliRow],
     symbols: &[GimliSymbol],
-) -> Result<(LineProgram, Vec<FileId>), u32>
+) -> Result<(LineProgram, Vec<FileId>), Refusal>
     ensures ok { (is_big : Bool) → IfOk result (λ made. IsBuiltWith
         (handed_of encoding.now is_big details texts.now directories.now files.now rows.now
         symbols.now)
         made.0 made.1.items) }
-    ensures fault { (s : ℕ) → encoding_fault encoding.now ≡ Some s → result ≡ Err s }
-    ensures bad_lines { HasBadLines encoding.now → result ≡ Err UNSUPPORTED_LINE_ENCODING }
-    ensures err { IfErr result IsRefusal }
-    ensures cause { (is_big : Bool) → IfErr result (λ s. s ≢ OUT_OF_MEMORY → HasHandedFault
+    ensures fault { (s : ℕ) → encoding_fault encoding.now ≡ Some s
+        → result ≡ Err (refusal_of s) }
+    ensures bad_lines { HasBadLines encoding.now
+        → result ≡ Err (refusal_of UNSUPPORTED_LINE_ENCODING) }
+    ensures err { IfErr result (λ r. IsRefusal r.status) }
+    ensures refusal { (is_big : Bool) → IfErr result (λ r. IsRefusedOf
         (handed_of encoding.now is_big details texts.now directories.now files.now rows.now
         symbols.now)
-        s) }
-    ensures well { (is_big : Bool) → OnOk result (HasNone (HasHandedFault
+        r.status r.at) }
+    ensures well { (is_big : Bool) → (at : GimliElement) → OnOk result (HasNone (HasHandedFault
         (handed_of encoding.now is_big details texts.now directories.now files.now rows.now
-        symbols.now))) }
+        symbols.now)
+        at)) }
 {
     let (units, lines) = encodings(encoding)?;
-    let start = empty_built(alloc, units, lines, texts, directories, files)?;
+    check_tables(encoding.version, texts, directories, files)?;
+    let start = match empty_built(alloc, units, lines, texts, directories, files) {
+        Some(start) => start,
+        None => return Err(refusal_of(OUT_OF_MEMORY)),
+    };
     let mut program = with_details(start, details);
-    let ids = add_directories(alloc, &mut program, texts, directories)?;
-    let file_ids = add_files(alloc, &mut program, texts, ids.as_slice(), files)?;
+    let ids = match add_directories(alloc, &mut program, texts, directories) {
+        Some(ids) => ids,
+        None => return Err(refusal_of(OUT_OF_MEMORY)),
+    };
+    let file_ids = match add_files(alloc, &mut program, texts, ids.as_slice(), files) {
+        Some(file_ids) => file_ids,
+        None => return Err(refusal_of(OUT_OF_MEMORY)),
+    };
     add_rows(&mut program, file_ids.as_slice(), symbols, rows)?;
     Ok((program, file_ids))
 }

@@ -36,6 +36,13 @@ static int64_t addend_of(const gimli_line_relocation *relocation, const uint8_t 
     return in_place ? (int64_t)there : relocation->addend;
 }
 
+/* Where a write was refused, says for what. */
+static void stop_if_refused(gimli_line_status status, const gimli_line_element *element) {
+    static const char *const arrays[] = {"", "directories", "files", "rows"};
+    if (element->array != GIMLI_LINE_NO_ARRAY) fprintf(stderr, "%s[%" PRIu64 "]: ", arrays[element->array], element->index);
+    stop_if(status);
+}
+
 int main(int argc, char **argv) {
     if (argc < 2) return 2;
     unsigned version = (unsigned)atoi(argv[1]);
@@ -59,7 +66,9 @@ int main(int argc, char **argv) {
     };
     /* Where the version is even the second function begins six bytes before its end. */
     gimli_line_symbol starts[] = {{0, 0}, {version % 2 != 0 ? 1 : 2, version % 2 != 0 ? 0 : -6}};
+    gimli_line_element refused;
     gimli_line_contents contents = {.struct_size = sizeof contents,
+                                    .refused = &refused,
                                     .encoding = GIMLI_LINE_ENCODING(version),
                                     .details = GIMLI_LINE_HAS_MD5, /* of version 5 alone */
                                     .texts = texts,
@@ -77,7 +86,7 @@ int main(int argc, char **argv) {
     /* How much room it takes is asked first. */
     size_t size, count;
     gimli_line_status status = gimli_line_write_relocatable(&contents, NULL, 0, &size, NULL, 0, &count);
-    if (status != GIMLI_LINE_NO_ROOM) stop_if(status);
+    if (status != GIMLI_LINE_NO_ROOM) stop_if_refused(status, &refused);
     uint8_t *unit = malloc(size);
     gimli_line_relocation *relocations = malloc(count * sizeof *relocations);
     if (unit == NULL || relocations == NULL) return 2;

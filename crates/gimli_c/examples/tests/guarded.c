@@ -232,6 +232,56 @@ static void write_symbols(bool in_place) {
        "a refused version");
 }
 
+/* A unit with one fault at a time, in each element of its arrays: the element is told, and after it one that has the same fault isn't. */
+static void write_refused(uint16_t version) {
+    enum { COUNT = 5 };
+    const uint64_t first = version >= 5 ? 0 : 1;
+    const gimli_line_name out = {4, 1};
+    gimli_line_element *element = room_in(ANOTHER, sizeof *element);
+    size_t *size = room_in(BESIDE, sizeof *size);
+    for (uint64_t array = GIMLI_LINE_DIRECTORIES; array <= GIMLI_LINE_ROWS; array++)
+        for (uint64_t index = 0; index < COUNT; index++) {
+            gimli_line_name directories[COUNT];
+            gimli_line_file_name files[COUNT];
+            gimli_line_row rows[COUNT];
+            for (uint64_t i = 0; i < COUNT; i++) {
+                directories[i] = (gimli_line_name){0, 1};
+                files[i] = (gimli_line_file_name){{1, 1}, i + first, 0, 0, {0}};
+                rows[i] = (gimli_line_row){i, 0, i + first, 1, 0, 0, 0, 0};
+            }
+            gimli_line_contents contents = {.struct_size = sizeof contents,
+                                            .encoding = GIMLI_LINE_ENCODING(version),
+                                            .texts = "df\0",
+                                            .text_length = 4,
+                                            .directories = directories,
+                                            .directory_count = COUNT,
+                                            .files = files,
+                                            .file_count = COUNT,
+                                            .rows = rows,
+                                            .row_count = COUNT,
+                                            .refused = element};
+            is(gimli_line_write(&contents, NULL, 0, size) == GIMLI_LINE_NO_ROOM && element->array == GIMLI_LINE_NO_ARRAY &&
+                   element->index == 0,
+               "nothing is refused");
+            uint32_t wanted = GIMLI_LINE_TEXT_OUT_OF_BOUNDS;
+            /* The last element of an array has the fault too, and so has the last row. */
+            if (array == GIMLI_LINE_DIRECTORIES) directories[index] = directories[COUNT - 1] = out;
+            else if (array == GIMLI_LINE_FILES) {
+                wanted = GIMLI_LINE_NO_SUCH_DIRECTORY;
+                files[index].directory = files[COUNT - 1].directory = COUNT + first;
+            } else {
+                wanted = GIMLI_LINE_NO_SUCH_FILE;
+                rows[index].file = COUNT + first;
+            }
+            rows[COUNT - 1].file = COUNT + first;
+            is(gimli_line_write(&contents, NULL, 0, size) == wanted && element->array == array && element->index == index,
+               "the element that is refused");
+            size_t count;
+            contents.refused = NULL;
+            is(gimli_line_write_relocatable(&contents, NULL, 0, size, NULL, 0, &count) == wanted, "one that isn't asked for");
+        }
+}
+
 int main(int argc, char **argv) {
     if (argc != 6) {
         fprintf(stderr, "usage: guarded LINES LINE_STRINGS INFO ABBREVIATIONS STRINGS\n");
@@ -254,6 +304,8 @@ int main(int argc, char **argv) {
     make_index();
     write_symbols(false);
     write_symbols(true);
+    write_refused(4);
+    write_refused(5);
     printf("%lu\n", atomic_load(&answers));
     return 0;
 }

@@ -1,4 +1,4 @@
-use Rattle.std.proofs.Common.{List, ℕ, length, map, subst, sym, ap, ◌<◌, ◌≤◌, ◌⊎◌, ◌∙◌, inl, inr}
+use Rattle.std.proofs.Common.{List, ℕ, length, map, subst, refl, sym, ap, ◌<◌, ◌≤◌, ◌⊎◌, ◌∙◌, inl, inr}
 use Rattle.gimli_bytes.specs.declared.relocation.Relocation.{Relocation}
 use Rattle.gimli_c.specs.Relocated.{relocation_seen}
 use Rattle.gimli_c.specs.Handing.{numbers_of}
@@ -61,13 +61,25 @@ returns-clause-ok c = λ _.
     }
 
 pub returns-in-Err-clause-cause : goal.returns-in-Err-clause-cause
-returns-in-Err-clause-cause c = λ _ _ s. inl (c.in-Err.ensures.cause c.args.is_big s)
+returns-in-Err-clause-cause c = λ _ _.
+    let given = c.in-Err.ensures.refusal c.args.is_big in
+    record {
+      number = given.number;
+      cause = λ other. inl (given.cause other);
+      memory = given.memory;
+      first = given.first;
+    }
 
 pub returns-in-Err-relocatable_of-clause-cause : goal.returns-in-Err-relocatable_of-clause-cause
-returns-in-Err-relocatable_of-clause-cause c = λ _ _ _. inr (c.in-Err-relocatable_of.e, c.write_status.ensures.number)
+returns-in-Err-relocatable_of-clause-cause c = λ _ _. record {
+  number = c.write_status.ensures.err;
+  cause = λ _. inr (refl, c.in-Err-relocatable_of.e, c.write_status.ensures.number);
+  memory = λ _. refl;
+  first = λ other s fault. absurd (c.in-Ok.ensures.well c.args.is_big other s fault);
+}
 
 pub returns-then-passes-clause-refused : goal.returns-then-passes-clause-refused
-returns-then-passes-clause-refused c = λ s fault. absurd (c.in-Ok.ensures.well c.args.is_big s fault)
+returns-then-passes-clause-refused c = λ at s fault. absurd (c.in-Ok.ensures.well c.args.is_big at s fault)
 
 pub returns-clause-refused : goal.returns-clause-refused
-returns-clause-refused c = λ s fault. absurd (c.in-Ok.ensures.well c.args.is_big s fault)
+returns-clause-refused c = λ at s fault. absurd (c.in-Ok.ensures.well c.args.is_big at s fault)

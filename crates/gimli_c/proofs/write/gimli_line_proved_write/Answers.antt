@@ -1,4 +1,4 @@
-use Rattle.std.proofs.Common.{List, ℕ, length, inl, inr, sym, ap, ◌∙◌, arith}
+use Rattle.std.proofs.Common.{List, ℕ, length, inl, inr, refl, sym, ap, ◌∙◌, arith}
 use Rattle.gimli_c.specs.Causes.HasCause.{of_handed, of_unit}
 use Rattle.gimli_c.specs.Handing.{numbers_of, write_status}
 use Rattle.gimli_c.specs.Written.{slots_with}
@@ -48,28 +48,41 @@ returns-clause-ok c = λ _.
     }
 
 pub returns-in-Err-clause-cause : goal.returns-in-Err-clause-cause
-returns-in-Err-clause-cause c = λ _ _ s. of_handed (c.in-Err.ensures.cause c.args.is_big s)
+returns-in-Err-clause-cause c = λ _ _.
+    let given = c.in-Err.ensures.refusal c.args.is_big in
+    record {
+      number = given.number;
+      cause = λ other. of_handed (given.cause other);
+      memory = given.memory;
+      first = given.first;
+    }
 
 pub returns-in-Err-section_of-clause-cause : goal.returns-in-Err-section_of-clause-cause
-returns-in-Err-section_of-clause-cause c = λ _ _ s.
+returns-in-Err-section_of-clause-cause c = λ _ _.
     let number = c.write_status.ensures.number in
-    elim c.in-Err-section_of.ensures.err [
-      | inl memory ↦ absurd (s (number ∙ ap write_status memory))
-      | inr first ↦ of_unit (record {
-        program = c.in-Ok.made.0;
-        built = (c.in-Ok.ensures.ok c.args.is_big).built;
-        cause = c.in-Err-section_of.e;
-        first = first;
-        status_is = number;
-      })
-    ]
+    record {
+      number = c.write_status.ensures.err;
+      cause = λ other.
+          elim c.in-Err-section_of.ensures.err [
+            | inl memory ↦ absurd (other (number ∙ ap write_status memory))
+            | inr first ↦ of_unit refl (record {
+              program = c.in-Ok.made.0;
+              built = (c.in-Ok.ensures.ok c.args.is_big).built;
+              cause = c.in-Err-section_of.e;
+              first = first;
+              status_is = number;
+            })
+          ];
+      memory = λ _. refl;
+      first = λ other s fault. absurd (c.in-Ok.ensures.well c.args.is_big other s fault);
+    }
 
 pub returns-then-bytes-unit-clause-refused : goal.returns-then-bytes-unit-clause-refused
-returns-then-bytes-unit-clause-refused c = λ s cause.
-    absurd (no_cause _ c.in-Ok.made.0 s (c.in-Ok.ensures.well c.args.is_big) (c.in-Ok.ensures.ok c.args.is_big).built
+returns-then-bytes-unit-clause-refused c = λ at s cause.
+    absurd (no_cause _ c.in-Ok.made.0 at s (c.in-Ok.ensures.well c.args.is_big) (c.in-Ok.ensures.ok c.args.is_big).built
     c.in-Ok-section_of.ensures.no_cause cause)
 
 pub returns-clause-refused : goal.returns-clause-refused
-returns-clause-refused c = λ s cause.
-    absurd (no_cause _ c.in-Ok.made.0 s (c.in-Ok.ensures.well c.args.is_big) (c.in-Ok.ensures.ok c.args.is_big).built
+returns-clause-refused c = λ at s cause.
+    absurd (no_cause _ c.in-Ok.made.0 at s (c.in-Ok.ensures.well c.args.is_big) (c.in-Ok.ensures.ok c.args.is_big).built
     c.in-Ok-section_of.ensures.no_cause cause)
