@@ -39,8 +39,6 @@ front_at bytes front rest parts =
     rw parts (take_at _ _ _ (omega (arith, length-append front rest)))
 
 module _ {A : Type 0} (l : Production A) (read : List ℕ → Read A) (r : Reads l read) where
-  abbrev as_bytes : List ℕ → A → List ℕ → Read (List ℕ)
-  as_bytes bytes x rest = (Ok (take (length bytes - length rest) bytes), rest)
 
   bytes_found : (bytes xs rest : List ℕ) → bytes_at read bytes ≡ (Ok xs, rest)
       → (front : List ℕ) × (bytes ≡ front ++ rest) × (bytes_of l).Spells front xs
