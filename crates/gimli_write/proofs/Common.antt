@@ -114,9 +114,9 @@ pub use specs.RoundTrip.{
 }
 pub use specs.TextReading.{text_from, text_of}
 pub use specs.convert.Conversion.{AddsFiles, AnswersAs, Conversion, IsConvertRefusal, IsConverted, IsReadRefusal}
-pub use specs.convert.Conversion.{IsRestRefusal, Progress, RestComesTo, RestConvertsTo, SourceComesTo, after_held}
+pub use specs.convert.Conversion.{IsRestRefusal, Progress, RestComesTo, RestConvertsTo, SourceComesTo}
 pub use specs.convert.Conversion.{beside, built_so_far, outcome_with, source_left, still_to_read, tables_of}
-pub use specs.convert.Conversion.{unless_failed, version_of_source, with_program, without_built}
+pub use specs.convert.Conversion.{version_of_source, with_program, without_built}
 pub use specs.convert.Items.{
   Reading,
   ReadsItems,
@@ -203,7 +203,7 @@ pub use specs.convert.Texts.{IsRefusedBy, if_there, source_path, source_text, wi
 pub use specs.declared.convert.rows.ConvertLineRow.TheVariants.{Row}
 pub use specs.declared.convert_error.ConvertError.TheVariants.{OutOfMemory as NoMemory}
 pub use specs.declared.read_back.RoundTrip.{RoundTrip}
-pub use specs.inside.TextReading.{HasFileTexts, HasOptionalText, HasText}
+pub use specs.inside.TextReading.{HasFileTexts, HasText}
 pub use specs.inside.convert.SourceRun.{Shortens, StepsSource, step_made, step_reading}
 pub use Prelude.{Address, All, Bool, Built, BuiltItem, CanWrite, ConvertError, ConvertLineRow, Decodes, Encoding, Err}
 pub use Prelude.{Error, Events, File, Header, IfErr, IfOk, IfSome, Ins, InvalidAddress}

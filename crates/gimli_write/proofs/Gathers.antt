@@ -2,9 +2,9 @@
 use Rattle.std.specs.Prelude.{◌≡◌, ◌∷◌, ◌++◌}
 use Rattle.gimli_write.proofs.Common
 use Common.{ℕ, false, nat_eq, List, [], length, refl, sym, ap, ◌∙◌, inl, inr, Option, Some, None, Ok, Err, Built}
-use Common.{LineRow, Row, TablesAndTexts, Reading, ends, stops, defines, offers, address_offered, after_definitions}
-use Common.{sequence_from, sequence_with, IsRefusedBy, Conversion, tables_of, version_of_source, after_held}
-use Common.{unless_failed, source_left, still_to_read, IsReadRefusal, AddsFiles, ConvertError, MissingLineEndSequence}
+use Common.{LineRow, Row, TablesAndTexts, Reading, ends, stops, defines, offers, after_definitions}
+use Common.{sequence_from, sequence_with, IsRefusedBy, Conversion, tables_of}
+use Common.{still_to_read, IsReadRefusal, AddsFiles, ConvertError, MissingLineEndSequence}
 use Rattle.gimli_write.specs
 use specs.declared.convert.rows.ConvertLineRow.TheVariants.{SetAddress}
 use specs.declared.convert.rows.ConvertLineSequenceEnd.TheVariants.{Address}
@@ -46,19 +46,6 @@ module _ (c d : Conversion) (line_strings : List (List ℕ)) (a : ℕ) where
   pub given_back : c.failed ≡ None → c.address ≡ None → d ≡ record c { address = Some a }
       → offers (SetAddress a) (tables_of c line_strings) (still_to_read c line_strings) ≡ still_to_read d line_strings
   given_back well none is = cc
-    where
-      tables : TablesAndTexts
-      tables = tables_of c line_strings
-
-      rest : Reading
-      rest = after_held (version_of_source c) tables c.held (source_left c line_strings)
-
-      by : (failed : Option ConvertError) (address : Option ℕ) → failed ≡ None → address ≡ None
-          → offers (SetAddress a) tables (unless_failed failed (address_offered address tables rest))
-          ≡ unless_failed failed (address_offered (Some a) tables rest)
-      by None None well none = refl
-      by (Some e) address well none = absurd cc
-      by None (Some b) well none = absurd cc
 
 -- the end of what is read
 pub nothing_gathered : (start : Option ℕ) {rows : List LineRow} (old : Reading) {rest : Reading}

@@ -13,8 +13,8 @@ use Common.{Sections, ConvertError, ◌>>=◌, source_path, TablesAndTexts, vers
 use Common.{file_parts, with_parts, file_added, all_added, tables_after_definition, tables_at, SourceFile}
 use Common.{working_directory, source_file, line_encoding_of, first_texts, start_of_tables, Handed, encoding_of}
 use Common.{lists_added, tables_of_header, KeepsTexts, with_text-KeepsTexts, with_tables, index_of_directory}
-use Common.{no_details, inl, inr, append_assoc, Error, directory_of, from_one, IsText, text_of, Read}
-use Common.{MissingCompilationDirectory, without_zero, source_text, first_path, first_ids}
+use Common.{no_details, inl, inr, append_assoc, directory_of, from_one, IsText, text_of}
+use Common.{MissingCompilationDirectory, source_text, first_path, first_ids}
 use Common.{needed_from_5, nat_eq, AllByRecursion, true≢false, eqb-true, append-nil, slice_get-map}
 use Common.{defined_files, has_file, index_of_file, with_details, with_file, keys_of, OneByOne, FileParts, ok_or}
 use Common.{All-from_recursion, IsOptionalText, InvalidDirectoryIndex, if_there, Outcome}
@@ -23,8 +23,7 @@ use Rattle.gimli_write.proofs
 use proofs.ConvertSteps.{kept_self, kept_then}
 use proofs.Writable.{within_kept, source_kept, written_later, written_with_file}
 use Rattle.std.proofs.Common.{length-append}
-use Rattle.std.specs.Result.{result_map_both}
-use Rattle.gimli_core.specs.declared.attribute_value.AttributeValue.TheVariants.{String, DebugStrRefSup}
+use Rattle.gimli_core.specs.declared.attribute_value.AttributeValue.TheVariants.{String}
 use Rattle.gimli_build.specs.FirstTables.{first_directories}
 use Rattle.gimli_build.proofs.building.TableLemmas.{
   directory_found,
@@ -413,14 +412,13 @@ started_ready strings encoding line_encoding h line_strings directory file =
     let second = made_table encoding.version line_strings directory in
     let third = sources_table encoding.version second file.directory in
     let last = made_table encoding.version third file.path in
-    let second_keeps = sources_keep encoding.version second file.directory in
-    let third_keeps = made_keeps encoding.version third file.path in
+    let second_keeps = sources_keep encoding.version _ file.directory in
+    let third_keeps = made_keeps encoding.version _ file.path in
     let working : IsWithin (texts_in strings last) texts.working_directory =
-    within_kept strings second last (kept_then second_keeps third_keeps) texts.working_directory
+    within_kept strings second last (kept_then second_keeps third_keeps) _
     (made_within strings encoding.version line_strings directory) in
     let own : IfSome texts.source_directory (IsWithin (texts_in strings last)) =
-    source_kept strings third last third_keeps texts.source_directory
-    (source_within strings encoding.version second file.directory) in
+    source_kept strings third last third_keeps _ (source_within strings encoding.version second file.directory) in
     let old = nat_le encoding.version 4 in
     let first : BuiltFile = (
       (
@@ -434,11 +432,11 @@ started_ready strings encoding line_encoding h line_strings directory file =
       encoding_is = refl;
       can = record {
         program = refl;
-        directories = both (texts_in strings last) texts.working_directory texts.source_directory old working own;
+        directories = both _ _ _ old working own;
         paths =
-            one (λ f. IsWithin (texts_in strings last) f.0.0) first old
+            one (λ f. IsWithin (texts_in strings last) f.0.0) _ old
             (made_within strings encoding.version third file.path);
-        sources = one (λ f. IfSome f.1.source (IsWithin (texts_in strings last))) first old tt;
+        sources = grind (arith, one);
         sources_end = λ new has. one (λ f. IfSome f.1.source HasNoZero) first old tt;
       };
     }
@@ -449,9 +447,9 @@ started_ready strings encoding line_encoding h line_strings directory file =
     both : (texts : StringTables) (working : LineText) (own : Option LineText) (old : Bool) → IsWithin texts working
         → IfSome own (IsWithin texts) → All (IsWithin texts)
         (if old then working ∷ [] else option_map_or (with_directory (working ∷ [])) own (working ∷ []))
-    both texts working own true w o = alone texts working w
-    both texts working (Some t) false w o = directories_with texts (working ∷ []) t (alone texts working w) o
-    both texts working None false w o = alone texts working w
+    both texts working own true w o = alone _ _ w
+    both texts working (Some t) false w o = directories_with _ (working ∷ []) t (alone _ _ w) o
+    both texts working None false w o = alone _ _ w
 
     one : (Q : BuiltFile → Type 0) (f : BuiltFile) (old : Bool) → Q f → All Q (if old then [] else f ∷ [])
     one Q f true q = All-nil Q
@@ -472,23 +470,9 @@ prepared_ready strings sections h given line_strings is =
 
 -- ---- texts of a source
 
--- bytes that have no zero byte are kept
-kept_bytes : (bytes text : List ℕ) → without_zero bytes ≡ Ok text → bytes ≡ text
-kept_bytes bytes text is = grind arith
-
-source_read : (r : Result (List ℕ) Error) {text : List ℕ}
-    → (result_map_both (λ text. text) Read r >>= without_zero) ≡ Ok text → r ≡ Ok text
-source_read (Ok bytes) is = ap Ok (kept_bytes _ _ is)
-source_read (Err e) is = absurd cc
-
-pub source_text_of : (sections : Sections) (v : Value) {text : List ℕ} → source_text sections v ≡ Ok text
-    → text_of sections v ≡ Ok text
-source_text_of sections (DebugStrRefSup offset) is = absurd cc
-source_text_of sections v is = source_read _ is
-
 pub source_path_of : (version : ℕ) (sections : Sections) (v : Value) {path : List ℕ}
     → source_path version sections v ≡ Ok path → text_of sections v ≡ Ok path
-source_path_of version sections v is = grind (arith, source_text_of)
+source_path_of version sections v is = grind arith
 
 first_path_of : (version : ℕ) (sections : Sections) (h : Header) (v : Value) (path : List ℕ)
     → first_path version sections h v ≡ Ok path → text_of sections v ≡ Ok path
@@ -623,12 +607,11 @@ module _ (sections : Sections) (h : Header) where
                     let before = so.each d id old in (
                       before.0,
                       before.1,
-                      longer_texts (table_has version tables.line_strings path) (more_directories text before.2),
+                      longer_texts (table_has version tables.line_strings path) (more_directories _ before.2),
                     )
                 | inr here_it_is ↦ (
                   path,
-                  subst (λ (o : Option Value). IsDirectoryPath sections o path)
-                      (sym (ap (directory_of h) here_it_is.0 ∙ here)) read,
+                  subst (λ o. IsDirectoryPath sections o path) (sym (ap (directory_of h) here_it_is.0 ∙ here)) read,
                   subst (IsDirectoryId version after (with_directory tables.program.directories text) path) here_it_is.1
                       new,
                 )
@@ -1098,7 +1081,7 @@ file_next {sections} h {tables} g {source} is so =
     let R = IsFileOf sections (with_parts tables g parts) (source ++ g ∷ []) in
     subst (λ l. AreFiles sections h l (source ++ g ∷ [])) (same_ok _ t.2) (record {
       ids = so.ids ++ id ∷ [];
-      ids_are = grind (arith, append_assoc);
+      ids_are = grind arith;
       each =
           one_by_one_push R _ _ g _ (one_by_one_map _ R (file_old sections tables g parts t.1 source) _ _ so.each)
           (file_new sections tables g parts t.1 source);
@@ -1151,15 +1134,14 @@ record AreRead (sections : Sections) (directory_ids : List ℕ) (parts : FilePar
 
 are_read : (sections : Sections) (version : ℕ) (directory_ids : List ℕ) (parts : FileParts) (f : File)
     → HasParts sections version directory_ids parts f → AreRead sections directory_ids parts f
-are_read sections version directory_ids parts f is = grind (arith, same_ok, text_read, source_path_of, there_ok)
+are_read sections version directory_ids parts f is = grind (arith, same_ok, text_read, there_ok)
 
 -- a source that is known stands for the text of the source
 source_is_text : (sections : Sections) (version : ℕ) (texts : StringTables) (o : Option Value)
     (source : Option (List ℕ))
     → if_there (source_text sections) o ≡ Ok source → IfSome source (IsMade version texts.line_strings)
     → IsOptionalText sections o (option_map (bytes_in texts) (option_map (made_text version texts.line_strings) source))
-source_is_text sections version texts (Some v) (Some text) is made =
-    grind (arith, made_bytes, text_read, source_text_of)
+source_is_text sections version texts (Some v) (Some text) is made = grind (arith, made_bytes, text_read)
 source_is_text sections version texts (Some v) None is made = grind arith
 source_is_text sections version texts None (Some text) is made = absurd cc
 source_is_text sections version texts None None is made = tt

@@ -16,7 +16,7 @@ use Rattle.std.proofs.lemmas.Nat.{pow_pos}
 use Rattle.gimli_line.proofs.NonDecreasingLaws.{rises}
 use Rattle.gimli_write.specs.convert.Mapped
 use Mapped.{gave_row, MapsToItself, NoneEndsUnderTombstone, IsFileId, RowsMapped, SetsConstant}
-use Rattle.gimli_line.proofs.RunLists.{events_at, after_here}
+use Rattle.gimli_line.proofs.RunLists.{events_at}
 use Rattle.gimli_write.proofs
 use proofs.Outcomes.{definition_passed}
 use proofs.MappedFiles.{finished}
@@ -55,11 +55,6 @@ address_within parameters (i ∷ past) =
 
 -- ---- the address that was last set
 
--- one that doesn't hide isn't below the address before it, nor one of the two greatest
-pub set_seen : (parameters : Parameters) (a : ℕ) (p : OperationPointer) → is_tombstone parameters a p ≡ false
-    → (p.address ≤ a) × (a < address_limit parameters - 2)
-set_seen parameters a p seen = grind arith
-
 pub set_moves : (parameters : Parameters) (a : ℕ) (p : OperationPointer) (tombstone : Bool)
     → is_tombstone parameters a p ≡ false → (next_pointer parameters tombstone (SetAddress a) p).address ≡ a
 set_moves parameters a p tombstone seen = grind arith
@@ -88,7 +83,7 @@ base_below parameters (i ∷ past) seen =
 -- nor above that of the row that a point makes
 pub base_below_row : (parameters : Parameters) (past : List Ins) (i : Ins) → is_under_tombstone parameters past ≡ false
     → is_end i ≡ false → base_at past ≤ (row_at parameters past i).address
-base_below_row parameters past i seen inner = grind (arith, base_below, rises)
+base_below_row parameters past i seen inner = grind (arith, base_below)
 
 -- ---- what was built after a past
 
@@ -117,7 +112,7 @@ follows_end parameters past i closes = absurd cc
 pub follows_row : (parameters : Parameters) (past : List Ins) (i : Ins) → makes_row i ≡ true → is_end i ≡ false
     → is_under_tombstone parameters past ≡ false
     → Follows parameters (i ∷ past) (base_at past) ((pointer_at parameters (i ∷ past)).address - base_at past)
-follows_row parameters past i loud inner seen = grind (arith, base_below, rises)
+follows_row parameters past i loud inner seen = grind (arith, base_below)
 
 -- a point that gives nothing
 pub follows_quiet : (parameters : Parameters) (past : List Ins) (i : Ins) (base position : ℕ)
@@ -125,7 +120,7 @@ pub follows_quiet : (parameters : Parameters) (past : List Ins) (i : Ins) (base 
     → (is_end i ≡ true → is_under_tombstone parameters past ≡ true → gave_row parameters past ≡ false)
     → Follows parameters past base position → Follows parameters (i ∷ past) base position
 follows_quiet parameters past EndSequence base position quiet ends f = grind arith
-follows_quiet parameters past (SetAddress a) base position quiet ends f = grind (arith, set_seen)
+follows_quiet parameters past (SetAddress a) base position quiet ends f = grind arith
 follows_quiet parameters past (Special o) base position quiet ends f = grind arith
 follows_quiet parameters past Copy base position quiet ends f = grind arith
 follows_quiet parameters past i base position quiet ends f = grind arith
@@ -191,7 +186,6 @@ module _ (sections : Sections) (parameters : Parameters) (first : TablesAndTexts
             → Rest past [] None base position p
         closed there true so = absurd cc
         closed {tables} there false so =
-            let same : finished tables p ≡ c = cc in
             record {
               rows = [];
               events = refl;
@@ -248,7 +242,7 @@ module _ (sections : Sections) (parameters : Parameters) (first : TablesAndTexts
           → Here base position p
       passed base position p none r = record {
         rows = r.rows;
-        events = grind (arith, after_here);
+        events = grind arith;
         items = r.items;
         built = r.built;
         mapped = r.mapped;
@@ -268,7 +262,7 @@ module _ (sections : Sections) (parameters : Parameters) (first : TablesAndTexts
           → AddressesFit size base position (built ∷ items)) → Later after after_it next → Here base position p
       taken base after position after_it p next built one pushed constant mapped fit r = record {
         rows = here ∷ r.rows;
-        events = grind (arith, after_here);
+        events = grind arith;
         items = built ∷ r.items;
         built = grind (arith, append_assoc);
         mapped = mapped r.items r.rows r.mapped;

@@ -107,7 +107,7 @@ module _ (map : ℕ → Option Address → Type 0) where
       → IsRestRefusal map old e
   rest_refused old e is = record {
     answers = is;
-    as_function = grind (arith, refused_then, comes_as);
+    as_function = grind (arith, comes_as);
   }
 
   -- ---- reads that are handed on

@@ -161,7 +161,7 @@ module _ (is_big other : Bool) (p : Built) (texts : StringTables) (section other
   })
 
   begins_there : BeginsUnit (slice_layout other) (unit_entry_with size directory) (drop n other_section) back.header
-  begins_there = grind (arith, back, begins)
+  begins_there = grind (arith, begins)
 
   pub program_answered : (r : Result RoundTrip ConvertError)
       → ((h : Header) → BeginsUnit (slice_layout other) (unit_entry_with size directory) (drop n other_section) h

@@ -3,10 +3,10 @@ use Rattle.std.specs.Prelude.{◌≡◌, ◌≢◌, ◌<◌, ◌≤◌, ◌-◌,
 use Rattle.gimli_write.proofs.Common
 use Common.{ℕ, Bool, true, false, not, List, [], length, refl, sym, ap, ◌∙◌, append_assoc, arith, Option, Some, None}
 use Common.{Result, Ok, Err, OnOk, OnErr, IfOk, IfErr, length-append, append-nil, OrderAndLimit, Error, AddressOverflow}
-use Common.{OutOfMemory, Header, File, Parameters, Special, Copy, EndSequence, DefineFile, SetAddress, Ins, ins_seen}
+use Common.{OutOfMemory, Header, File, Parameters, EndSequence, DefineFile, SetAddress, Ins, ins_seen}
 use Common.{is_end, makes_row, defines_file, files_after, SpellsInstruction, instruction_production, decoded_at}
 use Common.{step_of, reset_row, is_refused, next_registers, Unread, is_decoded, one_decoding, instructions_bounded}
-use Common.{Sections, ConvertError, Read, SourceRow, SourceStep, More, Made, TablesAndTexts, file_added, Reading}
+use Common.{Sections, ConvertError, Read, SourceStep, More, Made, TablesAndTexts, file_added, Reading}
 use Common.{defines, with_definition, ends, stops, address_operand, source_row_offered, tables_after_definition}
 use Common.{SourceRun, row_made, state_after, instruction_reading, reading_from, reading_upon, reading_left}
 use Common.{step_reading, step_made, Shortens}
@@ -160,19 +160,6 @@ pub state_same : (h k : Header) (r s : LineRow) {b c : ℕ} {p q : Option ℕ} (
     → state h r b p u ≡ state k s c q u
 state_same h k r s u header row base pending = grind arith
 
--- what an instruction does to registers that a run relies on
-ends_row : (p : Parameters) (i : Ins) (r : LineRow) → r.end_sequence ≡ false → makes_row i ≡ true
-    → (step_of p i r).end_sequence ≡ is_end i
-ends_row p (Special o) r e loud = e
-ends_row p Copy r e loud = e
-ends_row p EndSequence r e loud = refl
-ends_row p i r e loud = absurd cc
-
-refusal_keeps_end : (p : Parameters) (i : Ins) (r : LineRow) → is_refused p i r ≡ true
-    → (step_of p i r).end_sequence ≡ r.end_sequence
-refusal_keeps_end p EndSequence r e = absurd cc
-refusal_keeps_end p i r e = refl
-
 no_end : (i : Ins) → makes_row i ≡ false → is_end i ≡ false
 no_end EndSequence e = absurd cc
 no_end i e = refl
@@ -196,18 +183,12 @@ module _ (i : Ins) (old new : LineRow) (ready : IsReady old) where
   pub ready_at_refusal : (p : Parameters) (e : Error) → defines_file i ≡ false
       → (e ≢ AddressOverflow → defines_file i ≡ true)
       → (e ≡ AddressOverflow → (is_refused p i old ≡ true) × (new ≡ step_of p i old)) → IsReady new
-  ready_at_refusal p e file memory over = grind (arith, refusal_keeps_end)
+  ready_at_refusal p e file memory over = grind arith
 
   pub ready_when_quiet : (p : Parameters) → makes_row i ≡ false → new ≡ step_of p i old → IsReady new
   ready_when_quiet p quiet step = grind arith
 
 -- ---- what is done of an instruction that sets no address and defines no file
-
-module _ {R Endian Offset : Type 0} where
-  same_or_other : {made tombstone other : Bool} {r d : SourceRow} → made ≡ true → tombstone ≡ other → r ≡ d
-      → ◌≡◌ {A = SourceStep R Endian Offset} (if tombstone then More else Made r)
-      (if made && not other then Made d else More)
-  same_or_other loud same row_is = grind arith
 
 module _ (i : Ins) (h h2 : Header) (r r2 : LineRow) (b : ℕ) (p : Option ℕ) (u : Unread)
     (address : address_operand i ≡ None) (file : defines_file i ≡ false)
@@ -222,18 +203,18 @@ module _ (i : Ins) (h h2 : Header) (r r2 : LineRow) (b : ℕ) (p : Option ℕ) (
 
   -- where it makes no row
   pub quiet_state : makes_row i ≡ false → state h2 r2 b p u ≡ state_after i (state h r b p u)
-  quiet_state quiet = grind (arith, no_end, state_same, header_kept)
+  quiet_state quiet = grind (arith, no_end)
 
   -- where it makes one
   pub row_state : makes_row i ≡ true → r.end_sequence ≡ false → {k : Header} → k ≡ h2 → {r3 : LineRow}
       → r3 ≡ reset_row k.parameters r2 → {last : Bool} → last ≡ r2.end_sequence → {n : ℕ} → n ≡ (if last then 0 else b)
       → state h2 r3 n None u ≡ state_after i (state h r b p u)
-  row_state loud ready lent reset ended counts = grind (arith, next_is, ends_row, state_same)
+  row_state loud ready lent reset ended counts = grind (arith, next_is)
 
   pub made_is : {R Endian Offset : Type 0} {given : SourceStep R Endian Offset} {offset : ℕ}
       → given ≡ (if r2.tombstone then More else Made (record { set_address = p; address_offset = offset; row = r2 }))
       → makes_row i ≡ true → offset ≡ r2.address - b → given ≡ step_made (state h r b p u) i
-  made_is is loud counts = grind (arith, same_or_other)
+  made_is is loud counts = grind arith
 
 -- ---- what is done of a set address
 
