@@ -1,6 +1,6 @@
 -- A sum of addresses of 8 bytes.
-use Rattle.std.specs.Prelude.{◌≡◌, ◌+◌, ◌%◌, ◌^◌, ◌<◌, ◌≤◌, ◌||◌}
-use Rattle.gimli_line.proofs.Common.{ℕ, Bool, Ok, arith, IsTrue, is_address_size, sized_sum}
+use Rattle.std.specs.Prelude.{◌≡◌, ◌+◌, ◌%◌, ◌^◌, ◌<◌, ◌≤◌}
+use Rattle.gimli_line.proofs.Common.{ℕ, Ok, arith, IsTrue, is_address_size, sized_sum}
 
 -- there each sum that doesn't wrap fits
 pub sum_fits : (address length size sum : ℕ) → IsTrue (is_address_size size) → 4 < size → length < 2 ^ 64

@@ -2,9 +2,9 @@
 -- than it has bytes.
 use Rattle.std.specs.Prelude.{◌≡◌, ◌≢◌, ◌+◌, ◌<◌, ◌≤◌, ◌∷◌}
 use Rattle.gimli_line.proofs.Common
-use Common.{ℕ, zero, suc, Bool, true, false, List, [], length, Option, Some, None, refl, ap, ◌∙◌, arith, IsTrue}
-use Common.{AllByRecursion, nat_le, length-append, length-map, OrderAndLimit, IsLeb128, UnknownForm, Value, Production}
-use Common.{Each, times, refuse, choose, String, Format, Dwarf32, Dwarf64, Encoding, File, Header, UnitEntry}
+use Common.{ℕ, zero, suc, Bool, true, false, List, [], length, Option, Some, None, refl, ap, arith}
+use Common.{nat_le, length-append, length-map, OrderAndLimit, IsLeb128, UnknownForm, Value, Production}
+use Common.{Each, times, refuse, choose, String, Format, Encoding, File, Header, UnitEntry}
 use Common.{TableEntry, path_of, file_of_entry, paths_production, files_production, formats_production}
 use Common.{entry_production, entries_production, table_production, directory_table, file_table, opening_production}
 use Common.{fields_production, HeaderOpening, SpellsUnit, HoldsCount, FileEntryFormat}

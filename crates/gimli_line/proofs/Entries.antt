@@ -2,7 +2,7 @@
 use Rattle.std.specs.Prelude.{◌≡◌, if◌then◌else◌, ◌∷◌}
 use Rattle.gimli_line.proofs.Common
 use Common.{ℕ, List, [], Option, Some, None, Ok, Err, refl, sym, ap, ◌∙◌, nat_eq, OrderAndLimit, Value, udata_value}
-use Common.{Read, ◌>>=◌, Format, read_map, File, plain_file, TableEntry, last_value, digest, file_of_entry, form_at}
+use Common.{Read, ◌>>=◌, Format, read_map, File, plain_file, TableEntry, last_value, digest, file_of_entry}
 use Common.{entry_at, FileEntryFormat}
 use Rattle.gimli_line.specs.inside.header.EntryReading.{value_after, file_with, fold_of, folded_at}
 

@@ -3,31 +3,13 @@ use Rattle.std.specs.Prelude.{◌≡◌, ◌≢◌, ◌-◌, ◌<◌, ◌≤◌,
 use Rattle.gimli_line.proofs.Common
 use Common.{ℕ, zero, suc, List, [], length, take, Option, Some, None, Ok, Err, refl, sym, ap, subst, ◌∙◌, append_assoc}
 use Common.{arith, nat_eq, nat_le, slice_index, length-append, take_at, OrderAndLimit, Read, ◌>>=◌, within_at}
-use Common.{Production, ◌>>>◌, done, times, byte, number, some_bytes, text, unsigned, signed, below_limit, within}
+use Common.{Production, ◌>>>◌, done, times, byte, some_bytes, unsigned, below_limit, within}
 use Common.{Reads, Error, reads_both, reads_done, reads_if, reads_times, reads_within, bind_ok, bind_refused, ok_parts}
 use Common.{reads_byte, reads_some_bytes, reads_number, reads_text, reads_below_limit, reads_unsigned, reads_signed}
 use Common.{Special, UnknownStandard0, UnknownStandard1, UnknownStandardN, UnknownExtended, Ins, Header, bytes_of}
-use Common.{operand_of, file_production, bytes_at, operand_at, decoded_after, decoded_at}
+use Common.{operand_of, bytes_at, operand_at, decoded_after, decoded_at}
 use Rattle.gimli_line.specs
-use specs.run.InstructionGrammar.{
-  Operand,
-  none,
-  uleb,
-  sleb,
-  uhalf,
-  address,
-  file,
-  standard_opcodes,
-  extended_opcodes,
-  operand_production,
-  unknown_production,
-  standard_production,
-  extended_operands,
-  extended_production,
-  instruction_production,
-  SpellsInstruction,
-  Decodes,
-}
+use specs.run.InstructionGrammar.{Operand, none, uleb, sleb, uhalf, address, file, standard_opcodes, operand_production, unknown_production, standard_production, extended_operands, extended_production, instruction_production, SpellsInstruction, Decodes}
 use specs.run.InstructionReading.{unknown_at, standard_at, extended_operands_at, extended_at, ins_at, decoded_upto}
 use Rattle.gimli_line.proofs.HeaderLaws.{reads_file, given_ok, given_err, answer_of}
 
@@ -39,7 +21,6 @@ front_at bytes front rest parts =
     rw parts (take_at _ _ _ (omega (arith, length-append front rest)))
 
 module _ {A : Type 0} (l : Production A) (read : List ℕ → Read A) (r : Reads l read) where
-
   bytes_found : (bytes xs rest : List ℕ) → bytes_at read bytes ≡ (Ok xs, rest)
       → (front : List ℕ) × (bytes ≡ front ++ rest) × (bytes_of l).Spells front xs
   bytes_found bytes xs rest e =

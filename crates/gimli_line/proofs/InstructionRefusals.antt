@@ -1,31 +1,14 @@
 -- Which refusals an instruction may have.
-use Rattle.std.specs.Prelude.{◌-◌, ◌∷◌}
+use Rattle.std.specs.Prelude.{◌-◌}
 use Rattle.gimli_line.proofs.Common
-use Common.{ℕ, zero, suc, Bool, true, false, List, [], Option, Some, None, inl, inr, arith, ltb-false, nat_eq, nat_le}
+use Common.{ℕ, zero, suc, Bool, true, false, List, Option, Some, None, inl, inr, arith, ltb-false, nat_eq, nat_le}
 use Common.{nat_lt, slice_index, OrderAndLimit, SpellsUleb128, Production, done, check, choose, times, within, byte}
 use Common.{number, some_bytes, text, unsigned, signed, below_limit, IsWanting, Error, UnsupportedOffset, Special}
 use Common.{UnknownStandard0, UnknownStandard1, UnknownStandardN, UnknownExtended, Header, file_production, operand_of}
 use Common.{bytes_of, Ins}
 use Rattle.gimli_core.specs.Production.{◌>>=◌}
 use Rattle.gimli_line.specs
-use specs.run.InstructionGrammar.{
-  Operand,
-  none,
-  uleb,
-  sleb,
-  uhalf,
-  address,
-  file,
-  standard_opcodes,
-  extended_opcodes,
-  operand_production,
-  unknown_production,
-  standard_production,
-  extended_operands,
-  extended_production,
-  instruction_production,
-  IsInstructionRefusal,
-}
+use specs.run.InstructionGrammar.{Operand, none, uleb, sleb, uhalf, address, file, standard_opcodes, operand_production, unknown_production, standard_production, extended_operands, extended_production, instruction_production, IsInstructionRefusal}
 
 -- a production that is refused as an instruction may be
 record IsKnown {A : Type 0} (layout : OrderAndLimit) (l : Production A) : Type 0 where

@@ -1,7 +1,7 @@
 -- Looking up the entry of an index in a table that begins at 1.
 use Rattle.std.specs.Prelude.{◌≡◌, ◌-◌, ◌<◌, ◌≤◌}
 use Rattle.gimli_line.proofs.Common
-use Common.{ℕ, List, Option, ◌∙◌, arith, map, slice_get, Some, None, option_map, Bor, Header, entry_of, directory_of}
+use Common.{ℕ, List, Option, arith, map, slice_get, option_map, Bor, Header, entry_of, directory_of}
 use Common.{file_of}
 use Rattle.std.specs.Option.{option_copied}
 use Rattle.std.proofs.lemmas.Option.{slice_get-map}

@@ -1,8 +1,8 @@
 -- Reading the items of a table one after the other, as loops do.
-use Rattle.std.specs.Prelude.{◌≡◌, ◌≢◌, ◌+◌, ◌-◌, ◌<◌, ◌≤◌, ◌∷◌, ◌++◌, ◌↔◌}
+use Rattle.std.specs.Prelude.{◌≡◌, ◌+◌, ◌-◌, ◌<◌, ◌≤◌, ◌∷◌, ◌++◌, ◌↔◌}
 use Rattle.gimli_line.proofs.Common
 use Common.{ℕ, zero, suc, Bool, true, false, List, [], length, map, Ok, Err, refl, sym, ap, ◌∙◌, append_assoc, arith}
-use Common.{nat_eq, IsTrue, AllByRecursion, append-nil, length-append, Error, OrderAndLimit, layout_of, Read, ◌>>=◌}
+use Common.{nat_eq, IsTrue, append-nil, length-append, Error, OrderAndLimit, layout_of, Read, ◌>>=◌}
 use Common.{text_at, unsigned_at, times_at, Format, Production, IsOpen, bind_refused, reads_text, read_map, is_closed}
 use Common.{list_to_zero_at, File, TableEntry, plain_file_at, named_file_at, entry_at, FileEntryFormat}
 use Rattle.gimli_line.specs.inside.header.TableReading.{closed_below}

@@ -1,9 +1,9 @@
 -- Row addresses never go down between two ends.
-use Rattle.std.specs.Prelude.{◌≡◌, ◌+◌, ◌*◌, ◌/◌, ◌%◌, ◌^◌, ◌≤◌, ◌||◌, if◌then◌else◌, ◌∷◌, ◌++◌}
+use Rattle.std.specs.Prelude.{◌≡◌, ◌≤◌, if◌then◌else◌, ◌∷◌, ◌++◌}
 use Rattle.gimli_line.proofs.Common
-use Common.{ℕ, Bool, true, false, List, [], None, not, arith, filter, AddressOverflow, Special, AdvancePc, ConstAddPc}
+use Common.{ℕ, Bool, true, false, List, [], None, arith, filter, AddressOverflow, Special, AdvancePc, ConstAddPc}
 use Common.{FixedAddPc, EndSequence, SetAddress, Parameters, Ins, is_end, makes_row, OperationPointer, next_pointer}
-use Common.{pointer_at, is_under_tombstone, overflows, Event, row, fault, row_at, is_given, events_after}
+use Common.{pointer_at, overflows, Event, row, fault, row_at, is_given, events_after}
 use Rattle.gimli_line.specs.run.NonDecreasing.{NeverBelow, AreOneSequence}
 use Rattle.gimli_line.proofs.RunLists.{after_here}
 

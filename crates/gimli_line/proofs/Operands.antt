@@ -1,7 +1,7 @@
 -- Passing over the operands of an opcode, as a loop does.
 use Rattle.std.specs.Prelude.{◌≡◌, ◌+◌, ◌-◌, ◌<◌, ◌∷◌, ◌++◌}
 use Rattle.gimli_line.proofs.Common
-use Common.{ℕ, suc, List, Ok, Err, refl, sym, ap, ◌∙◌, arith, Error, Read, ◌>>=◌, times_at, unsigned_at, unsigned}
+use Common.{ℕ, suc, List, Ok, Err, refl, sym, ap, ◌∙◌, arith, Error, Read, ◌>>=◌, times_at, unsigned_at}
 use Common.{bind_ok, ok_parts, reads_times, reads_unsigned, without_value}
 
 module _ {A : Type 0} (read : List ℕ → Read A) where

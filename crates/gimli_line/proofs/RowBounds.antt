@@ -3,7 +3,7 @@ use Rattle.std.specs.Prelude.{◌≡◌, ◌+◌, ◌≤◌, if◌then◌else◌
 use Rattle.gimli_line.proofs.Common
 use Common.{ℕ, zero, suc, Bool, true, false, List, [], length, Option, Ok, Err, ap, refl, arith, length-append}
 use Common.{length-map, OrderAndLimit, Read, Error, AddressOverflow, LineRow, File, Header, Parameters, Ins, makes_row}
-use Common.{files_after, ins_at, decoded_at, decoded_after, overflows, is_refused, step_of, made_step, next_registers}
+use Common.{files_after, decoded_at, decoded_after, overflows, is_refused, step_of, made_step, next_registers}
 use Common.{made_from, Event, Events, row, fault, row_at, made_at, end_events, EventWithFiles, with_files, made_after}
 use Common.{is_given, given_of, files_at, program_made, Makes, EventsWithFiles, RunState, made_left, events_left}
 use Rattle.gimli_line.specs.run.InstructionGrammar.{Decodes}

@@ -1,5 +1,5 @@
 -- What one instruction does to the events that are still to come.
-use Rattle.std.specs.Prelude.{◌≡◌, ◌≢◌, ◌<◌, ◌∷◌, ◌++◌, ◌⊎◌}
+use Rattle.std.specs.Prelude.{◌≡◌, ◌≢◌, ◌<◌, ◌∷◌, ◌++◌}
 use Rattle.gimli_line.proofs.Common
 use Common.{ℕ, Bool, true, false, List, [], length, Option, Some, None, refl, sym, ap, ◌∙◌, append_assoc, arith, inl}
 use Common.{inr, filter, length-append, append-nil, OrderAndLimit, Each, Error, AddressOverflow, OutOfMemory, LineRow}
@@ -7,7 +7,7 @@ use Common.{DefineFile, Parameters, HeaderSource, Header, without_files, files_a
 use Common.{File, decoded_at, Event, row, EventWithFiles, is_given, step_of, reset_row, is_refused, made_step}
 use Common.{next_registers, Unread, RunState, PassesOver, with_reset_row, registers_from, files_from, live_made}
 use Common.{live_events, made_left, events_left, files_at_end, WantsMemory, FaultComes, FaultIs, given_row}
-use Rattle.gimli_line.specs.run.InstructionGrammar.{SpellsInstruction, instruction_production, IsEnd, Decodes}
+use Rattle.gimli_line.specs.run.InstructionGrammar.{SpellsInstruction, instruction_production, Decodes}
 use Rattle.gimli_line.specs.run.InstructionReading.{decoded_upto}
 use Rattle.gimli_line.proofs.RunLists.{run_of_one, runs_joined}
 use Rattle.gimli_line.proofs.InstructionLaws.{is_decoded, one_decoding, takes_bytes}

@@ -1,7 +1,7 @@
 -- A header, and a run, that still come from the same source.
 use Rattle.std.specs.Prelude.{◌≡◌}
 use Rattle.gimli_line.proofs.Common
-use Common.{Bool, refl, sym, ap, subst, ◌∙◌, SeenHeader, HeaderSource, source_of, KeepsSource, RunState, AddsInOrder}
+use Common.{Bool, refl, sym, ap, subst, ◌∙◌, SeenHeader, HeaderSource, KeepsSource, RunState, AddsInOrder}
 use Common.{IsOfOneOrder, KeepsRun, SeesHeader}
 
 pub source_kept : (Fits : Bool → Type 0) (source : HeaderSource) → KeepsSource Fits source source

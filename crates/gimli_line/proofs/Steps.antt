@@ -4,7 +4,7 @@ use Rattle.gimli_line.proofs.Common
 use Common.{◌∙◌, Bool, true, false, [], ap, arith, inl, inr, length, refl, sym, subst, Result, Some, Ok, Err}
 use Common.{length-append, Error, AddressOverflow, OutOfMemory, Executed, No, Quiet, Address, Row, DefineFile, LineRow}
 use Common.{Header, without_files, KeepsSource, given_row, ReadsOn, StepIs, StepsTo, Ins, makes_row, defines_file}
-use Common.{header_after, ins_at, step_of, is_refused, with_reset_row, RunState, live_made, FaultComes, AddsInOrder}
+use Common.{header_after, ins_at, step_of, is_refused, with_reset_row, RunState, live_made, FaultComes}
 use Common.{KeepsRun, WantsMemory, Unread}
 use Rattle.gimli_line.specs.declared.run.rows.RowStep.{RowStep}
 use Rattle.gimli_line.specs.declared.run.rows.RowStep.TheVariants.{Done, Made, More}

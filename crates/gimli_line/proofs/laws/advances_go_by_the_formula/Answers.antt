@@ -1,5 +1,5 @@
 use Rattle.std.specs.Prelude.{◌≡◌, ◌+◌, ◌*◌, ◌/◌, ◌%◌, ◌^◌, ◌<◌}
-use Rattle.gimli_line.proofs.Common.{ℕ, Bool, arith, OperationPointer}
+use Rattle.gimli_line.proofs.Common.{ℕ, arith, OperationPointer}
 use Rattle.gimli_line.proofs.laws.advances_go_by_the_formula.Goals as goal
 
 -- where an instruction has one operation

@@ -1,5 +1,5 @@
 use Rattle.gimli_line.proofs
-use proofs.Common.{rules, ap, sym, ◌∙◌, nat_le, layout_of, Header, Parameters}
+use proofs.Common.{rules, ap, sym, ◌∙◌, nat_le, layout_of, Parameters}
 use proofs.OtherExecutions.{opened, defines}
 use proofs.run.from_bytes.read_defined_file.Goals as goal
 

@@ -1,6 +1,6 @@
 use Rattle.std.specs.Prelude.{◌≡◌}
 use Rattle.gimli_line.proofs
-use proofs.Common.{rules, ◌∙◌, refl, sym, ap, arith, layout_of, AdvancePc, ConstAddPc, Header}
+use proofs.Common.{rules, ◌∙◌, refl, sym, ap, arith, layout_of, AdvancePc, ConstAddPc}
 use proofs.Executions.{executes_it}
 use proofs.OtherExecutions.{below_executed, advance_read, const_add_read, extended_first}
 use proofs.run.instruction.LineInstructions.execute_other.Goals as goal

@@ -1,5 +1,5 @@
 use Rattle.gimli_line.proofs
-use proofs.Common.{rules, ap, sym, Ins, Read}
+use proofs.Common.{rules, ap, sym}
 use proofs.InstructionLaws.{reads_instruction}
 use proofs.run.instruction.LineInstructions.next_instruction.Goals as goal
 
