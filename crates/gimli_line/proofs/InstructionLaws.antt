@@ -9,7 +9,9 @@ use Common.{reads_byte, reads_some_bytes, reads_number, reads_text, reads_below_
 use Common.{Special, UnknownStandard0, UnknownStandard1, UnknownStandardN, UnknownExtended, Ins, Header, bytes_of}
 use Common.{operand_of, bytes_at, operand_at, decoded_after, decoded_at}
 use Rattle.gimli_line.specs
-use specs.run.InstructionGrammar.{Operand, none, uleb, sleb, uhalf, address, file, standard_opcodes, operand_production, unknown_production, standard_production, extended_operands, extended_production, instruction_production, SpellsInstruction, Decodes}
+use specs.run.InstructionGrammar.{Operand, none, uleb, sleb, uhalf, address, file, standard_opcodes, operand_production}
+use specs.run.InstructionGrammar.{unknown_production, standard_production, extended_operands, extended_production}
+use specs.run.InstructionGrammar.{instruction_production, SpellsInstruction, Decodes}
 use specs.run.InstructionReading.{unknown_at, standard_at, extended_operands_at, extended_at, ins_at, decoded_upto}
 use Rattle.gimli_line.proofs.HeaderLaws.{reads_file, given_ok, given_err, answer_of}
 

@@ -8,7 +8,9 @@ use Common.{UnknownStandard0, UnknownStandard1, UnknownStandardN, UnknownExtende
 use Common.{bytes_of, Ins}
 use Rattle.gimli_core.specs.Production.{◌>>=◌}
 use Rattle.gimli_line.specs
-use specs.run.InstructionGrammar.{Operand, none, uleb, sleb, uhalf, address, file, standard_opcodes, operand_production, unknown_production, standard_production, extended_operands, extended_production, instruction_production, IsInstructionRefusal}
+use specs.run.InstructionGrammar.{Operand, none, uleb, sleb, uhalf, address, file, standard_opcodes, operand_production}
+use specs.run.InstructionGrammar.{unknown_production, standard_production, extended_operands, extended_production}
+use specs.run.InstructionGrammar.{instruction_production, IsInstructionRefusal}
 
 -- a production that is refused as an instruction may be
 record IsKnown {A : Type 0} (layout : OrderAndLimit) (l : Production A) : Type 0 where
