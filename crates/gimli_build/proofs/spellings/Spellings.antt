@@ -1,17 +1,16 @@
 -- The bytes of an instruction spell it.
-use Rattle.std.specs.Prelude.{◌≡◌, ◌+◌, ◌-◌, ◌*◌, ◌^◌, ◌<◌, ◌≤◌, ◌∷◌, ◌++◌, ◌||◌, if◌then◌else◌, ◌+ℤ◌, ◌-ℤ◌, ◌≤ℤ◌, ◌<ℤ◌}
+use Rattle.std.specs.Prelude.{◌≡◌, ◌+◌, ◌-◌, ◌*◌, ◌^◌, ◌<◌, ◌≤◌, ◌∷◌, ◌++◌, ◌||◌, if◌then◌else◌, ◌-ℤ◌}
 use Rattle.gimli_build.proofs.Common
-use Common.{ℕ, Bool, true, false, List, [], length, refl, sym, ap, arith, lit<, Ok, nat_lt, nat_eq, nat_le, Result, Err}
+use Common.{ℕ, Bool, true, false, List, [], length, refl, sym, ap, arith, lit<, Ok, nat_lt, nat_eq, nat_le, Err}
 use Common.{ℤ, pos, unsigned_abs, FitsSigned, w64, rules, ints, AllByRecursion, nat_tests, append-nil, lt-ltb, lt-leb}
 use Common.{le-leb, ne_eqb, and_parts, LineEncoding, OrderAndLimit, SpellsUleb128, SpellsNumber, number_bytes}
-use Common.{result_map, below_limit, unsigned, Each, number_spelled, plain, uleb, sleb, Error, ValueTooLarge}
+use Common.{result_map, below_limit, unsigned, Each, number_spelled, plain, uleb, sleb, ValueTooLarge}
 use Common.{UnsupportedWordSize, Constant, uleb_shortest, Header, Ins, standard_production, extended_operands}
 use Common.{SpellsInstruction, Special, Copy, AdvancePc, AdvanceLine, SetFile, SetColumn, NegateStatement}
 use Common.{SetBasicBlock, ConstAddPc, SetPrologueEnd, SetEpilogueBegin, SetIsa, EndSequence, SetDiscriminator, LineRow}
 use Common.{CanEncode, CanFollow, operations, when, marks, changes, line_part, line_opcode, is_special_advance}
 use Common.{still_opcode, row_maker, constant_advance, operation_part, row_instructions, end_instructions}
 use Common.{instruction_bytes, instructions_bytes, set_address_bytes, IsWritten, FitsInstructions}
-use borrow.Author.Tests.{ltb-true}
 use Rattle.gimli_bytes.proofs.ShortestSleb.{sleb_shortest}
 use Rattle.gimli_line.specs.declared.run.instruction.LineInstruction.TheVariants.{SetAddress}
 

@@ -4,7 +4,7 @@ use Rattle.gimli_build.proofs.Common
 use Common.{ℕ, List, [], length, drop, drop-cons, take, map, slice_get, get_or, suc, add-one, Some, Ok, Err, OnOk}
 use Common.{IfErr, refl, sym, ap, ◌∙◌, append_assoc, inl, inr, arith, append-nil, drop-map, take-take, length-take}
 use Common.{slice_get_within, get_or_from_slice_get, take-length, take-suc, Result, All, Contains, All-head, All-drop}
-use Common.{All-cons, Begins, Appends, Error, result_append, result_concat}
+use Common.{Begins, Appends, Error, result_append, result_concat}
 
 pub on_ok : {X : Type 0} (r : Result X Error) {P Q : Type 0} → (P → Q) → OnOk r P → OnOk r Q
 on_ok (Ok x) f p = f p

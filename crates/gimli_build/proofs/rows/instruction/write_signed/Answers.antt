@@ -1,5 +1,5 @@
 use Rattle.std.specs.Prelude.{◌≡◌}
-use Rattle.gimli_build.proofs.Common.{◌∙◌, arith, to_z, of_z, w64, ints, sleb_one}
+use Rattle.gimli_build.proofs.Common.{arith, to_z, of_z, w64, ints, sleb_one}
 use Rattle.gimli_build.proofs.writing.Writes.{bytes_unwritten, joins, writes, passed_on}
 use Rattle.gimli_build.proofs.rows.instruction.write_signed.Goals as goal
 
