@@ -212,7 +212,7 @@ impl<R: Reader, P: LineProgram<R>> LineRows<R, P> {
     }
 
     /// Executes the next instruction, and more where it is a common one that makes no row. The
-    /// first one stands before the loop, since most rows take one or two.
+    /// first one stands before the loop, whose start a row of one instruction doesn't need.
     #[inline(always)]
     fn execute_some(&mut self) -> Result<RowStep>
         ensures { StepsTo self.old self.new result }
