@@ -13,6 +13,7 @@ pub use Rattle.gimli_bytes.specs.Number.{
   pointer_data,
   sdata,
   sleb_within,
+  twos_complement,
   udata,
   uleb_within,
 }
@@ -71,6 +72,7 @@ pub use Rattle.std.proofs.Common.{
   Ok,
   OnErr,
   OnOk,
+  SFits,
   Some,
   [],
   ap,

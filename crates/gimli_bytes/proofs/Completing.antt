@@ -1,5 +1,5 @@
 -- What calls of a section with relocations leave, once a linker has completed it.
-use Rattle.std.specs.Prelude.{◌≡◌, ◌+◌, ◌%◌, ◌<◌, ◌≤◌, ◌^◌, ◌++◌, if◌then◌else◌}
+use Rattle.std.specs.Prelude.{◌≡◌, ◌+◌, ◌%◌, ◌<◌, ◌^◌, ◌++◌, if◌then◌else◌}
 use Rattle.gimli_bytes.proofs
 use proofs.Common
 use Common.{arith, ℕ, ℤ, pos, Bool, true, false, List, length, take, refl, ap, sym, ◌∙◌, Ok, Err, OnOk, OnErr, w64}

@@ -6,6 +6,7 @@ pub mod TextLemmas
 pub mod Equality
 pub mod PieceLemmas
 pub mod Parts
+pub mod TablesWritten
 pub mod WrittenAs
 pub mod SectionWords
 pub mod RelocationLemmas

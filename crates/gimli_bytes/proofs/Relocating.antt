@@ -1,5 +1,5 @@
 -- Relocations that are applied, call by call.
-use Rattle.std.specs.Prelude.{◌≡◌, ◌+◌, ◌-◌, ◌*◌, ◌/◌, ◌%◌, ◌^◌, ◌<◌, ◌≤◌, ◌∷◌, ◌++◌, ◌⊎◌, ◌&&◌, ◌||◌}
+use Rattle.std.specs.Prelude.{◌≡◌, ◌+◌, ◌-◌, ◌*◌, ◌/◌, ◌%◌, ◌^◌, ◌<◌, ◌≤◌, ◌∷◌, ◌++◌, ◌⊎◌, ◌||◌}
 use Rattle.gimli_bytes.proofs
 use proofs.Common
 use Common.{arith, inl, inr, ℕ, ℤ, Bool, List, [], length, take, drop, refl, ap, sym, ◌∙◌, subst, w64, All, true, false}

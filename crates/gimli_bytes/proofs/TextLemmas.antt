@@ -1,7 +1,7 @@
 -- The keys of a table, seen as texts.
 use Rattle.std.specs.Prelude.{◌≡◌, ◌≢◌, ◌+◌, ◌||◌, ◌∷◌, ◌++◌, if◌then◌else◌, ◌<◌, ◌≤◌}
 use Rattle.gimli_bytes.proofs.Common
-use Common.{ℕ, zero, suc, Bool, true, false, cond, not, List, [], map, length, take, drop, get_or, Some, None, refl}
+use Common.{ℕ, zero, suc, Bool, true, false, cond, not, List, [], map, length, take, drop, get_or, Some, refl}
 use Common.{sym, ap, ◌∙◌, arith, true≢false, position, append_assoc, length-append, bytes_eq, All, Contains, slice_get}
 use Common.{list_any, position_or_len, prefix_len, map-append, take_more, take-map, take-append-le, drop-drop, drop_at}
 use Common.{All-push, AreTexts, KeepsTexts, with_text, index_of_text, byte_count, offset_of, table_bytes, texts_of}

@@ -42,7 +42,7 @@ use std::alloc::Global;
 /// directories are tested first, then files, then rows. Texts stand among the bytes of `texts`. A
 /// directory or a file that comes twice is there once; rows have its number then. `numbers` gets
 /// that of each file, as far as there is room, where the unit is written. `details` is the sum of
-///  `HAS_TIMESTAMP`, `HAS_SIZE` and `HAS_MD5`, each where version 5 is to have that detail;
+/// `HAS_TIMESTAMP`, `HAS_SIZE` and `HAS_MD5`, each where version 5 is to have that detail;
 /// other bits are ignored. Only the first address of a sequence is tested against the size of
 /// addresses.
 #[unsafe(no_mangle)]

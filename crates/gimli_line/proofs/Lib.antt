@@ -12,6 +12,7 @@ pub mod InstructionRefusals
 pub mod Bounds
 pub mod RowBounds
 pub mod RowsAlone
+pub mod Fields
 pub mod HeaderParts
 pub mod Loops
 pub mod Entries

@@ -1,13 +1,23 @@
 -- The loops that read tables, where they begin and where they end.
-use Rattle.std.specs.Prelude.{◌≡◌, ◌<◌, ◌≤◌}
+use Rattle.std.specs.Prelude.{◌≡◌, ◌<◌, ◌≤◌, ◌↔◌}
 use Rattle.gimli_line.proofs.Common
 use Common.{ℕ, Bool, List, [], map, Ok, Err, refl, arith, All, le-leb, lt-leb, OrderAndLimit, layout_of, Read, Encoding}
-use Common.{Error, bind_refused, read_map, TableEntry, formats_at, entries_at, FileEntryFormat}
+use Common.{IsTrue, false, length, sym, ◌∙◌, text_at, path_text, Error, bind_refused, read_map, TableEntry, formats_at}
+use Common.{entries_at, FileEntryFormat}
 use Rattle.gimli_line.specs.inside.header.HeaderReading.{table_of}
+use Rattle.gimli_line.proofs.Closed.{reads_name}
+use Rattle.gimli_line.proofs.Loops.{closed_smaller, text_free, viewed_same}
 
 -- a table without entries
 pub none_yet : {A : Type 0} (P : A → Type 0) (xs : List A) → xs ≡ [] → All P xs
 none_yet P xs is = grind arith
+
+-- a text that isn't empty has bytes
+pub text_smaller : (bytes text rest : List ℕ) → (IsTrue false ↔ (text ≡ [])) → (Ok text, rest) ≡ text_at bytes
+    → length rest < length bytes
+text_smaller bytes text rest empty e =
+    closed_smaller (λ x. x) path_text text_at reads_name _ _ _ (text_free bytes text rest empty e)
+    (e ∙ sym (viewed_same _))
 
 -- ---- the tables of a version
 

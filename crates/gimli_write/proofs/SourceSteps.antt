@@ -188,6 +188,14 @@ module _ (i : Ins) (old new : LineRow) (ready : IsReady old) where
   pub ready_when_quiet : (p : Parameters) → makes_row i ≡ false → new ≡ step_of p i old → IsReady new
   ready_when_quiet p quiet step = grind arith
 
+-- after a row, whose registers are reset
+reset_ready : (p : Parameters) (r : LineRow) (last : Bool) → r.end_sequence ≡ last → IsReady (reset_row p r)
+reset_ready p r true is = rw is refl
+reset_ready p r false is = rw is refl
+
+pub ready_after_row : (p : Parameters) (new after : LineRow) → after ≡ reset_row p new → IsReady after
+ready_after_row p new after reset = rw reset (reset_ready p new new.end_sequence refl)
+
 -- ---- what is done of an instruction that sets no address and defines no file
 
 module _ (i : Ins) (h h2 : Header) (r r2 : LineRow) (b : ℕ) (p : Option ℕ) (u : Unread)

@@ -7,6 +7,7 @@ use Common.{Ghosts, LineRow, BuiltItem, SetAddress, Row, End, CanEncode, IsPosit
 use Common.{item_bytes, items_bytes, next_previous, FitsItem, AreFit}
 use Rattle.gimli_build.proofs.reading.EventsBack.{start_position}
 use Rattle.gimli_build.proofs.writing.Joined.{appended_bytes, joined-joined, begins_self, begins_then}
+use Rattle.gimli_build.proofs.writing.Writes.{later_unwritten}
 
 -- these bytes stand for the items so far, and those are left
 pub record Standing (hand : Hand) (is_big : Bool) (encoding : Encoding) (e : LineEncoding)
@@ -36,6 +37,17 @@ standing_more hand is_big encoding e whole old new newer previous item left so m
       written = a.2 ∙ ap (λ l. l ++ a.0) so.written ∙ append_assoc old so.done a.0;
       parts = so.parts ∙ ap (λ r. result_append (Ok so.done) (result_append r rest)) a.1 ∙ joined-joined _ _ _;
     }
+
+-- a refused item is what refuses
+standing_refused : (hand : Hand) (is_big : Bool) (encoding : Encoding) (e : LineEncoding)
+    (whole : Result (List ℕ) Error) (old new : List ℕ) (previous : LineRow) (item : BuiltItem) (left : List BuiltItem)
+    (d : Error)
+    → Standing hand is_big encoding e whole old new previous (item ∷ left)
+    → item_bytes hand is_big encoding e previous item ≡ Err d → whole ≡ Err d
+standing_refused hand is_big encoding e whole old new previous item left d so refused =
+    let rest =
+    items_bytes hand is_big encoding e (next_previous encoding.version e.default_is_stmt previous item) left in
+    so.parts ∙ ap (λ r. result_append (Ok so.done) (result_append r rest)) refused
 
 pub standing_start : (hand : Hand) (is_big : Bool) (encoding : Encoding) (e : LineEncoding) (old : List ℕ)
     (previous : LineRow) (items : List BuiltItem)
@@ -80,6 +92,18 @@ written_more {sink = sink} {is_big = is_big} {encoding = encoding} {e = e} {whol
           standing_more _ _ _ e _ _ _ _ _ _ _ (so.linked at completes)
           (more.completed at (so.stays completes));
     }
+
+-- a refused item, after those so far
+pub items_unwritten : {W X Y : Type 0} {sink : Ghosts W} {old mid new : W} {d : Error} {is_big : Bool}
+    {encoding : Encoding} {e : LineEncoding} {whole : Hand → Result (List ℕ) Error} {previous : LineRow}
+    {item : BuiltItem} {left : List BuiltItem}
+    → Written sink is_big encoding e whole old mid previous (item ∷ left)
+    → Writes {X = X} sink mid new (Err d) (λ hand. item_bytes hand is_big encoding e previous item)
+    → Writes {X = Y} sink old new (Err d) whole
+items_unwritten {sink = sink} {d = d} {e = e} so refused =
+    later_unwritten _ _ so.keeps so.ordered so.stays
+    (λ keeps_bytes. standing_refused _ _ _ e _ _ _ _ _ _ d (so.held keeps_bytes))
+    (λ at completes. standing_refused _ _ _ e _ _ _ _ _ _ d (so.linked at completes)) refused
 
 pub none_standing : {W : Type 0} (sink : Ghosts W) (is_big : Bool) (encoding : Encoding) (e : LineEncoding) (old : W)
     (previous : LineRow) (items : List BuiltItem)

@@ -2,10 +2,11 @@ use Rattle.std.specs.Prelude.{◌≡◌, ◌-◌, ◌<◌, ◌^◌, ◌++◌}
 use Rattle.gimli_build.proofs
 use proofs.Common
 use Common.{ℕ, List, length, Ok, refl, sym, ap, ◌∙◌, arith, append_assoc, length_word, open_length, result_append}
-use Common.{escape_bytes}
+use Common.{escape_bytes, Result, Error}
 use proofs.writing.Joined.{on_ok}
 use proofs.linking.Lengths.{patched_length}
 use proofs.writing.Frames.{counted_written, open_word, escape_is, escape_long, length_word_long}
+use proofs.writing.Writes.{counted_unwritten, passed_on}
 use proofs.unit.write_whole.Goals as goal
 
 pub returns-clause-writes : goal.returns-clause-writes
@@ -47,3 +48,14 @@ returns-clause-completed_short g c = λ at completes.
           c.in_ok-length.length.0 written,
     ))
     (c.write_initial_length_at.ensures.completed at there)
+
+pub returns-in_err-write_inside-clause-writes : goal.returns-in_err-write_inside-clause-writes
+returns-in_err-write_inside-clause-writes g c =
+    let is_big = g.W.Sink.is_big c.args.w.now in
+    let format = c.args.input.now.program.encoding.format in
+    let opening = c.in_ok-length.ensures.appends in
+    let whole : ℕ → Result (List ℕ) Error = λ k.
+    result_append (Ok (escape_bytes is_big format)) (length_word is_big format k) in
+    let refused = rw opening.ordered at c.in_err-write_inside.ensures.writes in
+    passed_on c.from_residual-in_err-write_inside.ensures.1
+    (counted_unwritten whole opening.keeps opening.ordered opening.stays refused)

@@ -1,5 +1,4 @@
 use Rattle.gimli_bytes.proofs
-use proofs.Common.{length}
 use proofs.Relocating.{inside-from}
 use proofs.CallsRelocated.{calls_same}
 use proofs.laws.relocations_give_the_same.Goals as goal

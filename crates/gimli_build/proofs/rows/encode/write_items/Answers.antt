@@ -2,7 +2,9 @@ use Rattle.std.specs.Prelude.{◌≡◌, ◌<◌}
 use Rattle.gimli_build.proofs.Common.{ℕ, ap, length, ◌∙◌, arith, at_position, next_previous}
 use Rattle.gimli_build.proofs.reading.EventsBack.{start_position}
 use Rattle.gimli_build.proofs.writing.ItemsWritten.{taken_next, fit_more, way_on, none_standing, written_more}
+use Rattle.gimli_build.proofs.writing.ItemsWritten.{items_unwritten}
 use Rattle.gimli_build.proofs.writing.Joined.{next_left}
+use Rattle.gimli_build.proofs.writing.Writes.{passed_on}
 use Rattle.gimli_build.proofs.rows.encode.write_items.Goals as goal
 
 pub loop-item-init : goal.loop-item-init
@@ -44,3 +46,11 @@ loop-item-preserved g c =
       way = rw moved (way_on _ e c.requires.can _ _ _ way);
       so = rw moved (written_more so (rw so.ordered at c.in_ok-write_item.ensures.writes));
     }
+
+pub returns-in_err-write_item-clause-writes : goal.returns-in_err-write_item-clause-writes
+returns-in_err-write_item-clause-writes g c =
+    let items = c.args.items.now in
+    let i = c.loop-item.item-index in
+    let lt : i < length items = omega arith in
+    let so = rw (next_left items i c.item-item.result lt c.item-item.is) at c.loop-item.invariant.so in
+    passed_on c.from_residual.ensures.1 (items_unwritten so (rw so.ordered at c.in_err-write_item.ensures.writes))

@@ -1,8 +1,8 @@
 use Rattle.std.specs.Prelude.{◌≡◌, ◌-◌, ◌<◌, ◌^◌, ◌++◌}
 use Rattle.gimli_build.proofs
-use proofs.Common.{ℕ, List, sym, ap, ◌∙◌, arith, Result, append-nil, Error, format_word}
+use proofs.Common.{Ok, always, ℕ, List, sym, ap, ◌∙◌, arith, Result, append-nil, Error, format_word}
 use proofs.writing.Frames.{counted_written, open_word, word_is, zero_word, no_escape, header_word_long}
-use proofs.writing.Writes.{counted_unwritten, passed_on}
+use proofs.writing.Writes.{bytes_unwritten, counted_unwritten, passed_on, writes}
 use proofs.unit.header.write_header.Goals as goal
 
 pub returns-clause-writes : goal.returns-clause-writes
@@ -42,3 +42,11 @@ returns-in_err-write_fields-clause-writes g c =
     let refused = rw zero.ordered at c.in_err-write_fields.ensures.writes in
     passed_on c.from_residual-in_err-write_fields.ensures.1
     (counted_unwritten word zero.keeps zero.ordered zero.stays refused)
+
+pub returns-in_err-write_udata-clause-writes : goal.returns-in_err-write_udata-clause-writes
+returns-in_err-write_udata-clause-writes g c =
+    let is_big = g.W.Sink.is_big c.args.w.now in
+    let format = c.args.input.now.program.encoding.format in
+    let put =
+    rw (c.word_size-size.ensures, c.format.ensures, zero_word is_big format) at c.in_err-write_udata.ensures in
+    passed_on c.from_residual.ensures.1 (bytes_unwritten (writes (always (Ok (open_word is_big format))) put))

@@ -1,4 +1,4 @@
-use Rattle.std.specs.Prelude.{◌≡◌, ◌-◌, ◌+◌, ◌++◌, ◌∷◌}
+use Rattle.std.specs.Prelude.{◌≡◌, ◌-◌, ◌++◌, ◌∷◌}
 use Rattle.gimli_bytes.proofs
 use proofs.Common
 use Common.{ℕ, take, arith, ap, ◌∙◌, sym, pos, to_z, of_z, w64, [], ints, take_more_set, length-set, int_div_euclid}

@@ -1,4 +1,4 @@
-use Rattle.std.specs.Prelude.{◌≡◌, ◌-◌, ◌+◌, ◌%◌, ◌++◌}
+use Rattle.std.specs.Prelude.{◌≡◌, ◌-◌, ◌++◌}
 use Rattle.gimli_bytes.proofs
 use proofs.Common.{ℕ, take, arith, ap, ◌∙◌, sym, take_more_set, length-set, uleb_within}
 use Rattle.gimli_bytes.specs.Number.{uleb}

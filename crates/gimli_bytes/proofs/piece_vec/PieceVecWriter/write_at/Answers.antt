@@ -1,6 +1,6 @@
 use Rattle.std.specs.Prelude.{◌≡◌, ◌+◌, ◌≤◌}
 use Rattle.gimli_bytes.proofs
-use proofs.Common.{arith, ◌∙◌, length, take, List, ℕ, refl, concat}
+use proofs.Common.{arith, length, take, refl, concat}
 use proofs.PieceLemmas.{HoldPieces-same, bytes-within, bytes-length, bytes-over, take-before}
 use proofs.piece_vec.PieceVecWriter.write_at.Goals as goal
 

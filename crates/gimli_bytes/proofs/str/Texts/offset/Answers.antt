@@ -1,7 +1,5 @@
-use Rattle.std.specs.Prelude.{◌+◌}
 use Rattle.gimli_bytes.proofs
-use proofs.Common.{◌∙◌, arith, ℕ, List, take-map, take_all}
-use Rattle.std.proofs.Common.{Vec, Global}
+use proofs.Common.{arith, take-map, take_all}
 use proofs.TextLemmas.{byte_count-part, byte_count-more}
 use proofs.str.Texts.offset.Goals as goal
 

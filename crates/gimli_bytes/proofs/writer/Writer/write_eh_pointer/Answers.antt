@@ -1,6 +1,6 @@
-use Rattle.std.specs.Prelude.{◌≡◌, ◌≢◌}
+use Rattle.std.specs.Prelude.{◌≢◌}
 use Rattle.gimli_bytes.proofs
-use proofs.Common.{◌∙◌, arith}
+use proofs.Common.{arith}
 use proofs.WrittenAs.{refused_at_once, absolute_pointer, relative_pointer, other_pointer}
 use proofs.writer.Writer.write_eh_pointer.Goals as goal
 

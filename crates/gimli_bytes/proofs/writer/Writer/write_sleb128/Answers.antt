@@ -1,6 +1,5 @@
-use Rattle.std.specs.Prelude.{◌≡◌}
 use Rattle.gimli_bytes.proofs
-use proofs.Common.{arith, ◌∙◌}
+use proofs.Common.{arith}
 use proofs.LebLemmas.{sleb_one}
 use proofs.ShortestSleb.{sleb_shortest}
 use proofs.writer.Writer.write_sleb128.Goals as goal

@@ -2,6 +2,7 @@ use Rattle.gimli_line.proofs
 use proofs.Common.{ap, ◌∙◌, map_push, err_from_is_err_and, text_at, String, read_map, path_text}
 use proofs.Order.{values_pushed}
 use proofs.Closed.{reads_name}
+use proofs.Tables.{text_smaller}
 use proofs.Loops.{closed_goes_on, closed_ends, closed_done, text_closed, text_free, text_refused}
 use proofs.header.tables.parse_directories.Goals as goal
 
@@ -31,3 +32,15 @@ loop-directories-preserved g c = record {
       c.loop-directories.invariant.parts
       c.in_ok-directory.ensures.part;
 }
+
+pub loop-directories-smaller : goal.loop-directories-smaller
+loop-directories-smaller g c =
+    text_smaller (g.R.Reader.bytes c.loop-directories.input) _ _ c.if-is_empty.ensures c.in_ok-directory.ensures.read
+
+pub returns-in_err-push-clause-read : goal.returns-in_err-push-clause-read
+returns-in_err-push-clause-read g c =
+    let p = err_from_is_err_and c.from_residual-in_err-push.result c.from_residual-in_err-push.ensures.1 in
+    rw (p.1, p.2) (λ other. absurd (other c.in_err-push.ensures.err))
+
+pub returns-in_err-push-clause-order : goal.returns-in_err-push-clause-order
+returns-in_err-push-clause-order g c = c.read_null_terminated_slice.ensures.order ∙ c.loop-directories.invariant.order

@@ -85,3 +85,8 @@ pub returns-in_err-empty-clause-cause : goal.returns-in_err-empty-clause-cause
 returns-in_err-empty-clause-cause g c =
     cause-is _ c.args.encoding c.args.self.now (texts_in c.args.strings.now c.args.line_strings.now)
     (c.encoding.ensures.accepted c.requires.program).address_size
+
+pub returns-then-is_incompatible-clause-cause : goal.returns-then-is_incompatible-clause-cause
+returns-then-is_incompatible-clause-cause g c =
+    cause-is _ c.args.encoding c.args.self.now (texts_in c.args.strings.now c.args.line_strings.now)
+    (c.encoding.ensures.accepted c.requires.program).address_size

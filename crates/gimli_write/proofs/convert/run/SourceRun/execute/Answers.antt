@@ -2,7 +2,8 @@ use Rattle.std.specs.Prelude.{◌≡◌}
 use Rattle.gimli_write.proofs.Common
 use Common.{true, false, refl, sym, ap, ◌∙◌, subst, is_refused, reset_row, state_after, step_made, ins_seen, Read}
 use Rattle.gimli_write.proofs.SourceSteps
-use SourceSteps.{state, is_overflow, ready_at_refusal, ready_when_quiet, header_kept, quiet_state, row_state, made_is}
+use SourceSteps.{state, is_overflow, ready_at_refusal, ready_when_quiet, ready_after_row, header_kept, quiet_state}
+use SourceSteps.{row_state, made_is}
 use Rattle.gimli_write.proofs.convert.run.SourceRun.execute.Goals as goal
 
 pub invariant_of-self : goal.invariant_of-self
@@ -82,3 +83,11 @@ returns-clause-header g c =
     c.self.inside.program.meaning c.execute.new.program.meaning
     c.self.inside.row c.execute.new.self c.self.inside.base c.self.inside.pending c.self.inside.instructions
     c.requires.address c.requires.file c.in-Ok.ensures.fits c.in-Ok.ensures.files c.in-Ok.ensures.step)
+
+pub invariant_of-self-2 : goal.invariant_of-self-2
+invariant_of-self-2 g c =
+    ready_after_row c.header.result.now.meaning.parameters c.execute.new.self c.reset.new.self c.reset.ensures
+
+pub returns-clause-unread : goal.returns-clause-unread
+returns-clause-unread g c =
+    subst (λ s. c.made.new.self.unread ≡ s.unread) c.self.view_is (ap (λ q. q.unread) c.made.ensures.new)

@@ -1,0 +1,9 @@
+use Rattle.std.proofs.Common.{◌≡◌, ap, ◌∙◌}
+use Rattle.gimli_core.specs.Numbers.{number_bytes}
+use Rattle.gimli_bytes.proofs.writer.Writer.write_u64_at.Goals as goal
+
+pub returns : goal.returns
+returns g c =
+    let bytes : c.bytes_of_u64.result ≡ number_bytes (g.Self.Sink.is_big c.args.self.now) 8 c.args.val =
+    c.bytes_of_u64.ensures ∙ ap (λ is_big. number_bytes is_big 8 c.args.val) c.endian.ensures in
+    rw (← bytes) c.write_at.ensures
