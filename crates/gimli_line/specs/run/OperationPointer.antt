@@ -1,6 +1,6 @@
 -- The address and the op_index of each point (DWARF 5, sections 6.2.2 and 6.2.5), and which parts
--- of a program are under a tombstone. DWARF has no rule for these. Ours is that of gimli and LLVM:
--- a linker that drops code leaves its rows in the program, at an address that stands for nothing.
+-- of a program are under a tombstone. DWARF has no rule for these. Ours is gimli's: a linker that
+-- drops code leaves its rows in the program, at an address that stands for nothing.
 -- The past of a point is the list of the instructions before it, the nearest first.
 use Rattle.std.specs.Prelude.{◌+◌, ◌-◌, ◌*◌, ◌/◌, ◌%◌, ◌^◌, ◌||◌, ◌&&◌, if◌then◌else◌, ◌∷◌}
 use Rattle.gimli_line.specs
