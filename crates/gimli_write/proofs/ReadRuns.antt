@@ -1,14 +1,29 @@
 -- Rows that are read: they are what the program gives, or a fault comes after them.
-use Rattle.std.specs.Prelude.{◌≡◌, ◌≢◌, ◌⊎◌, ◌∷◌, ◌++◌}
+use Rattle.std.specs.Prelude.{◌≡◌, ◌≢◌, ◌<◌, ◌⊎◌, ◌∷◌, ◌++◌}
 use Rattle.gimli_write.proofs.Common
-use Common.{true, List, [], map, refl, sym, ap, ◌∙◌, inl, inr, append-nil, OrderAndLimit, Error}
-use Common.{OutOfMemory, Header, File, row, fault, Events, live_events, FaultIs, events_left, events_of, HasFirstFault}
-use Common.{ConvertError, Read, NoMemory, IsRunRefusal}
+use Common.{true, List, [], length, map, refl, sym, ap, ◌∙◌, inl, inr, arith, append-nil, append_assoc, map-append}
+use Common.{OrderAndLimit, Error, OutOfMemory, Header, File, row, fault, Event, Events, live_events, FaultIs}
+use Common.{events_left, events_of, HasFirstFault, ConvertError, Read, NoMemory, IsRunRefusal}
 use Rattle.gimli_line.specs.declared.run.row.LineRow.{LineRow}
 use Rattle.gimli_line.specs.run.RunState.{RunState}
 use Rattle.gimli_line.specs.run.Passing.{with_reset_row}
+use Rattle.gimli_line.specs.run.Rows.{RowIs}
 use Rattle.gimli_line.specs.run.EventsWithFiles.{EventWithFiles, EventsWithFiles}
 use Rattle.gimli_line.proofs.RunLists.{given_without_files}
+
+-- ---- a row of a run
+
+module _ (old new : RunState) {r : LineRow} {files : List File} (next : RowIs live_events old new r files) where
+  pub run_smaller : length (events_left new) < length (events_left old)
+  run_smaller = omega (arith, ap length next.0)
+
+  -- it comes after the rows before it
+  pub run_goes : {first : List Event} (rows : List LineRow) {more : List LineRow}
+      → first ≡ map row rows ++ events_of (events_left old) → more ≡ rows ++ r ∷ []
+      → first ≡ map row more ++ events_of (events_left new)
+  run_goes rows so_far is =
+      rw (is, map-append row rows (r ∷ []), append_assoc (map row rows) (row r ∷ []) (events_of (events_left new)))
+      (so_far ∙ ap (λ (l : List EventWithFiles). map row rows ++ events_of l) next.0)
 
 -- ---- a run to its end
 
