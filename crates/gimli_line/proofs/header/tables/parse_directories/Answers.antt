@@ -53,12 +53,5 @@ loop-directories-init g c = record {
       none_yet (ValueHasOrder g.R.Reader.is_big (g.R.Reader.is_big c.args.input.now)) _ c.new-directories.ensures.items;
 }
 
-pub returns-then-is_empty-clause-order : goal.returns-then-is_empty-clause-order
-returns-then-is_empty-clause-order g c = c.read_null_terminated_slice.ensures.order ∙ c.loop-directories.invariant.order
-
 pub returns-then-is_empty-clause-parts : goal.returns-then-is_empty-clause-parts
 returns-then-is_empty-clause-parts g c = c.loop-directories.invariant.parts
-
-pub returns-in_err-directory-clause-order : goal.returns-in_err-directory-clause-order
-returns-in_err-directory-clause-order g c =
-    c.read_null_terminated_slice.ensures.order ∙ c.loop-directories.invariant.order

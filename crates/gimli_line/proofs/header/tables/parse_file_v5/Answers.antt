@@ -1,10 +1,10 @@
-use Rattle.std.specs.Prelude.{◌≡◌, ◌+◌, ◌<◌, ◌≤◌}
+use Rattle.std.specs.Prelude.{◌≡◌, ◌+◌, ◌<◌}
 use Rattle.std.proofs.Common.{get_or}
 use Rattle.std.proofs.lemmas.List.{drop_more}
 use Rattle.gimli_line.proofs
 use proofs.Common
-use Common.{ℕ, Bool, List, Ok, Err, length, drop, drop_all, refl, subst, ◌∙◌, err_from_is_err_and, ValueHasOrder, Value}
-use Common.{Read, Error, Format, OrderAndLimit, layout_of, form_at, FileEntryFormat}
+use Common.{ℕ, Bool, List, Ok, length, drop, refl, subst, ◌∙◌, ValueHasOrder, Value}
+use Common.{Read, Format, layout_of, form_at, FileEntryFormat}
 use Rattle.gimli_line.specs.inside.header.EntryReading.{file_with, folded_at}
 use proofs.Order.{file_kept}
 use proofs.Entries.{file_is}
@@ -23,19 +23,6 @@ module _ (format : Format) (now first : Bool) (limit : ℕ) {A : Type 0} (step :
       let again = rw same at read in
       rw is (rw (drop_more formats i d lt, ← again) at so_far)
 
-  -- a value that is refused
-  entry_ends : (e : Error) → (Err e, rest) ≡ form_at (layout_of now limit) format (get_or formats i d).form.0 bytes
-      → (Err e, rest) ≡ total
-  entry_ends e read =
-      let again = rw same at read in
-      rw (drop_more formats i d lt, ← again) at so_far
-
--- no format is left
-entry_done : (layout : OrderAndLimit) (format : Format) {A : Type 0} (step : A → ℕ → Value → A)
-    (formats : List FileEntryFormat) (i : ℕ) (last : A) (bytes : List ℕ) (total : Read A)
-    → length formats ≤ i → folded_at layout format step last (drop i formats) bytes ≡ total → (Ok last, bytes) ≡ total
-entry_done layout format step formats i last bytes total le so_far = rw (drop_all i formats le) at so_far
-
 pub loop-entry_format-init : goal.loop-entry_format-init
 loop-entry_format-init g c = record {
   so_far = rw (c.of_path-file.ensures.file, c.nothing.ensures.bytes) (file_is _ _ _ _);
@@ -53,15 +40,3 @@ loop-entry_format-preserved g c =
       part = c.update.ensures.order _ i.part
           (subst (λ order. ValueHasOrder g.R.Reader.is_big order c.in_ok-value.value) i.order c.in_ok-value.ensures.part);
     }
-
-pub returns-in_err-value-clause-read : goal.returns-in_err-value-clause-read
-returns-in_err-value-clause-read g c =
-    let p = err_from_is_err_and c.from_residual.result c.from_residual.ensures.1 in
-    let i = c.loop-entry_format.invariant in
-    rw (p.1, p.2)
-    (entry_ends _ _ _ _ file_with _ _ _ _ c.loop-entry_format-test.true i.order _ _ _ i.so_far _
-    c.in_err-value.ensures.read)
-
-pub returns-clause-read : goal.returns-clause-read
-returns-clause-read g c =
-    entry_done _ _ file_with _ _ _ _ _ c.loop-entry_format-test.false c.loop-entry_format.invariant.so_far

@@ -71,11 +71,5 @@ loop-files-init g c = record {
   parts = none_yet (FileHasOrder g.R.Reader.is_big (g.R.Reader.is_big c.args.input.now)) _ c.new-files.ensures.items;
 }
 
-pub returns-then-is_empty-clause-order : goal.returns-then-is_empty-clause-order
-returns-then-is_empty-clause-order g c = c.read_null_terminated_slice.ensures.order ∙ c.loop-files.invariant.order
-
 pub returns-then-is_empty-clause-parts : goal.returns-then-is_empty-clause-parts
 returns-then-is_empty-clause-parts g c = c.loop-files.invariant.parts
-
-pub returns-in_err-path_name-clause-order : goal.returns-in_err-path_name-clause-order
-returns-in_err-path_name-clause-order g c = c.read_null_terminated_slice.ensures.order ∙ c.loop-files.invariant.order
