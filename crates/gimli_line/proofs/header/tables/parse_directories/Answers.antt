@@ -52,6 +52,3 @@ loop-directories-init g c = record {
   parts =
       none_yet (ValueHasOrder g.R.Reader.is_big (g.R.Reader.is_big c.args.input.now)) _ c.new-directories.ensures.items;
 }
-
-pub returns-then-is_empty-clause-parts : goal.returns-then-is_empty-clause-parts
-returns-then-is_empty-clause-parts g c = c.loop-directories.invariant.parts

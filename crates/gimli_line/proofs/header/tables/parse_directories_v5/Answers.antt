@@ -1,8 +1,7 @@
 use Rattle.gimli_line.proofs
-use proofs.Common.{◌∙◌, map_push, err_from_is_err_and, path_of, ValueHasOrder}
+use proofs.Common.{◌∙◌, map_push, err_from_is_err_and, path_of}
 use proofs.Order.{values_pushed}
-use proofs.Loops.{times_goes_on, times_ends, times_done, entries_start, entry_kept}
-use proofs.Tables.{none_yet}
+use proofs.Loops.{times_goes_on, times_ends, times_done, entry_kept}
 use proofs.header.tables.parse_directories_v5.Goals as goal
 
 pub returns-in_err-directory-clause-read : goal.returns-in_err-directory-clause-read
@@ -25,14 +24,6 @@ loop-preserved g c = record {
 
 pub returns-clause-read : goal.returns-clause-read
 returns-clause-read g c = times_done path_of _ _ _ _ _ _ c.loop-test.false c.loop.invariant.so_far
-
-pub loop-init : goal.loop-init
-loop-init g c = record {
-  so_far = rw c.new-directories.ensures.items (entries_start _ _ path_of _ _ _ _ c.in_ok-count.ensures.read);
-  order = c.read_uleb128.ensures.order;
-  parts =
-      none_yet (ValueHasOrder g.R.Reader.is_big (g.R.Reader.is_big c.args.input.now)) _ c.new-directories.ensures.items;
-}
 
 pub returns-in_err-push-clause-read : goal.returns-in_err-push-clause-read
 returns-in_err-push-clause-read g c =

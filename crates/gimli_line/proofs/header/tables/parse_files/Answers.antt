@@ -70,6 +70,3 @@ loop-files-init g c = record {
   order = refl;
   parts = none_yet (FileHasOrder g.R.Reader.is_big (g.R.Reader.is_big c.args.input.now)) _ c.new-files.ensures.items;
 }
-
-pub returns-then-is_empty-clause-parts : goal.returns-then-is_empty-clause-parts
-returns-then-is_empty-clause-parts g c = c.loop-files.invariant.parts

@@ -38,14 +38,5 @@ returns-clause-refusal g c = refusal_is _ _ (λ is. absurd (false≢true (sym c.
 pub returns-clause-unit : goal.returns-clause-unit
 returns-clause-unit g c = rw (← c.self.view_is) c.program-program.ensures.unit
 
-pub returns-clause-layout : goal.returns-clause-layout
-returns-clause-layout g c = rw (← c.self.view_is) c.program-program.ensures.layout
-
-pub returns-clause-section : goal.returns-clause-section
-returns-clause-section g c = rw (← c.self.view_is) refl
-
-pub returns-clause-entry : goal.returns-clause-entry
-returns-clause-entry g c = rw (← c.self.view_is) refl
-
 pub returns-then-is_out_of_memory-clause-err : goal.returns-then-is_out_of_memory-clause-err
 returns-then-is_out_of_memory-clause-err g c = (refl, refl)

@@ -15,9 +15,3 @@ returns-clause-order g c = c.parse_fields.ensures.order
 
 pub returns-clause-directory : goal.returns-clause-directory
 returns-clause-directory g c = c.parse_fields.ensures.directory
-
-pub returns-clause-name : goal.returns-clause-name
-returns-clause-name g c = c.parse_fields.ensures.name
-
-pub returns-clause-offset : goal.returns-clause-offset
-returns-clause-offset g c = c.parse_fields.ensures.offset
