@@ -24,8 +24,3 @@ loop-preserved g c = record {
 
 pub returns-clause-read : goal.returns-clause-read
 returns-clause-read g c = times_done path_of _ _ _ _ _ _ c.loop-test.false c.loop.invariant.so_far
-
-pub returns-in_err-push-clause-read : goal.returns-in_err-push-clause-read
-returns-in_err-push-clause-read g c =
-    let p = err_from_is_err_and c.from_residual-in_err-push.result c.from_residual-in_err-push.ensures.1 in
-    rw (p.1, p.2) (λ other. absurd (other c.in_err-push.ensures.err))

@@ -1,7 +1,7 @@
 use Rattle.std.specs.Prelude.{◌≡◌, ◌≢◌}
 use Rattle.std.proofs.lemmas.Bool.{false≢true}
 use Rattle.gimli_line.proofs
-use proofs.Common.{Result, Ok, Err, IfErr, refl, sym, ap, ◌∙◌, Error, OutOfMemory}
+use proofs.Common.{Result, Ok, Err, IfErr, sym, ap, ◌∙◌, Error, OutOfMemory}
 use proofs.UnitLaws.{offsets_none, offsets_step, rest_is_end}
 use proofs.units.LineUnits.next.Goals as goal
 
@@ -34,9 +34,3 @@ returns-clause-next g c =
 pub returns-clause-refusal : goal.returns-clause-refusal
 returns-clause-refusal g c = refusal_is _ _ (λ is. absurd (false≢true (sym c.if-is_out_of_memory.false ∙ c.is_out_of_memory.ensures.1 is)))
     (rw (← c.self.view_is) c.program-program.ensures.refusal)
-
-pub returns-clause-unit : goal.returns-clause-unit
-returns-clause-unit g c = rw (← c.self.view_is) c.program-program.ensures.unit
-
-pub returns-then-is_out_of_memory-clause-err : goal.returns-then-is_out_of_memory-clause-err
-returns-then-is_out_of_memory-clause-err g c = (refl, refl)

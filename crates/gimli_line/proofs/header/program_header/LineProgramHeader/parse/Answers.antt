@@ -9,9 +9,3 @@ returns-clause-read g c =
     header_answers _ _ _ _ _ _ _ _ _ _ _ _ _ _ _ c.in_ok-unit_length.ensures.read c.in_ok-program_buf.ensures.read order
     c.in_ok-opening.ensures.read
     (c.parse.ensures.order ∙ order) c.parse_fields.ensures.read
-
-pub returns-clause-order : goal.returns-clause-order
-returns-clause-order g c = c.parse_fields.ensures.order
-
-pub returns-clause-directory : goal.returns-clause-directory
-returns-clause-directory g c = c.parse_fields.ensures.directory
