@@ -1,6 +1,5 @@
 use Rattle.std.specs.Prelude.{◌<◌}
-use Rattle.std.proofs.Common.{rules, arith}
-use Rattle.std.proofs.lemmas.Int.{ints}
+use Rattle.std.proofs.Common.{rules}
 use Rattle.gimli_line.proofs.ShortLeb.{one_signed, two_signed}
 use Rattle.gimli_line.proofs.run.leb128.read_short_sleb128.Goals as goal
 
@@ -14,9 +13,3 @@ returns-clause-read g c =
     two_signed _ _ c.in-Ok.first c.in-Ok-read_u8.second _ _ _ c.if-first-lt128.false below c.if-second-ge128.false
     c.from.ensures c.signed_7-2.ensures
     c.in-Ok.ensures.read c.in-Ok-read_u8.ensures.read
-
-pub overflow_sub-result : goal.overflow_sub-result
-overflow_sub-result g c = omega (arith, ints)
-
-pub overflow_mul-result : goal.overflow_mul-result
-overflow_mul-result g c = grind (arith, ints)
