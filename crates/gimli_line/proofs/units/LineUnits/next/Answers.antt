@@ -27,10 +27,11 @@ returns-clause-next g c =
     let ends = rw c.reader.ensures at c.offset_from.ensures in
     rw (← c.self.view_is)
     (offsets_step _ _ _ _ _
-    (λ none. absurd (false≢true (sym c.if-is_empty.false ∙ c.is_empty.ensures.1 (c.input_at-rest.ensures.bytes ∙ none))))
-    after
+    (λ none. absurd
+    (false≢true (sym c.if-is_empty.false ∙ c.is_empty.ensures.1 (c.input_at-rest.ensures.bytes ∙ none)))) after
     ends)
 
 pub returns-clause-refusal : goal.returns-clause-refusal
-returns-clause-refusal g c = refusal_is _ _ (λ is. absurd (false≢true (sym c.if-is_out_of_memory.false ∙ c.is_out_of_memory.ensures.1 is)))
+returns-clause-refusal g c = refusal_is _ _
+    (λ is. absurd (false≢true (sym c.if-is_out_of_memory.false ∙ c.is_out_of_memory.ensures.1 is)))
     (rw (← c.self.view_is) c.program-program.ensures.refusal)
