@@ -1,9 +1,9 @@
-use Rattle.std.specs.Prelude.{◌≡◌, ◌+◌, ◌<◌}
+use Rattle.std.specs.Prelude.{◌≡◌, ◌+◌, ◌<◌, ◌≤◌}
 use Rattle.std.proofs.Common.{get_or}
 use Rattle.std.proofs.lemmas.List.{drop_more}
 use Rattle.gimli_line.proofs
 use proofs.Common
-use Common.{ℕ, List, Ok, Err, length, drop, refl, subst, ◌∙◌, err_from_is_err_and, Value, ValueHasOrder, Read}
+use Common.{ℕ, List, Ok, Err, length, drop, drop_all, refl, subst, ◌∙◌, err_from_is_err_and, Value, ValueHasOrder, Read}
 use Common.{Error, Format, OrderAndLimit, form_at, File, FileEntryFormat}
 use Rattle.gimli_line.specs.inside.header.EntryReading.{file_with, folded_at}
 use proofs.Order.{file_kept}
@@ -21,6 +21,9 @@ module _ (layout : OrderAndLimit) (format : Format) (fs : List FileEntryFormat) 
   ends : (d : FileEntryFormat) (e : Error) (rest : List ℕ) → i < length fs
       → (Err e, rest) ≡ form_at layout format (get_or fs i d).form.0 bytes → (Err e, rest) ≡ total
   ends d e rest lt read = rw (drop_more fs i d lt, ← read) at so_far
+
+  done : length fs ≤ i → (Ok x, bytes) ≡ total
+  done le = rw (drop_all i fs le) at so_far
 
 pub loop-entry_format-init : goal.loop-entry_format-init
 loop-entry_format-init g c = record {
@@ -48,3 +51,6 @@ returns-in_err-value-clause-read g c =
     let i = c.loop-entry_format.invariant in
     rw (p.1, p.2)
     (ends _ _ _ _ _ _ _ i.so_far _ _ _ c.loop-entry_format-test.true (rw i.order at c.in_err-value.ensures.read))
+
+pub returns-clause-read : goal.returns-clause-read
+returns-clause-read g c = done _ _ _ _ _ _ _ c.loop-entry_format.invariant.so_far c.loop-entry_format-test.false

@@ -13,13 +13,10 @@ first (x ∷ xs) zero = refl
 first (x ∷ xs) (suc n) = first xs n
 
 module _ (xs after : List ℕ) (n : ℕ) where
-  skipped : ◌≡◌ {A = Read (Unit {0})} (Ok tt, after) (skip_at n xs) → after ≡ drop n xs
-  skipped is = grind arith
-
   counted : (r : Result ℕ Error) (left : List ℕ) → ◌≡◌ {A = Read (Unit {0})} (Ok tt, after) (skip_at n xs)
       → (r, left) ≡ byte_at after
       → result_unwrap_or r 0 ≡ slice_index xs n
-  counted r left is one = rw (← first xs n, ← skipped is, ← one) refl
+  counted r left is one = let e : after ≡ drop n xs = grind arith in rw (← first xs n, ← e, ← one) refl
 
   missing : (e : Error) → ◌≡◌ {A = Read (Unit {0})} (Err e, after) (skip_at n xs) → 0 ≡ slice_index xs n
   missing e is = grind (arith, get_or_past)
