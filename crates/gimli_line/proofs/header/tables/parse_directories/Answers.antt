@@ -1,8 +1,8 @@
 use Rattle.gimli_line.proofs
-use proofs.Common.{ap, ◌∙◌, map_push, err_from_is_err_and, text_at, String, read_map, path_text}
+use proofs.Common.{refl, ap, ◌∙◌, map_push, err_from_is_err_and, ValueHasOrder, text_at, String, read_map, path_text}
 use proofs.Order.{values_pushed}
 use proofs.Closed.{reads_name}
-use proofs.Tables.{text_smaller}
+use proofs.Tables.{text_smaller, none_yet}
 use proofs.Loops.{closed_goes_on, closed_ends, closed_done, text_closed, text_free, text_refused}
 use proofs.header.tables.parse_directories.Goals as goal
 
@@ -44,3 +44,11 @@ returns-in_err-push-clause-read g c =
 
 pub returns-in_err-push-clause-order : goal.returns-in_err-push-clause-order
 returns-in_err-push-clause-order g c = c.read_null_terminated_slice.ensures.order ∙ c.loop-directories.invariant.order
+
+pub loop-directories-init : goal.loop-directories-init
+loop-directories-init g c = record {
+  so_far = rw c.new-directories.ensures.items refl;
+  order = refl;
+  parts =
+      none_yet (ValueHasOrder g.R.Reader.is_big (g.R.Reader.is_big c.args.input.now)) _ c.new-directories.ensures.items;
+}

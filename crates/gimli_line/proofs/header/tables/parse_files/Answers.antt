@@ -1,9 +1,11 @@
+use Rattle.std.proofs.lemmas.List.{map-id}
 use Rattle.gimli_line.proofs
-use proofs.Common.{◌∙◌, map_push, err_from_is_err_and, named_file_at}
+use proofs.Common.{refl, ◌∙◌, map_push, err_from_is_err_and, FileHasOrder, named_file_at}
 use proofs.Order.{files_pushed}
 use proofs.HeaderLaws.{reads_named_file, named_file}
 use proofs.Loops.{closed_goes_on, closed_ends, closed_done, closed_smaller, text_closed, text_free, text_refused}
-use proofs.Loops.{named_is, named_fault}
+use proofs.Loops.{named_is, named_fault, viewed_same}
+use proofs.Tables.{none_yet}
 use proofs.header.tables.parse_files.Goals as goal
 
 pub returns-in_err-path_name-clause-read : goal.returns-in_err-path_name-clause-read
@@ -61,3 +63,10 @@ returns-in_err-push-clause-order g c =
 pub returns-in_err-file-clause-order : goal.returns-in_err-file-clause-order
 returns-in_err-file-clause-order g c =
     c.parse.ensures.order ∙ c.read_null_terminated_slice.ensures.order ∙ c.loop-files.invariant.order
+
+pub loop-files-init : goal.loop-files-init
+loop-files-init g c = record {
+  so_far = rw c.new-files.ensures.items (simp map-id (viewed_same _));
+  order = refl;
+  parts = none_yet (FileHasOrder g.R.Reader.is_big (g.R.Reader.is_big c.args.input.now)) _ c.new-files.ensures.items;
+}

@@ -1,6 +1,7 @@
 use Rattle.std.specs.Prelude.{◌≡◌, ◌≢◌}
+use Rattle.std.proofs.lemmas.Bool.{false≢true}
 use Rattle.gimli_line.proofs
-use proofs.Common.{Result, Ok, Err, IfErr, sym, ap, ◌∙◌, rules, Error, OutOfMemory}
+use proofs.Common.{Result, Ok, Err, IfErr, sym, ap, ◌∙◌, Error, OutOfMemory}
 use proofs.UnitLaws.{offsets_none, offsets_step, rest_is_end}
 use proofs.units.LineUnits.next.Goals as goal
 
@@ -26,9 +27,11 @@ returns-clause-next g c =
     let ends = rw c.reader.ensures at c.offset_from.ensures in
     rw (← c.self.view_is)
     (offsets_step _ _ _ _ _
-    (λ none. let t = c.is_empty.ensures.1 (c.input_at-rest.ensures.bytes ∙ none) in absurd (search rules)) after
+    (λ none. absurd
+    (false≢true (sym c.if-is_empty.false ∙ c.is_empty.ensures.1 (c.input_at-rest.ensures.bytes ∙ none)))) after
     ends)
 
 pub returns-clause-refusal : goal.returns-clause-refusal
-returns-clause-refusal g c = refusal_is _ _ (λ is. let t = c.is_out_of_memory.ensures.1 is in absurd (search rules))
+returns-clause-refusal g c = refusal_is _ _
+    (λ is. absurd (false≢true (sym c.if-is_out_of_memory.false ∙ c.is_out_of_memory.ensures.1 is)))
     (rw (← c.self.view_is) c.program-program.ensures.refusal)

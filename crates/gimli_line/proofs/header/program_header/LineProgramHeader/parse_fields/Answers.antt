@@ -1,6 +1,7 @@
 use Rattle.std.specs.Prelude.{◌-◌}
 use Rattle.gimli_line.proofs
-use proofs.Common.{ap, ◌∙◌, err_from_is_err_and, Parameters}
+use proofs.Common.{sym, ap, ◌∙◌, err_from_is_err_and, option_map, String, Parameters}
+use Rattle.gimli_line.specs.header.HeaderGrammar.{handed_value}
 use proofs.Fields.{parameters_end, counts_end, directories_end, files_end, fields_done}
 use proofs.Order.{values_kept, files_kept, values_mapped, files_mapped}
 use proofs.header.program_header.LineProgramHeader.parse_fields.Goals as goal
@@ -71,3 +72,14 @@ returns-clause-read g c =
     c.in_ok-directory_entry_format.ensures.read files _ _ _ _ _ c.in_ok-file_name_entry_format.ensures.read
     c.comp_dir_of.ensures.bytes
     c.comp_file_of.ensures.file
+
+pub returns-clause-directory : goal.returns-clause-directory
+returns-clause-directory g c =
+    c.comp_dir_of.ensures.own
+    ∙ ap (λ encoding. handed_value encoding c.args.comp_dir) (sym c.in_ok-parameters.ensures.encoding)
+
+pub returns-clause-name : goal.returns-clause-name
+returns-clause-name g c =
+    c.comp_file_of.ensures.path
+    ∙ ap (λ encoding. handed_value encoding (option_map String c.args.comp_name))
+    (sym c.in_ok-parameters.ensures.encoding)

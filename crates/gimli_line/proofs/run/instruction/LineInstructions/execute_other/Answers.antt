@@ -67,3 +67,15 @@ returns-in-Ok-exec_const_add_pc-clause-ok g c =
           c.in-Ok-exec_const_add_pc.ensures.fits,
       refl,
     )
+
+pub returns-clause-ok : goal.returns-clause-ok
+returns-clause-ok g c = (refl, refl)
+
+pub returns-in_default-clause-ok : goal.returns-in_default-clause-ok
+returns-in_default-clause-ok g c = (refl, refl)
+
+pub returns-in_default-read_short_uleb128-clause-ok : goal.returns-in_default-read_short_uleb128-clause-ok
+returns-in_default-read_short_uleb128-clause-ok g c = (refl, refl)
+
+pub returns-then-opcode-opcode_base-clause-ok : goal.returns-then-opcode-opcode_base-clause-ok
+returns-then-opcode-opcode_base-clause-ok g c = (refl, refl)

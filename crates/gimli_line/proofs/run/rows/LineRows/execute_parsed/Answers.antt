@@ -1,9 +1,13 @@
-use Rattle.std.specs.Prelude.{◌≡◌}
+use Rattle.std.specs.Prelude.{◌≡◌, ◌≢◌}
 use Rattle.gimli_line.proofs.Common.{refl, sym, ap, ◌∙◌, true, false, without_files, InsHasOrder, Unread}
+use Rattle.gimli_line.proofs.Common.{AddressOverflow, OutOfMemory}
 use Rattle.gimli_line.proofs.Runs.{only_overflow, source_same}
 use Rattle.gimli_line.proofs.Steps.{keeps_rest, keeps_run, step_done, step_faults, step_goes, step_overflows}
 use Rattle.gimli_line.proofs.Steps.{step_wants}
 use Rattle.gimli_line.proofs.run.rows.LineRows.execute_parsed.Goals as goal
+
+apart : OutOfMemory ≢ AddressOverflow
+apart e = cc
 
 pub returns-in-Err : goal.returns-in-Err
 returns-in-Err g c =
@@ -46,7 +50,7 @@ pub returns-in-OutOfMemory : goal.returns-in-OutOfMemory
 returns-in-OutOfMemory g c =
     let n = rw c.in-Ok-Some.field-0-is at c.in-Ok-Some.ensures.next in
     let operands = rw c.in-Ok-Some.field-0-is at c.in-Ok-Some.ensures.operands in
-    let m = c.in-Err-execute.ensures.memory (λ over. absurd cc) in
+    let m = c.in-Err-execute.ensures.memory (λ over. apart (sym c.in-OutOfMemory.is ∙ over)) in
     rw (c.in-OutOfMemory.is, ← c.self.view_is)
     (step_wants _ _ _ c.header.ensures.meaning _ _ (refl, refl, refl) _ c.next_instruction.new.self n m.2 _
     c.in-Err-execute.ensures.kept m.1

@@ -35,6 +35,11 @@ returns-in_err-advance-clause-err g c =
     split_faults _ _ _ _ c.advance.new.self c.rows.invariant c.in_err-advance.ensures.keeps _ other
     c.in_err-advance.ensures.err)
 
+pub returns-in_err-row-clause-err : goal.returns-in_err-row-clause-err
+returns-in_err-row-clause-err g c =
+    let p = err_from_is_err_and c.from_residual-in_err-row.result c.from_residual-in_err-row.ensures.1 in
+    rw (p.1, p.2) (λ other. absurd (other c.in_err-row.ensures.err))
+
 pub row-requires-in-rows : goal.row-requires-in-rows
 row-requires-in-rows g c =
     let m = rw c.if-branch.true at c.in_ok-advance.ensures.passes in
