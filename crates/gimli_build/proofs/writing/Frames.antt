@@ -6,7 +6,8 @@ use Common.{Err, OnOk, IfErr, IsTrue, inr, le-ltb, lt-ltb, take_at, drop_at, Res
 use Common.{Dwarf32, Dwarf64, Hand, Placement, plain, Begins, Appends, IsOverwrite, overwrite_of, patch, Ghosts}
 use Common.{OutOfMemory, Writes, udata, open_length, escape_size, length_word, Error, format_word, result_append}
 use Common.{after_length, escape_bytes}
-use Rattle.gimli_build.proofs.writing.Joined.{on_ok, if_err, or_wanted, begins_then, begins_before}
+use Rattle.gimli_build.proofs.writing.Joined.{on_ok, if_err, or_wanted, begins_before}
+use Rattle.gimli_bytes.proofs.Parts.{begins_then}
 use Rattle.gimli_build.proofs.writing.Writes.{Leaves, writes_in}
 
 -- other bytes in the middle, as long as those that stand there

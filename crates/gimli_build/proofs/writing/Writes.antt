@@ -7,7 +7,8 @@ use Common.{result_concat, after_length, Writes, always}
 use Rattle.std.specs.Result.{IsErrAnd}
 use Rattle.gimli_build.specs.Writes.{WritesOr, OfMemoryOr}
 use Rattle.gimli_build.proofs.writing.Joined.{SoFar, none_so_far, one_more, on_ok, if_err, or_wanted, part_refused}
-use Rattle.gimli_build.proofs.writing.Joined.{first_refused, second_refused, appends_joined, begins_self, begins_then}
+use Rattle.gimli_build.proofs.writing.Joined.{first_refused, second_refused, appends_joined}
+use Rattle.gimli_bytes.proofs.Parts.{begins_self, begins_then}
 
 -- what a call leaves in one view of the writer, before and after
 pub record Leaves {X : Type 0} (Own : Error → Type 0) (result : Result X Error) (wanted : Result (List ℕ) Error)
