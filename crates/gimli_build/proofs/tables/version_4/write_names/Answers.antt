@@ -1,8 +1,9 @@
-use Rattle.std.specs.Prelude.{◌<◌}
+use Rattle.std.specs.Prelude.{◌<◌, ◌≤◌}
+use Rattle.std.proofs.lemmas.List.{drop_all}
 use Rattle.gimli_build.proofs
-use proofs.Common.{length, arith}
+use proofs.Common.{length, length-map, map, line_text, arith}
 use proofs.writing.Joined.{next_seen}
-use proofs.writing.Writes.{one_written, one_unwritten, passed_on}
+use proofs.writing.Writes.{all_written, none_written, one_written, one_unwritten, passed_on}
 use proofs.tables.version_4.write_names.Goals as goal
 
 pub returns-in_err-write_name : goal.returns-in_err-write_name
@@ -24,3 +25,12 @@ loop-name-preserved g c =
       so = one_written (rw (next_seen _ _ _ _ lt c.name-item.is) at c.loop-name.invariant.so)
           c.in_ok-write_name.ensures;
     }
+
+pub loop-name-init : goal.loop-name-init
+loop-name-init g c = record { so = none_written _ _ _ _ }
+
+pub returns : goal.returns
+returns g c =
+    let names = c.args.names.now in
+    let end : length (map line_text names) ≤ c.loop-name.name-index = omega (arith, length-map names line_text) in
+    all_written (rw (drop_all _ _ end) at c.loop-name.invariant.so)

@@ -1,13 +1,15 @@
 use Rattle.std.specs.Prelude.{◌≡◌}
 use Rattle.gimli_build.proofs
 use proofs.Common
-use Common.{slice_get, Some, sym, ap, ◌∙◌, arith, List, take_all, All-nil, All-push, line_text, File, FitsFile, details}
+use Rattle.std.proofs.lemmas.List.{drop_all}
+use Common.{slice_get, Some, sym, ap, ◌∙◌, List, take_all, All-nil, All-push, line_text, File, FitsFile, details}
 use proofs.writing.Joined.{next_at, taken_at, contains-at}
-use proofs.writing.Writes.{none_written, one_written, one_unwritten, passed_on}
+use proofs.writing.Writes.{all_written, none_written, one_written, one_unwritten, passed_on}
 use proofs.tables.version_5.write_file_entries.Goals as goal
 
 pub write_file_entry-requires-clause-there : goal.write_file_entry-requires-clause-there
-write_file_entry-requires-clause-there g c = grind (arith, slice_get, contains-at)
+write_file_entry-requires-clause-there g c =
+    contains-at _ _ _ (rw (c.tables-tables.ensures.files, c.program.ensures.program) at c.file-file.ensures)
 
 pub loop-index-init : goal.loop-index-init
 loop-index-init g c = record { so = none_written _ _ _ _; fit = All-nil _ }
@@ -40,4 +42,19 @@ loop-index-preserved g c =
     }
 
 pub returns-clause-fit : goal.returns-clause-fit
-returns-clause-fit g c = grind (arith, take_all)
+returns-clause-fit g c =
+    let end = rw (
+      c.file_count-index-end.ensures.count,
+      c.tables-tables.ensures.files,
+      c.program.ensures.program,
+    ) at c.loop-index-test.false in
+    rw (take_all _ _ end) at c.loop-index.invariant.fit
+
+pub returns-clause-writes : goal.returns-clause-writes
+returns-clause-writes g c =
+    let end = rw (
+      c.file_count-index-end.ensures.count,
+      c.tables-tables.ensures.files,
+      c.program.ensures.program,
+    ) at c.loop-index-test.false in
+    all_written (rw (drop_all _ _ end) at c.loop-index.invariant.so)

@@ -1,6 +1,6 @@
 use Rattle.std.specs.Prelude.{◌≡◌, ◌-◌, ◌<◌, ◌^◌, ◌++◌}
 use Rattle.gimli_build.proofs
-use proofs.Common.{Ok, always, ℕ, List, sym, ap, ◌∙◌, arith, Result, append-nil, Error, format_word}
+use proofs.Common.{Ok, always, ℕ, List, refl, sym, ap, ◌∙◌, arith, Result, append-nil, Error, format_word}
 use proofs.writing.Frames.{counted_written, open_word, word_is, zero_word, no_escape, header_word_long}
 use proofs.writing.Writes.{bytes_unwritten, counted_unwritten, passed_on, writes}
 use proofs.unit.header.write_header.Goals as goal
@@ -29,9 +29,14 @@ returns-clause-writes g c =
         opened = blank _ _ (zero.ok keeps_bytes);
         at = omega (arith, c.len-length.ensures.contents);
       };
-      linked = grind arith;
-      count = omega (arith, c.len.ensures.contents, c.len-start.ensures.contents);
-      count_linked = grind arith;
+      linked = λ at completes. record {
+        opened = blank _ _ (zero.completed at completes);
+        at = omega (arith, c.len-length.ensures.completed at completes);
+      };
+      count = rw (c.len.ensures.contents, c.len-start.ensures.contents) refl;
+      count_linked = λ at completes.
+          let there = zero.stays completes in
+          rw (c.len.ensures.completed at (fields.stays there), c.len-start.ensures.completed at there) refl;
     }) fields call
 
 pub returns-in_err-write_fields-clause-writes : goal.returns-in_err-write_fields-clause-writes
