@@ -264,6 +264,9 @@ all_written so = record {
   completed_own = λ at completes. tt;
 }
 
+pub nothing : {W X : Type 0} {sink : Ghosts W} {w : W} {x : X} → Writes sink w w (Ok x) (always (Ok []))
+nothing = all_written {A = ℕ} (none_written _ (λ hand k. Ok []) [] _)
+
 -- ---- a call that may be refused for memory of its own
 
 own_or_memory : {A B C : Type 0} → B ⊎ C → (A ⊎ B) ⊎ C

@@ -3,10 +3,9 @@ use Rattle.std.specs.Int.{w8}
 use Rattle.std.proofs.lemmas.Bool.{and_parts}
 use Rattle.std.proofs.lemmas.Int.{ints}
 use Rattle.gimli_build.proofs
-use proofs.Common.{Bool, true, refl, sym, arith, ℤ, pos, to_z, of_z, w64, FitsSigned, LineEncoding, CanEncode}
-use proofs.Common.{is_special_advance, to_z-of_z, append-nil}
-use Rattle.gimli_bytes.proofs.Parts.{begins_self}
-use proofs.writing.Writes.{bytes_unwritten, passed_on, same_bytes}
+use proofs.Common.{Bool, true, refl, arith, ℤ, pos, to_z, of_z, w64, FitsSigned, LineEncoding, CanEncode}
+use proofs.Common.{is_special_advance, to_z-of_z}
+use proofs.writing.Writes.{bytes_unwritten, joins, nothing, passed_on}
 use proofs.rows.encode.write_line_advance.Goals as goal
 
 -- what the call answers of the word is so of the number
@@ -96,16 +95,7 @@ overflow_add-result-2 g c =
 pub returns-then-has_special-clause-writes : goal.returns-then-has_special-clause-writes
 returns-then-has_special-clause-writes g c =
     let e = c.args.line_encoding.now in
-    rw (told e c.args.advance _ _ c.ranges.advance c.has_special.ensures c.if-has_special.true) (record {
-      keeps = begins_self _;
-      ordered = refl;
-      stays = λ completes. completes;
-      ok = λ keeps_bytes. sym (append-nil _);
-      err = λ keeps_bytes memory_alone. tt;
-      own = λ keeps_bytes. tt;
-      completed = λ at completes. sym (append-nil _);
-      completed_own = λ at completes. tt;
-    })
+    rw (told e c.args.advance _ _ c.ranges.advance c.has_special.ensures c.if-has_special.true) nothing
 
 pub returns-in_err-write_instruction-clause-writes : goal.returns-in_err-write_instruction-clause-writes
 returns-in_err-write_instruction-clause-writes g c =
@@ -115,15 +105,5 @@ pub returns-clause-writes : goal.returns-clause-writes
 returns-clause-writes g c =
     let e = c.args.line_encoding.now in
     let d = c.args.advance in
-    let back = to_z-of_z w64 d c.ranges.advance in
-    let put = same_bytes (sym (append-nil _)) (rw back at c.in_ok-write_instruction.ensures) in
-    rw (told e d _ _ c.ranges.advance c.has_special.ensures c.if-has_special.false) (record {
-      keeps = put.keeps;
-      ordered = put.ordered;
-      stays = put.stays;
-      ok = put.ok;
-      err = λ keeps_bytes memory_alone. tt;
-      own = λ keeps_bytes. tt;
-      completed = put.completed;
-      completed_own = λ at completes. tt;
-    })
+    let put = rw (to_z-of_z w64 d c.ranges.advance) at c.in_ok-write_instruction.ensures in
+    rw (told e d _ _ c.ranges.advance c.has_special.ensures c.if-has_special.false) (joins put nothing)

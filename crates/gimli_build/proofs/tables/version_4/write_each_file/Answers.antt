@@ -1,6 +1,6 @@
 use Rattle.gimli_build.proofs
 use Rattle.std.proofs.lemmas.List.{drop_all}
-use proofs.Common.{take_all, All-push, FitsFile}
+use proofs.Common.{arith, take_all, All-push, FitsFile}
 use proofs.writing.Joined.{next_at, taken_at}
 use proofs.writing.Writes.{all_written, one_written, one_unwritten, passed_on}
 use proofs.tables.version_4.write_each_file.Goals as goal
@@ -22,11 +22,4 @@ loop-index-preserved g c =
     }
 
 pub returns-clause-fit : goal.returns-clause-fit
-returns-clause-fit g c =
-    let end = rw c.file_count-index-end.ensures.count at c.loop-index-test.false in
-    rw (take_all _ _ end) at c.loop-index.invariant.fit
-
-pub returns-clause-writes : goal.returns-clause-writes
-returns-clause-writes g c =
-    let end = rw c.file_count-index-end.ensures.count at c.loop-index-test.false in
-    all_written (rw (drop_all _ _ end) at c.loop-index.invariant.so)
+returns-clause-fit g c = grind (arith, take_all)

@@ -28,9 +28,3 @@ loop-name-preserved g c =
 
 pub loop-name-init : goal.loop-name-init
 loop-name-init g c = record { so = none_written _ _ _ _ }
-
-pub returns : goal.returns
-returns g c =
-    let names = c.args.names.now in
-    let end : length (map line_text names) ≤ c.loop-name.name-index = omega (arith, length-map names line_text) in
-    all_written (rw (drop_all _ _ end) at c.loop-name.invariant.so)

@@ -12,10 +12,6 @@ returns-clause-writes g c =
     let third = writes _ last in
     joins (joins first second) third
 
-pub returns-in_err-write_uleb128-clause-writes : goal.returns-in_err-write_uleb128-clause-writes
-returns-in_err-write_uleb128-clause-writes g c =
-    passed_on c.from_residual.ensures.1 (bytes_unwritten (writes _ c.in_err-write_uleb128.ensures.appends))
-
 pub returns-in_err-write_uleb128-2-clause-writes : goal.returns-in_err-write_uleb128-2-clause-writes
 returns-in_err-write_uleb128-2-clause-writes g c = passed_on c.from_residual-in_err-write_uleb128-2.ensures.1
     (unwritten (writes _ c.in_ok-write_uleb128.ensures.appends) (writes _ c.in_err-write_uleb128-2.ensures.appends))

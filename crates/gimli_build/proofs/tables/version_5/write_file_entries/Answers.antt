@@ -1,8 +1,7 @@
-use Rattle.std.specs.Prelude.{◌≡◌}
 use Rattle.gimli_build.proofs
 use proofs.Common
 use Rattle.std.proofs.lemmas.List.{drop_all}
-use Common.{slice_get, Some, sym, ap, ◌∙◌, List, take_all, All-nil, All-push, line_text, File, FitsFile, details}
+use Common.{take_all, All-nil, All-push, FitsFile}
 use proofs.writing.Joined.{next_at, taken_at, contains-at}
 use proofs.writing.Writes.{all_written, none_written, one_written, one_unwritten, passed_on}
 use proofs.tables.version_5.write_file_entries.Goals as goal
@@ -16,28 +15,18 @@ loop-index-init g c = record { so = none_written _ _ _ _; fit = All-nil _ }
 
 pub returns-in_err-write_file_entry-clause-writes : goal.returns-in_err-write_file_entry-clause-writes
 returns-in_err-write_file_entry-clause-writes g c =
-    let p = c.args.input.now.program in
-    let i = c.loop-index.index in
-    let file : File = ((line_text c.file-file.result.0.now, c.file-file.result.1), details c.file-file.result.2.now) in
-    let there : slice_get p.files i
-    ≡ Some file = ap (λ (l : List File). slice_get l i)
-    (sym (c.tables-tables.ensures.files ∙ ap (λ q. q.files) c.program.ensures.program)) ∙ c.file-file.ensures in
-    let so = rw (next_at _ i _ there) at c.loop-index.invariant.so in
+    let there = rw (c.tables-tables.ensures.files, c.program.ensures.program) at c.file-file.ensures in
+    let so = rw (next_at _ _ _ there) at c.loop-index.invariant.so in
     let refused = rw c.loop-index.invariant.so.ordered at c.in_err-write_file_entry.ensures.writes in
     passed_on c.from_residual.ensures.1 (one_unwritten so refused)
 
 pub loop-index-preserved : goal.loop-index-preserved
 loop-index-preserved g c =
-    let p = c.args.input.now.program in
-    let i = c.loop-index.index in
-    let file : File = ((line_text c.file-file.result.0.now, c.file-file.result.1), details c.file-file.result.2.now) in
-    let there : slice_get p.files i
-    ≡ Some file = ap (λ l. slice_get l i)
-    (sym (c.tables-tables.ensures.files ∙ ap (λ q. q.files) c.program.ensures.program)) ∙ c.file-file.ensures in
-    let so = rw (next_at _ i _ there) at c.loop-index.invariant.so in
+    let there = rw (c.tables-tables.ensures.files, c.program.ensures.program) at c.file-file.ensures in
+    let so = rw (next_at _ _ _ there) at c.loop-index.invariant.so in
     record {
       so = one_written so (rw c.loop-index.invariant.so.ordered at c.in_ok-write_file_entry.ensures.writes);
-      fit = rw (taken_at _ i _ there)
+      fit = rw (taken_at _ _ _ there)
           (All-push FitsFile _ _ c.loop-index.invariant.fit c.in_ok-write_file_entry.ensures.fit);
     }
 

@@ -1,7 +1,6 @@
 use Rattle.gimli_build.proofs
-use Rattle.std.specs.Prelude.{◌≤◌}
 use Rattle.std.proofs.lemmas.List.{drop_all}
-use proofs.Common.{refl, sym, length, true≢false, All-nil, All-contains, texts_in, line_text, File, details, IsFileWritable}
+use proofs.Common.{refl, sym, true≢false, All-nil, All-contains, texts_in, line_text, File, details, IsFileWritable}
 use proofs.writing.Joined.{next_at, all_passed, contains-at}
 use proofs.unit.writable.are_files_writable.Goals as goal
 
@@ -15,16 +14,6 @@ loop-index-preserved c =
       left = all_passed (λ f. IsFileWritable c.args.writes_sources texts f.0.0 f.1) files i file
           (next_at _ i _ c.file.ensures) (c.if-not-is_file_writable.ensures.0 refl) c.loop-index.invariant.left;
     }
-
-pub returns-then-not-is_file_writable : goal.returns-then-not-is_file_writable
-returns-then-not-is_file_writable c =
-    let texts = texts_in c.args.strings.now c.args.line_strings.now in
-    (
-      λ is. absurd (true≢false (sym is)),
-      λ all. c.if-not-is_file_writable.ensures.1
-          (All-contains (λ f. IsFileWritable c.args.writes_sources texts f.0.0 f.1) _ _ all
-          (contains-at _ _ _ c.file.ensures)),
-    )
 
 pub returns : goal.returns
 returns c =

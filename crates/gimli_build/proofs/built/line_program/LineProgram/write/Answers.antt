@@ -1,8 +1,8 @@
 use Rattle.std.specs.Prelude.{◌≡◌}
 use Rattle.gimli_build.proofs
 use proofs.Common
-use Common.{Bool, Encoding, subst, ap, sym, ◌∙◌, plain, unplaced, Appends, texts_in, texts_after, placed, counted, unit_bytes}
-use Common.{is_incompatible, err_from_is_err_and}
+use Common.{Bool, Encoding, subst, ap, sym, ◌∙◌, plain, unplaced, Appends, texts_in, texts_after, placed, counted}
+use Common.{unit_bytes, is_incompatible, err_from_is_err_and}
 use Rattle.gimli_build.specs.Linked.{placed_program, SumsFit}
 use proofs.building.SourceLemmas.{can-write-after}
 use proofs.reading.ReadBack.{appended-back}
