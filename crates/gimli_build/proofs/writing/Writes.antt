@@ -1,5 +1,5 @@
 -- Calls that append, one after the other.
-use Rattle.std.specs.Prelude.{◌≡◌, ◌⊎◌, ◌∷◌, ◌++◌}
+use Rattle.std.specs.Prelude.{◌≡◌, ◌⊎◌, ◌∷◌}
 use Rattle.gimli_build.proofs.Common
 use Common.{List, ℕ, Ok, Err, IsTrue, refl, sym, ap, ◌∙◌, inl, inr, subst, OnOk, IfErr, Result, err_from_is_err_and}
 use Common.{Hand, Placement, plain, Begins, Appends, Refuses, IsAppend, Error, OutOfMemory, Ghosts, result_append}
@@ -246,26 +246,17 @@ one_unwritten {sink = sink} {part = part} {all = all} {left = left} {x = x} {e =
     (λ keeps_bytes. part_refused _ _ _ x _ _ e (so.held keeps_bytes))
     (λ at completes. part_refused _ _ _ x _ _ e (so.linked at completes)) refused
 
-all_done : {A : Type 0} (part : A → Result (List ℕ) Error) (all : List A) (old new : List ℕ) → SoFar part all [] old new
-    → Appends (result_concat part all) old new
-all_done part all old new so = rw so.parts (so.written ∙ ap (λ l. old ++ l) (sym (append-nil so.done)))
-
-pub all_written : {W A X : Type 0} {sink : Ghosts W} {part : Hand → A → Result (List ℕ) Error} {all : List A}
-    {old new : W} {x : X}
-    → WritesSoFar sink part all [] old new → Writes sink old new (Ok x) (λ hand. result_concat (part hand) all)
-all_written so = record {
-  keeps = so.keeps;
-  ordered = so.ordered;
-  stays = so.stays;
-  ok = λ keeps_bytes. all_done _ _ _ _ (so.held keeps_bytes);
+pub nothing : {W X : Type 0} {sink : Ghosts W} {w : W} {x : X} → Writes sink w w (Ok x) (always (Ok []))
+nothing = record {
+  keeps = begins_self _;
+  ordered = refl;
+  stays = λ completes. completes;
+  ok = λ keeps_bytes. sym (append-nil _);
   err = λ keeps_bytes memory_alone. tt;
   own = λ keeps_bytes. tt;
-  completed = λ at completes. all_done _ _ _ _ (so.linked at completes);
+  completed = λ at completes. sym (append-nil _);
   completed_own = λ at completes. tt;
 }
-
-pub nothing : {W X : Type 0} {sink : Ghosts W} {w : W} {x : X} → Writes sink w w (Ok x) (always (Ok []))
-nothing = all_written {A = ℕ} (none_written _ (λ hand k. Ok []) [] _)
 
 -- ---- a call that may be refused for memory of its own
 

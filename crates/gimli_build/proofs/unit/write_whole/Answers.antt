@@ -5,7 +5,7 @@ use Common.{ℕ, List, length, Ok, refl, sym, ap, ◌∙◌, arith, append_assoc
 use Common.{escape_bytes, inl, Result, Error}
 use proofs.writing.Joined.{on_ok}
 use proofs.linking.Lengths.{patched_length}
-use proofs.writing.Frames.{counted_written, open_word, escape_is, escape_long, length_word_long}
+use proofs.writing.Frames.{counted_written, no_less, open_word, escape_is, escape_long, length_word_long}
 use proofs.writing.Writes.{counted_unwritten, passed_on}
 use proofs.unit.write_whole.Goals as goal
 
@@ -82,3 +82,7 @@ returns-in_err-length-clause-writes g c =
       completed = λ at completes. tt;
       completed_own = λ at completes. inl refused.own;
     })
+
+pub overflow_sub-count : goal.overflow_sub-count
+overflow_sub-count g c = rw (c.len-start.ensures.contents, c.len.ensures.contents)
+    (no_less _ _ c.in_ok-write_inside.ensures.writes.keeps)

@@ -1,8 +1,7 @@
 use Rattle.gimli_build.proofs
-use Rattle.std.proofs.lemmas.List.{drop_all}
 use proofs.Common.{arith, take_all, All-push, FitsFile}
 use proofs.writing.Joined.{next_at, taken_at}
-use proofs.writing.Writes.{all_written, one_written, one_unwritten, passed_on}
+use proofs.writing.Writes.{one_written, one_unwritten, passed_on}
 use proofs.tables.version_4.write_each_file.Goals as goal
 
 pub returns-in_err-write_file-clause-writes : goal.returns-in_err-write_file-clause-writes

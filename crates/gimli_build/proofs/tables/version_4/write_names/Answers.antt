@@ -1,9 +1,8 @@
-use Rattle.std.specs.Prelude.{◌<◌, ◌≤◌}
-use Rattle.std.proofs.lemmas.List.{drop_all}
+use Rattle.std.specs.Prelude.{◌<◌}
 use Rattle.gimli_build.proofs
-use proofs.Common.{length, length-map, map, line_text, arith}
+use proofs.Common.{length, arith}
 use proofs.writing.Joined.{next_seen}
-use proofs.writing.Writes.{all_written, none_written, one_written, one_unwritten, passed_on}
+use proofs.writing.Writes.{none_written, one_written, one_unwritten, passed_on}
 use proofs.tables.version_4.write_names.Goals as goal
 
 pub returns-in_err-write_name : goal.returns-in_err-write_name

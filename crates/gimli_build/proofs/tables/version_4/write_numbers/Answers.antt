@@ -1,5 +1,5 @@
 use Rattle.gimli_build.proofs
-use proofs.writing.Writes.{bytes_unwritten, joins, passed_on, unwritten, writes}
+use proofs.writing.Writes.{joins, passed_on, unwritten, writes}
 use proofs.tables.version_4.write_numbers.Goals as goal
 
 pub returns-clause-writes : goal.returns-clause-writes

@@ -1,9 +1,8 @@
 use Rattle.gimli_build.proofs
 use proofs.Common
-use Rattle.std.proofs.lemmas.List.{drop_all}
 use Common.{take_all, All-nil, All-push, FitsFile}
 use proofs.writing.Joined.{next_at, taken_at, contains-at}
-use proofs.writing.Writes.{all_written, none_written, one_written, one_unwritten, passed_on}
+use proofs.writing.Writes.{none_written, one_written, one_unwritten, passed_on}
 use proofs.tables.version_5.write_file_entries.Goals as goal
 
 pub write_file_entry-requires-clause-there : goal.write_file_entry-requires-clause-there
@@ -38,12 +37,3 @@ returns-clause-fit g c =
       c.program.ensures.program,
     ) at c.loop-index-test.false in
     rw (take_all _ _ end) at c.loop-index.invariant.fit
-
-pub returns-clause-writes : goal.returns-clause-writes
-returns-clause-writes g c =
-    let end = rw (
-      c.file_count-index-end.ensures.count,
-      c.tables-tables.ensures.files,
-      c.program.ensures.program,
-    ) at c.loop-index-test.false in
-    all_written (rw (drop_all _ _ end) at c.loop-index.invariant.so)

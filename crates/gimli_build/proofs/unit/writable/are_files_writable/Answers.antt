@@ -1,7 +1,7 @@
 use Rattle.gimli_build.proofs
 use Rattle.std.proofs.lemmas.List.{drop_all}
-use proofs.Common.{refl, sym, true≢false, All-nil, All-contains, texts_in, line_text, File, details, IsFileWritable}
-use proofs.writing.Joined.{next_at, all_passed, contains-at}
+use proofs.Common.{refl, All-nil, texts_in, line_text, File, details, IsFileWritable}
+use proofs.writing.Joined.{next_at, all_passed}
 use proofs.unit.writable.are_files_writable.Goals as goal
 
 pub loop-index-preserved : goal.loop-index-preserved
