@@ -1,4 +1,4 @@
-use Rattle.std.specs.Prelude.{◌≡◌, ◌+◌, ◌-◌, ◌<◌, ◌^◌, ◌++◌}
+use Rattle.std.specs.Prelude.{◌≡◌, ◌-◌, ◌<◌, ◌^◌, ◌++◌}
 use Rattle.gimli_build.proofs
 use proofs.Common
 use Common.{ℕ, List, length, Ok, refl, sym, ap, ◌∙◌, arith, append_assoc, length_word, open_length, result_append}
@@ -22,7 +22,6 @@ returns-clause-writes g c =
     let blank = λ (old new : List ℕ) (is : new ≡ old ++ open_length is_big format).
     is ∙ ap (λ l. old ++ l) (escape_is is_big format)
     ∙ sym (append_assoc old (escape_bytes is_big format) (open_word is_big format)) in
-    let long = λ (n : ℕ). ap (λ k. n + k) (sym (escape_long is_big format)) in
     counted_written whole (length_word is_big format) (λ k. refl) (length_word_long is_big format n) (record {
       keeps = opening.appends.keeps;
       ordered = opening.appends.ordered;
@@ -30,16 +29,16 @@ returns-clause-writes g c =
       after = opening.after;
       held = λ keeps_bytes. record {
         opened = blank _ _ (opening.appends.ok keeps_bytes);
-        at = opening.place keeps_bytes ∙ long _;
+        at = rw (escape_long is_big format) (opening.place keeps_bytes);
       };
       linked = λ at completes. record {
         opened = blank _ _ (opening.appends.completed at completes);
-        at = opening.completed at completes ∙ long _;
+        at = rw (escape_long is_big format) (opening.completed at completes);
       };
       count = rw (c.len.ensures.contents, c.len-start.ensures.contents) refl;
       count_linked = λ at completes.
-          let there = opening.appends.stays completes in
-          rw (c.len.ensures.completed at (inside.stays there), c.len-start.ensures.completed at there) refl;
+          let so = opening.appends.stays completes in
+          rw (c.len.ensures.completed at (inside.stays so), c.len-start.ensures.completed at so) refl;
     }) inside call
 
 pub returns-clause-completed_short : goal.returns-clause-completed_short
@@ -71,16 +70,16 @@ returns-in_err-write_inside-clause-writes g c =
 
 pub returns-in_err-length-clause-writes : goal.returns-in_err-length-clause-writes
 returns-in_err-length-clause-writes g c =
-    let refused = c.in_err-length.ensures.appends in
+    let so = c.in_err-length.ensures.appends in
     passed_on c.from_residual.ensures.1 (record {
-      keeps = refused.keeps;
-      ordered = refused.ordered;
-      stays = refused.stays;
+      keeps = so.keeps;
+      ordered = so.ordered;
+      stays = so.stays;
       ok = λ keeps_bytes. tt;
-      err = λ keeps_bytes memory_alone. inl (refused.err memory_alone);
-      own = λ keeps_bytes. inl refused.own;
+      err = λ keeps_bytes memory_alone. inl (so.err memory_alone);
+      own = λ keeps_bytes. inl so.own;
       completed = λ at completes. tt;
-      completed_own = λ at completes. inl refused.own;
+      completed_own = λ at completes. inl so.own;
     })
 
 pub overflow_sub-count : goal.overflow_sub-count

@@ -6,8 +6,8 @@ pub returns-then-line_encoding-gt0 : goal.returns-then-line_encoding-gt0
 returns-then-line_encoding-gt0 c = (
   λ is. absurd (true≢false (sym is)),
   λ can. absurd (elim c.then-line_encoding-gt0.either [
-    inl high ↦ omega (arith, ints, can.base, can.above, can.range, high)
-  | inr wide ↦ omega (arith, can.range, wide.1)
+    | inl high ↦ omega (arith, ints, can.base, can.above, can.range, high)
+    | inr wide ↦ omega (arith, can.range, wide.1)
   ]),
 )
 

@@ -1,5 +1,5 @@
 use Rattle.gimli_build.proofs
-use proofs.Common.{Ok, ◌∙◌, always, opcode_bytes}
+use proofs.Common.{◌∙◌}
 use proofs.writing.Writes.{first_unwritten, joins, unwritten, writes, passed_on}
 use proofs.unit.header.write_fields.Goals as goal
 
@@ -20,4 +20,4 @@ returns-in_err-write_line_encoding-clause-writes g c =
 
 pub returns-in_err-write-clause-writes : goal.returns-in_err-write-clause-writes
 returns-in_err-write-clause-writes g c = passed_on c.from_residual-in_err-write.ensures.1
-    (unwritten c.in_ok-write_line_encoding.ensures (writes (always (Ok opcode_bytes)) c.in_err-write.ensures))
+    (unwritten c.in_ok-write_line_encoding.ensures (writes _ c.in_err-write.ensures))
