@@ -2,7 +2,7 @@ use Rattle.std.specs.Prelude.{◌<◌}
 use Rattle.gimli_build.proofs
 use proofs.Common.{length, arith}
 use proofs.writing.Joined.{next_seen}
-use proofs.writing.Writes.{none_written, one_written, one_unwritten, passed_on}
+use proofs.writing.Writes.{one_written, one_unwritten, passed_on}
 use proofs.tables.version_4.write_names.Goals as goal
 
 pub returns-in_err-write_name : goal.returns-in_err-write_name
@@ -24,6 +24,3 @@ loop-name-preserved g c =
       so = one_written (rw (next_seen _ _ _ _ lt c.name-item.is) at c.loop-name.invariant.so)
           c.in_ok-write_name.ensures;
     }
-
-pub loop-name-init : goal.loop-name-init
-loop-name-init g c = record { so = none_written _ _ _ _ }
