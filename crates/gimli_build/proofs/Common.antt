@@ -269,7 +269,7 @@ pub use Rattle.std.proofs.Common.{
   ℕ,
   ◌∙◌,
 }
-pub use Rattle.std.proofs.Math.Seq.{take-length, take-suc}
+pub use Rattle.std.proofs.Math.Seq.{take-suc}
 pub use Rattle.std.proofs.lemmas.Bool.{
   and_parts,
   cases_lt,
@@ -293,7 +293,6 @@ pub use Rattle.std.proofs.lemmas.List.{
   drop-map,
   drop_at,
   length-map,
-  length-take,
   map-append,
   reverse-append,
   take-take,

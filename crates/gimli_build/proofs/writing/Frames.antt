@@ -6,7 +6,9 @@ use Common.{Err, OnOk, IfErr, IsTrue, inr, le-ltb, lt-ltb, take_at, drop_at, Res
 use Common.{Dwarf32, Dwarf64, Hand, Placement, plain, Begins, Appends, IsOverwrite, overwrite_of, patch, Ghosts}
 use Common.{OutOfMemory, Writes, udata, open_length, escape_size, length_word, Error, format_word, result_append}
 use Common.{after_length, escape_bytes}
-use Rattle.gimli_build.proofs.writing.Joined.{on_ok, if_err, or_wanted, begins_then, begins_before}
+use Rattle.gimli_build.proofs.writing.Joined.{on_ok, if_err, or_wanted, begins_before}
+use Rattle.gimli_bytes.proofs.Parts.{begins_then}
+use Rattle.std.proofs.lemmas.List.{length-take}
 use Rattle.gimli_build.proofs.writing.Writes.{Leaves, writes_in}
 
 -- other bytes in the middle, as long as those that stand there
@@ -17,6 +19,9 @@ patched_middle a b other c at same position =
 
 same_ok : (xs ys : List ℕ) → (let r : Result (List ℕ) Error = Ok xs in r) ≡ Ok ys → xs ≡ ys
 same_ok xs ys h = cc
+
+pub no_less : (old new : List ℕ) → Begins old new → length old ≤ length new
+no_less old new begins = omega (arith, length-take (length old) new, ap length begins)
 
 -- the word of a length, which stands after `escape` and is blank at first, once more
 module _ (full length_of : ℕ → Result (List ℕ) Error) (escape blank old c1 c2 new : List ℕ) (position n : ℕ)

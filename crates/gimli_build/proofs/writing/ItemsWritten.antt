@@ -6,7 +6,8 @@ use Common.{append-nil, take-suc, Result, Encoding, LineEncoding, Hand, Placemen
 use Common.{Ghosts, LineRow, BuiltItem, SetAddress, Row, End, CanEncode, IsPosition, AreBuilt, result_append, Writes}
 use Common.{item_bytes, items_bytes, next_previous, FitsItem, AreFit}
 use Rattle.gimli_build.proofs.reading.EventsBack.{start_position}
-use Rattle.gimli_build.proofs.writing.Joined.{appended_bytes, joined-joined, begins_self, begins_then}
+use Rattle.gimli_build.proofs.writing.Joined.{appended_bytes, joined-joined}
+use Rattle.gimli_bytes.proofs.Parts.{begins_self, begins_then}
 use Rattle.gimli_build.proofs.writing.Writes.{later_unwritten}
 
 -- these bytes stand for the items so far, and those are left

@@ -2,8 +2,8 @@
 use Rattle.std.specs.Prelude.{◌≡◌, ◌⊎◌, ◌+◌, ◌<◌, ◌≤◌, ◌∷◌, ◌++◌}
 use Rattle.gimli_build.proofs.Common
 use Common.{ℕ, List, [], length, drop, drop-cons, take, map, slice_get, get_or, suc, add-one, Some, Ok, Err, OnOk}
-use Common.{IfErr, refl, sym, ap, ◌∙◌, append_assoc, inl, inr, arith, append-nil, drop-map, take-take, length-take}
-use Common.{slice_get_within, get_or_from_slice_get, take-length, take-suc, Result, All, Contains, All-head, All-drop}
+use Common.{IfErr, refl, sym, ap, ◌∙◌, append_assoc, inl, inr, arith, append-nil, drop-map, take-take}
+use Common.{slice_get_within, get_or_from_slice_get, take-suc, Result, All, Contains, All-head, All-drop}
 use Common.{Begins, Appends, Error, result_append, result_concat}
 
 pub on_ok : {X : Type 0} (r : Result X Error) {P Q : Type 0} → (P → Q) → OnOk r P → OnOk r Q
@@ -107,13 +107,6 @@ pub all_seen : {A B : Type 0} (P : B → Type 0) (f : A → B) (xs : List A) (i 
 all_seen P f xs i x lt is all = All-head P _ _ (rw (next_seen f _ i x lt is) at (All-drop P i _ all))
 
 -- ---- beginnings
-
-pub begins_self : (bytes : List ℕ) → Begins bytes bytes
-begins_self bytes = take-length bytes
-
-pub begins_then : (a b c : List ℕ) → Begins a b → Begins b c → Begins a c
-begins_then a b c first second =
-    grind (arith, length-take, take-take)
 
 -- a beginning stays where bytes after it change
 pub begins_before : (old bytes new : List ℕ) (at : ℕ) → Begins old bytes → length old ≤ at → take at new ≡ take at bytes

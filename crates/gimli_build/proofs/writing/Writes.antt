@@ -3,11 +3,12 @@ use Rattle.std.specs.Prelude.{◌≡◌, ◌⊎◌, ◌∷◌}
 use Rattle.gimli_build.proofs.Common
 use Common.{List, ℕ, Ok, Err, IsTrue, refl, sym, ap, ◌∙◌, inl, inr, subst, OnOk, IfErr, Result, err_from_is_err_and}
 use Common.{Hand, Placement, plain, Begins, Appends, Refuses, IsAppend, Error, OutOfMemory, Ghosts, result_append}
-use Common.{result_concat, after_length, Writes, always}
+use Common.{result_concat, after_length, Writes, always, [], append-nil}
 use Rattle.std.specs.Result.{IsErrAnd}
 use Rattle.gimli_build.specs.Writes.{WritesOr, OfMemoryOr}
 use Rattle.gimli_build.proofs.writing.Joined.{SoFar, none_so_far, one_more, on_ok, if_err, or_wanted, part_refused}
-use Rattle.gimli_build.proofs.writing.Joined.{first_refused, second_refused, appends_joined, begins_self, begins_then}
+use Rattle.gimli_build.proofs.writing.Joined.{first_refused, second_refused, appends_joined}
+use Rattle.gimli_bytes.proofs.Parts.{begins_self, begins_then}
 
 -- what a call leaves in one view of the writer, before and after
 pub record Leaves {X : Type 0} (Own : Error → Type 0) (result : Result X Error) (wanted : Result (List ℕ) Error)
@@ -244,6 +245,18 @@ one_unwritten {sink = sink} {part = part} {all = all} {left = left} {x = x} {e =
     later_unwritten _ _ so.keeps so.ordered so.stays
     (λ keeps_bytes. part_refused _ _ _ x _ _ e (so.held keeps_bytes))
     (λ at completes. part_refused _ _ _ x _ _ e (so.linked at completes)) refused
+
+pub nothing : {W X : Type 0} {sink : Ghosts W} {w : W} {x : X} → Writes sink w w (Ok x) (always (Ok []))
+nothing = record {
+  keeps = begins_self _;
+  ordered = refl;
+  stays = λ completes. completes;
+  ok = λ keeps_bytes. sym (append-nil _);
+  err = λ keeps_bytes memory_alone. tt;
+  own = λ keeps_bytes. tt;
+  completed = λ at completes. sym (append-nil _);
+  completed_own = λ at completes. tt;
+}
 
 -- ---- a call that may be refused for memory of its own
 

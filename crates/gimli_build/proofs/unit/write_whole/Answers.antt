@@ -2,10 +2,10 @@ use Rattle.std.specs.Prelude.{◌≡◌, ◌-◌, ◌<◌, ◌^◌, ◌++◌}
 use Rattle.gimli_build.proofs
 use proofs.Common
 use Common.{ℕ, List, length, Ok, refl, sym, ap, ◌∙◌, arith, append_assoc, length_word, open_length, result_append}
-use Common.{escape_bytes, Result, Error}
+use Common.{escape_bytes, inl, Result, Error}
 use proofs.writing.Joined.{on_ok}
 use proofs.linking.Lengths.{patched_length}
-use proofs.writing.Frames.{counted_written, open_word, escape_is, escape_long, length_word_long}
+use proofs.writing.Frames.{counted_written, no_less, open_word, escape_is, escape_long, length_word_long}
 use proofs.writing.Writes.{counted_unwritten, passed_on}
 use proofs.unit.write_whole.Goals as goal
 
@@ -27,10 +27,18 @@ returns-clause-writes g c =
       ordered = opening.appends.ordered;
       stays = opening.appends.stays;
       after = opening.after;
-      held = grind (arith, escape_long);
-      linked = grind (arith, escape_long);
-      count = grind arith;
-      count_linked = grind arith;
+      held = λ keeps_bytes. record {
+        opened = blank _ _ (opening.appends.ok keeps_bytes);
+        at = rw (escape_long is_big format) (opening.place keeps_bytes);
+      };
+      linked = λ at completes. record {
+        opened = blank _ _ (opening.appends.completed at completes);
+        at = rw (escape_long is_big format) (opening.completed at completes);
+      };
+      count = rw (c.len.ensures.contents, c.len-start.ensures.contents) refl;
+      count_linked = λ at completes.
+          let so = opening.appends.stays completes in
+          rw (c.len.ensures.completed at (inside.stays so), c.len-start.ensures.completed at so) refl;
     }) inside call
 
 pub returns-clause-completed_short : goal.returns-clause-completed_short
@@ -59,3 +67,21 @@ returns-in_err-write_inside-clause-writes g c =
     let refused = rw opening.ordered at c.in_err-write_inside.ensures.writes in
     passed_on c.from_residual-in_err-write_inside.ensures.1
     (counted_unwritten whole opening.keeps opening.ordered opening.stays refused)
+
+pub returns-in_err-length-clause-writes : goal.returns-in_err-length-clause-writes
+returns-in_err-length-clause-writes g c =
+    let so = c.in_err-length.ensures.appends in
+    passed_on c.from_residual.ensures.1 (record {
+      keeps = so.keeps;
+      ordered = so.ordered;
+      stays = so.stays;
+      ok = λ keeps_bytes. tt;
+      err = λ keeps_bytes memory_alone. inl (so.err memory_alone);
+      own = λ keeps_bytes. inl so.own;
+      completed = λ at completes. tt;
+      completed_own = λ at completes. inl so.own;
+    })
+
+pub overflow_sub-count : goal.overflow_sub-count
+overflow_sub-count g c = rw (c.len-start.ensures.contents, c.len.ensures.contents)
+    (no_less _ _ c.in_ok-write_inside.ensures.writes.keeps)

@@ -4,17 +4,15 @@ use Rattle.std.proofs.lemmas.Bool.{and_parts}
 use Rattle.std.proofs.lemmas.Int.{ints}
 use Rattle.gimli_build.proofs
 use proofs.Common.{Bool, true, refl, arith, ℤ, pos, to_z, of_z, w64, FitsSigned, LineEncoding, CanEncode}
-use proofs.Common.{is_special_advance}
+use proofs.Common.{is_special_advance, to_z-of_z}
+use proofs.writing.Writes.{bytes_unwritten, joins, nothing, passed_on}
 use proofs.rows.encode.write_line_advance.Goals as goal
-
-same_word : (d : ℤ) → FitsSigned w64 d → to_z w64 (of_z w64 d) ≡ d
-same_word d fits = omega (arith, ints, fits)
 
 -- what the call answers of the word is so of the number
 told : (e : LineEncoding) (d : ℤ) (answer b : Bool) → FitsSigned w64 d
     → answer ≡ is_special_advance e (to_z w64 (of_z w64 d)) → answer ≡ b
     → is_special_advance e d ≡ b
-told e d answer b fits is same = rw (← same, is, same_word d fits) refl
+told e d answer b fits is same = rw (← same, is, to_z-of_z w64 d fits) refl
 
 -- what the numbers of a special line advance have
 record IsSpecial (e : LineEncoding) (d base : ℤ) : Type 0 where
@@ -48,7 +46,7 @@ pub returns-then-has_special-clause-opcode : goal.returns-then-has_special-claus
 returns-then-has_special-clause-opcode g c =
     let e = c.args.line_encoding.now in
     let d = c.args.advance in
-    let back = same_word d c.ranges.advance in
+    let back = to_z-of_z w64 d c.ranges.advance in
     let special = told e d _ _ c.ranges.advance c.has_special.ensures c.if-has_special.true in
     let is = is_special e d _ c.requires.can special c.from.ensures in
     rw (back, is.base_is, is.back, special) refl
@@ -57,7 +55,7 @@ pub overflow_sub-result : goal.overflow_sub-result
 overflow_sub-result g c =
     let e = c.args.line_encoding.now in
     let d = c.args.advance in
-    let back = same_word d c.ranges.advance in
+    let back = to_z-of_z w64 d c.ranges.advance in
     let special = told e d _ _ c.ranges.advance c.has_special.ensures c.if-has_special.true in
     let is = is_special e d _ c.requires.can special c.from.ensures in
     rw (back, is.base_is) is.fits
@@ -66,7 +64,7 @@ pub overflow_cast-result : goal.overflow_cast-result
 overflow_cast-result g c =
     let e = c.args.line_encoding.now in
     let d = c.args.advance in
-    let back = same_word d c.ranges.advance in
+    let back = to_z-of_z w64 d c.ranges.advance in
     let special = told e d _ _ c.ranges.advance c.has_special.ensures c.if-has_special.true in
     let is = is_special e d _ c.requires.can special c.from.ensures in
     rw (back, is.base_is, is.back) (omega (arith, ints, is.low), omega (arith, is.lt, c.requires.can.range))
@@ -75,7 +73,7 @@ pub overflow_add-result : goal.overflow_add-result
 overflow_add-result g c =
     let e = c.args.line_encoding.now in
     let d = c.args.advance in
-    let back = same_word d c.ranges.advance in
+    let back = to_z-of_z w64 d c.ranges.advance in
     let special = told e d _ _ c.ranges.advance c.has_special.ensures c.if-has_special.true in
     let is = is_special e d _ c.requires.can special c.from.ensures in
     rw (back, is.base_is, is.back) (omega (arith, is.lt, c.requires.can.range))
@@ -93,3 +91,19 @@ overflow_add-result-2 g c =
     let can = c.requires.can in
     let lt : unsigned_abs e.line_base < e.line_range = omega (arith, ints, can.base, can.above) in
     rw (c.unsigned_abs.ensures.value, small_base e can) (omega (arith, lt, can.range))
+
+pub returns-then-has_special-clause-writes : goal.returns-then-has_special-clause-writes
+returns-then-has_special-clause-writes g c =
+    let e = c.args.line_encoding.now in
+    rw (told e c.args.advance _ _ c.ranges.advance c.has_special.ensures c.if-has_special.true) nothing
+
+pub returns-in_err-write_instruction-clause-writes : goal.returns-in_err-write_instruction-clause-writes
+returns-in_err-write_instruction-clause-writes g c =
+    passed_on c.from_residual.ensures.1 (bytes_unwritten c.in_err-write_instruction.ensures)
+
+pub returns-clause-writes : goal.returns-clause-writes
+returns-clause-writes g c =
+    let e = c.args.line_encoding.now in
+    let d = c.args.advance in
+    let put = rw (to_z-of_z w64 d c.ranges.advance) at c.in_ok-write_instruction.ensures in
+    rw (told e d _ _ c.ranges.advance c.has_special.ensures c.if-has_special.false) (joins put nothing)

@@ -18,3 +18,7 @@ returns g c =
     let last = c.write.ensures in
     let fourth = rw (c.bytes-2.ensures, c.unsigned-operand.ensures) at (writes _ last) in
     joins c.in_ok-write_byte.ensures (joins second (joins c.in_ok-write_byte-2.ensures fourth))
+
+pub returns-in_err-write_uleb128 : goal.returns-in_err-write_uleb128
+returns-in_err-write_uleb128 g c = passed_on c.from_residual-in_err-write_uleb128.ensures.1
+    (unwritten c.in_ok-write_byte.ensures (writes _ c.in_err-write_uleb128.ensures.appends))

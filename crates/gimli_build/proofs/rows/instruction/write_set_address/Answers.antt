@@ -26,3 +26,7 @@ returns-in_err-write_byte-2 g c =
     let second = writes _ put in
     passed_on c.from_residual-in_err-write_byte-2.ensures.1
     (unwritten (joins c.in_ok-write_byte.ensures second) c.in_err-write_byte-2.ensures)
+
+pub returns-in_err-write_uleb128 : goal.returns-in_err-write_uleb128
+returns-in_err-write_uleb128 g c = passed_on c.from_residual-in_err-write_uleb128.ensures.1
+    (unwritten c.in_ok-write_byte.ensures (writes _ c.in_err-write_uleb128.ensures.appends))

@@ -1,16 +1,21 @@
-use Rattle.std.specs.Prelude.{◌≡◌, ◌-◌, ◌<◌, ◌^◌, ◌++◌}
+use Rattle.std.specs.Prelude.{◌≡◌, ◌-◌, ◌++◌}
+use Rattle.std.proofs.Common.{le_of_eq, lt_of_le_of_lt, sub-le}
 use Rattle.gimli_build.proofs
-use proofs.Common.{Ok, always, ℕ, List, sym, ap, ◌∙◌, arith, Result, append-nil, Error, format_word}
-use proofs.writing.Frames.{counted_written, open_word, word_is, zero_word, no_escape, header_word_long}
+use proofs.Common.{Ok, add-zero, always, ℕ, List, refl, sym, ap, ◌∙◌, Result, append-nil, Error, format_word}
+use proofs.writing.Frames.{counted_written, no_less, open_word, word_is, zero_word, no_escape, header_word_long}
 use proofs.writing.Writes.{bytes_unwritten, counted_unwritten, passed_on, writes}
 use proofs.unit.header.write_header.Goals as goal
+
+pub overflow_sub-count : goal.overflow_sub-count
+overflow_sub-count g c = rw (c.len-start.ensures.contents, c.len.ensures.contents)
+    (no_less _ _ c.in_ok-write_fields.ensures.writes.keeps)
 
 pub returns-clause-writes : goal.returns-clause-writes
 returns-clause-writes g c =
     let is_big = g.W.Sink.is_big c.args.w.now in
     let format = c.args.input.now.program.encoding.format in
     let n = c.len.result - c.len-start.result in
-    let small : n < 2 ^ 64 = omega arith in
+    let small = lt_of_le_of_lt (sub-le _ _) c.len.type_inv in
     let zero =
     rw (c.word_size-size.ensures, c.format.ensures, zero_word is_big format) at c.in_ok-write_udata.ensures in
     let fields = rw zero.ordered at c.in_ok-write_fields.ensures.writes in
@@ -24,14 +29,19 @@ returns-clause-writes g c =
       keeps = zero.keeps;
       ordered = zero.ordered;
       stays = zero.stays;
-      after = omega (arith, c.len-length.ensures.contents);
+      after = le_of_eq (sym c.len-length.ensures.contents);
       held = λ keeps_bytes. record {
         opened = blank _ _ (zero.ok keeps_bytes);
-        at = omega (arith, c.len-length.ensures.contents);
+        at = c.len-length.ensures.contents ∙ sym (add-zero _);
       };
-      linked = grind arith;
-      count = omega (arith, c.len.ensures.contents, c.len-start.ensures.contents);
-      count_linked = grind arith;
+      linked = λ at completes. record {
+        opened = blank _ _ (zero.completed at completes);
+        at = c.len-length.ensures.completed at completes ∙ sym (add-zero _);
+      };
+      count = rw (c.len.ensures.contents, c.len-start.ensures.contents) refl;
+      count_linked = λ at completes.
+          let so = zero.stays completes in
+          rw (c.len.ensures.completed at (fields.stays so), c.len-start.ensures.completed at so) refl;
     }) fields call
 
 pub returns-in_err-write_fields-clause-writes : goal.returns-in_err-write_fields-clause-writes

@@ -1,8 +1,8 @@
 use Rattle.std.specs.Prelude.{◌≡◌}
 use Rattle.gimli_build.proofs
 use proofs.Common
-use Common.{rules, false, subst, plain, unplaced, Appends, texts_in, texts_after, placed, counted, unit_bytes}
-use Common.{is_incompatible, err_from_is_err_and}
+use Common.{Bool, Encoding, subst, ap, sym, ◌∙◌, plain, unplaced, Appends, texts_in, texts_after, placed, counted}
+use Common.{unit_bytes, is_incompatible, err_from_is_err_and}
 use Rattle.gimli_build.specs.Linked.{placed_program, SumsFit}
 use proofs.building.SourceLemmas.{can-write-after}
 use proofs.reading.ReadBack.{appended-back}
@@ -11,6 +11,10 @@ use proofs.linking.FoundTexts.{written-held}
 use proofs.writing.Writes.{refused_or_memory}
 use proofs.refusals.Causes.{cause-is}
 use proofs.built.line_program.LineProgram.write.Goals as goal
+
+told : (unit : Encoding) {own program : Encoding} {answer b : Bool} → own ≡ program
+    → answer ≡ is_incompatible unit own → answer ≡ b → is_incompatible unit program ≡ b
+told unit same is so = ap (is_incompatible unit) (sym same) ∙ sym is ∙ so
 
 pub new-input-requires-clause-can : goal.new-input-requires-clause-can
 new-input-requires-clause-can g c = rw (c.in_ok-empty.ensures.tables.strings, c.in_ok-empty.ensures.tables.line_strings)
@@ -26,7 +30,8 @@ returns-clause-reads_back g c = λ keeps_bytes.
     let whole = c.in_ok-write_whole.ensures in
     let same = empty.tables.strings in
     let line_same = empty.tables.line_strings in
-    let compatible : is_incompatible c.args.encoding p.encoding ≡ false = search rules in
+    let compatible = told c.args.encoding c.encoding.ensures.encoding c.is_incompatible.ensures
+    c.if-is_incompatible.false in
     let written =
     rw (c.new-input.ensures.program, c.new-input.ensures.texts, same, line_same) at (whole.writes.ok keeps_bytes) in
     let appended : Appends (unit_bytes plain is_big c.args.encoding p texts) (contents c.args.w.now.0)
@@ -47,7 +52,8 @@ returns-clause-linked g c = λ at completes is_placed fit.
     let whole = c.in_ok-write_whole.ensures in
     let same = empty.tables.strings in
     let line_same = empty.tables.line_strings in
-    let compatible : is_incompatible c.args.encoding p.encoding ≡ false = search rules in
+    let compatible = told c.args.encoding c.encoding.ensures.encoding c.is_incompatible.ensures
+    c.if-is_incompatible.false in
     let sums : SumsFit at p (texts_after p texts) = rw (same, line_same) at fit in
     let written = rw (c.new-input.ensures.program, c.new-input.ensures.texts, same, line_same, is_placed) at
     (whole.writes.completed at completes) in
@@ -62,7 +68,8 @@ returns-clause-linked g c = λ at completes is_placed fit.
 
 pub returns-in_err-write_whole-clause-writes : goal.returns-in_err-write_whole-clause-writes
 returns-in_err-write_whole-clause-writes g c =
-    let compatible : is_incompatible c.args.encoding c.args.self.now.encoding ≡ false = search rules in
+    let compatible = told c.args.encoding c.encoding.ensures.encoding c.is_incompatible.ensures
+    c.if-is_incompatible.false in
     let q =
     err_from_is_err_and c.from_residual-in_err-write_whole.result c.from_residual-in_err-write_whole.ensures.1 in
     let input = c.new-input.ensures in
