@@ -6,10 +6,11 @@ use Common.{Result, bit_and}
 use Common.{SFits, ℤ, pos, negsuc, w64, of_z, number_bytes, result_map, sdata, twos_complement, udata, le-ltb, DwEhPe}
 use Common.{IsAppend}
 use Common.{ValueTooLarge, UnsupportedWordSize}
-use Rattle.gimli_bytes.specs.Hand.{Hand, plain}
-use Rattle.gimli_bytes.specs.Written.{IsOverwrite}
+use Rattle.gimli_bytes.specs
+use specs.Hand.{Hand, plain}
+use specs.Written.{IsOverwrite}
 use Common.{pointer_data, pointer_at_end, format_of, Address, Constant, Error, UnsupportedPointerEncoding}
-use Rattle.gimli_bytes.specs.declared.sink.Sink.{Ghosts}
+use specs.declared.sink.Sink.{Ghosts}
 use Rattle.gimli_bytes.proofs.Parts.{begins_self}
 
 -- what is wanted, said otherwise

@@ -1,9 +1,10 @@
 -- Offsets of one number are the same.
 use Rattle.std.proofs.Common.{◌≡◌, refl}
-use Rattle.gimli_core.specs.declared.common.DebugLineOffset.{DebugLineOffset}
-use Rattle.gimli_core.specs.declared.common.DebugStrOffset.{DebugStrOffset}
-use Rattle.gimli_core.specs.declared.common.DebugLineStrOffset.{DebugLineStrOffset}
-use Rattle.gimli_core.specs.declared.common.DebugStrOffsetsIndex.{DebugStrOffsetsIndex}
+use Rattle.gimli_core.specs
+use specs.declared.common.DebugLineOffset.{DebugLineOffset}
+use specs.declared.common.DebugStrOffset.{DebugStrOffset}
+use specs.declared.common.DebugLineStrOffset.{DebugLineStrOffset}
+use specs.declared.common.DebugStrOffsetsIndex.{DebugStrOffsetsIndex}
 
 module _ {T : Type 0} where
   -- each of its number

@@ -7,26 +7,28 @@ use Rattle.std.specs.List.{AllByRecursion, position_or_len}
 use Rattle.std.proofs.lemmas.Bool.{cases_lt, le-ltb, lt-ltb, ne_eqb, le-leb, lt-leb}
 use Rattle.std.proofs.lemmas.Bool.Decides.{eqb_tells}
 use Rattle.std.proofs.lemmas.List.{append-nil, take_at, drop_at, take-append-drop, length-append, length-take-le}
-use Rattle.gimli_core.specs.declared.common.Format.{Format}
-use Rattle.gimli_core.specs.declared.common.Format.TheVariants.{Dwarf32, Dwarf64}
-use Rattle.gimli_core.specs.declared.error.Error.{Error}
-use Rattle.gimli_core.specs.declared.error.Error.TheVariants.{
+use Rattle.gimli_core.specs
+use specs.declared.common.Format.{Format}
+use specs.declared.common.Format.TheVariants.{Dwarf32, Dwarf64}
+use specs.declared.error.Error.{Error}
+use specs.declared.error.Error.TheVariants.{
   UnknownReservedLength,
   UnsupportedAddressSize,
   UnsupportedOffset,
 }
-use Rattle.gimli_core.specs.Layout.{OrderAndLimit}
-use Rattle.gimli_core.specs.Numbers.{SpellsNumber, SpellsInitialLength, is_address_size}
-use Rattle.gimli_core.specs.Reading.{Read, ◌>>=◌, result_map, eof, byte_at, signed_byte_at, number_at, split_at}
-use Rattle.gimli_core.specs.Reading.{text_at, word_at, initial_length_at}
-use Rattle.gimli_core.specs.Reading.{address_size_at, offset_of}
-use Rattle.gimli_core.specs.inside.Reading.{check_at, below_at}
-use Rattle.gimli_core.specs.Production.{Production, check, byte, signed_byte, number, some_bytes, text, address_size}
-use Rattle.gimli_core.specs.Production.{below_limit, fits_offset, offset_word}
-use Rattle.gimli_core.specs.Production.{initial_length, unit_length, IsWanting, Reads}
-use Rattle.gimli_core.proofs.Productions.{ok_parts, bind_ok, bind_fault, bind_refused, reads_both, reads_done}
-use Rattle.gimli_core.proofs.Productions.{reads_check, reads_same}
-use Rattle.gimli_core.proofs.Padded.{split_ok}
+use specs.Layout.{OrderAndLimit}
+use specs.Numbers.{SpellsNumber, SpellsInitialLength, is_address_size}
+use specs.Reading.{Read, ◌>>=◌, result_map, eof, byte_at, signed_byte_at, number_at, split_at}
+use specs.Reading.{text_at, word_at, initial_length_at}
+use specs.Reading.{address_size_at, offset_of}
+use specs.inside.Reading.{check_at, below_at}
+use specs.Production.{Production, check, byte, signed_byte, number, some_bytes, text, address_size}
+use specs.Production.{below_limit, fits_offset, offset_word}
+use specs.Production.{initial_length, unit_length, IsWanting, Reads}
+use Rattle.gimli_core.proofs
+use proofs.Productions.{ok_parts, bind_ok, bind_fault, bind_refused, reads_both, reads_done}
+use proofs.Productions.{reads_check, reads_same}
+use proofs.Padded.{split_ok}
 
 -- ---- bytes
 

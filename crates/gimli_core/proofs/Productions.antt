@@ -2,10 +2,11 @@
 use Rattle.std.proofs.Common.{◌≡◌, ℕ, zero, suc, Bool, true, false, if◌then◌else◌, List, [], ◌∷◌, ◌++◌, Ok, Err, refl}
 use Rattle.std.proofs.Common.{sym, ap, ◌∙◌, append_assoc, ◌⊎◌, inl}
 use Rattle.std.proofs.Common.{inr}
-use Rattle.gimli_core.specs.declared.error.Error.{Error}
-use Rattle.gimli_core.specs.Reading.{Read, ◌>>=◌, times_at, with_rest, within_at}
-use Rattle.gimli_core.specs.inside.Reading.{check_at}
-use Rattle.gimli_core.specs.Production.{Production, ◌>>=◌ as ◌>>>◌, done, refuse, check, choose, times, within, Reads}
+use Rattle.gimli_core.specs
+use specs.declared.error.Error.{Error}
+use specs.Reading.{Read, ◌>>=◌, times_at, with_rest, within_at}
+use specs.inside.Reading.{check_at}
+use specs.Production.{Production, ◌>>=◌ as ◌>>>◌, done, refuse, check, choose, times, within, Reads}
 
 -- ---- steps that may fail
 

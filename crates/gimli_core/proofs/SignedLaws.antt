@@ -6,14 +6,16 @@ use Rattle.std.specs.Prelude.{ℤ, pos, ◌-ℤ◌, nat_le, nat_eq, FitsSigned}
 use Rattle.std.specs.Int.{w64}
 use Rattle.std.proofs.lemmas.Bool.{cases_lt, le-ltb, lt-ltb, eqb-true, eqb-false, le-leb, lt-leb}
 use Rattle.std.proofs.lemmas.Int.{ints}
-use Rattle.gimli_core.specs.declared.error.Error.{Error}
-use Rattle.gimli_core.specs.declared.error.Error.TheVariants.{BadSignedLeb128}
-use Rattle.gimli_core.specs.Numbers.{IsLeb128, is_negative, SpellsSleb128}
-use Rattle.gimli_core.specs.Reading.{Read, Difference, last_group, sleb_at, signed_at}
-use Rattle.gimli_core.specs.Production.{signed, IsLebFault, Reads}
-use Rattle.gimli_core.proofs.Leb.{pow_next}
-use Rattle.gimli_core.proofs.Productions.{bind_ok, bind_fault, bind_refused, ok_parts}
-use Rattle.gimli_core.proofs.UnsignedLeb.{longer, not_nil, only_last, first_high}
+use Rattle.gimli_core.specs
+use specs.declared.error.Error.{Error}
+use specs.declared.error.Error.TheVariants.{BadSignedLeb128}
+use specs.Numbers.{IsLeb128, is_negative, SpellsSleb128}
+use specs.Reading.{Read, Difference, last_group, sleb_at, signed_at}
+use specs.Production.{signed, IsLebFault, Reads}
+use Rattle.gimli_core.proofs
+use proofs.Leb.{pow_next}
+use proofs.Productions.{bind_ok, bind_fault, bind_refused, ok_parts}
+use proofs.UnsignedLeb.{longer, not_nil, only_last, first_high}
 
 -- the numbers that fit so many groups and a last one that repeats the sign are above - limit and below it
 abbrev pub limit : ℕ → ℕ

@@ -6,9 +6,10 @@ use Rattle.std.specs.Prelude.{ℤ, pos, ◌-ℤ◌, nat_le}
 use Rattle.std.proofs.Math.Nat.{mul-zero}
 use Rattle.std.proofs.lemmas.Bool.{le-ltb, lt-ltb, eqb-true}
 use Rattle.std.proofs.lemmas.Int.{ints}
-use Rattle.gimli_core.specs.declared.error.Error.{Error}
-use Rattle.gimli_core.specs.Reading.{Read, ◌>>=◌, Difference, byte_at, sleb_at, eof}
-use Rattle.gimli_core.specs.inside.Reading.{tenth_at}
+use Rattle.gimli_core.specs
+use specs.declared.error.Error.{Error}
+use specs.Reading.{Read, ◌>>=◌, Difference, byte_at, sleb_at, eof}
+use specs.inside.Reading.{tenth_at}
 use Rattle.gimli_core.proofs.Leb.{ok, err, byte_ok, byte_err, pow_next}
 
 abbrev pub ok_z : List ℕ → ℤ → Read ℤ

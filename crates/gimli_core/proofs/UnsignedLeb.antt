@@ -2,11 +2,12 @@
 use Rattle.std.proofs.Common.{◌≡◌, ℕ, zero, suc, ◌+◌, ◌*◌, ◌%◌, ◌<◌, ◌≤◌, List, [], ◌∷◌, ◌++◌, length, Ok, Err, refl}
 use Rattle.std.proofs.Common.{sym, ap, ◌∙◌, arith, inl, inr}
 use Rattle.std.proofs.lemmas.Bool.{cases_lt, le-ltb, lt-ltb}
-use Rattle.gimli_core.specs.declared.error.Error.{Error}
-use Rattle.gimli_core.specs.declared.error.Error.TheVariants.{BadUnsignedLeb128}
-use Rattle.gimli_core.specs.Numbers.{IsLeb128}
-use Rattle.gimli_core.specs.Reading.{Read, uleb_at}
-use Rattle.gimli_core.specs.Production.{unsigned, unsigned_16, IsLebFault, AllHigh, Reads}
+use Rattle.gimli_core.specs
+use specs.declared.error.Error.{Error}
+use specs.declared.error.Error.TheVariants.{BadUnsignedLeb128}
+use specs.Numbers.{IsLeb128}
+use specs.Reading.{Read, uleb_at}
+use specs.Production.{unsigned, unsigned_16, IsLebFault, AllHigh, Reads}
 use Rattle.gimli_core.proofs.Productions.{bind_ok, bind_fault, bind_refused, ok_parts}
 
 -- the first number that is too large for so many groups and a last one of at most top

@@ -2,28 +2,29 @@
 -- computed from the definitions.
 use Rattle.std.proofs.Common.{◌≡◌, ℕ, true, false, List, [], ◌∷◌, ◌++◌, Option, Some, None, Ok, Err, refl}
 use Rattle.std.specs.Prelude.{pos, negsuc, map, replicate, codes, not, nat_eq}
-use Rattle.gimli_core.specs.Numbers.{value_of, number_bytes, word_size, initial_length_size}
-use Rattle.gimli_core.specs.Reading.{split_at, skip_at, truncate_at, find_at, text_at, byte_at, signed_byte_at}
-use Rattle.gimli_core.specs.Reading.{number_at, uleb_at, unsigned_at, unsigned_16_at}
-use Rattle.gimli_core.specs.Reading.{sleb_at, signed_at, word_at, initial_length_at, address_size_at, sized_sum}
-use Rattle.gimli_core.specs.Order.{is_big_endian}
-use Rattle.gimli_core.specs.Values.{Value, udata_value}
-use Rattle.gimli_core.specs.Form.{Shape, fixed, three_bytes, word_offset, leb, signed_leb, leb_offset, block, counted}
-use Rattle.gimli_core.specs.Form.{leb_counted, string, index, shapes}
-use Rattle.gimli_core.specs.Form.{shape_among}
-use Rattle.gimli_core.specs.declared.attribute_value.AttributeValue.TheVariants.{Block, Data1, Data2, Data4, Data8}
-use Rattle.gimli_core.specs.declared.attribute_value.AttributeValue.TheVariants.{Udata, Sdata, Flag, SecOffset, String}
-use Rattle.gimli_core.specs.declared.attribute_value.AttributeValue.TheVariants.{
+use Rattle.gimli_core.specs
+use specs.Numbers.{value_of, number_bytes, word_size, initial_length_size}
+use specs.Reading.{split_at, skip_at, truncate_at, find_at, text_at, byte_at, signed_byte_at}
+use specs.Reading.{number_at, uleb_at, unsigned_at, unsigned_16_at}
+use specs.Reading.{sleb_at, signed_at, word_at, initial_length_at, address_size_at, sized_sum}
+use specs.Order.{is_big_endian}
+use specs.Values.{Value, udata_value}
+use specs.Form.{Shape, fixed, three_bytes, word_offset, leb, signed_leb, leb_offset, block, counted}
+use specs.Form.{leb_counted, string, index, shapes}
+use specs.Form.{shape_among}
+use specs.declared.attribute_value.AttributeValue.TheVariants.{Block, Data1, Data2, Data4, Data8}
+use specs.declared.attribute_value.AttributeValue.TheVariants.{Udata, Sdata, Flag, SecOffset, String}
+use specs.declared.attribute_value.AttributeValue.TheVariants.{
   DebugStrRef,
   DebugStrRefSup,
   DebugLineStrRef,
 }
-use Rattle.gimli_core.specs.declared.common.Format.TheVariants.{Dwarf32, Dwarf64}
-use Rattle.gimli_core.specs.declared.endianity.RunTimeEndian.TheVariants.{Little, Big}
-use Rattle.gimli_core.specs.declared.error.Error.{Error}
-use Rattle.gimli_core.specs.declared.error.Error.TheVariants.{UnexpectedEof, BadUnsignedLeb128, BadSignedLeb128}
-use Rattle.gimli_core.specs.declared.error.Error.TheVariants.{UnknownReservedLength, UnsupportedAddressSize}
-use Rattle.gimli_core.specs.declared.error.Error.TheVariants.{UnsupportedOffset, AddressOverflow}
+use specs.declared.common.Format.TheVariants.{Dwarf32, Dwarf64}
+use specs.declared.endianity.RunTimeEndian.TheVariants.{Little, Big}
+use specs.declared.error.Error.{Error}
+use specs.declared.error.Error.TheVariants.{UnexpectedEof, BadUnsignedLeb128, BadSignedLeb128}
+use specs.declared.error.Error.TheVariants.{UnknownReservedLength, UnsupportedAddressSize}
+use specs.declared.error.Error.TheVariants.{UnsupportedOffset, AddressOverflow}
 
 -- bytes are missing, and so many are there
 abbrev missing : ℕ → Error

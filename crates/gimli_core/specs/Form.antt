@@ -1,20 +1,21 @@
 -- The forms of the tables of version 5 (DWARF 5, section 7.5.5): how a value lies in the bytes.
 use Rattle.std.specs.Prelude.{ℕ, List, [], ◌∷◌, Option, Some, None, not, nat_eq, if◌then◌else◌, ℤ}
-use Rattle.gimli_core.specs.Layout.{OrderAndLimit}
-use Rattle.gimli_core.specs.Values.{Value}
-use Rattle.gimli_core.specs.Production.{Production, ◌>>=◌, done, refuse, number, unsigned, signed}
-use Rattle.gimli_core.specs.Production.{text, some_bytes, below_limit, offset_word}
-use Rattle.gimli_core.specs.FormNumbers.{DW_FORM_block2, DW_FORM_block4, DW_FORM_data2}
-use Rattle.gimli_core.specs.FormNumbers.{DW_FORM_data4, DW_FORM_data8, DW_FORM_string}
-use Rattle.gimli_core.specs.FormNumbers.{DW_FORM_block, DW_FORM_block1, DW_FORM_data1, DW_FORM_flag}
-use Rattle.gimli_core.specs.FormNumbers.{DW_FORM_sdata, DW_FORM_strp, DW_FORM_udata}
-use Rattle.gimli_core.specs.FormNumbers.{DW_FORM_sec_offset, DW_FORM_strx, DW_FORM_strp_sup}
-use Rattle.gimli_core.specs.FormNumbers.{DW_FORM_data16, DW_FORM_line_strp, DW_FORM_strx1}
-use Rattle.gimli_core.specs.FormNumbers.{DW_FORM_strx2, DW_FORM_strx3, DW_FORM_strx4}
-use Rattle.gimli_core.specs.FormNumbers.{DW_FORM_GNU_str_index, DW_FORM_GNU_strp_alt}
-use Rattle.gimli_core.specs.declared.common.Format.{Format}
-use Rattle.gimli_core.specs.declared.error.Error.TheVariants.{UnknownForm}
-use Rattle.gimli_core.specs.declared.attribute_value.AttributeValue.TheVariants.{
+use Rattle.gimli_core.specs
+use specs.Layout.{OrderAndLimit}
+use specs.Values.{Value}
+use specs.Production.{Production, ◌>>=◌, done, refuse, number, unsigned, signed}
+use specs.Production.{text, some_bytes, below_limit, offset_word}
+use specs.FormNumbers.{DW_FORM_block2, DW_FORM_block4, DW_FORM_data2}
+use specs.FormNumbers.{DW_FORM_data4, DW_FORM_data8, DW_FORM_string}
+use specs.FormNumbers.{DW_FORM_block, DW_FORM_block1, DW_FORM_data1, DW_FORM_flag}
+use specs.FormNumbers.{DW_FORM_sdata, DW_FORM_strp, DW_FORM_udata}
+use specs.FormNumbers.{DW_FORM_sec_offset, DW_FORM_strx, DW_FORM_strp_sup}
+use specs.FormNumbers.{DW_FORM_data16, DW_FORM_line_strp, DW_FORM_strx1}
+use specs.FormNumbers.{DW_FORM_strx2, DW_FORM_strx3, DW_FORM_strx4}
+use specs.FormNumbers.{DW_FORM_GNU_str_index, DW_FORM_GNU_strp_alt}
+use specs.declared.common.Format.{Format}
+use specs.declared.error.Error.TheVariants.{UnknownForm}
+use specs.declared.attribute_value.AttributeValue.TheVariants.{
   Block,
   Data1,
   Data2,

@@ -5,14 +5,15 @@ use Rattle.std.specs.Prelude.{◌≡◌, ◌≢◌, ◌⊎◌, ℕ, zero, suc, �
 use Rattle.std.specs.Prelude.{length, Bool, true, false, IsTrue, IsFalse, Ok, Err, ℤ, nat_lt}
 use Rattle.std.specs.Int.{w8, cast_signed}
 use Rattle.std.specs.List.{AllByRecursion}
-use Rattle.gimli_core.specs.Numbers.{SpellsNumber, SpellsUleb128, SpellsSleb128}
-use Rattle.gimli_core.specs.Numbers.{SpellsInitialLength, word_size, is_address_size}
-use Rattle.gimli_core.specs.Layout.{OrderAndLimit}
-use Rattle.gimli_core.specs.Reading.{Read, eof}
-use Rattle.gimli_core.specs.declared.common.Format.{Format}
-use Rattle.gimli_core.specs.declared.common.Format.TheVariants.{Dwarf32, Dwarf64}
-use Rattle.gimli_core.specs.declared.error.Error.{Error}
-use Rattle.gimli_core.specs.declared.error.Error.TheVariants.{
+use Rattle.gimli_core.specs
+use specs.Numbers.{SpellsNumber, SpellsUleb128, SpellsSleb128}
+use specs.Numbers.{SpellsInitialLength, word_size, is_address_size}
+use specs.Layout.{OrderAndLimit}
+use specs.Reading.{Read, eof}
+use specs.declared.common.Format.{Format}
+use specs.declared.common.Format.TheVariants.{Dwarf32, Dwarf64}
+use specs.declared.error.Error.{Error}
+use specs.declared.error.Error.TheVariants.{
   BadUnsignedLeb128,
   BadSignedLeb128,
   UnknownReservedLength,

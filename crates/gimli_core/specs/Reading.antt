@@ -3,11 +3,12 @@ use Rattle.std.specs.Prelude.{ℕ, zero, suc, ◌+◌, ◌*◌, ◌%◌, ◌^◌
 use Rattle.std.specs.Prelude.{drop, position, Result, Ok, Err, Some, None, nat_lt, nat_le, nat_eq}
 use Rattle.std.specs.Prelude.{◌||◌, if◌then◌else◌, ℤ, pos, ◌-ℤ◌}
 use Rattle.std.specs.Int.{w8, cast_signed}
-use Rattle.gimli_core.specs.Numbers.{value_of, is_address_size}
-use Rattle.gimli_core.specs.declared.common.Format.{Format}
-use Rattle.gimli_core.specs.declared.common.Format.TheVariants.{Dwarf32, Dwarf64}
-use Rattle.gimli_core.specs.declared.error.Error.{Error}
-use Rattle.gimli_core.specs.declared.error.Error.TheVariants.{
+use Rattle.gimli_core.specs
+use specs.Numbers.{value_of, is_address_size}
+use specs.declared.common.Format.{Format}
+use specs.declared.common.Format.TheVariants.{Dwarf32, Dwarf64}
+use specs.declared.error.Error.{Error}
+use specs.declared.error.Error.TheVariants.{
   UnexpectedEof,
   BadUnsignedLeb128,
   BadSignedLeb128,

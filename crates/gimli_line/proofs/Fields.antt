@@ -4,9 +4,10 @@ use Rattle.gimli_line.proofs.Common
 use Common.{ℕ, Bool, List, Option, Ok, Err, refl, ap, option_map, OrderAndLimit, layout_of, Value, Read, Error}
 use Common.{Parameters, File, UnitEntry, FileEntryFormat}
 use Rattle.gimli_core.specs.Reading.{split_at}
-use Rattle.gimli_line.specs.header.Header.{plain_file}
-use Rattle.gimli_line.specs.header.HeaderGrammar.{HeaderOpening, handed_value}
-use Rattle.gimli_line.specs.inside.header.HeaderReading.{parameters_at, directories_at, file_names_at, fields_at}
+use Rattle.gimli_line.specs
+use specs.header.Header.{plain_file}
+use specs.header.HeaderGrammar.{HeaderOpening, handed_value}
+use specs.inside.header.HeaderReading.{parameters_at, directories_at, file_names_at, fields_at}
 
 -- a step that refused
 refused : {A : Type 0} (r : Read A) (e : Error) → r.0 ≡ Err e → r ≡ (Err e, r.1)

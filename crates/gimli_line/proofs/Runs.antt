@@ -1,6 +1,7 @@
 -- What one instruction does to the events that are still to come.
 use Rattle.std.specs.Prelude.{◌≡◌, ◌≢◌, ◌<◌, ◌∷◌, ◌++◌}
-use Rattle.gimli_line.proofs.Common
+use Rattle.gimli_line.proofs
+use proofs.Common
 use Common.{ℕ, Bool, true, false, List, [], length, Option, Some, None, refl, sym, ap, ◌∙◌, append_assoc, arith, inl}
 use Common.{inr, filter, length-append, append-nil, OrderAndLimit, Each, Error, AddressOverflow, OutOfMemory, LineRow}
 use Common.{DefineFile, Parameters, HeaderSource, Header, without_files, files_after, Ins, makes_row, defines_file}
@@ -9,8 +10,8 @@ use Common.{next_registers, Unread, RunState, PassesOver, with_reset_row, regist
 use Common.{live_events, made_left, events_left, files_at_end, WantsMemory, FaultComes, FaultIs, given_row}
 use Rattle.gimli_line.specs.run.InstructionGrammar.{SpellsInstruction, instruction_production, Decodes}
 use Rattle.gimli_line.specs.run.InstructionReading.{decoded_upto}
-use Rattle.gimli_line.proofs.RunLists.{run_of_one, runs_joined}
-use Rattle.gimli_line.proofs.InstructionLaws.{is_decoded, one_decoding, takes_bytes}
+use proofs.RunLists.{run_of_one, runs_joined}
+use proofs.InstructionLaws.{is_decoded, one_decoding, takes_bytes}
 
 -- ---- what a program is decoded into, by its front
 

@@ -1,20 +1,22 @@
 -- A step of a run: what an instruction does to its state, and steps after one another.
 use Rattle.std.specs.Prelude.{◌≡◌, ◌≢◌, if◌then◌else◌}
-use Rattle.gimli_line.proofs.Common
+use Rattle.gimli_line.proofs
+use proofs.Common
 use Common.{◌∙◌, Bool, true, false, [], ap, arith, inl, inr, length, refl, sym, subst, Result, Some, Ok, Err}
 use Common.{length-append, Error, AddressOverflow, OutOfMemory, Executed, No, Quiet, Address, Row, DefineFile, LineRow}
 use Common.{Header, without_files, KeepsSource, given_row, ReadsOn, StepIs, StepsTo, Ins, makes_row, defines_file}
 use Common.{header_after, ins_at, step_of, is_refused, with_reset_row, RunState, live_made, FaultComes}
 use Common.{KeepsRun, WantsMemory, Unread}
-use Rattle.gimli_line.specs.declared.run.rows.RowStep.{RowStep}
-use Rattle.gimli_line.specs.declared.run.rows.RowStep.TheVariants.{Done, Made, More}
-use Rattle.gimli_line.specs.run.Execution.{ExecutesNext, IsExecuted, RefusesNext}
-use Rattle.gimli_line.specs.run.NextInstruction.{TakesNext, EndsByFault}
-use Rattle.gimli_line.proofs.Executions.{told_row, told_quiet, told_address}
-use Rattle.gimli_line.proofs.InstructionLaws.{reads_instruction}
-use Rattle.gimli_line.proofs.Sources.{fits_less, keeps_both}
-use Rattle.gimli_line.proofs.Runs.{state, none_made, after_fault, after_quiet, after_made, after_overflow, is_shorter}
-use Rattle.gimli_line.proofs.Runs.{passes_both, passes_quiet, passes_made, wants, refused_after}
+use Rattle.gimli_line.specs
+use specs.declared.run.rows.RowStep.{RowStep}
+use specs.declared.run.rows.RowStep.TheVariants.{Done, Made, More}
+use specs.run.Execution.{ExecutesNext, IsExecuted, RefusesNext}
+use specs.run.NextInstruction.{TakesNext, EndsByFault}
+use proofs.Executions.{told_row, told_quiet, told_address}
+use proofs.InstructionLaws.{reads_instruction}
+use proofs.Sources.{fits_less, keeps_both}
+use proofs.Runs.{state, none_made, after_fault, after_quiet, after_made, after_overflow, is_shorter}
+use proofs.Runs.{passes_both, passes_quiet, passes_made, wants, refused_after}
 
 -- ---- the state of a run whose program has a header
 

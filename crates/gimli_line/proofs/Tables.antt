@@ -1,12 +1,13 @@
 -- The loops that read tables, where they begin and where they end.
 use Rattle.std.specs.Prelude.{◌≡◌, ◌<◌, ◌≤◌, ◌↔◌}
-use Rattle.gimli_line.proofs.Common
+use Rattle.gimli_line.proofs
+use proofs.Common
 use Common.{ℕ, Bool, List, [], map, Ok, Err, refl, arith, All, le-leb, lt-leb, OrderAndLimit, layout_of, Read, Encoding}
 use Common.{IsTrue, false, length, sym, ◌∙◌, text_at, path_text, Error, bind_refused, read_map, TableEntry, formats_at}
 use Common.{entries_at, FileEntryFormat}
 use Rattle.gimli_line.specs.inside.header.HeaderReading.{table_of}
-use Rattle.gimli_line.proofs.Closed.{reads_name}
-use Rattle.gimli_line.proofs.Loops.{closed_smaller, text_free, viewed_same}
+use proofs.Closed.{reads_name}
+use proofs.Loops.{closed_smaller, text_free, viewed_same}
 
 -- a table without entries
 pub none_yet : {A : Type 0} (P : A → Type 0) (xs : List A) → xs ≡ [] → All P xs

@@ -1,15 +1,16 @@
 -- A length that is written once what it counts is there.
 use Rattle.std.specs.Prelude.{◌≡◌, ◌+◌, ◌-◌, ◌<◌, ◌≤◌, ◌^◌, ◌++◌, if◌then◌else◌, ◌⊎◌}
-use Rattle.gimli_build.proofs.Common
+use Rattle.gimli_build.proofs
+use proofs.Common
 use Common.{ℕ, Bool, true, false, List, [], length, refl, sym, ap, ◌∙◌, arith, append_assoc, length-append, nat_lt, Ok}
 use Common.{Err, OnOk, IfErr, IsTrue, inr, le-ltb, lt-ltb, take_at, drop_at, Result, number_bytes, word_size, Format}
 use Common.{Dwarf32, Dwarf64, Hand, Placement, plain, Begins, Appends, IsOverwrite, overwrite_of, patch, Ghosts}
 use Common.{OutOfMemory, Writes, udata, open_length, escape_size, length_word, Error, format_word, result_append}
 use Common.{after_length, escape_bytes}
-use Rattle.gimli_build.proofs.writing.Joined.{on_ok, if_err, or_wanted, begins_before}
+use proofs.writing.Joined.{on_ok, if_err, or_wanted, begins_before}
 use Rattle.gimli_bytes.proofs.Parts.{begins_then}
 use Rattle.std.proofs.lemmas.List.{length-take}
-use Rattle.gimli_build.proofs.writing.Writes.{Leaves, writes_in}
+use proofs.writing.Writes.{Leaves, writes_in}
 
 -- other bytes in the middle, as long as those that stand there
 patched_middle : (a b other c : List ℕ) (at : ℕ) → length other ≡ length b → length a ≡ at

@@ -1,14 +1,15 @@
 -- Items written one after the other.
 use Rattle.std.specs.Prelude.{◌≡◌, ◌+◌, ◌<◌, ◌^◌, ◌∷◌, ◌++◌}
-use Rattle.gimli_build.proofs.Common
+use Rattle.gimli_build.proofs
+use proofs.Common
 use Common.{IsTrue, ℕ, Bool, List, [], Ok, Err, refl, sym, ap, ◌∙◌, append_assoc, lit<, length, get_or, add-one, take}
 use Common.{append-nil, take-suc, Result, Encoding, LineEncoding, Hand, Placement, plain, Begins, Appends, Error}
 use Common.{Ghosts, LineRow, BuiltItem, SetAddress, Row, End, CanEncode, IsPosition, AreBuilt, result_append, Writes}
 use Common.{item_bytes, items_bytes, next_previous, FitsItem, AreFit}
-use Rattle.gimli_build.proofs.reading.EventsBack.{start_position}
-use Rattle.gimli_build.proofs.writing.Joined.{appended_bytes, joined-joined}
+use proofs.reading.EventsBack.{start_position}
+use proofs.writing.Joined.{appended_bytes, joined-joined}
 use Rattle.gimli_bytes.proofs.Parts.{begins_self, begins_then}
-use Rattle.gimli_build.proofs.writing.Writes.{later_unwritten}
+use proofs.writing.Writes.{later_unwritten}
 
 -- these bytes stand for the items so far, and those are left
 pub record Standing (hand : Hand) (is_big : Bool) (encoding : Encoding) (e : LineEncoding)

@@ -1,13 +1,14 @@
 -- Calls that append, one after the other.
 use Rattle.std.specs.Prelude.{◌≡◌, ◌⊎◌, ◌∷◌}
-use Rattle.gimli_build.proofs.Common
+use Rattle.gimli_build.proofs
+use proofs.Common
 use Common.{List, ℕ, Ok, Err, IsTrue, refl, sym, ap, ◌∙◌, inl, inr, subst, OnOk, IfErr, Result, err_from_is_err_and}
 use Common.{Hand, Placement, plain, Begins, Appends, Refuses, IsAppend, Error, OutOfMemory, Ghosts, result_append}
 use Common.{result_concat, after_length, Writes, always, [], append-nil}
 use Rattle.std.specs.Result.{IsErrAnd}
 use Rattle.gimli_build.specs.Writes.{WritesOr, OfMemoryOr}
-use Rattle.gimli_build.proofs.writing.Joined.{SoFar, none_so_far, one_more, on_ok, if_err, or_wanted, part_refused}
-use Rattle.gimli_build.proofs.writing.Joined.{first_refused, second_refused, appends_joined}
+use proofs.writing.Joined.{SoFar, none_so_far, one_more, on_ok, if_err, or_wanted, part_refused}
+use proofs.writing.Joined.{first_refused, second_refused, appends_joined}
 use Rattle.gimli_bytes.proofs.Parts.{begins_self, begins_then}
 
 -- what a call leaves in one view of the writer, before and after

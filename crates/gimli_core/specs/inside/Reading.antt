@@ -1,9 +1,10 @@
 -- What readers take from the front of a list of bytes, and what they leave.
 use Rattle.std.specs.Prelude.{ℕ, ◌^◌, Bool, List, Result, Ok, Err, nat_eq, if◌then◌else◌, ℤ, pos}
 use Rattle.std.specs.Prelude.{◌-ℤ◌}
-use Rattle.gimli_core.specs.declared.error.Error.{Error}
-use Rattle.gimli_core.specs.declared.error.Error.TheVariants.{BadSignedLeb128}
-use Rattle.gimli_core.specs.Reading.{Read, ◌>>=◌, offset_of}
+use Rattle.gimli_core.specs
+use specs.declared.error.Error.{Error}
+use specs.declared.error.Error.TheVariants.{BadSignedLeb128}
+use specs.Reading.{Read, ◌>>=◌, offset_of}
 
 -- a test
 abbrev pub check_at : Bool → Error → List ℕ → Read (Unit {0})

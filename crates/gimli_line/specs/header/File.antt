@@ -1,7 +1,8 @@
 -- A file, with lists of bytes in place of readers and numbers in place of offsets.
-use Rattle.gimli_line.specs.Prelude.{ℕ, Bool, List, Option, option_map, IfSome, value_seen, IsOrder}
-use Rattle.gimli_line.specs.Prelude.{value_order}
-use Rattle.gimli_line.specs.declared.header.file_entry.FileEntry.{FileEntry}
+use Rattle.gimli_line.specs
+use specs.Prelude.{ℕ, Bool, List, Option, option_map, IfSome, value_seen, IsOrder}
+use specs.Prelude.{value_order}
+use specs.declared.header.file_entry.FileEntry.{FileEntry}
 
 abbrev pub File : Type 0
 File = FileEntry (List ℕ) ℕ (Unit {0})

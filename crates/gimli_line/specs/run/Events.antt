@@ -1,21 +1,22 @@
 -- What a program makes and gives: its rows and faults in order, with the files at each.
 use Rattle.std.specs.Prelude.{◌≡◌, if◌then◌else◌, ◌∷◌, ◌++◌}
-use Rattle.gimli_line.specs.Prelude
+use Rattle.gimli_line.specs
+use specs.Prelude
 use Prelude.{ℕ, Bool, true, false, not, List, [], map, Option, Some, None, list_any, filter, Error}
 use Prelude.{AddressOverflow}
 use Prelude.{OrderAndLimit}
-use Rattle.gimli_line.specs.declared.run.instruction.LineInstruction.TheVariants.{DefineFile}
-use Rattle.gimli_line.specs.declared.run.row.LineRow.{LineRow}
-use Rattle.gimli_line.specs.header.Parameters.{Parameters}
-use Rattle.gimli_line.specs.run.Instruction.{Ins, is_end, makes_row}
-use Rattle.gimli_line.specs.header.File.{File}
-use Rattle.gimli_line.specs.header.Header.{Header}
-use Rattle.gimli_line.specs.run.InstructionGrammar.{Decodes}
-use Rattle.gimli_line.specs.run.Registers.{file_at, column_at, isa_at, is_stmt_at, line_at, nearest}
-use Rattle.gimli_line.specs.run.Registers.{discriminator_operand, sets_basic_block}
-use Rattle.gimli_line.specs.run.Registers.{sets_prologue_end, sets_epilogue_begin}
-use Rattle.gimli_line.specs.run.OperationPointer.{pointer_at, is_under_tombstone, overflows}
-use Rattle.gimli_line.specs.run.OperationPointer.{since_last_row}
+use specs.declared.run.instruction.LineInstruction.TheVariants.{DefineFile}
+use specs.declared.run.row.LineRow.{LineRow}
+use specs.header.Parameters.{Parameters}
+use specs.run.Instruction.{Ins, is_end, makes_row}
+use specs.header.File.{File}
+use specs.header.Header.{Header}
+use specs.run.InstructionGrammar.{Decodes}
+use specs.run.Registers.{file_at, column_at, isa_at, is_stmt_at, line_at, nearest}
+use specs.run.Registers.{discriminator_operand, sets_basic_block}
+use specs.run.Registers.{sets_prologue_end, sets_epilogue_begin}
+use specs.run.OperationPointer.{pointer_at, is_under_tombstone, overflows}
+use specs.run.OperationPointer.{since_last_row}
 
 -- ---- what is made
 

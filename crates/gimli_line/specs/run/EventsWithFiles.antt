@@ -1,11 +1,12 @@
 -- What a program makes and gives, with the files of the header at each point.
 use Rattle.std.specs.Prelude.{◌≡◌}
-use Rattle.gimli_line.specs.Prelude.{ℕ, Bool, List, [], Option, Error, OrderAndLimit}
-use Rattle.gimli_line.specs.run.Instruction.{Ins}
-use Rattle.gimli_line.specs.header.File.{File}
-use Rattle.gimli_line.specs.header.Header.{Header}
-use Rattle.gimli_line.specs.run.InstructionGrammar.{Decodes}
-use Rattle.gimli_line.specs.run.Events.{made_after, given_of, past_at_end}
+use Rattle.gimli_line.specs
+use specs.Prelude.{ℕ, Bool, List, [], Option, Error, OrderAndLimit}
+use specs.run.Instruction.{Ins}
+use specs.header.File.{File}
+use specs.header.Header.{Header}
+use specs.run.InstructionGrammar.{Decodes}
+use specs.run.Events.{made_after, given_of, past_at_end}
 pub use Rattle.gimli_line.specs.run.Events.{EventWithFiles, with_files, files_at}
 
 -- what a program makes that is decoded into these instructions and this end

@@ -1,14 +1,15 @@
 -- The sequences of a program, each run by itself.
 use Rattle.std.specs.Prelude.{◌≡◌, ◌∷◌, ◌++◌}
-use Rattle.gimli_line.specs.Prelude
+use Rattle.gimli_line.specs
+use specs.Prelude
 use Prelude.{ℕ, true, false, List, [], map, flat_map, Option, None, AllByRecursion, Error}
 use Prelude.{OrderAndLimit}
-use Rattle.gimli_line.specs.declared.run.row.LineRow.{LineRow}
-use Rattle.gimli_line.specs.declared.run.sequences.LineSequence.{LineSequence}
-use Rattle.gimli_line.specs.header.Header.{Header}
-use Rattle.gimli_line.specs.run.Instruction.{Ins}
-use Rattle.gimli_line.specs.run.InstructionGrammar.{Decodes}
-use Rattle.gimli_line.specs.run.Events.{
+use specs.declared.run.row.LineRow.{LineRow}
+use specs.declared.run.sequences.LineSequence.{LineSequence}
+use specs.header.Header.{Header}
+use specs.run.Instruction.{Ins}
+use specs.run.InstructionGrammar.{Decodes}
+use specs.run.Events.{
   Event,
   row,
   fault,
@@ -19,7 +20,7 @@ use Rattle.gimli_line.specs.run.Events.{
   through_last_end,
 }
 pub use Rattle.gimli_line.specs.run.Events.{events_of}
-use Rattle.gimli_line.specs.run.Unread.{Unread}
+use specs.run.Unread.{Unread}
 
 -- a sequence: the addresses that it names, and the instructions that give its rows
 pub record Sequence : Type 0 where

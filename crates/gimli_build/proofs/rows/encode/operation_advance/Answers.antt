@@ -1,6 +1,7 @@
-use Rattle.gimli_build.proofs.Common.{arith}
-use Rattle.gimli_build.proofs.sizes.Steps.{operations_above}
-use Rattle.gimli_build.proofs.rows.encode.operation_advance.Goals as goal
+use Rattle.gimli_build.proofs
+use proofs.Common.{arith}
+use proofs.sizes.Steps.{operations_above}
+use proofs.rows.encode.operation_advance.Goals as goal
 
 pub overflow_sub-result-2 : goal.overflow_sub-result-2
 overflow_sub-result-2 c =

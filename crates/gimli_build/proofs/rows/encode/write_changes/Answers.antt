@@ -1,11 +1,12 @@
 use Rattle.std.specs.Prelude.{◌≡◌}
-use Rattle.gimli_build.proofs.Common
+use Rattle.gimli_build.proofs
+use proofs.Common
 use Common.{Bool, true, false, nat_eq, not, refl, NegateStatement, SetFile, SetColumn, SetIsa, file_number, when}
 use Common.{differ}
 use Rattle.std.specs.Bool.{beq}
-use Rattle.gimli_build.proofs.writing.InstructionsWritten.{four_parts}
-use Rattle.gimli_build.proofs.writing.Writes.{bytes_unwritten, joins, unwritten, passed_on}
-use Rattle.gimli_build.proofs.rows.encode.write_changes.Goals as goal
+use proofs.writing.InstructionsWritten.{four_parts}
+use proofs.writing.Writes.{bytes_unwritten, joins, unwritten, passed_on}
+use proofs.rows.encode.write_changes.Goals as goal
 
 differs : (a b : Bool) → not (beq a b) ≡ differ a b
 differs true true = refl

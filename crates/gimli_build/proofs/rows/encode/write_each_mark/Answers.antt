@@ -1,8 +1,9 @@
-use Rattle.gimli_build.proofs.Common
+use Rattle.gimli_build.proofs
+use proofs.Common
 use Common.{nat_eq, not, SetDiscriminator, SetBasicBlock, SetPrologueEnd, SetEpilogueBegin, when}
-use Rattle.gimli_build.proofs.writing.InstructionsWritten.{four_parts}
-use Rattle.gimli_build.proofs.writing.Writes.{bytes_unwritten, joins, unwritten, passed_on}
-use Rattle.gimli_build.proofs.rows.encode.write_each_mark.Goals as goal
+use proofs.writing.InstructionsWritten.{four_parts}
+use proofs.writing.Writes.{bytes_unwritten, joins, unwritten, passed_on}
+use proofs.rows.encode.write_each_mark.Goals as goal
 
 pub returns-in_err-write_if-2 : goal.returns-in_err-write_if-2
 returns-in_err-write_if-2 g c =

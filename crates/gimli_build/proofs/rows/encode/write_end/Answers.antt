@@ -1,8 +1,9 @@
 use Rattle.std.specs.Prelude.{◌∷◌}
-use Rattle.gimli_build.proofs.Common.{[], nat_eq, not, AdvancePc, EndSequence, when}
-use Rattle.gimli_build.proofs.writing.InstructionsWritten.{bytes_append}
-use Rattle.gimli_build.proofs.writing.Writes.{bytes_unwritten, joins, passed_on}
-use Rattle.gimli_build.proofs.rows.encode.write_end.Goals as goal
+use Rattle.gimli_build.proofs
+use proofs.Common.{[], nat_eq, not, AdvancePc, EndSequence, when}
+use proofs.writing.InstructionsWritten.{bytes_append}
+use proofs.writing.Writes.{bytes_unwritten, joins, passed_on}
+use proofs.rows.encode.write_end.Goals as goal
 
 pub returns-in_err-write_if : goal.returns-in_err-write_if
 returns-in_err-write_if g c = passed_on c.from_residual.ensures.1 (bytes_unwritten c.in_err-write_if.ensures)

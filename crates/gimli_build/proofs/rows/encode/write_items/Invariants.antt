@@ -1,6 +1,7 @@
-use Rattle.gimli_build.proofs.Common.{drop, take, Hand, items_bytes, AreFit, initial_row, at_position}
-use Rattle.gimli_build.proofs.writing.ItemsWritten.{OnTheWay, Written}
-use Rattle.gimli_build.proofs.rows.encode.write_items.Given as goal
+use Rattle.gimli_build.proofs
+use proofs.Common.{drop, take, Hand, items_bytes, AreFit, initial_row, at_position}
+use proofs.writing.ItemsWritten.{OnTheWay, Written}
+use proofs.rows.encode.write_items.Given as goal
 
 abbrev pub invariant-loop-item : goal.invariant-loop-item
 invariant-loop-item g l =

@@ -1,9 +1,10 @@
 use Rattle.std.specs.Prelude.{◌≡◌, ◌+◌, ◌-◌, ◌*◌}
-use Rattle.gimli_build.proofs.Common.{nat_le, false, append-nil, row_maker, constant_advance, instruction_bytes}
-use Rattle.gimli_build.proofs.writing.Writes.{passed_on, joins, bytes_unwritten}
-use Rattle.gimli_build.proofs.writing.InstructionsWritten.{past, found, by_constant, by_advance}
-use Rattle.gimli_build.proofs.rows.encode.write_operation_advance.Goals as goal
-use Rattle.gimli_build.proofs.rows.encode.write_operation_advance.Goals.{in-Some-special_opcode, in-None}
+use Rattle.gimli_build.proofs
+use proofs.Common.{nat_le, false, append-nil, row_maker, constant_advance, instruction_bytes}
+use proofs.writing.Writes.{passed_on, joins, bytes_unwritten}
+use proofs.writing.InstructionsWritten.{past, found, by_constant, by_advance}
+use proofs.rows.encode.write_operation_advance.Goals as goal
+use proofs.rows.encode.write_operation_advance.Goals.{in-Some-special_opcode, in-None}
 
 pub returns-in_err-write_instruction : goal.returns-in_err-write_instruction
 returns-in_err-write_instruction g c =

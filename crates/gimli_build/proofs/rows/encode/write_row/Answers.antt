@@ -1,10 +1,11 @@
 use Rattle.std.specs.Prelude.{◌≡◌, ◌-ℤ◌}
-use Rattle.gimli_build.proofs.Common
+use Rattle.gimli_build.proofs
+use proofs.Common
 use Common.{arith, to_z, of_z, w64, pos, ◌∙◌, ints, operations, marks, changes, line_part, line_opcode, operation_part}
 use Common.{at_position}
-use Rattle.gimli_build.proofs.writing.InstructionsWritten.{four_parts}
-use Rattle.gimli_build.proofs.writing.Writes.{bytes_unwritten, joins, unwritten, passed_on}
-use Rattle.gimli_build.proofs.rows.encode.write_row.Goals as goal
+use proofs.writing.InstructionsWritten.{four_parts}
+use proofs.writing.Writes.{bytes_unwritten, joins, unwritten, passed_on}
+use proofs.rows.encode.write_row.Goals as goal
 
 pub returns-in_err-write_changes-clause-writes : goal.returns-in_err-write_changes-clause-writes
 returns-in_err-write_changes-clause-writes g c =

@@ -1,7 +1,8 @@
-use Rattle.gimli_build.proofs.Common.{◌∙◌}
-use Rattle.gimli_build.proofs.writing.InstructionsWritten.{address_parts}
-use Rattle.gimli_build.proofs.writing.Writes.{bytes_unwritten, joins, unwritten, wanted_alike, writes, passed_on}
-use Rattle.gimli_build.proofs.rows.instruction.write_set_address.Goals as goal
+use Rattle.gimli_build.proofs
+use proofs.Common.{◌∙◌}
+use proofs.writing.InstructionsWritten.{address_parts}
+use proofs.writing.Writes.{bytes_unwritten, joins, unwritten, wanted_alike, writes, passed_on}
+use proofs.rows.instruction.write_set_address.Goals as goal
 
 pub returns : goal.returns
 returns g c =

@@ -1,7 +1,8 @@
 use Rattle.std.specs.Prelude.{◌≡◌}
-use Rattle.gimli_build.proofs.Common.{arith, to_z, of_z, w64, ints, sleb_one}
-use Rattle.gimli_build.proofs.writing.Writes.{bytes_unwritten, joins, writes, passed_on}
-use Rattle.gimli_build.proofs.rows.instruction.write_signed.Goals as goal
+use Rattle.gimli_build.proofs
+use proofs.Common.{arith, to_z, of_z, w64, ints, sleb_one}
+use proofs.writing.Writes.{bytes_unwritten, joins, writes, passed_on}
+use proofs.rows.instruction.write_signed.Goals as goal
 
 pub returns-then-has_seven_bits : goal.returns-then-has_seven_bits
 returns-then-has_seven_bits g c =

@@ -1,6 +1,7 @@
-use Rattle.gimli_build.proofs.Common.{uleb_one}
-use Rattle.gimli_build.proofs.writing.Writes.{writes}
-use Rattle.gimli_build.proofs.rows.instruction.write_unsigned.Goals as goal
+use Rattle.gimli_build.proofs
+use proofs.Common.{uleb_one}
+use proofs.writing.Writes.{writes}
+use proofs.rows.instruction.write_unsigned.Goals as goal
 
 pub returns-then-operand-lt128 : goal.returns-then-operand-lt128
 returns-then-operand-lt128 g c =

@@ -1,7 +1,8 @@
 use Rattle.std.proofs.Common.{◌<◌, ◌^◌, arith}
-use Rattle.gimli_bytes.proofs.SectionWords.{word-is}
-use Rattle.gimli_bytes.proofs.WrittenAs.{plainly_over}
-use Rattle.gimli_bytes.proofs.endian_vec.EndianVecWriter.write_offset_at.Goals as goal
+use Rattle.gimli_bytes.proofs
+use proofs.SectionWords.{word-is}
+use proofs.WrittenAs.{plainly_over}
+use proofs.endian_vec.EndianVecWriter.write_offset_at.Goals as goal
 
 pub returns : goal.returns
 returns g c =

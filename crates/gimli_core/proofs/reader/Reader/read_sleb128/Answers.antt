@@ -1,9 +1,10 @@
 use Rattle.std.proofs.Common.{rules, ◌≡◌, arith, to_z, of_z, w64}
 use Rattle.std.proofs.lemmas.Int.{ints}
 use Rattle.std.proofs.lemmas.Result.{err_from_is_err_and}
-use Rattle.gimli_core.proofs.Leb.{low_grows}
-use Rattle.gimli_core.proofs.SignedLeb.{ends_err, ends_ok, goes_on, ends_tenth}
-use Rattle.gimli_core.proofs.reader.Reader.read_sleb128.Goals as goal
+use Rattle.gimli_core.proofs
+use proofs.Leb.{low_grows}
+use proofs.SignedLeb.{ends_err, ends_ok, goes_on, ends_tenth}
+use proofs.reader.Reader.read_sleb128.Goals as goal
 
 pub returns-in_err-byte-clause-read : goal.returns-in_err-byte-clause-read
 returns-in_err-byte-clause-read g c =

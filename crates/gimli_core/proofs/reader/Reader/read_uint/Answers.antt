@@ -1,9 +1,10 @@
 use Rattle.std.proofs.Common.{◌≡◌, ◌∙◌, ap, arith, length, take, drop, ◌-◌, true, false, Bool}
 use Rattle.std.proofs.lemmas.List.{length-take, length-drop}
 use Rattle.gimli_core.specs.Numbers.{value_of}
-use Rattle.gimli_core.proofs.Padded.{zeros_8, read_big, read_little}
-use Rattle.gimli_core.proofs.reader.Reader.read_uint.Goals as goal
-use Rattle.gimli_core.proofs.reader.Reader.read_uint.Goals.{
+use Rattle.gimli_core.proofs
+use proofs.Padded.{zeros_8, read_big, read_little}
+use proofs.reader.Reader.read_uint.Goals as goal
+use proofs.reader.Reader.read_uint.Goals.{
   then-is_big_endian+in_ok-read_slice,
   else-is_big_endian+in_ok-read_slice-2,
 }

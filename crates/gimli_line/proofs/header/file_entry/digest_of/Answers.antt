@@ -1,9 +1,10 @@
 use Rattle.std.specs.Prelude.{◌≡◌}
 use Rattle.std.proofs.lemmas.List.{take_all}
 use Rattle.gimli_core.specs.Reading.{split_at}
-use Rattle.gimli_line.proofs.Common.{ℕ, List, Ok, Err, Error, Some, None, Block, length, take, sym, ap, ◌∙◌, arith}
-use Rattle.gimli_line.proofs.Common.{Read, digest}
-use Rattle.gimli_line.proofs.header.file_entry.digest_of.Goals as goal
+use Rattle.gimli_line.proofs
+use proofs.Common.{ℕ, List, Ok, Err, Error, Some, None, Block, length, take, sym, ap, ◌∙◌, arith}
+use proofs.Common.{Read, digest}
+use proofs.header.file_entry.digest_of.Goals as goal
 
 module _ (xs rest : List ℕ) (is : length xs ≡ 16) where
   found : (md5 : List ℕ) → (Ok md5, rest) ≡ split_at 16 xs → Some md5 ≡ digest (Block xs)

@@ -1,6 +1,7 @@
-use Rattle.gimli_line.proofs.Common.{refl, arith}
-use Rattle.gimli_line.proofs.AddressSizes.{sum_fits}
-use Rattle.gimli_line.proofs.run.row.sum_of_size.Goals as goal
+use Rattle.gimli_line.proofs
+use proofs.Common.{refl, arith}
+use proofs.AddressSizes.{sum_fits}
+use proofs.run.row.sum_of_size.Goals as goal
 
 pub returns-then-size-gt4 : goal.returns-then-size-gt4
 returns-then-size-gt4 c =

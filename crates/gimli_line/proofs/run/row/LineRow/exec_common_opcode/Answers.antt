@@ -1,8 +1,9 @@
 use Rattle.std.specs.Prelude.{◌≡◌}
-use Rattle.gimli_line.proofs.Common.{rules, arith, to_z, of_z, w64}
+use Rattle.gimli_line.proofs
+use proofs.Common.{rules, arith, to_z, of_z, w64}
 use Rattle.std.proofs.lemmas.Int.{ints}
-use Rattle.gimli_line.proofs.Executions.{copies, negates, advances_line, sets_file, sets_column}
-use Rattle.gimli_line.proofs.run.row.LineRow.exec_common_opcode.Goals as goal
+use proofs.Executions.{copies, negates, advances_line, sets_file, sets_column}
+use proofs.run.row.LineRow.exec_common_opcode.Goals as goal
 
 pub returns-in-DW_LNS_copy-clause-executed : goal.returns-in-DW_LNS_copy-clause-executed
 returns-in-DW_LNS_copy-clause-executed g c = grind (arith, copies, rules)

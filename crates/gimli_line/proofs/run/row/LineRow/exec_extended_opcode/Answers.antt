@@ -1,6 +1,7 @@
-use Rattle.gimli_line.proofs.Common.{rules, Bool, ap, ◌∙◌, layout_of, number_at, Header, Parameters}
-use Rattle.gimli_line.proofs.OtherExecutions.{opened, ends, sets_address, sets_discriminator}
-use Rattle.gimli_line.proofs.run.row.LineRow.exec_extended_opcode.Goals as goal
+use Rattle.gimli_line.proofs
+use proofs.Common.{rules, Bool, ap, ◌∙◌, layout_of, number_at, Header, Parameters}
+use proofs.OtherExecutions.{opened, ends, sets_address, sets_discriminator}
+use proofs.run.row.LineRow.exec_extended_opcode.Goals as goal
 
 pub returns-in-DW_LNE_end_sequence-clause-executed : goal.returns-in-DW_LNE_end_sequence-clause-executed
 returns-in-DW_LNE_end_sequence-clause-executed g c =

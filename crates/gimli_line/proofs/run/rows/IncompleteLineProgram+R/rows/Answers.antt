@@ -1,6 +1,7 @@
-use Rattle.gimli_line.proofs.Common.{true, ap, ◌∙◌, source_of, Unread}
-use Rattle.gimli_line.proofs.EventsWithFilesLaws.{started_events, started_files, started_made}
-use Rattle.gimli_line.proofs.run.rows.IncompleteLineProgram+R.rows.Goals as goal
+use Rattle.gimli_line.proofs
+use proofs.Common.{true, ap, ◌∙◌, source_of, Unread}
+use proofs.EventsWithFilesLaws.{started_events, started_files, started_made}
+use proofs.run.rows.IncompleteLineProgram+R.rows.Goals as goal
 
 pub returns-clause-events : goal.returns-clause-events
 returns-clause-events g c =

@@ -1,11 +1,12 @@
 use Rattle.std.specs.Prelude.{◌∷◌, ◌≡◌}
-use Rattle.gimli_line.proofs.Common
+use Rattle.gimli_line.proofs
+use proofs.Common
 use Common.{List, [], refl, sym, ap, subst, ◌∙◌, LineRow, Event, row, given_row, with_reset_row, PassesOver}
 use Common.{live_events}
-use Rattle.gimli_line.proofs.GivenRows.{fault_given, hidden, none_given, seen}
-use Rattle.gimli_line.proofs.Runs.{passes_both, refused_after, same_end}
-use Rattle.gimli_line.proofs.Sources.{keeps_both}
-use Rattle.gimli_line.proofs.run.rows.LineRows.advance.Goals as goal
+use proofs.GivenRows.{fault_given, hidden, none_given, seen}
+use proofs.Runs.{passes_both, refused_after, same_end}
+use proofs.Sources.{keeps_both}
+use proofs.run.rows.LineRows.advance.Goals as goal
 
 pub returns-in-Err : goal.returns-in-Err
 returns-in-Err g c =

@@ -1,10 +1,11 @@
 use Rattle.std.specs.Prelude.{◌≡◌}
-use Rattle.gimli_line.proofs.Common
+use Rattle.gimli_line.proofs
+use proofs.Common
 use Common.{[], refl, sym, ap, ◌∙◌, LineRow, Header, live_made, reset_row, given_row, with_reset_row}
-use Rattle.gimli_line.proofs.Runs.{none_to_make, end_here, same_end, passes_none, passes_both, refused_after}
-use Rattle.gimli_line.proofs.Sources.{keeps_both}
-use Rattle.gimli_line.proofs.Steps.{keeps_rest, with_rest}
-use Rattle.gimli_line.proofs.run.rows.LineRows.advance_any.Goals as goal
+use proofs.Runs.{none_to_make, end_here, same_end, passes_none, passes_both, refused_after}
+use proofs.Sources.{keeps_both}
+use proofs.Steps.{keeps_rest, with_rest}
+use proofs.run.rows.LineRows.advance_any.Goals as goal
 
 pub instructions-init : goal.instructions-init
 instructions-init g c =

@@ -1,7 +1,8 @@
-use Rattle.gimli_line.proofs.Common.{refl, ap, ◌∙◌, false, FileHasOrder, without_files, Unread}
-use Rattle.gimli_line.proofs.InstructionLaws.{reads_instruction}
-use Rattle.gimli_line.proofs.Steps.{keeps_run, step_goes, step_wants}
-use Rattle.gimli_line.proofs.run.rows.LineRows.define_file.Goals as goal
+use Rattle.gimli_line.proofs
+use proofs.Common.{refl, ap, ◌∙◌, false, FileHasOrder, without_files, Unread}
+use proofs.InstructionLaws.{reads_instruction}
+use proofs.Steps.{keeps_run, step_goes, step_wants}
+use proofs.run.rows.LineRows.define_file.Goals as goal
 
 pub returns-in-Ok : goal.returns-in-Ok
 returns-in-Ok g c =

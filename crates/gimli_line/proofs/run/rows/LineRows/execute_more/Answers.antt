@@ -1,8 +1,9 @@
-use Rattle.gimli_line.proofs.Common.{ap, refl, ◌∙◌}
-use Rattle.gimli_line.proofs.Steps.{Has, executed_more, executed_refused, executed_row, none_executed, reads_both}
-use Rattle.gimli_line.proofs.Steps.{reads_more, reads_none, steps_after}
-use Rattle.gimli_line.proofs.Steps.{with_rest}
-use Rattle.gimli_line.proofs.run.rows.LineRows.execute_more.Goals as goal
+use Rattle.gimli_line.proofs
+use proofs.Common.{ap, refl, ◌∙◌}
+use proofs.Steps.{Has, executed_more, executed_refused, executed_row, none_executed, reads_both}
+use proofs.Steps.{reads_more, reads_none, steps_after}
+use proofs.Steps.{with_rest}
+use proofs.run.rows.LineRows.execute_more.Goals as goal
 
 pub common-init : goal.common-init
 common-init g c = record {

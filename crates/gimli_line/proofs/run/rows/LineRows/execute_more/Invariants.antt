@@ -1,7 +1,8 @@
 use Rattle.std.specs.Prelude.{◌≡◌}
-use Rattle.gimli_line.proofs.Common.{length, ReadsOn}
-use Rattle.gimli_line.proofs.Steps.{with_rest}
-use Rattle.gimli_line.proofs.run.rows.LineRows.execute_more.Given as goal
+use Rattle.gimli_line.proofs
+use proofs.Common.{length, ReadsOn}
+use proofs.Steps.{with_rest}
+use proofs.run.rows.LineRows.execute_more.Given as goal
 
 abbrev pub invariant-common : goal.invariant-common
 invariant-common g l = record {

@@ -1,10 +1,11 @@
 use Rattle.std.specs.Prelude.{◌≡◌, ◌≢◌}
-use Rattle.gimli_line.proofs.Common.{refl, sym, ap, ◌∙◌, true, false, without_files, InsHasOrder, Unread}
-use Rattle.gimli_line.proofs.Common.{AddressOverflow, OutOfMemory}
-use Rattle.gimli_line.proofs.Runs.{only_overflow, source_same}
-use Rattle.gimli_line.proofs.Steps.{keeps_rest, keeps_run, step_done, step_faults, step_goes, step_overflows}
-use Rattle.gimli_line.proofs.Steps.{step_wants}
-use Rattle.gimli_line.proofs.run.rows.LineRows.execute_parsed.Goals as goal
+use Rattle.gimli_line.proofs
+use proofs.Common.{refl, sym, ap, ◌∙◌, true, false, without_files, InsHasOrder, Unread}
+use proofs.Common.{AddressOverflow, OutOfMemory}
+use proofs.Runs.{only_overflow, source_same}
+use proofs.Steps.{keeps_rest, keeps_run, step_done, step_faults, step_goes, step_overflows}
+use proofs.Steps.{step_wants}
+use proofs.run.rows.LineRows.execute_parsed.Goals as goal
 
 apart : OutOfMemory ≢ AddressOverflow
 apart e = cc

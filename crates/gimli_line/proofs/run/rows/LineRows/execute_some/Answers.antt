@@ -1,7 +1,8 @@
-use Rattle.gimli_line.proofs.Common.{refl}
-use Rattle.gimli_line.proofs.Steps.{Has, executed_more, executed_refused, executed_row, reads_both, reads_more}
-use Rattle.gimli_line.proofs.Steps.{reads_none, steps_after, with_rest}
-use Rattle.gimli_line.proofs.run.rows.LineRows.execute_some.Goals as goal
+use Rattle.gimli_line.proofs
+use proofs.Common.{refl}
+use proofs.Steps.{Has, executed_more, executed_refused, executed_row, reads_both, reads_more}
+use proofs.Steps.{reads_none, steps_after, with_rest}
+use proofs.run.rows.LineRows.execute_some.Goals as goal
 
 pub returns-in-Err : goal.returns-in-Err
 returns-in-Err g c =

@@ -1,6 +1,7 @@
-use Rattle.gimli_line.proofs.Common.{refl}
-use Rattle.gimli_line.proofs.Steps.{executed_more, executed_refused, executed_row}
-use Rattle.gimli_line.proofs.run.rows.LineRows.execute_uncommon.Goals as goal
+use Rattle.gimli_line.proofs
+use proofs.Common.{refl}
+use proofs.Steps.{executed_more, executed_refused, executed_row}
+use proofs.run.rows.LineRows.execute_uncommon.Goals as goal
 
 pub returns-in-Err : goal.returns-in-Err
 returns-in-Err g c =

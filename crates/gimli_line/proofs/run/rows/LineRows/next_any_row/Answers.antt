@@ -1,7 +1,8 @@
-use Rattle.gimli_line.proofs.Common.{refl, KeepsHeader}
-use Rattle.gimli_line.proofs.GivenRows.{any_rest_alone}
-use Rattle.gimli_line.proofs.Sources.{sees_after}
-use Rattle.gimli_line.proofs.run.rows.LineRows.next_any_row.Goals as goal
+use Rattle.gimli_line.proofs
+use proofs.Common.{refl, KeepsHeader}
+use proofs.GivenRows.{any_rest_alone}
+use proofs.Sources.{sees_after}
+use proofs.run.rows.LineRows.next_any_row.Goals as goal
 
 pub returns-in-Ok-true : goal.returns-in-Ok-true
 returns-in-Ok-true g c =

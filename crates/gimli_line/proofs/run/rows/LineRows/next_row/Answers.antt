@@ -1,8 +1,9 @@
-use Rattle.gimli_line.proofs.Common.{refl, sym, ◌∙◌, with_reset_row, KeepsHeader}
-use Rattle.gimli_line.proofs.Runs.{none_to_come, never_refused}
-use Rattle.gimli_line.proofs.RowsAlone.{rest_alone, never_refused_alone}
-use Rattle.gimli_line.proofs.Sources.{sees_after}
-use Rattle.gimli_line.proofs.run.rows.LineRows.next_row.Goals as goal
+use Rattle.gimli_line.proofs
+use proofs.Common.{refl, sym, ◌∙◌, with_reset_row, KeepsHeader}
+use proofs.Runs.{none_to_come, never_refused}
+use proofs.RowsAlone.{rest_alone, never_refused_alone}
+use proofs.Sources.{sees_after}
+use proofs.run.rows.LineRows.next_row.Goals as goal
 
 pub returns-in-Ok-true : goal.returns-in-Ok-true
 returns-in-Ok-true g c =
