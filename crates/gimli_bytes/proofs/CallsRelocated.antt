@@ -5,9 +5,8 @@ use proofs.Common
 use Common.{arith, inl, inr, ℕ, ℤ, pos, negsuc, Bool, true, false, List, [], length, refl, ap, sym, ◌∙◌, subst, Ok, Err}
 use Common.{length-append, w64, All, Result, nat_eq, FitsSigned, cast_unsigned, cast_signed, mod-eq_of_lt, ints}
 use Common.{of_z-to_z, cases_lt, list_any, All-head, All-tail, number_bytes, value_of, result_map, SectionId, put_over}
-use Common.{udata, overwrite_of, patch, Relocatable, Placement, Constant, Symbol, Error, InvalidRange}
-use Common.{Relocation, RelocationTarget, OfSymbol}
-use Common.{OfSection}
+use Common.{udata, overwrite_of, patch, Relocatable, Placement, Constant, Symbol, Error, InvalidRange, Relocation}
+use Common.{RelocationTarget, OfSymbol, OfSection}
 use Rattle.gimli_bytes.specs
 use specs.Relocations.{
   Call,

@@ -3,8 +3,7 @@ use Rattle.std.specs.Prelude.{◌≡◌, ◌≤◌, ◌++◌, ◌⊎◌, min}
 use Rattle.std.proofs.lemmas.List.{take-take}
 use Rattle.gimli_bytes.specs.Written.{IsAppendInParts}
 use Rattle.gimli_bytes.proofs.Common
-use Common.{ℕ, Bool, List, Ok, Err, Result, Error, IsTrue, inl, inr, length, length-take, sym, ap, ◌∙◌}
-use Common.{append_assoc}
+use Common.{ℕ, Bool, List, Ok, Err, Result, Error, IsTrue, inl, inr, length, length-take, sym, ap, ◌∙◌, append_assoc}
 use Common.{arith, take, take_all, Begins, IsAppend}
 use Rattle.gimli_bytes.specs.declared.sink.Sink.{Ghosts}
 

@@ -3,8 +3,7 @@ use Rattle.std.specs.Prelude.{◌≡◌, ◌+◌, ◌-◌, ◌*◌, ◌/◌, ◌
 use Rattle.gimli_bytes.proofs.Common
 use Common.{arith, ℕ, zero, suc, List, [], length, take, drop, set, get_or, refl, ap, sym, ◌∙◌, append_assoc}
 use Common.{length-append, length-take, All, Ok, concat, div_ceil, take_at, drop_at, drop-drop, take-append-le}
-use Common.{take-append-drop, All-head, All-tail, All-append, div-add-mod', div_below, overwrite_of}
-use Common.{put_over}
+use Common.{take-append-drop, All-head, All-tail, All-append, div-add-mod', div_below, overwrite_of, put_over}
 use Rattle.std.proofs.Math.Seq.{take-append-add, drop-append-add}
 use Rattle.std.proofs.lemmas.Grind.{common_steps, div_ceil_times}
 use Rattle.std.proofs.lemmas.List.Folds.{concat-append}

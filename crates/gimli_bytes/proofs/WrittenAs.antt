@@ -2,10 +2,8 @@
 use Rattle.std.specs.Prelude.{◌≡◌, ◌≢◌, ◌+◌, ◌-◌, ◌^◌, ◌%◌, ◌<◌, ◌≤◌, ◌||◌}
 use Rattle.gimli_bytes.proofs.Common
 use Common.{ℕ, List, Ok, Err, refl, ap, sym, inr, length, ne_eqb, nat_eq, lt-ltb, arith, IsTrue, Bool, true, false}
-use Common.{Result, bit_and}
-use Common.{SFits, ℤ, pos, negsuc, w64, of_z, number_bytes, result_map, sdata, twos_complement, udata, le-ltb, DwEhPe}
-use Common.{IsAppend}
-use Common.{ValueTooLarge, UnsupportedWordSize}
+use Common.{Result, bit_and, SFits, ℤ, pos, negsuc, w64, of_z, number_bytes, result_map, sdata, twos_complement, udata}
+use Common.{le-ltb, DwEhPe, IsAppend, ValueTooLarge, UnsupportedWordSize}
 use Rattle.gimli_bytes.specs
 use specs.Hand.{Hand, plain}
 use specs.Written.{IsOverwrite}

@@ -1,7 +1,6 @@
 -- Numbers of fewer than eight bytes, read as numbers of eight whose most significant bytes are zero.
 use Rattle.std.proofs.Common.{◌≡◌, ℕ, zero, suc, ◌+◌, ◌-◌, ◌*◌, ◌^◌, ◌≤◌, Bool, true, false, List, [], ◌∷◌, ◌++◌}
-use Rattle.std.proofs.Common.{length, take, drop, reverse, Ok, inl, inr}
-use Rattle.std.proofs.Common.{refl, ap, ◌∙◌, arith, pow-suc}
+use Rattle.std.proofs.Common.{length, take, drop, reverse, Ok, inl, inr, refl, ap, ◌∙◌, arith, pow-suc}
 use Rattle.std.proofs.Math.ListN.{replicate}
 use Rattle.std.proofs.lemmas.Bool.{cases_lt, le-ltb, lt-ltb}
 use Rattle.std.proofs.lemmas.List.{length-append, length-take-le, take_all, take-replicate, drop-replicate}

@@ -18,16 +18,13 @@ use specs.declared.error.Error.TheVariants.{
 }
 use specs.Layout.{OrderAndLimit}
 use specs.Numbers.{SpellsNumber, SpellsInitialLength, is_address_size}
-use specs.Reading.{Read, ◌>>=◌, result_map, eof, byte_at, signed_byte_at, number_at, split_at}
-use specs.Reading.{text_at, word_at, initial_length_at}
-use specs.Reading.{address_size_at, offset_of}
+use specs.Reading.{Read, ◌>>=◌, result_map, eof, byte_at, signed_byte_at, number_at, split_at, text_at, word_at}
+use specs.Reading.{initial_length_at, address_size_at, offset_of}
 use specs.inside.Reading.{check_at, below_at}
-use specs.Production.{Production, check, byte, signed_byte, number, some_bytes, text, address_size}
-use specs.Production.{below_limit, fits_offset, offset_word}
-use specs.Production.{initial_length, unit_length, IsWanting, Reads}
+use specs.Production.{Production, check, byte, signed_byte, number, some_bytes, text, address_size, below_limit}
+use specs.Production.{fits_offset, offset_word, initial_length, unit_length, IsWanting, Reads}
 use Rattle.gimli_core.proofs
-use proofs.Productions.{ok_parts, bind_ok, bind_fault, bind_refused, reads_both, reads_done}
-use proofs.Productions.{reads_check, reads_same}
+use proofs.Productions.{ok_parts, bind_ok, bind_fault, bind_refused, reads_both, reads_done, reads_check, reads_same}
 use proofs.Padded.{split_ok}
 
 -- ---- bytes

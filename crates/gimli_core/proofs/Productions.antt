@@ -1,7 +1,6 @@
 -- Reading one production after another: what reads the productions reads what is put together of them.
 use Rattle.std.proofs.Common.{◌≡◌, ℕ, zero, suc, Bool, true, false, if◌then◌else◌, List, [], ◌∷◌, ◌++◌, Ok, Err, refl}
-use Rattle.std.proofs.Common.{sym, ap, ◌∙◌, append_assoc, ◌⊎◌, inl}
-use Rattle.std.proofs.Common.{inr}
+use Rattle.std.proofs.Common.{sym, ap, ◌∙◌, append_assoc, ◌⊎◌, inl, inr}
 use Rattle.gimli_core.specs
 use specs.declared.error.Error.{Error}
 use specs.Reading.{Read, ◌>>=◌, times_at, with_rest, within_at}

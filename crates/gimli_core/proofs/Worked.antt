@@ -9,9 +9,8 @@ use specs.Reading.{number_at, uleb_at, unsigned_at, unsigned_16_at}
 use specs.Reading.{sleb_at, signed_at, word_at, initial_length_at, address_size_at, sized_sum}
 use specs.Order.{is_big_endian}
 use specs.Values.{Value, udata_value}
-use specs.Form.{Shape, fixed, three_bytes, word_offset, leb, signed_leb, leb_offset, block, counted}
-use specs.Form.{leb_counted, string, index, shapes}
-use specs.Form.{shape_among}
+use specs.Form.{Shape, fixed, three_bytes, word_offset, leb, signed_leb, leb_offset, block, counted, leb_counted}
+use specs.Form.{string, index, shapes, shape_among}
 use specs.declared.attribute_value.AttributeValue.TheVariants.{Block, Data1, Data2, Data4, Data8}
 use specs.declared.attribute_value.AttributeValue.TheVariants.{Udata, Sdata, Flag, SecOffset, String}
 use specs.declared.attribute_value.AttributeValue.TheVariants.{
@@ -22,9 +21,8 @@ use specs.declared.attribute_value.AttributeValue.TheVariants.{
 use specs.declared.common.Format.TheVariants.{Dwarf32, Dwarf64}
 use specs.declared.endianity.RunTimeEndian.TheVariants.{Little, Big}
 use specs.declared.error.Error.{Error}
-use specs.declared.error.Error.TheVariants.{UnexpectedEof, BadUnsignedLeb128, BadSignedLeb128}
-use specs.declared.error.Error.TheVariants.{UnknownReservedLength, UnsupportedAddressSize}
-use specs.declared.error.Error.TheVariants.{UnsupportedOffset, AddressOverflow}
+use specs.declared.error.Error.TheVariants.{UnexpectedEof, BadUnsignedLeb128, BadSignedLeb128, UnknownReservedLength}
+use specs.declared.error.Error.TheVariants.{UnsupportedAddressSize, UnsupportedOffset, AddressOverflow}
 
 -- bytes are missing, and so many are there
 abbrev missing : ℕ → Error

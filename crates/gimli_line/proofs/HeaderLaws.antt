@@ -2,20 +2,16 @@
 use Rattle.std.specs.Prelude.{◌≡◌, if◌then◌else◌, ◌∷◌, ◌⊎◌}
 use Rattle.gimli_line.proofs.Common
 use Common.{ℕ, Bool, true, false, List, [], map, Option, Some, None, Ok, Err, refl, sym, ap, ◌∙◌, inl, inr}
-use Common.{OrderAndLimit, is_address_size, Read, ◌>>=◌, byte_at, Production, ◌>>>◌, done, refuse}
-use Common.{check, text, unsigned, signed}
-use Common.{Reads, Encoding, Format, Error, UnknownForm}
-use Common.{UnsupportedAddressSize}
-use Common.{reads_both}
+use Common.{OrderAndLimit, is_address_size, Read, ◌>>=◌, byte_at, Production, ◌>>>◌, done, refuse, check, text}
+use Common.{unsigned, signed, Reads, Encoding, Format, Error, UnknownForm, UnsupportedAddressSize, reads_both}
 use Common.{reads_done, reads_refuse, reads_check, reads_if, reads_times, reads_within, reads_same, reads_byte}
 use Common.{reads_some_bytes, reads_number, reads_text, reads_below_limit, reads_offset_word, reads_unit_length}
-use Common.{reads_unsigned, reads_unsigned_16, reads_signed, File, Header, UnitEntry, path_text, positive}
-use Common.{block_at, shape_at, TableEntry, HeaderOpening, paths_production}
-use Common.{file_production, files_production, format_production, formats_production, entry_production}
-use Common.{entries_production, table_production, version_production, address_size_production, opening_production}
-use Common.{line_encoding_production, parameters_production, directory_table, file_table, fields_production}
-use Common.{header_production, SpellsUnit, HasUnitFault, paths_at, named_file_at, entry_at, size_at}
-use Common.{directories_at, file_names_at, read_map, FileEntryFormat}
+use Common.{reads_unsigned, reads_unsigned_16, reads_signed, File, Header, UnitEntry, path_text, positive, block_at}
+use Common.{shape_at, TableEntry, HeaderOpening, paths_production, file_production, files_production, format_production}
+use Common.{formats_production, entry_production, entries_production, table_production, version_production}
+use Common.{address_size_production, opening_production, line_encoding_production, parameters_production}
+use Common.{directory_table, file_table, fields_production, header_production, SpellsUnit, HasUnitFault, paths_at}
+use Common.{named_file_at, entry_at, size_at, directories_at, file_names_at, read_map, FileEntryFormat}
 use Rattle.gimli_core.specs.Reading.{address_size_at}
 use Rattle.gimli_core.specs.Form.{
   Shape,

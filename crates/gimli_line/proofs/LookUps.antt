@@ -2,8 +2,7 @@
 use Rattle.std.specs.Prelude.{◌≡◌, ◌-◌, ◌<◌, ◌≤◌}
 use Rattle.gimli_line.proofs.Common
 use Common.{ℕ, zero, suc, List, Option, Some, None, refl, ap, le-leb, lt-leb, arith, map, slice_get, option_map, Bor}
-use Common.{Header, entry_of, directory_of}
-use Common.{file_of}
+use Common.{Header, entry_of, directory_of, file_of}
 use Rattle.std.specs.Option.{option_copied}
 use Rattle.std.proofs.lemmas.Option.{slice_get-map}
 

@@ -4,11 +4,10 @@ use Rattle.gimli_line.proofs
 use proofs.Common
 use Common.{ℕ, Bool, true, false, List, [], length, take, map, Option, Some, None, refl, sym, ap, ◌∙◌, subst}
 use Common.{append_assoc, arith, inl, inr, AllByRecursion, list_any, flat_map, length-append, append-nil, map-append}
-use Common.{OrderAndLimit, Each, Error, OutOfMemory, LineRow, HeaderSource, KeepsSource, Header}
-use Common.{without_files, Ins, File, decoded_at, Event, row, given_of, events_of, program_events}
-use Common.{defined_files, past_at_end, ends_sequence, through_last_end, initial, made_from, run, Unread, RunState}
-use Common.{PassesOver, with_reset_row, registers_from, files_from, live_events, start_of_run, whole_run, FaultComes}
-use Common.{FaultIs, KeepsRun}
+use Common.{OrderAndLimit, Each, Error, OutOfMemory, LineRow, HeaderSource, KeepsSource, Header, without_files, Ins}
+use Common.{File, decoded_at, Event, row, given_of, events_of, program_events, defined_files, past_at_end}
+use Common.{ends_sequence, through_last_end, initial, made_from, run, Unread, RunState, PassesOver, with_reset_row}
+use Common.{registers_from, files_from, live_events, start_of_run, whole_run, FaultComes, FaultIs, KeepsRun}
 use Rattle.std.specs.Option.{unwrap_or}
 use Rattle.gimli_line.specs
 use specs.run.InstructionGrammar.{SpellsInstruction}

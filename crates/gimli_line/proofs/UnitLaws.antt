@@ -1,11 +1,10 @@
 -- The units of a section: each is read, they have one list of offsets, and a walk gives it.
 use Rattle.std.specs.Prelude.{◌≡◌, ◌≢◌, ◌+◌, ◌-◌, ◌<◌, ◌≤◌, ◌∷◌, ◌++◌, ◌⊎◌}
 use Rattle.gimli_line.proofs.Common
-use Common.{ℕ, zero, suc, List, [], length, take, drop, Ok, Err, refl, sym, ap, subst, ◌∙◌, arith, append_assoc}
-use Common.{inl, inr, cases_lt, append-nil, drop_all, drop_at, take-append-drop, length-append, length-drop}
-use Common.{OrderAndLimit, initial_length_size, Reads, Read}
-use Common.{Error, reads_both, reads_some_bytes, reads_unit_length, Header, UnitEntry, header_production}
-use Common.{SpellsUnit}
+use Common.{ℕ, zero, suc, List, [], length, take, drop, Ok, Err, refl, sym, ap, subst, ◌∙◌, arith, append_assoc, inl}
+use Common.{inr, cases_lt, append-nil, drop_all, drop_at, take-append-drop, length-append, length-drop, OrderAndLimit}
+use Common.{initial_length_size, Reads, Read, Error, reads_both, reads_some_bytes, reads_unit_length, Header, UnitEntry}
+use Common.{header_production, SpellsUnit}
 use Rattle.gimli_line.specs.Units.{offset_after, any_unit, BeginsWithUnit, BeginsWithNoUnit, AreUnits}
 use Rattle.gimli_line.specs.UnitReading.{any_unit_at, after_unit, offsets_upto, offsets_at}
 

@@ -2,8 +2,7 @@ use Rattle.std.specs.Prelude.{◌≡◌, ◌<◌}
 use Rattle.gimli_build.proofs
 use proofs.Common.{ℕ, ap, length, ◌∙◌, arith, at_position, next_previous}
 use proofs.reading.EventsBack.{start_position}
-use proofs.writing.ItemsWritten.{taken_next, fit_more, way_on, none_standing, written_more}
-use proofs.writing.ItemsWritten.{items_unwritten}
+use proofs.writing.ItemsWritten.{taken_next, fit_more, way_on, none_standing, written_more, items_unwritten}
 use proofs.writing.Joined.{next_left}
 use proofs.writing.Writes.{passed_on}
 use proofs.rows.encode.write_items.Goals as goal

@@ -1,8 +1,7 @@
 use Rattle.std.proofs.Common.{◌≡◌, ◌≢◌, refl, ap, ◌∙◌, arith}
 use Rattle.gimli_core.specs.Numbers.{number_bytes}
 use Rattle.gimli_bytes.proofs
-use proofs.WrittenAs.{unsigned_as, too_large, other_unsigned}
-use proofs.WrittenAs.{append_as, refused_at_once}
+use proofs.WrittenAs.{unsigned_as, too_large, other_unsigned, append_as, refused_at_once}
 use proofs.writer.Writer.write_udata.Goals as goal
 
 pub returns-then-val-gt255 : goal.returns-then-val-gt255

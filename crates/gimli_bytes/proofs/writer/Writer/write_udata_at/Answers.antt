@@ -1,8 +1,7 @@
 use Rattle.std.proofs.Common.{◌≡◌, ◌≢◌, refl, ap, ◌∙◌, arith}
 use Rattle.gimli_core.specs.Numbers.{number_bytes}
 use Rattle.gimli_bytes.proofs
-use proofs.WrittenAs.{unsigned_as, too_large, other_unsigned}
-use proofs.WrittenAs.{over_as, refused_over}
+use proofs.WrittenAs.{unsigned_as, too_large, other_unsigned, over_as, refused_over}
 use proofs.writer.Writer.write_udata_at.Goals as goal
 
 pub returns-then-val-gt255 : goal.returns-then-val-gt255

@@ -2,8 +2,7 @@ use Rattle.std.specs.Prelude.{◌≡◌}
 use Rattle.std.proofs.lemmas.List.{take_all}
 use Rattle.gimli_core.specs.Reading.{split_at}
 use Rattle.gimli_line.proofs
-use proofs.Common.{ℕ, List, Ok, Err, Error, Some, None, Block, length, take, sym, ap, ◌∙◌, arith}
-use proofs.Common.{Read, digest}
+use proofs.Common.{ℕ, List, Ok, Err, Error, Some, None, Block, length, take, sym, ap, ◌∙◌, arith, Read, digest}
 use proofs.header.file_entry.digest_of.Goals as goal
 
 module _ (xs rest : List ℕ) (is : length xs ≡ 16) where

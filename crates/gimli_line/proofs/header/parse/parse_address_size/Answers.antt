@@ -1,7 +1,6 @@
 use Rattle.std.specs.Prelude.{◌≡◌, ◌∷◌, if◌then◌else◌}
 use Rattle.gimli_line.proofs.Common
-use Common.{ℕ, Bool, true, false, List, [], Ok, Err, refl, ap, ◌∙◌, IsTrue, is_address_size}
-use Common.{UnsupportedAddressSize}
+use Common.{ℕ, Bool, true, false, List, [], Ok, Err, refl, ap, ◌∙◌, IsTrue, is_address_size, UnsupportedAddressSize}
 use Rattle.gimli_core.specs.Reading.{address_size_at}
 use Rattle.gimli_line.proofs.header.parse.parse_address_size.Goals as goal
 

@@ -1,8 +1,7 @@
 use Rattle.gimli_line.proofs
 use proofs.Common.{ap, refl, ◌∙◌}
-use proofs.Steps.{Has, executed_more, executed_refused, executed_row, none_executed, reads_both}
-use proofs.Steps.{reads_more, reads_none, steps_after}
-use proofs.Steps.{with_rest}
+use proofs.Steps.{Has, executed_more, executed_refused, executed_row, none_executed, reads_both, reads_more, reads_none}
+use proofs.Steps.{steps_after, with_rest}
 use proofs.run.rows.LineRows.execute_more.Goals as goal
 
 pub common-init : goal.common-init

@@ -1,10 +1,8 @@
 use Rattle.std.specs.Prelude.{◌≡◌, ◌≢◌}
 use Rattle.gimli_line.proofs
-use proofs.Common.{refl, sym, ap, ◌∙◌, true, false, without_files, InsHasOrder, Unread}
-use proofs.Common.{AddressOverflow, OutOfMemory}
+use proofs.Common.{refl, sym, ap, ◌∙◌, true, false, without_files, InsHasOrder, Unread, AddressOverflow, OutOfMemory}
 use proofs.Runs.{only_overflow, source_same}
-use proofs.Steps.{keeps_rest, keeps_run, step_done, step_faults, step_goes, step_overflows}
-use proofs.Steps.{step_wants}
+use proofs.Steps.{keeps_rest, keeps_run, step_done, step_faults, step_goes, step_overflows, step_wants}
 use proofs.run.rows.LineRows.execute_parsed.Goals as goal
 
 apart : OutOfMemory ≢ AddressOverflow
