@@ -91,3 +91,23 @@ invariant_of-self-2 g c =
 pub returns-clause-unread : goal.returns-clause-unread
 returns-clause-unread g c =
     subst (λ s. c.made.new.self.unread ≡ s.unread) c.self.view_is (ap (λ q. q.unread) c.made.ensures.new)
+
+pub returns-in-Err-clause-header : goal.returns-in-Err-clause-header
+returns-in-Err-clause-header g c = rw (← c.self.view_is) c.in-Err.ensures.kept
+
+pub returns-in-Err-clause-unread : goal.returns-in-Err-clause-unread
+returns-in-Err-clause-unread g c = rw (← c.self.view_is) refl
+
+pub returns-then-not-made-clause-made : goal.returns-then-not-made-clause-made
+returns-then-not-made-clause-made g c = rw (sym c.in-Ok.ensures.made ∙ c.if-not-made.true) refl
+
+pub returns-then-not-made-clause-header : goal.returns-then-not-made-clause-header
+returns-then-not-made-clause-header g c =
+    subst (λ s. c.execute.new.program.meaning ≡ s.header) c.self.view_is
+    (header_kept (ins_seen g.R.Reader.bytes g.R.Offset.ReaderOffset.number c.args.instruction)
+    c.self.inside.program.meaning c.execute.new.program.meaning c.self.inside.row c.execute.new.self
+    c.self.inside.base c.self.inside.pending c.self.inside.instructions
+    c.requires.address c.requires.file c.in-Ok.ensures.fits c.in-Ok.ensures.files c.in-Ok.ensures.step)
+
+pub returns-then-not-made-clause-unread : goal.returns-then-not-made-clause-unread
+returns-then-not-made-clause-unread g c = rw (← c.self.view_is) refl
