@@ -1,6 +1,7 @@
 use Rattle.std.specs.Prelude.{◌≡◌}
 use Rattle.gimli_write.proofs.Common
-use Common.{true, false, refl, sym, ap, ◌∙◌, subst, is_refused, reset_row, state_after, step_made, ins_seen, Read}
+use Common.{true, false, refl, sym, ap, ◌∙◌, subst, is_refused, reset_row, state_after, step_made, ins_seen}
+use Common.{Read, None}
 use Rattle.gimli_write.proofs.SourceSteps
 use SourceSteps.{state, is_overflow, ready_at_refusal, ready_when_quiet, ready_after_row, header_kept, quiet_state}
 use SourceSteps.{row_state, made_is}
@@ -78,11 +79,9 @@ returns-clause-made g c =
 
 pub returns-clause-header : goal.returns-clause-header
 returns-clause-header g c =
-    subst (λ s. c.made.new.self.header ≡ s.header) c.self.view_is (ap (λ q. q.header) c.made.ensures.new
-    ∙ header_kept (ins_seen g.R.Reader.bytes g.R.Offset.ReaderOffset.number c.args.instruction)
-    c.self.inside.program.meaning c.execute.new.program.meaning
-    c.self.inside.row c.execute.new.self c.self.inside.base c.self.inside.pending c.self.inside.instructions
-    c.requires.address c.requires.file c.in-Ok.ensures.fits c.in-Ok.ensures.files c.in-Ok.ensures.step)
+    rw (← c.self.view_is) (ap (λ q. q.header) c.made.ensures.new
+    ∙ header_kept _ _ _ _ _ 0 None c.self.inside.instructions c.requires.address c.requires.file
+    c.in-Ok.ensures.fits c.in-Ok.ensures.files c.in-Ok.ensures.step)
 
 pub invariant_of-self-2 : goal.invariant_of-self-2
 invariant_of-self-2 g c =
@@ -103,11 +102,8 @@ returns-then-not-made-clause-made g c = rw (sym c.in-Ok.ensures.made ∙ c.if-no
 
 pub returns-then-not-made-clause-header : goal.returns-then-not-made-clause-header
 returns-then-not-made-clause-header g c =
-    subst (λ s. c.execute.new.program.meaning ≡ s.header) c.self.view_is
-    (header_kept (ins_seen g.R.Reader.bytes g.R.Offset.ReaderOffset.number c.args.instruction)
-    c.self.inside.program.meaning c.execute.new.program.meaning c.self.inside.row c.execute.new.self
-    c.self.inside.base c.self.inside.pending c.self.inside.instructions
-    c.requires.address c.requires.file c.in-Ok.ensures.fits c.in-Ok.ensures.files c.in-Ok.ensures.step)
+    rw (← c.self.view_is) (header_kept _ _ _ _ _ 0 None c.self.inside.instructions c.requires.address
+    c.requires.file c.in-Ok.ensures.fits c.in-Ok.ensures.files c.in-Ok.ensures.step)
 
 pub returns-then-not-made-clause-unread : goal.returns-then-not-made-clause-unread
 returns-then-not-made-clause-unread g c = rw (← c.self.view_is) refl

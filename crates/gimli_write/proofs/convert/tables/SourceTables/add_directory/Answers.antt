@@ -67,13 +67,3 @@ returns-in_err-push-in-Ok g c =
       kept = λ other. absurd (other p.2);
       stays = c.in_ok-text.ensures.stays;
     })
-
-pub returns : goal.returns
-returns g c =
-    let memory = c.from_write.ensures.memory c.in-Err.ensures.memory in
-    record {
-      ok = tt;
-      err = inl memory;
-      kept = λ other. absurd (other memory);
-      stays = c.in_ok-text.ensures.stays;
-    }

@@ -2,7 +2,7 @@ use Rattle.std.specs.Prelude.{◌≡◌, ◌∷◌, ◌++◌}
 use Rattle.gimli_write.proofs
 use proofs.Common.{ℕ, List, [], arith, Option, Some, refl, option_map, option_map_or, err_from_is_err_and, File, file_seen}
 use proofs.Common.{LineText, line_text, made_text, made_table, Built, after_file, index_of_file}
-use proofs.Common.{TablesAndTexts, version_of, FileParts, with_parts}
+use proofs.Common.{ap, StringTables, CanWrite, SourceTables, TablesAndTexts, version_of, FileParts, with_parts}
 use proofs.ConvertSteps.{parts_are_added, kept_then}
 use proofs.KeptFiles.{files_self, keeps_more}
 use proofs.Writable.{written_later, written_with_parts}
@@ -26,6 +26,9 @@ parts_done : (tables : TablesAndTexts) (f : File) (parts : FileParts) {path : Li
     }
 parts_done tables f parts made after source_made source_after program time size md5 id ids =
     rw (ids, id, program, time, size, md5) (parts_are_added tables f parts made after source_made source_after)
+
+moved : {p q : Built} {texts : StringTables} → q ≡ p → CanWrite p texts → CanWrite q texts
+moved is can = rw is can
 
 pub returns-in_err-path : goal.returns-in_err-path
 returns-in_err-path g c =
@@ -87,9 +90,9 @@ returns-in_err-push-in-Ok g c =
         directories = refl;
       };
       writable = record {
-        still = λ strings. rw c.in-Ok.ensures.ok (written_with_parts line_text _ _ _ _ _ _ _
+        still = λ strings can. moved c.in-Ok.ensures.ok (written_with_parts line_text _ _ _ _ _ _ _
             c.in_ok-path.ensures.stays c.in_ok-source.ensures.stays c.in_ok-path.ensures.within
-            c.in_ok-source.ensures.within c.in_ok-source.ensures.no_zero);
+            c.in_ok-source.ensures.within c.in_ok-source.ensures.no_zero can);
       };
       stays = kept_then c.in_ok-path.ensures.stays c.in_ok-source.ensures.stays;
     })
@@ -122,7 +125,23 @@ returns-in_ok-push-in-Ok-clause-keeps g c =
 pub returns-in_ok-push-in-Ok-clause-writable : goal.returns-in_ok-push-in-Ok-clause-writable
 returns-in_ok-push-in-Ok-clause-writable g c =
     record {
-      still = λ strings. rw (c.in-Ok.ensures.ok, ← c.self.view_is) (written_with_parts line_text _ _ _ _ _ _ _
+      still = λ strings can. moved c.in-Ok.ensures.ok (written_with_parts line_text _ _ _ _ _ _ _
           c.in_ok-path.ensures.stays c.in_ok-source.ensures.stays c.in_ok-path.ensures.within
-          c.in_ok-source.ensures.within c.in_ok-source.ensures.no_zero);
+          c.in_ok-source.ensures.within c.in_ok-source.ensures.no_zero
+          (moved (ap (λ (t : SourceTables). t.program) c.self.view_is) can));
     }
+
+pub returns-in_ok-push-in-Ok-clause-adds : goal.returns-in_ok-push-in-Ok-clause-adds
+returns-in_ok-push-in-Ok-clause-adds g c = rw (← c.self.view_is, c.in-Ok.ensures.ok) refl
+
+pub returns-in_ok-push-in-Ok-clause-stays : goal.returns-in_ok-push-in-Ok-clause-stays
+returns-in_ok-push-in-Ok-clause-stays g c = kept_then c.in_ok-path.ensures.stays c.in_ok-source.ensures.stays
+
+pub invariant_of-self : goal.invariant_of-self
+invariant_of-self g c = rw c.in-Ok.ensures.ok c.self.invariant
+
+pub invariant_of-self-in-Err : goal.invariant_of-self-in-Err
+invariant_of-self-in-Err g c = rw c.in-Err.ensures.err c.self.invariant
+
+pub invariant_of-self-in-Ok : goal.invariant_of-self-in-Ok
+invariant_of-self-in-Ok g c = rw c.in-Ok.ensures.ok c.self.invariant
