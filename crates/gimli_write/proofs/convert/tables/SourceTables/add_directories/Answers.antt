@@ -26,17 +26,10 @@ loop-directory-preserved g c =
 pub returns-in_err-add_directory-clause-err : goal.returns-in_err-add_directory-clause-err
 returns-in_err-add_directory-clause-err g c =
     let lt : c.loop-directory.directory-index < length c.args.directories.now = omega arith in
-    let seen = value_seen g.R.Reader.bytes g.R.Offset.ReaderOffset.number in
-    let xs = c.args.directories.now in
-    let i = c.loop-directory.directory-index in
-    let add = directory_added c.args.sections.now in
-    let here = tables_with c.loop-directory.line_strings c.loop-directory.self in
-    let e = c.in_err-add_directory.field-0.0 in
     let p = err_from_is_err_and c.from_residual.result c.from_residual.ensures.1 in
     rw (p.1, p.2)
-    (refused_same e (sym (next_added add seen xs i here lt c.directory-item.is) ∙ c.loop-directory.invariant.left)
-    (refused_first (add here (seen c.directory-item.result)) (λ l. all_added add (map seen (drop (i + 1) xs)) l) e
-    c.in_err-add_directory.ensures.err))
+    (refused_same _ (sym (next_added _ _ _ _ _ lt c.directory-item.is) ∙ c.loop-directory.invariant.left)
+    (refused_first _ _ _ c.in_err-add_directory.ensures.err))
 
 pub returns-in_err-add_directory-clause-stays : goal.returns-in_err-add_directory-clause-stays
 returns-in_err-add_directory-clause-stays g c =

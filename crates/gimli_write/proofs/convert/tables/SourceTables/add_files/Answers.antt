@@ -20,7 +20,7 @@ loop-file-preserved g c =
           sym (done_first (λ (l : TablesAndTexts). all_added add (map seen (drop (i + 1) xs)) l)
           c.in_ok-add_file.ensures.ok)
           ∙ sym (next_added add seen xs i here lt c.file-item.is) ∙ c.loop-file.invariant.left;
-      stays = kept_then c.loop-file.invariant.stays c.in_ok-add_file.ensures.stays;
+      stays = grind (arith, kept_then);
     }
 
 pub returns-in_err-add_file-clause-err : goal.returns-in_err-add_file-clause-err
@@ -39,4 +39,4 @@ returns-in_err-add_file-clause-err g c =
     c.in_err-add_file.ensures.err))
 
 pub returns-in_err-add_file-clause-stays : goal.returns-in_err-add_file-clause-stays
-returns-in_err-add_file-clause-stays g c = kept_then c.loop-file.invariant.stays c.in_err-add_file.ensures.stays
+returns-in_err-add_file-clause-stays g c = grind (arith, kept_then)

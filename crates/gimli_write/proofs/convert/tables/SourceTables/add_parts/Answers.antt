@@ -38,10 +38,7 @@ returns-in_err-path g c =
       memory = rw p.2 c.in_err-path.ensures.memory;
       adds = refl;
       keeps = files_self;
-      writable = record {
-        still = λ strings.
-            written_later strings c.args.line_strings.now c.program_text.new.line_strings c.in_err-path.ensures.stays;
-      };
+      writable = record { still = λ strings. written_later strings _ _ c.in_err-path.ensures.stays };
       stays = c.in_err-path.ensures.stays;
     })
 
@@ -54,10 +51,7 @@ returns-in_err-source g c =
       memory = rw p.2 c.in_err-source.ensures.memory;
       adds = refl;
       keeps = files_self;
-      writable = record {
-        still = λ strings.
-            written_later strings c.args.line_strings.now c.optional_program_text.new.line_strings kept;
-      };
+      writable = record { still = λ strings. written_later strings _ _ kept };
       stays = kept;
     })
 
@@ -69,10 +63,7 @@ returns-in-Err g c =
       memory = c.from_write.ensures.memory c.in-Err.ensures.memory;
       adds = refl;
       keeps = files_self;
-      writable = record {
-        still = λ strings.
-            written_later strings c.args.line_strings.now c.optional_program_text.new.line_strings kept;
-      };
+      writable = record { still = λ strings. written_later strings _ _ kept };
       stays = kept;
     })
 
@@ -131,17 +122,11 @@ returns-in_ok-push-in-Ok-clause-writable g c =
           (moved (ap (λ (t : SourceTables). t.program) c.self.view_is) can));
     }
 
-pub returns-in_ok-push-in-Ok-clause-adds : goal.returns-in_ok-push-in-Ok-clause-adds
-returns-in_ok-push-in-Ok-clause-adds g c = rw (← c.self.view_is, c.in-Ok.ensures.ok) refl
-
 pub returns-in_ok-push-in-Ok-clause-stays : goal.returns-in_ok-push-in-Ok-clause-stays
 returns-in_ok-push-in-Ok-clause-stays g c = kept_then c.in_ok-path.ensures.stays c.in_ok-source.ensures.stays
 
 pub invariant_of-self : goal.invariant_of-self
 invariant_of-self g c = rw c.in-Ok.ensures.ok c.self.invariant
-
-pub invariant_of-self-in-Err : goal.invariant_of-self-in-Err
-invariant_of-self-in-Err g c = rw c.in-Err.ensures.err c.self.invariant
 
 pub invariant_of-self-in-Ok : goal.invariant_of-self-in-Ok
 invariant_of-self-in-Ok g c = rw c.in-Ok.ensures.ok c.self.invariant
