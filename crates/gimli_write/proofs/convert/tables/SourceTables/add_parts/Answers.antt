@@ -1,7 +1,7 @@
 use Rattle.std.specs.Prelude.{◌≡◌, ◌∷◌, ◌++◌}
 use Rattle.gimli_write.proofs
-use proofs.Common.{ℕ, List, [], arith, Option, Some, refl, option_map, option_map_or, err_from_is_err_and, File, file_seen}
-use proofs.Common.{LineText, line_text, made_text, made_table, Built, after_file, index_of_file}
+use proofs.Common.{ℕ, List, [], arith, Option, Some, refl, option_map, option_map_or, err_from_is_err_and, File}
+use proofs.Common.{file_seen, LineText, line_text, made_text, made_table, Built, after_file, index_of_file}
 use proofs.Common.{ap, StringTables, CanWrite, SourceTables, TablesAndTexts, version_of, FileParts, with_parts}
 use proofs.ConvertSteps.{parts_are_added, kept_then}
 use proofs.KeptFiles.{files_self, keeps_more}
@@ -71,22 +71,23 @@ pub returns-in_err-push-in-Ok : goal.returns-in_err-push-in-Ok
 returns-in_err-push-in-Ok g c =
     let p =
     err_from_is_err_and c.from_residual-in_err-push-in-Ok.result c.from_residual-in_err-push-in-Ok.ensures.1 in
-    rw (p.1, ← c.self.view_is) (record {
-      ok = tt;
-      memory = p.2;
-      adds = rw c.in-Ok.ensures.ok refl;
-      keeps = record {
+    record {
+      ok = rw p.1 tt;
+      memory = rw p.1 p.2;
+      adds = rw (← c.self.view_is, c.in-Ok.ensures.ok) refl;
+      keeps = rw (← c.self.view_is) (record {
         files = c.in-Ok.ensures.keeps;
         numbers = rw c.in_err-push-in-Ok.ensures.items (record { grows = omega arith; stays = λ i lt. refl });
         directories = refl;
-      };
+      });
       writable = record {
         still = λ strings can. moved c.in-Ok.ensures.ok (written_with_parts line_text _ _ _ _ _ _ _
             c.in_ok-path.ensures.stays c.in_ok-source.ensures.stays c.in_ok-path.ensures.within
-            c.in_ok-source.ensures.within c.in_ok-source.ensures.no_zero can);
+            c.in_ok-source.ensures.within c.in_ok-source.ensures.no_zero
+            (moved (ap (λ (t : SourceTables). t.program) c.self.view_is) can));
       };
       stays = kept_then c.in_ok-path.ensures.stays c.in_ok-source.ensures.stays;
-    })
+    }
 
 pub returns-in_ok-push-in-Ok-clause-ok : goal.returns-in_ok-push-in-Ok-clause-ok
 returns-in_ok-push-in-Ok-clause-ok g c =
