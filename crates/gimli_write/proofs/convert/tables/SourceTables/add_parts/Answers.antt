@@ -33,27 +33,27 @@ moved is can = rw is can
 pub returns-in_err-path : goal.returns-in_err-path
 returns-in_err-path g c =
     let p = err_from_is_err_and c.from_residual.result c.from_residual.ensures.1 in
-    rw p.1 (record {
-      ok = tt;
-      memory = rw p.2 c.in_err-path.ensures.memory;
+    record {
+      ok = rw p.1 tt;
+      memory = rw (p.1, p.2) c.in_err-path.ensures.memory;
       adds = refl;
       keeps = files_self;
       writable = record { still = λ strings. written_later strings _ _ c.in_err-path.ensures.stays };
       stays = c.in_err-path.ensures.stays;
-    })
+    }
 
 pub returns-in_err-source : goal.returns-in_err-source
 returns-in_err-source g c =
     let p = err_from_is_err_and c.from_residual-in_err-source.result c.from_residual-in_err-source.ensures.1 in
     let kept = kept_then c.in_ok-path.ensures.stays c.in_err-source.ensures.stays in
-    rw p.1 (record {
-      ok = tt;
-      memory = rw p.2 c.in_err-source.ensures.memory;
+    record {
+      ok = rw p.1 tt;
+      memory = rw (p.1, p.2) c.in_err-source.ensures.memory;
       adds = refl;
       keeps = files_self;
       writable = record { still = λ strings. written_later strings _ _ kept };
       stays = kept;
-    })
+    }
 
 pub returns-in-Err : goal.returns-in-Err
 returns-in-Err g c =
