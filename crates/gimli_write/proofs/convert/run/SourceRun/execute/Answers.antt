@@ -1,7 +1,6 @@
 use Rattle.std.specs.Prelude.{◌≡◌}
 use Rattle.gimli_write.proofs.Common
-use Common.{true, false, refl, sym, ap, ◌∙◌, subst, is_refused, reset_row, state_after, step_made, ins_seen}
-use Common.{Read, None}
+use Common.{true, false, refl, sym, ap, ◌∙◌, subst, is_refused, reset_row, state_after, step_made, ins_seen, Read}
 use Rattle.gimli_write.proofs.SourceSteps
 use SourceSteps.{state, is_overflow, ready_at_refusal, ready_when_quiet, ready_after_row, header_kept, quiet_state}
 use SourceSteps.{row_state, made_is}
@@ -79,9 +78,11 @@ returns-clause-made g c =
 
 pub returns-clause-header : goal.returns-clause-header
 returns-clause-header g c =
-    rw (← c.self.view_is) (ap (λ q. q.header) c.made.ensures.new
-    ∙ header_kept _ _ _ _ _ 0 None c.self.inside.instructions c.requires.address c.requires.file
-    c.in-Ok.ensures.fits c.in-Ok.ensures.files c.in-Ok.ensures.step)
+    subst (λ s. c.made.new.self.header ≡ s.header) c.self.view_is (ap (λ q. q.header) c.made.ensures.new
+    ∙ header_kept (ins_seen g.R.Reader.bytes g.R.Offset.ReaderOffset.number c.args.instruction)
+    c.self.inside.program.meaning c.execute.new.program.meaning
+    c.self.inside.row c.execute.new.self c.self.inside.base c.self.inside.pending c.self.inside.instructions
+    c.requires.address c.requires.file c.in-Ok.ensures.fits c.in-Ok.ensures.files c.in-Ok.ensures.step)
 
 pub invariant_of-self-2 : goal.invariant_of-self-2
 invariant_of-self-2 g c =
@@ -90,20 +91,3 @@ invariant_of-self-2 g c =
 pub returns-clause-unread : goal.returns-clause-unread
 returns-clause-unread g c =
     subst (λ s. c.made.new.self.unread ≡ s.unread) c.self.view_is (ap (λ q. q.unread) c.made.ensures.new)
-
-pub returns-in-Err-clause-header : goal.returns-in-Err-clause-header
-returns-in-Err-clause-header g c = rw (← c.self.view_is) c.in-Err.ensures.kept
-
-pub returns-in-Err-clause-unread : goal.returns-in-Err-clause-unread
-returns-in-Err-clause-unread g c = rw (← c.self.view_is) refl
-
-pub returns-then-not-made-clause-made : goal.returns-then-not-made-clause-made
-returns-then-not-made-clause-made g c = rw (sym c.in-Ok.ensures.made ∙ c.if-not-made.true) refl
-
-pub returns-then-not-made-clause-header : goal.returns-then-not-made-clause-header
-returns-then-not-made-clause-header g c =
-    rw (← c.self.view_is) (header_kept _ _ _ _ _ 0 None c.self.inside.instructions c.requires.address
-    c.requires.file c.in-Ok.ensures.fits c.in-Ok.ensures.files c.in-Ok.ensures.step)
-
-pub returns-then-not-made-clause-unread : goal.returns-then-not-made-clause-unread
-returns-then-not-made-clause-unread g c = rw (← c.self.view_is) refl
