@@ -84,6 +84,20 @@ returns-in-Row g c =
       layout = x.layout;
     })
 
+pub returns-in-No : goal.returns-in-No
+returns-in-No g c =
+    let q = rw c.in-No.is at c.in-Ok.ensures.ok in
+    let x = rw (q.0, q.1) at c.step_parsed.ensures in
+    rw (← c.self.view_is) (record {
+      reading = x.reading;
+      refusal = x.refusal;
+      tables = x.tables;
+      stopped = x.stopped;
+      shorter = x.shorter;
+      header = x.header;
+      layout = x.layout;
+    })
+
 pub invariant_of-self : goal.invariant_of-self
 invariant_of-self g c =
     let s =
