@@ -1,6 +1,7 @@
 -- What is answered of a unit is what was built.
 use Rattle.std.specs.Prelude.{◌≡◌, ◌<◌, ◌^◌, ◌∷◌, ◌++◌}
-use Rattle.gimli_write.proofs.Common
+use Rattle.gimli_write.proofs
+use proofs.Common
 use Common.{ℕ, Bool, List, [], length, drop, map, refl, sym, ap, ◌∙◌, subst, Result, Option, Some, None, IfOk, IfErr}
 use Common.{append-nil, IfOk-weaker, MatchResult-weaker, OrderAndLimit, Value, Error, StringTables, Header, UnitEntry}
 use Common.{SpellsUnit, ReadFile, Event, row, fault, Events, program_events, ReadRow, one_header, one_decoding}
@@ -9,7 +10,6 @@ use Common.{NoMemory, RoundTrip, FileAnswer, file_answer, built_file, Answers, I
 use Common.{AnswersProgram, IsRunRefusal, RefusesUnit, slice_layout, unit_entry_of, sections_of}
 use Rattle.gimli_build.specs.Tables.{File}
 use Rattle.gimli_build.specs.ReadsBack.{IsUnit, IsFile, ReadsBack, ReadsBackAs}
-use Rattle.gimli_write.proofs
 use proofs.ReadTexts.{text_there}
 use proofs.ReadUnits.{read_back, AreShort}
 

@@ -1,5 +1,6 @@
 -- What these proofs name of other crates, and the definitions of this one.
-use Rattle.gimli_write.specs.Prelude
+use Rattle.gimli_write.specs
+use specs.Prelude
 pub use Rattle.std.proofs.Common.{add-one, ap, append_assoc, arith, cond, drop, get_or, inl, inr, negsuc, refl, subst}
 pub use Rattle.std.proofs.Common.{suc, sym, take, zero, ◌∙◌}
 pub use Rattle.std.proofs.lemmas.Bool.{cases_lt, eq-eqb, eqb-true, le-ltb, lt-leb, lt-ltb, or_parts, true≢false}
@@ -92,7 +93,6 @@ pub use Rattle.gimli_build.specs.Tables.{
   with_file,
 }
 pub use Rattle.gimli_build.specs.Texts.{IsTextAt}
-use Rattle.gimli_write.specs
 pub use specs.RoundTrip.{
   Answers,
   AnswersProgram,
@@ -206,12 +206,11 @@ pub use specs.declared.read_back.RoundTrip.{RoundTrip}
 pub use specs.inside.TextReading.{HasFileTexts, HasText}
 pub use specs.inside.convert.SourceRun.{Shortens, StepsSource, step_made, step_reading}
 pub use Prelude.{Address, All, Bool, Built, BuiltItem, CanWrite, ConvertError, ConvertLineRow, Decodes, Encoding, Err}
-pub use Prelude.{Error, Events, File, Header, IfErr, IfOk, IfSome, Ins, InvalidAddress}
-pub use Prelude.{InvalidDirectoryIndex, InvalidFileIndex, IsOptionalText, IsText, KeepsTexts, LineEncoding, LineRow}
-pub use Prelude.{LineText, List, Made, MatchResult, MissingCompilationDirectory, MissingLineEndSequence, More, None}
-pub use Prelude.{OrderAndLimit, Ok, OnErr, OnOk, OneByOne, Option, Parameters, Read, ReadFile, ReadRow, Result}
-pub use Prelude.{RowsMatch, Sections, Some, SourceRow, SourceStep, StringTables, UnitEntry, UnsupportedLineInstruction}
-pub use Prelude.{Value, Write, [], bytes_in, decoded_at, directory_of, empty_built, false, file_seen, is_end}
-pub use Prelude.{is_under_tombstone, length, made_table, made_text, makes_row, map, nat_eq, nat_le}
-pub use Prelude.{not, ok_or, option_map, option_map_or, overflows, pos, read_row, row, row_at}
-pub use Prelude.{slice_get, texts_in, true, unwrap_or, ℕ}
+pub use Prelude.{Error, Events, File, Header, IfErr, IfOk, IfSome, Ins, InvalidAddress, InvalidDirectoryIndex}
+pub use Prelude.{InvalidFileIndex, IsOptionalText, IsText, KeepsTexts, LineEncoding, LineRow, LineText, List, Made}
+pub use Prelude.{MatchResult, MissingCompilationDirectory, MissingLineEndSequence, More, None, OrderAndLimit, Ok, OnErr}
+pub use Prelude.{OnOk, OneByOne, Option, Parameters, Read, ReadFile, ReadRow, Result, RowsMatch, Sections, Some}
+pub use Prelude.{SourceRow, SourceStep, StringTables, UnitEntry, UnsupportedLineInstruction, Value, Write, [], bytes_in}
+pub use Prelude.{decoded_at, directory_of, empty_built, false, file_seen, is_end, is_under_tombstone, length}
+pub use Prelude.{made_table, made_text, makes_row, map, nat_eq, nat_le, not, ok_or, option_map, option_map_or}
+pub use Prelude.{overflows, pos, read_row, row, row_at, slice_get, texts_in, true, unwrap_or, ℕ}

@@ -1,25 +1,24 @@
 -- The tables of a conversion: each id of a directory or a file of the source is that of its paths,
 -- with what is known of the last file that has them; and the program can be written.
 use Rattle.std.specs.Prelude.{◌≡◌, ◌+◌, ◌||◌, if◌then◌else◌, ◌∷◌, ◌++◌, ◌≤◌, ◌⊎◌, ◌≢◌, ◌<◌}
-use Rattle.gimli_write.proofs.Common
-use Common.{ℕ, zero, suc, Bool, true, false, cond, not, List, [], length}
-use Common.{refl, sym, ap, subst, ◌∙◌, arith, nat_le, Some, unwrap_or, slice_get, bytes_eq, list_any, position_or_len}
-use Common.{or_parts, eq-eqb, bytes_eq-Decides, with_text, index_of_text, StringTables, texts_in}
-use Common.{with_text-found, with_text-there, LineText, Inline, InStrings, InLineStrings, line_text_eq, bytes_in}
-use Common.{made_text, made_table, FileKey, key_eq, Option, None, option_map, IfSome, Result, Ok, Err, All}
-use Common.{option_map_or, lt-leb, All-nil, All-cons, All-push, slice_get_within, Value, Encoding, LineEncoding}
-use Common.{DefineFile, File, Header, Ins, Built, CanWrite, IsWithin, HasNoZero, Details, BuiltFile, with_directory}
-use Common.{Sections, ConvertError, ◌>>=◌, source_path, TablesAndTexts, version_of, with_path, directory_added}
-use Common.{file_parts, with_parts, file_added, all_added, tables_after_definition, tables_at, SourceFile}
-use Common.{working_directory, source_file, line_encoding_of, first_texts, start_of_tables, Handed, encoding_of}
-use Common.{lists_added, tables_of_header, KeepsTexts, with_text-KeepsTexts, with_tables, index_of_directory}
-use Common.{no_details, inl, inr, append_assoc, directory_of, from_one, IsText, text_of}
-use Common.{MissingCompilationDirectory, source_text, first_path, first_ids}
-use Common.{needed_from_5, nat_eq, AllByRecursion, true≢false, eqb-true, append-nil, slice_get-map}
-use Common.{defined_files, has_file, index_of_file, with_details, with_file, keys_of, OneByOne, FileParts, ok_or}
-use Common.{All-from_recursion, IsOptionalText, InvalidDirectoryIndex, if_there, Outcome}
-use Rattle.std.proofs.lemmas.List.Folds.{list_any-append}
 use Rattle.gimli_write.proofs
+use proofs.Common
+use Common.{ℕ, zero, suc, Bool, true, false, cond, not, List, [], length, refl, sym, ap, subst, ◌∙◌, arith, nat_le}
+use Common.{Some, unwrap_or, slice_get, bytes_eq, list_any, position_or_len, or_parts, eq-eqb, bytes_eq-Decides}
+use Common.{with_text, index_of_text, StringTables, texts_in, with_text-found, with_text-there, LineText, Inline}
+use Common.{InStrings, InLineStrings, line_text_eq, bytes_in, made_text, made_table, FileKey, key_eq, Option, None}
+use Common.{option_map, IfSome, Result, Ok, Err, All, option_map_or, lt-leb, All-nil, All-cons, All-push}
+use Common.{slice_get_within, Value, Encoding, LineEncoding, DefineFile, File, Header, Ins, Built, CanWrite, IsWithin}
+use Common.{HasNoZero, Details, BuiltFile, with_directory, Sections, ConvertError, ◌>>=◌, source_path, TablesAndTexts}
+use Common.{version_of, with_path, directory_added, file_parts, with_parts, file_added, all_added}
+use Common.{tables_after_definition, tables_at, SourceFile, working_directory, source_file, line_encoding_of}
+use Common.{first_texts, start_of_tables, Handed, encoding_of, lists_added, tables_of_header, KeepsTexts}
+use Common.{with_text-KeepsTexts, with_tables, index_of_directory, no_details, inl, inr, append_assoc, directory_of}
+use Common.{from_one, IsText, text_of, MissingCompilationDirectory, source_text, first_path, first_ids, needed_from_5}
+use Common.{nat_eq, AllByRecursion, true≢false, eqb-true, append-nil, slice_get-map, defined_files, has_file}
+use Common.{index_of_file, with_details, with_file, keys_of, OneByOne, FileParts, ok_or, All-from_recursion}
+use Common.{IsOptionalText, InvalidDirectoryIndex, if_there, Outcome}
+use Rattle.std.proofs.lemmas.List.Folds.{list_any-append}
 use proofs.ConvertSteps.{kept_self, kept_then}
 use proofs.Writable.{within_kept, source_kept, written_later, written_with_file}
 use Rattle.std.proofs.Common.{length-append}

@@ -1,23 +1,23 @@
 -- What comes of a conversion that was done, and what the laws of conversions say of it.
 use Rattle.std.specs.Prelude.{◌≡◌, if◌then◌else◌, ◌∷◌, ◌++◌}
-use Rattle.gimli_write.proofs.Common
+use Rattle.gimli_write.proofs
+use proofs.Common
 use Common.{ℕ, Bool, true, false, List, [], refl, sym, ap, subst, ◌∙◌, Option, Some, None, ok_or, Result, Ok, Err}
 use Common.{append-nil, Value, Error, AddressOverflow, Address, texts_in, Parameters, defined_files, past_at_end, Ins}
-use Common.{after_address, Built}
-use Common.{CanWrite, Sections, LineRow, ConvertError, Read, InvalidAddress, MissingLineEndSequence}
-use Common.{UnsupportedLineInstruction, SourceRow, ConvertLineRow, ◌>>=◌, source_path, TablesAndTexts, version_of}
-use Common.{with_path, directory_added, file_added, encoding_of, first_ids, tables_of_header, Reading, stops, offers}
-use Common.{source_row, built_row, address_offered, row_offered, row_or_end_offered, source_row_offered, reading_at}
-use Common.{end_reading, reading_with, tables_at, with_definition, reading_after, ReadsItems, Outcome, outcome_of}
-use Common.{with_tables, ToConvert, IsConverted, MatchResult, arith, AllByRecursion, All-from_recursion}
-use Common.{ReadRow, Decodes, one_decoding, base_of, AddressesFit, RowsMatch, read_row, OneByOne, BuiltItem}
-use Common.{map, slice_get, unwrap_or, option_map, All, slice_get-map, slice_get_within, get_or_from_slice_get}
-use Common.{KeepsTexts, with_text, StringTables, with_text-KeepsTexts, row, Events, File, LineText, Inline, InStrings}
-use Common.{InLineStrings, IsWithin, bytes_in, FileAnswer, built_file}
-use Rattle.gimli_write.specs.convert.Mapped
+use Common.{after_address, Built, CanWrite, Sections, LineRow, ConvertError, Read, InvalidAddress}
+use Common.{MissingLineEndSequence, UnsupportedLineInstruction, SourceRow, ConvertLineRow, ◌>>=◌, source_path}
+use Common.{TablesAndTexts, version_of, with_path, directory_added, file_added, encoding_of, first_ids}
+use Common.{tables_of_header, Reading, stops, offers, source_row, built_row, address_offered, row_offered}
+use Common.{row_or_end_offered, source_row_offered, reading_at, end_reading, reading_with, tables_at, with_definition}
+use Common.{reading_after, ReadsItems, Outcome, outcome_of, with_tables, ToConvert, IsConverted, MatchResult, arith}
+use Common.{AllByRecursion, All-from_recursion, ReadRow, Decodes, one_decoding, base_of, AddressesFit, RowsMatch}
+use Common.{read_row, OneByOne, BuiltItem, map, slice_get, unwrap_or, option_map, All, slice_get-map, slice_get_within}
+use Common.{get_or_from_slice_get, KeepsTexts, with_text, StringTables, with_text-KeepsTexts, row, Events, File}
+use Common.{LineText, Inline, InStrings, InLineStrings, IsWithin, bytes_in, FileAnswer, built_file}
+use Rattle.gimli_write.specs
+use specs.convert.Mapped
 use Mapped.{AreFilesMapped, CanBeFaithful, NoneEndsUnderTombstone, RowsMapped, AreRowsMapped, IsReadAs, SetsConstant}
 use Mapped.{HasConstantAddresses, IsFaithful, HasPaths, AreFilesReadAs}
-use Rattle.gimli_write.proofs
 use proofs.Outcomes.{definition_passed}
 use proofs.MappedFiles.{
   AreDirectories,
@@ -43,11 +43,11 @@ use Rattle.gimli_build.specs.declared.built.items.BuiltItem.TheVariants.{SetAddr
 use proofs.MappedRows.{follows_start, Rest, rest_mapped}
 use Rattle.gimli_line.specs.run.EventsWithFiles.{FilesAtEnd}
 use Rattle.gimli_build.specs.Version5Tables.{texts_after}
-use Rattle.gimli_write.specs.convert.DoneConversions.{UnitReadBack, UnitGives}
+use specs.convert.DoneConversions.{UnitReadBack, UnitGives}
 use proofs.BuiltAnswers.{events_same, rows_same}
 use proofs.ConvertSteps.{kept_self}
 use Rattle.gimli_build.specs.declared.built.items.BuiltItem.TheVariants as item
-use Rattle.gimli_write.specs.declared.convert.rows.ConvertLineRow.TheVariants as offer
+use specs.declared.convert.rows.ConvertLineRow.TheVariants as offer
 
 -- a conversion answers the tables at the end, and keeps the kind of the program that it was begun with
 pub record EndsAs (sections : Sections) (first : TablesAndTexts) (past : List Ins) (p : Built) (c : Outcome)

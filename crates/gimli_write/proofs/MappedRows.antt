@@ -1,6 +1,7 @@
 -- The rows and ends that a conversion builds are those of its source.
 use Rattle.std.specs.Prelude.{◌≡◌, ◌+◌, ◌-◌, ◌*◌, ◌<◌, ◌≤◌, ◌&&◌, if◌then◌else◌, ◌∷◌, ◌^◌, ◌++◌}
-use Rattle.gimli_write.proofs.Common
+use Rattle.gimli_write.proofs
+use proofs.Common
 use Common.{ℕ, Bool, true, false, not, List, [], refl, sym, ap, ◌∙◌, arith, Some, None, Special, Copy}
 use Common.{AdvancePc, ConstAddPc, FixedAddPc, EndSequence, SetAddress, Parameters, Ins, is_end, makes_row, row_at}
 use Common.{OperationPointer, address_limit, is_tombstone, is_too_large, pointer_at_overflow, next_pointer, pointer_at}
@@ -17,7 +18,6 @@ use Rattle.gimli_line.proofs.NonDecreasingLaws.{rises}
 use Rattle.gimli_write.specs.convert.Mapped
 use Mapped.{gave_row, MapsToItself, NoneEndsUnderTombstone, IsFileId, RowsMapped, SetsConstant}
 use Rattle.gimli_line.proofs.RunLists.{events_at}
-use Rattle.gimli_write.proofs
 use proofs.Outcomes.{definition_passed}
 use proofs.MappedFiles.{finished}
 use Rattle.gimli_build.specs.declared.built.items.BuiltItem.TheVariants as item

@@ -2,13 +2,12 @@
 use Rattle.std.specs.Prelude.{◌≡◌, ◌⊎◌, ◌<◌, if◌then◌else◌}
 use Rattle.gimli_write.proofs.Common
 use Common.{ℕ, suc, arith, false, true, Bool, List, refl, sym, ap, ◌∙◌, subst, inl, inr, Option, Result, Ok, Err}
-use Common.{MatchResult, Address, Parameters, DefineFile, Ins, Built, ConvertError}
-use Common.{MissingLineEndSequence, ConvertLineRow, Row, ◌>>=◌, IsRefusedBy, TablesAndTexts, Reading, ends, stops}
-use Common.{defines, offers, reading_at, with_definition, after_definitions, ReadsItems, tables_of_header, ToConvert}
-use Common.{Outcome, after_item, with_tables, outcome_at_end, outcome_of, ItemComesTo, ComesTo, without_items}
-use Common.{Conversion, tables_of, still_to_read, AddsFiles, IsReadRefusal, Progress}
-use Common.{IsConverted, with_program, AnswersAs, outcome_with, RestComesTo, SourceComesTo, IsConvertRefusal}
-use Common.{RestConvertsTo, IsRestRefusal}
+use Common.{MatchResult, Address, Parameters, DefineFile, Ins, Built, ConvertError, MissingLineEndSequence}
+use Common.{ConvertLineRow, Row, ◌>>=◌, IsRefusedBy, TablesAndTexts, Reading, ends, stops, defines, offers, reading_at}
+use Common.{with_definition, after_definitions, ReadsItems, tables_of_header, ToConvert, Outcome, after_item}
+use Common.{with_tables, outcome_at_end, outcome_of, ItemComesTo, ComesTo, without_items, Conversion, tables_of}
+use Common.{still_to_read, AddsFiles, IsReadRefusal, Progress, IsConverted, with_program, AnswersAs, outcome_with}
+use Common.{RestComesTo, SourceComesTo, IsConvertRefusal, RestConvertsTo, IsRestRefusal}
 use Rattle.std.specs.declared.vec.Vec.{Vec}
 use Rattle.std.specs.declared.alloc.Global.{Global}
 use Rattle.gimli_write.specs

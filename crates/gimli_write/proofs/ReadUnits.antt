@@ -1,12 +1,11 @@
 -- A unit that is read: it has one header, and no fault.
 use Rattle.std.specs.Prelude.{◌≡◌, ◌≢◌, ◌<◌, ◌^◌, ◌∷◌}
 use Rattle.gimli_write.proofs.Common
-use Common.{ℕ, Bool, List, [], length, drop, refl, sym, subst, inl, inr, arith, All, Result, Some, IfOk}
-use Common.{IfErr, length-drop, append-nil, All-nil, All-cons, IfOk-weaker, MatchResult-weaker, OrderAndLimit}
-use Common.{Error, OutOfMemory, Header, UnitEntry, SpellsUnit, HasUnitFault, ReadFile, one_header, no_fault, byte_count}
-use Common.{StringTables, Sections, OneByOne, HasText, HasFileTexts, Built}
-use Common.{ConvertError, NoMemory, RoundTrip, answers, AreAnswers, AnswersProgram, IsRunRefusal, RefusesUnit}
-use Common.{slice_layout, unit_entry_of, sections_of}
+use Common.{ℕ, Bool, List, [], length, drop, refl, sym, subst, inl, inr, arith, All, Result, Some, IfOk, IfErr}
+use Common.{length-drop, append-nil, All-nil, All-cons, IfOk-weaker, MatchResult-weaker, OrderAndLimit, Error}
+use Common.{OutOfMemory, Header, UnitEntry, SpellsUnit, HasUnitFault, ReadFile, one_header, no_fault, byte_count}
+use Common.{StringTables, Sections, OneByOne, HasText, HasFileTexts, Built, ConvertError, NoMemory, RoundTrip, answers}
+use Common.{AreAnswers, AnswersProgram, IsRunRefusal, RefusesUnit, slice_layout, unit_entry_of, sections_of}
 use Rattle.gimli_build.specs.Tables.{File}
 use Rattle.gimli_build.specs.ReadsBack.{IsFile, ReadsBack, IsReadWell, ReadsBackAs}
 use Rattle.gimli_bytes.specs.Hand.{unplaced}

@@ -1,6 +1,7 @@
 -- A step of a source: an instruction that was executed from its bytes does what it does when it is parsed.
 use Rattle.std.specs.Prelude.{◌≡◌, ◌≢◌, ◌<◌, if◌then◌else◌}
-use Rattle.gimli_write.proofs.Common
+use Rattle.gimli_write.proofs
+use proofs.Common
 use Common.{◌∙◌, ℕ, Bool, true, false, List, length, refl, sym, ap, subst, Some, None}
 use Common.{Result, Ok, Err, OnOk, IfErr, IfOk, Error, AddressOverflow, SetAddress, DefineFile, Header, Ins}
 use Common.{defines_file, files_after, ins_at, is_refused, reset_row, step_of, Unread, reads_instruction, ConvertError}
@@ -12,7 +13,6 @@ use Rattle.gimli_line.specs.run.Execution.{IsExecuted, RefusesNext, told_of}
 use Rattle.gimli_line.specs.run.NextInstruction.{TakesNext}
 use Rattle.gimli_line.proofs.Executions.{told_address, told_quiet, told_row}
 use Rattle.gimli_write.specs.inside.convert.SourceRun.{source_row}
-use Rattle.gimli_write.proofs
 use proofs.SourceSteps.{
   state,
   IsReady,

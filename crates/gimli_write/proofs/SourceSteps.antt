@@ -3,13 +3,12 @@ use Rattle.std.specs.Prelude.{◌≡◌, ◌≢◌, ◌<◌, ◌≤◌, ◌-◌,
 use Rattle.gimli_write.proofs.Common
 use Common.{ℕ, Bool, true, false, not, List, [], length, refl, sym, ap, ◌∙◌, append_assoc, arith, Option, Some, None}
 use Common.{Result, Ok, Err, OnOk, OnErr, IfOk, IfErr, length-append, append-nil, OrderAndLimit, Error, AddressOverflow}
-use Common.{OutOfMemory, Header, File, Parameters, EndSequence, DefineFile, SetAddress, Ins, ins_seen}
-use Common.{is_end, makes_row, defines_file, files_after, SpellsInstruction, instruction_production, decoded_at}
-use Common.{step_of, reset_row, is_refused, next_registers, Unread, is_decoded, one_decoding, instructions_bounded}
-use Common.{Sections, ConvertError, Read, SourceStep, More, Made, TablesAndTexts, file_added, Reading}
-use Common.{defines, with_definition, ends, stops, address_operand, source_row_offered, tables_after_definition}
-use Common.{SourceRun, row_made, state_after, instruction_reading, reading_from, reading_upon, reading_left}
-use Common.{step_reading, step_made, Shortens}
+use Common.{OutOfMemory, Header, File, Parameters, EndSequence, DefineFile, SetAddress, Ins, ins_seen, is_end}
+use Common.{makes_row, defines_file, files_after, SpellsInstruction, instruction_production, decoded_at, step_of}
+use Common.{reset_row, is_refused, next_registers, Unread, is_decoded, one_decoding, instructions_bounded, Sections}
+use Common.{ConvertError, Read, SourceStep, More, Made, TablesAndTexts, file_added, Reading, defines, with_definition}
+use Common.{ends, stops, address_operand, source_row_offered, tables_after_definition, SourceRun, row_made, state_after}
+use Common.{instruction_reading, reading_from, reading_upon, reading_left, step_reading, step_made, Shortens}
 use Rattle.gimli_line.specs.declared.run.row.LineRow.{LineRow}
 use Rattle.gimli_line.specs.declared.run.instruction.LineInstruction.{LineInstruction}
 use Rattle.gimli_line.specs.declared.header.file_entry.FileEntry.{FileEntry}

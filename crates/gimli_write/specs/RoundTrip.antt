@@ -1,6 +1,7 @@
 -- What is answered of a unit that was written and read again.
 use Rattle.std.specs.Prelude.{◌≡◌, ◌^◌, ◌++◌}
-use Rattle.gimli_write.specs.Prelude
+use Rattle.gimli_write.specs
+use specs.Prelude
 use Prelude.{ℕ, List, [], map, slice_get, Option, Some, None, option_map, Result}
 use Prelude.{Ok, Bool, OrderAndLimit, Encoding, Header, UnitEntry, ReadFile, Events, row, ReadRow}
 use Prelude.{table_bytes, StringTables, bytes_in, Sections, IsText, IsOptionalText, OneByOne}
@@ -14,7 +15,6 @@ use Rattle.gimli_build.specs.Stored.{stored_details}
 use Rattle.gimli_build.specs.Unit.{unit_bytes}
 use Rattle.gimli_build.specs.Cause.{first_cause}
 use Rattle.gimli_build.specs.Items.{AddressesFit}
-use Rattle.gimli_write.specs
 use specs.declared.read_back.RoundTrip.{RoundTrip}
 use specs.declared.read_back.RoundTripFile.{RoundTripFile}
 

@@ -1,10 +1,10 @@
 -- A conversion, as far as it got, and what it has still to read.
 use Rattle.std.specs.Prelude.{◌≡◌, ◌⊎◌}
-use Rattle.gimli_write.specs.Prelude
+use Rattle.gimli_write.specs
+use specs.Prelude
 use Prelude.{ℕ, true, List, Option, Some, None, Result, Ok, Err, IfErr, OnOk, MatchResult, Vec}
 use Prelude.{Global, Address, Built, previous_position, CanBuild, LineRow, Row, Sections}
 use Prelude.{ConvertError, OutOfMemory, UnsupportedLineInstruction, SourceRow, ConvertLineRow}
-use Rattle.gimli_write.specs
 use specs.convert.SourceTables.{SourceTables, TablesAndTexts, tables_with}
 use specs.convert.Items.{
   Reading,

@@ -1,9 +1,9 @@
 -- A conversion that was done, and what is read back of it.
-use Rattle.gimli_write.specs.Prelude
+use Rattle.gimli_write.specs
+use specs.Prelude
 use Prelude.{ℕ, true, List, map, Option, Ok, OrderAndLimit, Address, StringTables, texts_in}
 use Prelude.{ReadRow, UnitEntry, File, Events, row, FilesAtEnd, Built, bytes_in, ReadsBack}
 use Prelude.{Sections, OneByOne, texts_after}
-use Rattle.gimli_write.specs
 use specs.RoundTrip.{built_file}
 use specs.convert.Conversion.{IsConverted}
 use specs.convert.Outcome.{Outcome}

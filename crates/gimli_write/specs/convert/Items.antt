@@ -2,7 +2,8 @@
 -- back (DWARF 5, sections 6.2.2 and 6.2.5). The past of a point is the list of the instructions
 -- before it, the nearest first.
 use Rattle.std.specs.Prelude.{◌≡◌, ◌-◌, ◌&&◌, if◌then◌else◌, ◌∷◌}
-use Rattle.gimli_write.specs.Prelude
+use Rattle.gimli_write.specs
+use specs.Prelude
 use Prelude.{ℕ, Bool, true, false, not, nat_eq, nat_le, List, [], slice_get, Option, Some, None}
 use Prelude.{ok_or, Result, Ok, Err, OrderAndLimit, Error, Header, Parameters, Ins, makes_row}
 use Prelude.{Decodes, is_under_tombstone, overflows, row_at, Sections, LineRow, ConvertError, Read}
@@ -13,7 +14,6 @@ use Rattle.gimli_line.specs.declared.run.instruction.LineInstruction.TheVariants
   DefineFile,
   SetAddress as SetAddressIns,
 }
-use Rattle.gimli_write.specs
 use specs.convert.Texts.{◌>>=◌}
 use specs.convert.SourceTables.{TablesAndTexts, file_added}
 use specs.declared.convert.rows.ConvertLineRow.TheVariants.{Row}

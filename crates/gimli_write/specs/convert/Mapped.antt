@@ -1,7 +1,8 @@
 -- What it means that a converted program says what its source says, and what is asked of the source
 -- for it.
 use Rattle.std.specs.Prelude.{◌≡◌, ◌≢◌, ◌+◌, ◌≤◌, ◌&&◌, ◌||◌, if◌then◌else◌, ◌∷◌, ◌++◌}
-use Rattle.gimli_write.specs.Prelude
+use Rattle.gimli_write.specs
+use specs.Prelude
 use Prelude.{ℕ, Bool, true, false, not, List, [], map, slice_get, Option, Some, None, option_map}
 use Prelude.{All, Ok, Vec, Global, OrderAndLimit, Value, Error, Address, StringTables, texts_in}
 use Prelude.{ReadRow, File, Header, directory_of, entry_of, Parameters, Events, row, FilesAtEnd}
@@ -11,7 +12,6 @@ use Prelude.{OneByOne, LineRow, BuiltItem, Row, End}
 use Rattle.gimli_bytes.specs.declared.address.Address.TheVariants.{Constant}
 use Rattle.gimli_build.specs.Tables.{File as BuiltFile}
 use Rattle.gimli_build.specs.declared.built.items.BuiltItem.TheVariants.{SetAddress}
-use Rattle.gimli_write.specs
 use specs.RoundTrip.{FileAnswer, HasFittingAddresses}
 use specs.convert.Outcome.{Outcome}
 use specs.convert.Preparation.{encoding_of}

@@ -2,7 +2,8 @@
 -- builder in order, each before the next is read. It is a function, so what comes of a reading is
 -- told exactly.
 use Rattle.std.specs.Prelude.{◌+◌, ◌-◌, ◌*◌, ◌/◌, ◌%◌, ◌^◌, ◌&&◌, ◌||◌, if◌then◌else◌, ◌≡◌}
-use Rattle.gimli_write.specs.Prelude
+use Rattle.gimli_write.specs
+use specs.Prelude
 use Prelude.{ℕ, Bool, true, false, not, nat_eq, nat_lt, nat_le, List, [], Option, None, ok_or}
 use Prelude.{Result, Ok, Err, MatchResult, LineEncoding, Address, Built, previous_position}
 use Prelude.{BuiltItem, Row, End, ConvertError, InvalidAddress, MissingLineEndSequence}
@@ -10,11 +11,10 @@ use Prelude.{UnsupportedLineInstruction, ConvertLineRow}
 use Rattle.gimli_build.specs.Calls.{after_address, after_row, after_end}
 use Rattle.gimli_build.specs.Rows.{initial_row}
 use Rattle.gimli_build.specs.declared.built.items.BuiltItem.TheVariants.{SetAddress}
-use Rattle.gimli_write.specs
 use specs.convert.Texts.{◌>>=◌}
 use specs.convert.SourceTables.{TablesAndTexts}
 use specs.convert.Items.{Reading, ends, stops, defines, offers}
-use Rattle.gimli_write.specs.declared.convert.rows.ConvertLineRow.TheVariants as offer
+use specs.declared.convert.rows.ConvertLineRow.TheVariants as offer
 
 -- ---- the builder's conditions, as tests
 

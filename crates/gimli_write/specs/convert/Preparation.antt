@@ -1,6 +1,7 @@
 -- What is made of the header of a source, before its program is read.
 use Rattle.std.specs.Prelude.{◌||◌, ◌∷◌, ◌+ℤ◌, if◌then◌else◌}
-use Rattle.gimli_write.specs.Prelude
+use Rattle.gimli_write.specs
+use specs.Prelude
 use Prelude.{ℕ, List, [], Bool, false, Option, Some, None, option_map, ok_or, unwrap_or}
 use Prelude.{Result, Ok, Err, nat_eq, nat_le, nat_lt, pos, int_lt, int_le}
 use Prelude.{option_map_or, Encoding, LineEncoding, Value, File, Header, directory_of, file_of}
@@ -14,7 +15,6 @@ use Rattle.gimli_line.specs.LineNumbers.{
   DW_LNCT_LLVM_source,
 }
 use Rattle.gimli_build.specs.FirstTables.{first_directories, first_files}
-use Rattle.gimli_write.specs
 use specs.convert.Texts.{◌>>=◌, without_zero, source_text, source_path}
 use specs.convert.SourceTables.{
   TablesAndTexts,

@@ -1,9 +1,9 @@
 -- What each read of a conversion keeps, and where it leaves the files of its source.
 use Rattle.std.specs.Prelude.{◌≡◌, ◌≢◌}
-use Rattle.gimli_write.specs.Prelude
+use Rattle.gimli_write.specs
+use specs.Prelude
 use Prelude.{Option, Some, None, Result, Err, IfErr, IfOk, OnOk, KeepsTexts}
 use Prelude.{ConvertError, OutOfMemory}
-use Rattle.gimli_write.specs
 use specs.convert.Conversion.{Progress, AddsFiles, built_so_far}
 use specs.convert.KeptTables.{
   KeepsFiles,

@@ -1,9 +1,9 @@
 -- The sequences of what a conversion reads.
 use Rattle.std.specs.Prelude.{◌≡◌, ◌∷◌, ◌++◌}
-use Rattle.gimli_write.specs.Prelude
+use Rattle.gimli_write.specs
+use specs.Prelude
 use Prelude.{ℕ, List, [], Option, Some, None, option_map, Result, Ok, Err, LineRow}
 use Prelude.{ConvertError, MissingLineEndSequence, SetAddress, EndSequence}
-use Rattle.gimli_write.specs
 use specs.declared.convert.rows.ConvertLineRow.TheVariants.{Row}
 use specs.declared.convert.rows.ConvertLineSequence.{ConvertLineSequence}
 use specs.declared.convert.rows.ConvertLineSequenceEnd.{ConvertLineSequenceEnd}

@@ -1,13 +1,13 @@
 -- What a run over a source has still to read.
 use Rattle.std.specs.Prelude.{◌-◌, ◌&&◌, if◌then◌else◌, ◌∷◌}
-use Rattle.gimli_write.specs.Prelude
+use Rattle.gimli_write.specs
+use specs.Prelude
 use Prelude.{ℕ, not, List, [], Option, Some, None, unwrap_or, Result, Ok, Error, Header, Ins}
 use Prelude.{is_end, makes_row, decoded_at, Sections, ConvertError, Read, SourceRow}
 use Rattle.gimli_core.specs.declared.error.Error.TheVariants.{AddressOverflow}
 use Rattle.gimli_line.specs.declared.run.row.LineRow.{LineRow}
 use Rattle.gimli_line.specs.run.Machine.{initial, step_of, is_refused, next_registers}
 use Rattle.gimli_line.specs.run.Unread.{Unread}
-use Rattle.gimli_write.specs
 use specs.convert.SourceTables.{TablesAndTexts}
 use specs.convert.Items.{
   Reading,

@@ -1,11 +1,11 @@
 -- The tables that a source leaves: the files that it defines are added, up to its end or to what is
 -- refused.
 use Rattle.std.specs.Prelude.{◌&&◌, ◌||◌, if◌then◌else◌, ◌∷◌}
-use Rattle.gimli_write.specs.Prelude
+use Rattle.gimli_write.specs
+use specs.Prelude
 use Prelude.{ℕ, Bool, not, List, [], Option, Some, None, Result}
 use Prelude.{Ok, Err, is_err, Ins, makes_row, decoded_at, Sections, ConvertError, SourceRow}
 use Rattle.gimli_line.specs.run.Machine.{is_refused}
-use Rattle.gimli_write.specs
 use specs.convert.SourceTables.{TablesAndTexts}
 use specs.convert.Items.{file_id, tables_after_definition}
 use specs.convert.SourceRun.{SourceRun, row_made, state_after}

@@ -2,7 +2,7 @@ use Rattle.std.specs.Prelude.{◌<◌}
 use Rattle.gimli_write.proofs
 use proofs.Common.{length, arith, file_seen, HasFileTexts, file_answer}
 use proofs.ReadTexts.{mapped_at, one_by_one_more}
-use Rattle.gimli_write.proofs.read_back.read_files.Goals as goal
+use proofs.read_back.read_files.Goals as goal
 
 pub read_file-requires : goal.read_file-requires
 read_file-requires g c =

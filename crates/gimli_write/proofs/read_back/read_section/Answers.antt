@@ -12,7 +12,7 @@ use proofs.ReadUnits.{
   same_answers,
   same_refusal,
 }
-use Rattle.gimli_write.proofs.read_back.read_section.Goals as goal
+use proofs.read_back.read_section.Goals as goal
 
 pub read_program-requires : goal.read_program-requires
 read_program-requires g c =

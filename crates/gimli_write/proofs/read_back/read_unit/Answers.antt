@@ -3,7 +3,7 @@ use Rattle.gimli_write.proofs
 use proofs.Common.{length, ap, subst, List, ℕ, ◌∙◌, err_from_is_err_and, texts_in}
 use proofs.ReadUnits.{can_read, program_answered, program_refused, unread_refused}
 use proofs.BuiltAnswers.{built_directories, built_files, built_rows, never_read}
-use Rattle.gimli_write.proofs.read_back.read_unit.Goals as goal
+use proofs.read_back.read_unit.Goals as goal
 
 pub returns-in_err-sections-clause-err : goal.returns-in_err-sections-clause-err
 returns-in_err-sections-clause-err g c =

@@ -1,12 +1,13 @@
-use Rattle.gimli_write.proofs.Common
+use Rattle.gimli_write.proofs
+use proofs.Common
 use Common.{drop, refl, subst, Result, Ok, Err, OnOk, IfErr, texts_in, RefusesUnit, slice_layout, unit_entry_of}
 use Rattle.gimli_build.specs.Version5Tables.{texts_after}
 use Rattle.gimli_bytes.specs.Hand.{plain}
 use Rattle.gimli_build.specs.Unit.{unit_bytes}
 use Rattle.gimli_build.proofs.refusals.Causes.{no-cause, refused-for}
-use Rattle.gimli_write.proofs.RoundTrips.{write_refused, unit_not_answered}
+use proofs.RoundTrips.{write_refused, unit_not_answered}
 use Rattle.gimli_build.proofs.building.SourceLemmas.{can-write-after}
-use Rattle.gimli_write.proofs.read_back.round_trip.Goals as goal
+use proofs.read_back.round_trip.Goals as goal
 
 pub returns-in-Ok-clause-refusal : goal.returns-in-Ok-clause-refusal
 returns-in-Ok-clause-refusal g c =

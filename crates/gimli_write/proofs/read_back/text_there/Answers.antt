@@ -1,7 +1,7 @@
 use Rattle.gimli_write.proofs
 use proofs.Common.{inl, inr, IfOk-weaker, MatchResult-weaker, value_seen}
 use proofs.ReadTexts.{text_read, text_not_refused}
-use Rattle.gimli_write.proofs.read_back.text_there.Goals as goal
+use proofs.read_back.text_there.Goals as goal
 
 pub returns-clause-ok : goal.returns-clause-ok
 returns-clause-ok g c =

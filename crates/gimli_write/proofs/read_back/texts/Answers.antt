@@ -2,7 +2,7 @@ use Rattle.std.specs.Prelude.{◌<◌}
 use Rattle.gimli_write.proofs
 use proofs.Common.{length, arith, value_seen, HasText}
 use proofs.ReadTexts.{mapped_at, one_by_one_more}
-use Rattle.gimli_write.proofs.read_back.texts.Goals as goal
+use proofs.read_back.texts.Goals as goal
 
 pub text_there-requires : goal.text_there-requires
 text_there-requires g c =

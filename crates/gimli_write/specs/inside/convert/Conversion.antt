@@ -3,7 +3,7 @@ use Rattle.std.specs.Prelude.{◌≡◌}
 use Rattle.gimli_write.specs
 use specs.Prelude.{ℕ, Option, Some, None, SourceRow}
 use specs.convert.SourceTables.{TablesAndTexts}
-use Rattle.gimli_write.specs.convert.Items
+use specs.convert.Items
 use Items.{Reading, ends, address_offered, row_or_end_offered, after_definitions}
 
 -- what a row of the source, with the address that was set for it, or the end, leaves of what is

@@ -1,10 +1,10 @@
 -- What a run over a source has still to read.
 use Rattle.std.specs.Prelude.{◌≡◌, ◌<◌, ◌-◌, ◌&&◌, if◌then◌else◌}
-use Rattle.gimli_write.specs.Prelude
+use Rattle.gimli_write.specs
+use specs.Prelude
 use Prelude.{ℕ, not, List, [], length, IfErr, IfOk, Result, file_seen, Ins, makes_row, Sections}
 use Prelude.{ConvertError, SourceRow, SourceStep, Done, More, Defines, Made}
 use Rattle.gimli_line.specs.declared.run.row.LineRow.{LineRow}
-use Rattle.gimli_write.specs
 use specs.convert.SourceTables.{TablesAndTexts, file_added}
 use specs.convert.Items.{Reading, ends, defines, source_row_offered, stops}
 use specs.convert.TablesAtEnd.{tables_at_end}

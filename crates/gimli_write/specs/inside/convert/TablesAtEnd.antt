@@ -1,8 +1,8 @@
 -- The tables that a source leaves: the files that it defines are added, up to its end or to what is
 -- refused.
-use Rattle.gimli_write.specs.Prelude
-use Prelude.{ℕ, List, Some, file_seen, Sections, SourceStep, Done, More, Defines, Made}
 use Rattle.gimli_write.specs
+use specs.Prelude
+use Prelude.{ℕ, List, Some, file_seen, Sections, SourceStep, Done, More, Defines, Made}
 use specs.convert.SourceTables.{TablesAndTexts, file_added}
 use specs.convert.SourceRun.{SourceRun}
 use specs.convert.TablesAtEnd.{unless_refused, tables_at_end, tables_after_row}

@@ -1,7 +1,7 @@
 use Rattle.gimli_write.proofs
 use proofs.Common.{err_from_is_err_and, beside}
 use proofs.Outcomes.{rest_converts, rest_refused}
-use Rattle.gimli_write.proofs.convert.conversion.convert_all.Goals as goal
+use proofs.convert.conversion.convert_all.Goals as goal
 
 pub returns-in_err-feed_all-clause-err : goal.returns-in_err-feed_all-clause-err
 returns-in_err-feed_all-clause-err g c =

@@ -2,7 +2,7 @@ use Rattle.gimli_write.proofs
 use proofs.Common.{ap, ◌∙◌, option_map, unwrap_or, err_from_is_err_and, handed_of}
 use proofs.ConvertSteps.{kept_then}
 use proofs.ConvertHeader.{refused_at_start, refused_at_listed}
-use Rattle.gimli_write.proofs.convert.header.prepare.Goals as goal
+use proofs.convert.header.prepare.Goals as goal
 
 pub returns-in_err-tables-clause-err : goal.returns-in_err-tables-clause-err
 returns-in_err-tables-clause-err g c =

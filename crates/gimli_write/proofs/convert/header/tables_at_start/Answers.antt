@@ -1,8 +1,9 @@
-use Rattle.gimli_write.proofs.Common
+use Rattle.gimli_write.proofs
+use proofs.Common
 use Common.{ℕ, List, ◌∙◌, Result, Ok, option_map, IfOk-weaker, LineEncoding, ConvertError, ◌>>=◌, TablesAndTexts}
 use Common.{working_directory, SourceFile, source_file, line_encoding_of, first_texts, start_of_tables}
-use Rattle.gimli_write.proofs.ConvertHeader.{at_third}
-use Rattle.gimli_write.proofs.convert.header.tables_at_start.Goals as goal
+use proofs.ConvertHeader.{at_third}
+use proofs.convert.header.tables_at_start.Goals as goal
 
 pub returns-clause-ok : goal.returns-clause-ok
 returns-clause-ok g c =

@@ -1,10 +1,10 @@
-use Rattle.gimli_write.proofs.Common
-use Common.{err_from_is_err_and, IfOk-weaker, IfErr-weaker, tables_with, ToConvert, to_convert, still_to_read}
 use Rattle.gimli_write.proofs
+use proofs.Common
+use Common.{err_from_is_err_and, IfOk-weaker, IfErr-weaker, tables_with, ToConvert, to_convert, still_to_read}
 use proofs.ConvertSteps.{kept_then}
 use proofs.Outcomes.{all_converted, all_comes, header_refused, rows_refused}
 use proofs.MappedLaws.{conversion_faithful}
-use Rattle.gimli_write.proofs.convert.program.convert_program.Goals as goal
+use proofs.convert.program.convert_program.Goals as goal
 
 pub returns-in_err-header-clause-refusal : goal.returns-in_err-header-clause-refusal
 returns-in_err-header-clause-refusal g c =

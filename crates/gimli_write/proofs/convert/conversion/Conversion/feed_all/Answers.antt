@@ -1,10 +1,10 @@
 use Rattle.gimli_write.proofs
 use proofs.Common.{sym, ◌∙◌, inr, Err, err_from_is_err_and}
 use proofs.ConvertSteps.{kept_then}
-use Rattle.gimli_write.proofs.Outcomes
+use proofs.Outcomes
 use Outcomes.{fed_next, fed_fewer, feed_refused, read_refused, left_open, converted_all, refused_then}
 use proofs.Writable.{writable_then, writable_with_items}
-use Rattle.gimli_write.proofs.convert.conversion.Conversion.feed_all.Goals as goal
+use proofs.convert.conversion.Conversion.feed_all.Goals as goal
 
 pub returns-in_err-row-clause-err : goal.returns-in_err-row-clause-err
 returns-in_err-row-clause-err g c =

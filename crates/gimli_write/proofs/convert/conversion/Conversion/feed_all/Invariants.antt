@@ -1,7 +1,7 @@
 use Rattle.gimli_write.proofs
 use proofs.Common.{Result, KeepsTexts, ConvertError, Outcome, ComesTo, still_to_read, StaysWritable}
 use proofs.Outcomes.{offer_count}
-use Rattle.gimli_write.proofs.convert.conversion.Conversion.feed_all.Given as goal
+use proofs.convert.conversion.Conversion.feed_all.Given as goal
 
 abbrev pub invariant-rows : goal.invariant-rows
 invariant-rows g l = record {

@@ -1,9 +1,9 @@
-use Rattle.gimli_write.proofs.Common
+use Rattle.gimli_write.proofs
+use proofs.Common
 use Common.{ℕ, nat_eq, refl, sym, ap, ◌∙◌, inr, Option, Some, Ok, Result, eqb-true, nil_from_length}
 use Common.{err_from_is_err_and, ConvertError, Row, Reading, SequenceRead, sequence_with, tables_of, still_to_read}
 use Rattle.gimli_write.specs.declared.convert.rows.ConvertLineRow.TheVariants.{SetAddress}
 use Rattle.gimli_write.specs.declared.convert.rows.ConvertLineSequenceEnd.TheVariants.{Address}
-use Rattle.gimli_write.proofs
 use proofs.ConvertSteps.{refused_same}
 use proofs.Outcomes.{one_fewer}
 use proofs.ReadLemmas.{reads_then, reads_kept}
@@ -17,7 +17,7 @@ use proofs.Gathers.{
   rows_left,
   gather_refused,
 }
-use Rattle.gimli_write.proofs.convert.conversion.Conversion.gather.Goals as goal
+use proofs.convert.conversion.Conversion.gather.Goals as goal
 
 pub returns-in_err-row-clause-err : goal.returns-in_err-row-clause-err
 returns-in_err-row-clause-err g c =

@@ -2,7 +2,7 @@ use Rattle.std.specs.Prelude.{◌≡◌}
 use Rattle.gimli_write.proofs
 use proofs.Common.{[], None, KeepsFinalTables, beside, still_to_read, ReadsOn, sequence_from}
 use proofs.Outcomes.{offer_count}
-use Rattle.gimli_write.proofs.convert.conversion.Conversion.gather.Given as goal
+use proofs.convert.conversion.Conversion.gather.Given as goal
 
 abbrev pub invariant-rows : goal.invariant-rows
 invariant-rows g l = record {

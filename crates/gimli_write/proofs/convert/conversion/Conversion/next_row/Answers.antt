@@ -2,7 +2,7 @@ use Rattle.std.specs.Prelude.{◌≡◌}
 use Rattle.gimli_write.proofs
 use proofs.Common.{refl, sym, subst, None, err_from_is_err_and, Conversion}
 use proofs.Conversions.{held_last, held_stops}
-use Rattle.gimli_write.proofs.convert.conversion.Conversion.next_row.Goals as goal
+use proofs.convert.conversion.Conversion.next_row.Goals as goal
 
 pub returns-in_err-row_or_end-clause-leaves : goal.returns-in_err-row_or_end-clause-leaves
 returns-in_err-row_or_end-clause-leaves g c =

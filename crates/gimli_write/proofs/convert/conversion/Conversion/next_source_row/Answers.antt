@@ -1,13 +1,13 @@
-use Rattle.gimli_write.proofs.Common
+use Rattle.gimli_write.proofs
+use proofs.Common
 use Common.{sym, ap, ◌∙◌, err_from_is_err_and, file_seen, tables_with, defines, defines_first, after_definitions}
 use Common.{without_built, source_left}
 use Rattle.gimli_write.specs.convert.TablesAtEnd.{unless_refused, tables_at_end}
-use Rattle.gimli_write.proofs
 use proofs.SourceSteps.{none_left}
 use proofs.TablesAtEnd.{none_last}
 use proofs.ReadLemmas.{reads_then}
 use proofs.Conversions.{conversion, file_taken, file_refusal}
-use Rattle.gimli_write.proofs.convert.conversion.Conversion.next_source_row.Goals as goal
+use proofs.convert.conversion.Conversion.next_source_row.Goals as goal
 
 pub returns-in-Done-clause-ok : goal.returns-in-Done-clause-ok
 returns-in-Done-clause-ok g c =

@@ -12,7 +12,7 @@ use proofs.Common.{
   ReadsOn,
 }
 use proofs.Conversions.{conversion}
-use Rattle.gimli_write.proofs.convert.conversion.Conversion.next_source_row.Given as goal
+use proofs.convert.conversion.Conversion.next_source_row.Given as goal
 
 abbrev pub invariant-steps : goal.invariant-steps
 invariant-steps g l =

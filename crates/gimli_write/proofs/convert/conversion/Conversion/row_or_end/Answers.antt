@@ -1,7 +1,7 @@
 use Rattle.gimli_write.proofs
 use proofs.Common.{ℕ, sym, ap, ◌∙◌, err_from_is_err_and, tables_with, ends, file_id, without_built}
 use proofs.Conversions.{row_taken, row_refused, file_found, file_lacks}
-use Rattle.gimli_write.proofs.convert.conversion.Conversion.row_or_end.Goals as goal
+use proofs.convert.conversion.Conversion.row_or_end.Goals as goal
 
 pub returns-in_err-file-clause-err : goal.returns-in_err-file-clause-err
 returns-in_err-file-clause-err g c =

@@ -1,12 +1,12 @@
 use Rattle.std.specs.Prelude.{◌≡◌}
-use Rattle.gimli_write.proofs.Common
+use Rattle.gimli_write.proofs
+use proofs.Common
 use Common.{refl, sym, subst, option_map, err_from_is_err_and, Sections, TablesAndTexts, tables_with, handed_of}
 use Common.{encoding_of, ReadsItems, start_of_source, reading_left, without_built}
-use Rattle.gimli_write.proofs
 use proofs.SourceReadings.{start_reads}
 use proofs.Conversions.{prepared_plain}
 use proofs.MappedFiles.{prepared_ready, ready_written}
-use Rattle.gimli_write.proofs.convert.program.ConvertLineHeader.new.Goals as goal
+use proofs.convert.program.ConvertLineHeader.new.Goals as goal
 
 pub returns-in_err-tables-clause-err : goal.returns-in_err-tables-clause-err
 returns-in_err-tables-clause-err g c =

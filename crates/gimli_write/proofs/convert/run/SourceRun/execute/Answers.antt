@@ -1,10 +1,11 @@
 use Rattle.std.specs.Prelude.{◌≡◌}
-use Rattle.gimli_write.proofs.Common
+use Rattle.gimli_write.proofs
+use proofs.Common
 use Common.{true, false, refl, sym, ap, ◌∙◌, subst, is_refused, reset_row, state_after, step_made, ins_seen, Read}
-use Rattle.gimli_write.proofs.SourceSteps
+use proofs.SourceSteps
 use SourceSteps.{state, is_overflow, ready_at_refusal, ready_when_quiet, ready_after_row, header_kept, quiet_state}
 use SourceSteps.{row_state, made_is}
-use Rattle.gimli_write.proofs.convert.run.SourceRun.execute.Goals as goal
+use proofs.convert.run.SourceRun.execute.Goals as goal
 
 pub invariant_of-self : goal.invariant_of-self
 invariant_of-self g c =

@@ -2,7 +2,7 @@ use Rattle.std.specs.Prelude.{◌≡◌}
 use Rattle.gimli_write.proofs
 use proofs.Common.{subst, Some, SetAddress, SourceRun, state_after}
 use proofs.SourceSteps.{state, address_done, address_ready, address_header, address_state}
-use Rattle.gimli_write.proofs.convert.run.SourceRun.set_address.Goals as goal
+use proofs.convert.run.SourceRun.set_address.Goals as goal
 
 pub invariant_of-self : goal.invariant_of-self
 invariant_of-self g c =

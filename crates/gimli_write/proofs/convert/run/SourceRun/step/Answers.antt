@@ -2,7 +2,7 @@ use Rattle.std.proofs.Common.{◌≡◌, refl}
 use Rattle.gimli_write.proofs
 use proofs.SourceSteps.{state}
 use proofs.SourceFromBytes.{address_steps, quiet_steps, refused_ready, refused_steps, row_steps}
-use Rattle.gimli_write.proofs.convert.run.SourceRun.step.Goals as goal
+use proofs.convert.run.SourceRun.step.Goals as goal
 
 pub returns-in-Err : goal.returns-in-Err
 returns-in-Err g c =

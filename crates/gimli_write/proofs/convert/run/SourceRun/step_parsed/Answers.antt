@@ -4,7 +4,7 @@ use proofs.Common.{false, refl, ap, SetAddress, DefineFile, file_seen, ins_seen,
 use proofs.TablesAtEnd.{none_last, fault_last, file_last}
 use proofs.SourceSteps.{state, other_kind, spelled_as, is_shorter, none_left, at_fault, after_file}
 use proofs.SourceFromBytes.{steps_source}
-use Rattle.gimli_write.proofs.convert.run.SourceRun.step_parsed.Goals as goal
+use proofs.convert.run.SourceRun.step_parsed.Goals as goal
 
 pub returns-in-Err : goal.returns-in-Err
 returns-in-Err g c =

@@ -1,9 +1,10 @@
 use Rattle.std.specs.Prelude.{◌<◌, ◌+◌}
-use Rattle.gimli_write.proofs.Common
+use Rattle.gimli_write.proofs
+use proofs.Common
 use Common.{length, map, drop, arith, sym, ◌∙◌, err_from_is_err_and, value_seen, TablesAndTexts}
 use Common.{tables_with, directory_added, all_added}
-use Rattle.gimli_write.proofs.ConvertSteps.{done_first, refused_first, refused_same, next_added, kept_then}
-use Rattle.gimli_write.proofs.convert.tables.SourceTables.add_directories.Goals as goal
+use proofs.ConvertSteps.{done_first, refused_first, refused_same, next_added, kept_then}
+use proofs.convert.tables.SourceTables.add_directories.Goals as goal
 
 pub loop-directory-preserved : goal.loop-directory-preserved
 loop-directory-preserved g c =

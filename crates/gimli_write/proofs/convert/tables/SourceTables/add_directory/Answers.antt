@@ -4,7 +4,7 @@ use Rattle.gimli_write.proofs
 use proofs.Common.{ℕ, List, [], refl, inl, err_from_is_err_and, Ok, Value, value_seen, LineText, made_text, made_table}
 use proofs.Common.{Built, index_of_directory, Sections, source_path, TablesAndTexts, version_of, directory_added}
 use proofs.ConvertSteps.{directory_is_added, kept_self, refused_first}
-use Rattle.gimli_write.proofs.convert.tables.SourceTables.add_directory.Goals as goal
+use proofs.convert.tables.SourceTables.add_directory.Goals as goal
 
 directory_done : (s : Sections) (tables : TablesAndTexts) (v : Value) {path ids : List ℕ} {id : ℕ} {text : LineText}
     {line_strings : List (List ℕ)} {program : Built} → source_path (version_of tables) s v ≡ Ok path

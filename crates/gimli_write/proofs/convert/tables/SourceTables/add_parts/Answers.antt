@@ -6,7 +6,7 @@ use proofs.Common.{ap, StringTables, CanWrite, SourceTables, TablesAndTexts, ver
 use proofs.ConvertSteps.{parts_are_added, kept_then}
 use proofs.KeptFiles.{files_self, keeps_more}
 use proofs.Writable.{written_later, written_with_parts}
-use Rattle.gimli_write.proofs.convert.tables.SourceTables.add_parts.Goals as goal
+use proofs.convert.tables.SourceTables.add_parts.Goals as goal
 
 parts_done : (tables : TablesAndTexts) (f : File) (parts : FileParts) {path : LineText} {source : Option LineText}
     {paths line_strings : List (List ℕ)} {program : Built} {ids md5 : List ℕ} {id timestamp size : ℕ}
