@@ -3,7 +3,7 @@ use Rattle.std.specs.Prelude.{◌≡◌, if◌then◌else◌, ◌∷◌}
 use Rattle.gimli_line.proofs.Common
 use Common.{Bool, true, false, not, List, [], refl, ap, subst, ◌∙◌, inl, inr, All, Error, LineRow, File, row}
 use Common.{EventWithFiles, given_of, RunState, live_made, live_events, made_left, events_left, GivesRowsAlone, IsRow}
-use Common.{RowIs, FaultIs}
+use Common.{RowIs, WantsMemory, FaultIs}
 use Rattle.gimli_line.proofs.RowsAlone.{rest_alone}
 
 pub none_given : (a : RunState) → made_left a ≡ [] → events_left a ≡ []
@@ -38,6 +38,23 @@ module _ (old new : RunState) (r : LineRow) (files : List File) (next : RowIs li
 
 -- ---- refusals
 
+memory_given : {a b : RunState} → WantsMemory live_made a b → WantsMemory live_events a b
+memory_given m = record {
+  point = m.point;
+  passed = m.passed;
+  kept = ap given_of m.kept;
+  definition = m.definition;
+  front = m.front;
+  rest = m.rest;
+  parts = m.parts;
+  spelled = m.spelled;
+  defines = m.defines;
+  appends = m.appends;
+  files = m.files;
+  none = m.none;
+  empty = m.empty;
+}
+
 pub fault_given : (a b : RunState) (e : Error) → FaultIs live_made a b e → FaultIs live_events a b e
-fault_given a b e (inl m) = inl m
+fault_given a b e (inl m) = inl (m.0, memory_given m.1)
 fault_given a b e (inr f) = inr (ap given_of f.0, f.1, f.2)

@@ -4,7 +4,8 @@ use Rattle.gimli_line.proofs.Common
 use Common.{Bool, true, false, not, List, [], Option, Some, None, refl, sym, ap, ◌∙◌, append_assoc, filter, append-nil}
 use Common.{Error, LineRow, File, Header, Parameters, Ins, files_after, Event, row, fault, made_at, EventWithFiles}
 use Common.{with_files, made_after, is_given, given_of, events_of, events_after, program_events, program_made, initial}
-use Common.{made_step, next_registers, made_from, run, registers_from, files_from}
+use Common.{made_step, next_registers, made_from, run, registers_from, files_from, ℕ, OrderAndLimit, Events}
+use Common.{EventsWithFiles}
 use Rattle.gimli_line.proofs.Backwards.{made_start}
 
 -- what a point gives, and then the rest
@@ -55,6 +56,16 @@ pub given_without_files : (a : Bool) (h : Header) (list : List Ins) (end : Optio
 given_without_files a h list end =
     ap (λ (es : List EventWithFiles). events_of (given_of es)) (sym (made_start a h.parameters h.files list end))
     ∙ given_from_start a h.parameters h.files list end
+
+-- events that have files are events
+pub without_files : (layout : OrderAndLimit) (a : Bool) (h : Header) (bytes : List ℕ) (events : List EventWithFiles)
+    → EventsWithFiles layout a h bytes events → Events layout h bytes (events_of events)
+without_files layout a h bytes events given = record {
+  list = given.list;
+  end = given.end;
+  decoding = given.decoding;
+  given = ap events_of given.given ∙ given_without_files a h given.list given.end;
+}
 
 -- one list, and then more
 pub given_joined : (a : Bool) (h : Parameters) (r : LineRow) (files : List File) (list more : List Ins)

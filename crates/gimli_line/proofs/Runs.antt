@@ -244,10 +244,11 @@ pub wants : (a : Bool) (h k : Header) → k ≡ h
     → s.bytes ≡ front ++ rest
     → SpellsInstruction s.layout k front i → defines_file i ≡ true → (h2 : Header) (r2 : LineRow) (s2 : Unread)
     → s2.bytes ≡ [] → h2 ≡ h → a ≡ true
-    → WantsMemory (state a h c r s) (state a h2 c2 r2 s2)
+    → WantsMemory live_made (state a h c r s) (state a h2 c2 r2 s2)
 wants a h k same c c2 r s i front rest parts spelled defines h2 r2 s2 empty kept appends = record {
   point = state a h c r s;
   passed = grind (arith);
+  kept = refl;
   definition = i;
   front = front;
   rest = rest;
@@ -260,11 +261,14 @@ wants a h k same c c2 r s i front rest parts spelled defines h2 r2 s2 empty kept
   empty = empty;
 }
 
--- a refusal after instructions that give nothing
-pub wants_after : (a b c : RunState) → PassesOver a b [] → WantsMemory b c → WantsMemory a c
-wants_after a b c passed m = record {
+-- a refusal after instructions of which nothing came
+pub wants_after : (live : RunState → List EventWithFiles) (a b c : RunState) → live a ≡ live b → PassesOver a b []
+    → WantsMemory live b c
+    → WantsMemory live a c
+wants_after live a b c kept passed m = record {
   point = m.point;
   passed = passes_both a b m.point [] [] passed m.passed;
+  kept = kept ∙ m.kept;
   definition = m.definition;
   front = m.front;
   rest = m.rest;
@@ -280,7 +284,7 @@ wants_after a b c passed m = record {
 pub refused_after : (live : RunState → List EventWithFiles) (a b c : RunState) (e : Error) → live a ≡ live b
     → PassesOver a b [] → FaultIs live b c e
     → FaultIs live a c e
-refused_after live a b c e events passed (inl m) = inl (m.0, wants_after a b c passed m.1)
+refused_after live a b c e events passed (inl m) = inl (m.0, wants_after live a b c events passed m.1)
 refused_after live a b c e events passed (inr f) = inr (events ∙ f.0, f.1 ∙ same_end a b [] passed, f.2)
 
 -- where no bytes are left nothing is refused

@@ -115,7 +115,7 @@ module _ (a : Bool) (h k : Header) (same : k ≡ h) (old new : RunState) (from :
     err =
         inl (
           refl,
-          by_headers a h h2 old new from to WantsMemory
+          by_headers a h h2 old new from to (WantsMemory live_made)
               (wants a h k same old.source new.source old.row old.unread i taken.0 rest.bytes taken.1 taken.2
               defines h2 new.row new.unread empty kept appends),
         );

@@ -20,6 +20,7 @@ ghost use Rattle.gimli_line.specs.header.HeaderGrammar.{HaveCountedEntries};
 ghost use Rattle.gimli_line.specs.run.Events.{Event, Events, made_after, events_after, row_at};
 ghost use Rattle.gimli_line.specs.run.Events.{files_at};
 ghost use Rattle.gimli_line.specs.run.Instruction.{Ins, ins_by, makes_row};
+ghost use Rattle.gimli_line.specs.run.Events.{events_of};
 ghost use Rattle.gimli_line.specs.run.EventsWithFiles.{EventsWithFiles};
 ghost use Rattle.gimli_line.specs.run.InstructionGrammar.{
   Decodes,
@@ -342,6 +343,13 @@ pub fn rows_are_bounded()
     ensures files { (n : OrderAndLimit) (appends : Bool) (h : Header) (bytes : List ℕ) (events : _)
         → EventsWithFiles n appends h bytes events → length events ≤ length bytes }
     ensures left { (rows : RunState) → length (events_left rows) ≤ length rows.unread.bytes }
+{}
+
+/// The events that a run gives with the files at each are, without these, the events of its bytes:
+/// so it is of what the rows of a program give, and of what a sequence gives that is resumed.
+pub fn files_change_no_events()
+    ensures { (layout : OrderAndLimit) (appends : Bool) (h : Header) (bytes : List ℕ) (events : _)
+        → EventsWithFiles layout appends h bytes events → Events layout h bytes (events_of events) }
 {}
 
 /// What a section is by default holds what its contents are by default.

@@ -15,7 +15,7 @@ use Rattle.gimli_line.specs.run.Machine.{made_step, next_registers, made_from}
 use Rattle.gimli_line.specs.run.Instruction.{Ins, defines_file, files_after}
 use Rattle.gimli_line.specs.run.InstructionReading.{decoded_at}
 use Rattle.gimli_line.specs.run.Passing.{with_reset_row, files_from}
-use Rattle.gimli_line.specs.run.Rows.{WantsMemory, events_left, files_at_end, whole_run}
+use Rattle.gimli_line.specs.run.Rows.{WantsMemory, events_left, files_at_end, live_events, whole_run}
 use Rattle.gimli_line.specs.run.RunState.{RunState}
 use Rattle.gimli_line.proofs.InstructionLaws.{is_decoded}
 use Rattle.gimli_line.proofs.Runs.{bare_decoding, decodes_on, decoded_some}
@@ -86,7 +86,8 @@ row_keeps old e rest is =
 
 -- ---- a file for which memory was missing is in the list at the end
 
-wanted : (old new : RunState) → old.appends ≡ true → WantsMemory old new → length old.files < length (files_at_end old)
+wanted : (old new : RunState) → old.appends ≡ true → WantsMemory live_events old new
+    → length old.files < length (files_at_end old)
 wanted old new appends w =
     let n = old.unread.layout in
     let h = old.fixed in
@@ -119,7 +120,7 @@ no_files a files (i ∷ list) none =
 
 pub defines : (h : Header) (source : HeaderSource) (first old new : RunState) → first ≡ whole_run h source
     → files_at_end old ≡ files_at_end first → length first.files ≤ length old.files → new.appends ≡ old.appends
-    → WantsMemory (with_reset_row old) new
+    → WantsMemory live_events (with_reset_row old) new
     → DefinesFile source.layout h
 defines h source first old new start same few appends w =
     at_test (list_any defines_file (decoded_at source.layout (without_files h) h.program).0) refl

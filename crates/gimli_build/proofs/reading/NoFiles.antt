@@ -131,7 +131,7 @@ goes-none a b events none p =
 
 -- ---- refusals
 
-no_memory : (a b : RunState) → DefinesNoFile a → WantsMemory a b → ⊥
+no_memory : (a b : RunState) → DefinesNoFile a → WantsMemory live_events a b → ⊥
 no_memory a b none wants =
     let position = goes-none _ _ _ none wants.passed in
     let rest = rest_decoded wants.point.unread.layout wants.point.fixed wants.point.unread.bytes wants.front wants.rest

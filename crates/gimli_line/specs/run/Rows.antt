@@ -115,11 +115,12 @@ EndIs live old new =
     (live (with_reset_row old) ≡ []) × (live (with_reset_row new) ≡ []) × (new.unread.bytes ≡ [])
     × (new.files ≡ files_at_end old)
 
--- memory was missing for a file, whose definition comes after instructions that give nothing; the
--- files are those of its point, and nothing comes after it
-pub record WantsMemory (old new : RunState) : Type 0 where
+-- memory was missing for a file, whose definition comes after instructions of which nothing came;
+-- the files are those of its point, and nothing comes after it
+pub record WantsMemory (live : RunState → List EventWithFiles) (old new : RunState) : Type 0 where
   pub point : RunState
   pub passed : PassesOver old point []
+  pub kept : live old ≡ live point
   pub definition : Ins
   pub front : List ℕ
   pub rest : List ℕ
@@ -140,7 +141,7 @@ FaultComes live old new e =
 
 -- a refusal: `OutOfMemory` for a file, or a fault
 abbrev pub FaultIs : (RunState → List EventWithFiles) → RunState → RunState → Error → Type 0
-FaultIs live old new e = ((e ≡ OutOfMemory) × WantsMemory old new) ⊎ FaultComes live old new e
+FaultIs live old new e = ((e ≡ OutOfMemory) × WantsMemory live old new) ⊎ FaultComes live old new e
 
 -- an answer of `next_row` or `next_any_row` is what was next to come: the end, a row with a header
 -- that has the files of its point, or a refusal
