@@ -4,7 +4,7 @@ use Rattle.std.proofs.lemmas.List.{nil_from_length}
 use Rattle.gimli_lookup.specs.Statements.{addresses_of}
 use Rattle.gimli_lookup.specs.inside.Statements.{is_among}
 use Rattle.gimli_lookup.proofs.StatementRuns.{no_line, first_line, no_files}
-use Rattle.gimli_lookup.proofs.statements.addresses_from.Goals as goal
+use Rattle.gimli_lookup.proofs.statements.collect_from.Goals as goal
 
 pub returns-in_default-clause-ok : goal.returns-in_default-clause-ok
 returns-in_default-clause-ok c =
