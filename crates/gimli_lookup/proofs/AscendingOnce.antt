@@ -48,19 +48,19 @@ below_from : (a : ℕ) (bs : List ℕ) → ((k : ℕ) → k < length bs → a < 
 below_from a [] each = tt
 below_from a (b ∷ bs) each = (each 0 (omega arith), below_from a bs (λ k inside. each (suc k) (omega arith)))
 
-rises_from_pairs : (as : List ℕ) → AllPairs (λ x y. x < y) as → Rises as
+rises_from_pairs : (all : List ℕ) → AllPairs (λ x y. x < y) all → Rises all
 rises_from_pairs [] each = tt
 rises_from_pairs (a ∷ rest) each = (
   below_from a rest (λ k inside. each zero (suc k) 0 (omega arith) (omega arith)),
   rises_from_pairs rest (λ i j d before inside. each (suc i) (suc j) d (omega arith) (omega arith)),
 )
 
-rises_from : (as : List ℕ) → IsStrictlyIncreasing as → Rises as
-rises_from as up = rises_from_pairs as (AllPairs-from_increasing as up)
+rises_from : (all : List ℕ) → IsStrictlyIncreasing all → Rises all
+rises_from all up = rises_from_pairs all (AllPairs-from_increasing all up)
 
-increasing_from : (as : List ℕ) → Rises as → IsStrictlyIncreasing as
-increasing_from [] up = λ k inside. absurd (omega arith)
-increasing_from (a ∷ []) up = λ k inside. absurd (omega arith)
+increasing_from : (all : List ℕ) → Rises all → IsStrictlyIncreasing all
+increasing_from [] up k inside = absurd (omega arith)
+increasing_from (a ∷ []) up k inside = absurd (omega arith)
 increasing_from (a ∷ b ∷ rest) up zero inside = up.0.0
 increasing_from (a ∷ b ∷ rest) up (suc k) inside =
     let next : suc (k + 1) ≡ suc k + 1 = omega arith in
@@ -94,11 +94,10 @@ same_rest x y xs ys first up also_up same a = elim (cases_eq a x) [
 
 not_first : (x y : ℕ) (xs ys : List ℕ) → x < y → IsBelow y ys → has x (x ∷ xs) ≡ has x (y ∷ ys) → ⊥
 not_first x y xs ys less up same =
-    false≢true (
-      sym (or_from (nat_eq x y) (has x ys) (ne_eqb x y (λ is. omega (arith, is, less)))
-      (not_among x y ys (omega (arith, less)) up))
-      ∙ sym same ∙ has_first x xs,
-    )
+    false≢true
+    (sym (or_from (nat_eq x y) (has x ys) (ne_eqb x y (λ is. omega (arith, is, less)))
+    (not_among x y ys (omega (arith, less)) up))
+    ∙ sym same ∙ has_first x xs)
 
 -- ascending numbers with the same members are the same
 same_rising : (xs ys : List ℕ) → Rises xs → Rises ys → ((a : ℕ) → has a xs ≡ has a ys) → xs ≡ ys
@@ -110,7 +109,7 @@ same_rising (x ∷ xs) (y ∷ ys) up also_up same =
   where
     by_first : (x ≡ y) ⊎ ((x < y) ⊎ (y < x)) → (((a : ℕ) → has a xs ≡ has a ys) → xs ≡ ys) → x ∷ xs ≡ y ∷ ys
     by_first (inl first) rest =
-        ap (λ a. a ∷ xs) first ∙ ap (λ as. y ∷ as) (rest (same_rest x y xs ys first up.0 also_up.0 same))
+        ap (λ a. a ∷ xs) first ∙ ap (λ all. y ∷ all) (rest (same_rest x y xs ys first up.0 also_up.0 same))
     by_first (inr (inl less)) rest = absurd (not_first x y xs ys less also_up.0 (same x))
     by_first (inr (inr more)) rest = absurd (not_first y x ys xs more up.0 (sym (same y)))
 
@@ -194,7 +193,7 @@ ascending_once_permutation xs ys moved =
 
 or_of_later : (b c : Bool) → (c ≡ true → b ≡ true) → (b || c) ≡ b
 or_of_later true c already = refl
-or_of_later false true already = already refl
+or_of_later false true already = sym (already refl)
 or_of_later false false already = refl
 
 -- numbers that are there already add none
@@ -241,11 +240,9 @@ ascending_once_non_decreasing numbers up =
 pub ascending_once_none : (numbers : List ℕ) → ascending_once numbers ≡ [] → numbers ≡ []
 ascending_once_none [] none = refl
 ascending_once_none (a ∷ rest) none =
-    absurd (
-      false≢true (
-        sym (ap (λ numbers. has a numbers) none) ∙ ascending_once_has a (a ∷ rest) ∙ has_first a rest,
-      ),
-    )
+    absurd
+    (false≢true
+    (sym (ap (λ numbers. has a numbers) none) ∙ ascending_once_has a (a ∷ rest) ∙ has_first a rest))
 
 pub ascending_once_some : (numbers : List ℕ) → numbers ≢ [] → ascending_once numbers ≢ []
 ascending_once_some numbers some none = some (ascending_once_none numbers none)
