@@ -8,12 +8,8 @@ mod Slices
 mod ReadBack
 mod Puts
 mod OneFound
-mod Ordered
-mod OrderedLines
-mod Ranks
 mod LastComponents
 mod Starts
-mod NamedRows
 mod PathStarts
 mod WrittenEnds
 mod Entered
@@ -22,7 +18,6 @@ mod Lists
 mod PathLists
 mod Distinct
 mod Sources
-mod LineStarts
 mod TurnPlaces
 mod TurnOrder
 mod WalkedStarts
