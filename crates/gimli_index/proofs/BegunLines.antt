@@ -1,10 +1,10 @@
 -- The statements of a lookup give the addresses that the lookup gives.
 use Rattle.std.proofs.Common.{◌≡◌, ◌∙◌, ◌⊎◌, ℕ, Bool, true, false, not, nat_eq, nat_lt, ◌&&◌, ◌||◌, List, [], ◌∷◌}
-use Rattle.std.proofs.Common.{◌++◌, Option, None, Some, Result, Ok, Err, refl, sym, ap, inl, inr, if◌then◌else◌}
+use Rattle.std.proofs.Common.{◌++◌, Option, None, Some, Result, Ok, Err, refl, sym, ap, inl, inr, arith, if◌then◌else◌}
 use Rattle.std.specs.Prelude.{flat_map, map, ◌==◌, bytes_eq}
 use Rattle.std.specs.Option.{option_map_or}
 use Rattle.std.specs.List.{filter}
-use Rattle.std.proofs.lemmas.Bool.{eqb-true, false≢true, or_from, or_left}
+use Rattle.std.proofs.lemmas.Bool.{eqb-true, false≢true}
 use Rattle.std.proofs.lemmas.List.{map-append}
 use Rattle.std.proofs.lemmas.List.Elements.{filter-append}
 use Rattle.std.proofs.lemmas.List.Folds.{list_any-append}
@@ -13,7 +13,7 @@ use Rattle.gimli_line.specs.declared.run.row.LineRow.{LineRow}
 use Rattle.gimli_lookup.specs.Section.{KeptUnit, ListedUnit}
 use Rattle.gimli_lookup.specs.Statements.{is_of_line, ascending_once}
 use Rattle.gimli_lookup.specs.Statements.{addresses_in as addresses_in_rows}
-use Rattle.gimli_lookup.proofs.AscendingOnce.{has, same_ascending_once, same_truth}
+use Rattle.gimli_lookup.proofs.AscendingOnce.{has, same_ascending_once}
 use Rattle.gimli_lookup.proofs.StatementRuns.{addresses_on, at_end, of_first, of_given, of_no_statement, of_none}
 use Rattle.gimli_index.specs.Found.{Texts, SayWhereLinesBegin, file_path, is_one_file, is_one_path, lookup_addresses}
 use Rattle.gimli_index.specs.Found.{sequence_addresses}
@@ -21,6 +21,15 @@ use Rattle.gimli_index.specs.Lines.{addresses_in, addresses_of, is_named, is_of}
 use Rattle.gimli_index.specs.Meaning.{Statement}
 use Rattle.gimli_index.specs.declared.place.NoPath.{NoPath}
 use Rattle.gimli_index.specs.inside.Begun.{PathLine, begun, begun_in_unit, begun_in_units, goes_on}
+
+same_truth : (b c : Bool) → (b ≡ true → c ≡ true) → (c ≡ true → b ≡ true) → b ≡ c
+same_truth true c there back = sym (there refl)
+same_truth false true there back = absurd (false≢true (back refl))
+same_truth false false there back = refl
+
+either : (b c : Bool) → (b || c) ≡ true → (b ≡ true) ⊎ (c ≡ true)
+either true c is = inl refl
+either false c is = inr is
 
 -- ---- paths that are one
 
@@ -121,9 +130,11 @@ module _ (t : Texts) (u : ListedUnit) (whole : List ℕ) (line : ℕ) where
   same_addresses : (given : Option PathLine) (rows : List LineRow)
       → exact (begun t u given rows) ≡ addresses_on is_exact line (is_given given) rows
   same_addresses given [] = sym (at_end is_exact line (is_given given))
-  same_addresses given (r ∷ rows) =
-      by_end r.end_sequence refl
+  same_addresses given (r ∷ rows) = by_end r.end_sequence refl (λ g. same_addresses g rows)
     where
+      Rest : Type 0
+      Rest = (g : Option PathLine) → exact (begun t u g rows) ≡ addresses_on is_exact line (is_given g) rows
+
       row : Bool → Bool → Bool → Bool → List Statement
       row end zero goes none =
           if end then begun t u None rows
@@ -133,65 +144,65 @@ module _ (t : Texts) (u : ListedUnit) (whole : List ℕ) (line : ℕ) where
           else (record { path = file_path t u r.file; line = r.line; address = r.address })
           ∷ begun t u (Some (record { path = file_path t u r.file; line = r.line })) rows)))
 
-      by_stmt : (stmt of : Bool) → r.end_sequence ≡ false → nat_lt 0 r.line ≡ true
+      by_stmt : (stmt of : Bool) → Rest → r.end_sequence ≡ false → nat_lt 0 r.line ≡ true
           → goes_on given (file_path t u r.file) r.line ≡ false → r.is_stmt ≡ stmt → passes r ≡ of
           → exact (row false (not true) false (not stmt)) ≡ addresses_on is_exact line (is_given given) (r ∷ rows)
-      by_stmt false true code some goes stmt is =
-          same_addresses None rows
+      by_stmt false true later code some goes stmt is =
+          later None
           ∙ ap (λ (g : Bool). addresses_on is_exact line g rows) (sym (not_given given r goes is))
           ∙ sym (of_no_statement is_exact line (is_given given) r rows (of_code r code some ∙ is) stmt)
-      by_stmt false false code some goes stmt is =
-          same_addresses None rows ∙ sym (of_none is_exact line (is_given given) r rows (of_code r code some ∙ is))
-      by_stmt true true code some goes stmt is =
+      by_stmt false false later code some goes stmt is =
+          later None ∙ sym (of_none is_exact line (is_given given) r rows (of_code r code some ∙ is))
+      by_stmt true true later code some goes stmt is =
           ap (λ (b : Bool). map (λ (s : Statement). s.address) (if b
           then (record { path = file_path t u r.file; line = r.line; address = r.address })
           ∷ filter exactly (begun t u (Some (record { path = file_path t u r.file; line = r.line })) rows)
           else filter exactly (begun t u (Some (record { path = file_path t u r.file; line = r.line })) rows))) is
           ∙ ap (λ (found : List ℕ). r.address ∷ found)
-          (same_addresses (Some (record { path = file_path t u r.file; line = r.line })) rows
+          (later (Some (record { path = file_path t u r.file; line = r.line }))
           ∙ ap (λ (g : Bool). addresses_on is_exact line g rows) is)
           ∙ sym (of_first is_exact line r rows (of_code r code some ∙ is) stmt)
           ∙ ap (λ (g : Bool). addresses_on is_exact line g (r ∷ rows)) (sym (not_given given r goes is))
-      by_stmt true false code some goes stmt is =
+      by_stmt true false later code some goes stmt is =
           ap (λ (b : Bool). map (λ (s : Statement). s.address) (if b
           then (record { path = file_path t u r.file; line = r.line; address = r.address })
           ∷ filter exactly (begun t u (Some (record { path = file_path t u r.file; line = r.line })) rows)
           else filter exactly (begun t u (Some (record { path = file_path t u r.file; line = r.line })) rows))) is
-          ∙ same_addresses (Some (record { path = file_path t u r.file; line = r.line })) rows
+          ∙ later (Some (record { path = file_path t u r.file; line = r.line }))
           ∙ ap (λ (g : Bool). addresses_on is_exact line g rows) is
           ∙ sym (of_none is_exact line (is_given given) r rows (of_code r code some ∙ is))
 
-      by_goes : (goes of : Bool) → r.end_sequence ≡ false → nat_lt 0 r.line ≡ true
+      by_goes : (goes of : Bool) → Rest → r.end_sequence ≡ false → nat_lt 0 r.line ≡ true
           → goes_on given (file_path t u r.file) r.line ≡ goes → passes r ≡ of
           → exact (row false (not true) goes (not r.is_stmt))
           ≡ addresses_on is_exact line (is_given given) (r ∷ rows)
-      by_goes true true code some goes is =
-          same_addresses given rows
+      by_goes true true later code some goes is =
+          later given
           ∙ ap (λ (g : Bool). addresses_on is_exact line g rows) (given_as given r goes ∙ is)
           ∙ sym (of_given is_exact line r rows (of_code r code some ∙ is))
           ∙ ap (λ (g : Bool). addresses_on is_exact line g (r ∷ rows)) (sym (given_as given r goes ∙ is))
-      by_goes true false code some goes is =
-          same_addresses given rows
+      by_goes true false later code some goes is =
+          later given
           ∙ ap (λ (g : Bool). addresses_on is_exact line g rows) (given_as given r goes ∙ is)
           ∙ sym (of_none is_exact line (is_given given) r rows (of_code r code some ∙ is))
-      by_goes false of code some goes is =
+      by_goes false of later code some goes is =
           ap (λ (b : Bool). exact (row false (not true) false (not b))) refl
-          ∙ by_stmt r.is_stmt of code some goes refl is
+          ∙ by_stmt r.is_stmt of later code some goes refl is
 
-      by_line : (some : Bool) → r.end_sequence ≡ false → nat_lt 0 r.line ≡ some
+      by_line : (some : Bool) → Rest → r.end_sequence ≡ false → nat_lt 0 r.line ≡ some
           → exact (row false (not some) (goes_on given (file_path t u r.file) r.line) (not r.is_stmt))
           ≡ addresses_on is_exact line (is_given given) (r ∷ rows)
-      by_line false code zero =
-          same_addresses None rows ∙ sym (of_none is_exact line (is_given given) r rows (of_zero r code zero))
-      by_line true code some =
-          by_goes (goes_on given (file_path t u r.file) r.line) (passes r) code some refl refl
+      by_line false later code zero =
+          later None ∙ sym (of_none is_exact line (is_given given) r rows (of_zero r code zero))
+      by_line true later code some =
+          by_goes (goes_on given (file_path t u r.file) r.line) (passes r) later code some refl refl
 
-      by_end : (end : Bool) → r.end_sequence ≡ end
+      by_end : (end : Bool) → r.end_sequence ≡ end → Rest
           → exact (row end (not (nat_lt 0 r.line)) (goes_on given (file_path t u r.file) r.line) (not r.is_stmt))
           ≡ addresses_on is_exact line (is_given given) (r ∷ rows)
-      by_end true end =
-          same_addresses None rows ∙ sym (of_none is_exact line (is_given given) r rows (of_end r end))
-      by_end false code = by_line (nat_lt 0 r.line) code refl
+      by_end true end later =
+          later None ∙ sym (of_none is_exact line (is_given given) r rows (of_end r end))
+      by_end false code later = by_line (nat_lt 0 r.line) later code refl
 
 -- ---- statements that pass a test
 
@@ -218,14 +229,17 @@ module _ (a : ℕ) where
   found_in : (p : Statement → Bool) (ss : List Statement) → has a (addresses_by p ss) ≡ true
       → (s : Statement) × Among s ss × (p s ≡ true) × (nat_eq a s.address ≡ true)
   found_in p [] is = absurd (false≢true is)
-  found_in p (s ∷ ss) is = by_tests (p s) (nat_eq a s.address) refl refl (sym (one_more p s ss) ∙ is)
+  found_in p (s ∷ ss) is =
+      by_tests (p s) (nat_eq a s.address) refl refl (λ more. found_in p ss more) (sym (one_more p s ss) ∙ is)
     where
-      by_tests : (b c : Bool) → p s ≡ b → nat_eq a s.address ≡ c → ((b && c) || has a (addresses_by p ss)) ≡ true
+      by_tests : (b c : Bool) → p s ≡ b → nat_eq a s.address ≡ c
+          → (has a (addresses_by p ss) ≡ true
+          → (z : Statement) × Among z ss × (p z ≡ true) × (nat_eq a z.address ≡ true))
+          → ((b && c) || has a (addresses_by p ss)) ≡ true
           → (z : Statement) × Among z (s ∷ ss) × (p z ≡ true) × (nat_eq a z.address ≡ true)
-      by_tests true true pass here later = (s, inl refl, pass, here)
-      by_tests true false pass here later =
-          let more = found_in p ss later in (more.0, inr more.1, more.2, more.3)
-      by_tests false c pass here later = let more = found_in p ss later in (more.0, inr more.1, more.2, more.3)
+      by_tests true true pass here rest later = (s, inl refl, pass, here)
+      by_tests true false pass here rest later = let more = rest later in (more.0, inr more.1, more.2, more.3)
+      by_tests false c pass here rest later = let more = rest later in (more.0, inr more.1, more.2, more.3)
 
   -- and one that passes gives its address
   gives : (p : Statement → Bool) (ss : List Statement) (s : Statement) → Among s ss → p s ≡ true
@@ -261,9 +275,10 @@ module _ (t : Texts) (path : List ℕ) (line : ℕ) (u : ListedUnit) where
   of_row s given [] among = absurd among
   of_row s given (r ∷ rows) among =
       by_tests r.end_sequence (not (nat_lt 0 r.line)) (goes_on given (file_path t u r.file) r.line) (not r.is_stmt)
-      among
+      (λ g. of_row s g rows) among
     where
       by_tests : (end zero goes none : Bool)
+          → ((g : Option PathLine) → Among s (begun t u g rows) → AmongRows (IsOf s) rows)
           → Among s (if end then begun t u None rows
           else (if zero then begun t u None rows
           else (if goes then begun t u given rows
@@ -271,13 +286,13 @@ module _ (t : Texts) (path : List ℕ) (line : ℕ) (u : ListedUnit) where
           else (record { path = file_path t u r.file; line = r.line; address = r.address })
           ∷ begun t u (Some (record { path = file_path t u r.file; line = r.line })) rows))))
           → AmongRows (IsOf s) (r ∷ rows)
-      by_tests true zero goes none among = inr (of_row s None rows among)
-      by_tests false true goes none among = inr (of_row s None rows among)
-      by_tests false false true none among = inr (of_row s given rows among)
-      by_tests false false false true among = inr (of_row s None rows among)
-      by_tests false false false false (inl same) = inl (ap (λ (z : Statement). z.path) same)
-      by_tests false false false false (inr among) =
-          inr (of_row s (Some (record { path = file_path t u r.file; line = r.line })) rows among)
+      by_tests true zero goes none rest among = inr (rest None among)
+      by_tests false true goes none rest among = inr (rest None among)
+      by_tests false false true none rest among = inr (rest given among)
+      by_tests false false false true rest among = inr (rest None among)
+      by_tests false false false false rest (inl same) = inl (ap (λ (z : Statement). z.path) same)
+      by_tests false false false false rest (inr among) =
+          inr (rest (Some (record { path = file_path t u r.file; line = r.line })) among)
 
   module _ (a : ℕ) (all : List LineRow) where
     -- what a row adds to the addresses of its sequence
@@ -311,18 +326,20 @@ module _ (t : Texts) (path : List ℕ) (line : ℕ) (u : ListedUnit) where
         × (has a (addresses_in_rows (λ (file : ℕ). is_one_path p (file_path t u file)) line all) ≡ true)
     row_found [] is = absurd (false≢true is)
     row_found (r ∷ rows) is =
-        by_parts (is_named path (file_path t u r.file)) refl
-        (or_from (has a (of_file r)) (has a (flat_map of_file rows))
+        by_parts (is_named path (file_path t u r.file)) refl (λ later. row_found rows later)
+        (either (has a (of_file r)) (has a (flat_map of_file rows))
         (sym (list_any-append (nat_eq a) (of_file r) (flat_map of_file rows)) ∙ is))
       where
         by_parts : (b : Bool) → is_named path (file_path t u r.file) ≡ b
+            → (has a (flat_map of_file rows) ≡ true → (p : Result (List ℕ) NoPath) × (is_named path p ≡ true)
+            × (has a (addresses_in_rows (λ (file : ℕ). is_one_path p (file_path t u file)) line all) ≡ true))
             → (has a (if b then addresses_in_rows (is_one_file t u r.file) line all else []) ≡ true)
             ⊎ (has a (flat_map of_file rows) ≡ true)
             → (p : Result (List ℕ) NoPath) × (is_named path p ≡ true)
             × (has a (addresses_in_rows (λ (file : ℕ). is_one_path p (file_path t u file)) line all) ≡ true)
-        by_parts true named (inl here) = (file_path t u r.file, named, here)
-        by_parts false named (inl here) = absurd (false≢true here)
-        by_parts b named (inr later) = row_found rows later
+        by_parts true named rest (inl here) = (file_path t u r.file, named, here)
+        by_parts false named rest (inl here) = absurd (false≢true here)
+        by_parts b named rest (inr later) = rest later
 
   -- the statements of a sequence and its rows have the same addresses
   in_sequence : (a : ℕ) (rows : List LineRow)

@@ -22,5 +22,6 @@ mod TurnPlaces
 mod TurnOrder
 mod WalkedStarts
 mod BegunLines
+mod BegunSteps
 mod TurnLines
 mod TurnSteps
