@@ -1,6 +1,7 @@
 -- The statements of a lookup give the addresses that the lookup gives.
 use Rattle.std.proofs.Common.{◌≡◌, ◌∙◌, ◌⊎◌, ℕ, Bool, true, false, not, nat_eq, nat_lt, ◌&&◌, ◌||◌, List, [], ◌∷◌}
-use Rattle.std.proofs.Common.{◌++◌, Option, None, Some, Result, Ok, Err, refl, sym, ap, inl, inr, arith, if◌then◌else◌}
+use Rattle.std.proofs.Common.{◌++◌, Option, None, Some, Result, Ok, Err, refl, sym, ap, inl, inr, arith, append_assoc, length}
+use Rattle.std.proofs.Common.{◌≤◌, if◌then◌else◌, length-append}
 use Rattle.std.specs.Prelude.{flat_map, map, ◌==◌, bytes_eq}
 use Rattle.std.specs.Option.{option_map_or}
 use Rattle.std.specs.List.{filter}
@@ -10,7 +11,7 @@ use Rattle.std.proofs.lemmas.List.Elements.{filter-append}
 use Rattle.std.proofs.lemmas.List.Folds.{list_any-append}
 use Rattle.std.proofs.lemmas.Slice.Eq.{bytes_eq-Decides}
 use Rattle.gimli_line.specs.declared.run.row.LineRow.{LineRow}
-use Rattle.gimli_lookup.specs.Section.{KeptUnit, ListedUnit}
+use Rattle.gimli_lookup.specs.Section.{KeptUnit, ListedUnit, all_sequences}
 use Rattle.gimli_lookup.specs.Statements.{is_of_line, ascending_once}
 use Rattle.gimli_lookup.specs.Statements.{addresses_in as addresses_in_rows}
 use Rattle.gimli_lookup.proofs.AscendingOnce.{has, same_ascending_once}
@@ -417,3 +418,64 @@ pub say_where_lines_begin : (t : Texts) (units : List KeptUnit) → SayWhereLine
 say_where_lines_begin t units path line =
     same_ascending_once (addresses_in path line (begun_in_units t units)) (lookup_addresses t path units line)
     (λ a. in_units t path line a units)
+
+-- ---- there are no more statements than rows
+
+few_rows : (t : Texts) (u : ListedUnit) (given : Option PathLine) (rows : List LineRow)
+    → length (begun t u given rows) ≤ length rows
+few_rows t u given [] = omega arith
+few_rows t u given (r ∷ rows) =
+    by_tests r.end_sequence (not (nat_lt 0 r.line)) (goes_on given (file_path t u r.file) r.line) (not r.is_stmt)
+    (λ g. few_rows t u g rows)
+  where
+    by_tests : (end no_line goes none : Bool)
+        → ((g : Option PathLine) → length (begun t u g rows) ≤ length rows)
+        → length (if end then begun t u None rows
+        else (if no_line then begun t u None rows
+        else (if goes then begun t u given rows
+        else (if none then begun t u None rows
+        else (record { path = file_path t u r.file; line = r.line; address = r.address })
+        ∷ begun t u (Some (record { path = file_path t u r.file; line = r.line })) rows))))
+        ≤ length (r ∷ rows)
+    by_tests true no_line goes none rest = let few = rest None in omega (arith, few)
+    by_tests false true goes none rest = let few = rest None in omega (arith, few)
+    by_tests false false true none rest = let few = rest given in omega (arith, few)
+    by_tests false false false true rest = let few = rest None in omega (arith, few)
+    by_tests false false false false rest =
+        let few = rest (Some (record { path = file_path t u r.file; line = r.line })) in omega (arith, few)
+
+few_sequences : (t : Texts) (u : ListedUnit) (sequences : List (List LineRow))
+    → length (flat_map (begun t u None) sequences) ≤ length (flat_map (λ (rows : List LineRow). rows) sequences)
+few_sequences t u [] = omega arith
+few_sequences t u (rows ∷ sequences) =
+    omega (
+      arith,
+      length-append (begun t u None rows) (flat_map (begun t u None) sequences),
+      length-append rows (flat_map (λ (rs : List LineRow). rs) sequences),
+      few_rows t u None rows,
+      few_sequences t u sequences,
+    )
+
+pub few_begun : (t : Texts) (units : List KeptUnit)
+    → length (begun_in_units t units) ≤ length (flat_map (λ (rows : List LineRow). rows) (all_sequences units))
+few_begun t [] = omega arith
+few_begun t (u ∷ units) =
+    omega (
+      arith,
+      length-append (begun_in_unit t u) (begun_in_units t units),
+      ap (λ (rs : List LineRow). length rs)
+          (flat_joined u.sequences (all_sequences units)),
+      length-append (flat_map (λ (rows : List LineRow). rows) u.sequences)
+          (flat_map (λ (rows : List LineRow). rows) (all_sequences units)),
+      few_sequences t u.unit u.sequences,
+      few_begun t units,
+    )
+  where
+    flat_joined : (xs ys : List (List LineRow))
+        → flat_map (λ (rows : List LineRow). rows) (xs ++ ys)
+        ≡ flat_map (λ (rows : List LineRow). rows) xs ++ flat_map (λ (rows : List LineRow). rows) ys
+    flat_joined [] ys = refl
+    flat_joined (x ∷ xs) ys =
+        ap (λ (rs : List LineRow). x ++ rs) (flat_joined xs ys)
+        ∙ sym (append_assoc x (flat_map (λ (rows : List LineRow). rows) xs)
+        (flat_map (λ (rows : List LineRow). rows) ys))

@@ -2,7 +2,7 @@
 use Rattle.std.proofs.Common.{◌≡◌, ◌≢◌, ◌∙◌, ℕ, suc, zero, ◌+◌, ◌<◌, Bool, true, false, not, nat_lt, List, [], ◌∷◌, ◌++◌}
 use Rattle.std.proofs.Common.{length, map, Option, None, Some, refl, sym, ap, subst, arith, append_assoc, inl, inr}
 use Rattle.std.proofs.Common.{if◌then◌else◌}
-use Rattle.std.specs.Prelude.{slice_get}
+use Rattle.std.specs.Prelude.{flat_map, slice_get, take}
 use Rattle.std.specs.Option.{option_map}
 use Rattle.std.proofs.lemmas.List.{length-append, map-append}
 use Rattle.gimli_line.specs.declared.run.row.LineRow.{LineRow}
@@ -16,8 +16,9 @@ use Rattle.gimli_index.specs.declared.statements.Given.{Given}
 use Rattle.gimli_index.specs.inside.Begun.{AreInside, GoesOnTo, IsGiven, PathLine, begun, given_in, goes_on}
 use Rattle.gimli_index.specs.inside.Begun.{statements_in}
 use Rattle.gimli_index.specs.inside.Table.{AreSources, Keeps, Table, with_table}
-use Rattle.gimli_index.proofs.Lists.{get_pushed}
+use Rattle.gimli_index.proofs.Lists.{append_none, get_pushed}
 use Rattle.gimli_index.proofs.Sources.{path_stays}
+use Rattle.gimli_index.proofs.TurnSteps.{next_taken}
 
 -- ---- where a table goes on
 
@@ -208,3 +209,24 @@ as_read t u old new statements after given r rest source line address line_is ad
     (subst (λ (n : ℕ). GoesOnTo t u old statements given (r ∷ rest) new
     (statements ++ (record { source = source; line = n; address = r.address }) ∷ [])
     (Some (record { source = source; line = n })) rest) (sym line_is) step))
+
+-- ---- one more of some
+
+pub none_taken_of : {X : Type 0} (f : X → List Statement) (xs : List X) (ss : List Statement)
+    → ss ≡ ss ++ flat_map f (take 0 xs)
+none_taken_of f [] ss = sym (append_none ss)
+none_taken_of f (x ∷ xs) ss = sym (append_none ss)
+
+pub one_taken_of : {X : Type 0} (f : X → List Statement) (xs : List X) (k : ℕ) (x : X) (ss : List Statement)
+    → slice_get xs k ≡ Some x
+    → (ss ++ flat_map f (take k xs)) ++ f x ≡ ss ++ flat_map f (take (k + 1) xs)
+one_taken_of {X} f xs k x ss there =
+    append_assoc ss (flat_map f (take k xs)) (f x)
+    ∙ ap (λ (zs : List Statement). ss ++ zs)
+    (sym (ap (λ (ys : List X). flat_map f ys) (next_taken xs k x there) ∙ flat_map_more (take k xs)))
+  where
+    flat_map_more : (ys : List X) → flat_map f (ys ++ x ∷ []) ≡ flat_map f ys ++ f x
+    flat_map_more [] = append_none (f x)
+    flat_map_more (y ∷ ys) =
+        ap (λ (zs : List Statement). f y ++ zs) (flat_map_more ys)
+        ∙ sym (append_assoc (f y) (flat_map f ys) (f x))

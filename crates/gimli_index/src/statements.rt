@@ -1,8 +1,7 @@
 //! The statements of a lookup: where code of lines begins.
 
 ghost use Rattle.std.specs.Prelude.{◌≡◌, ◌<◌, ◌++◌, ◌∷◌, ℕ, List, [], length, slice_get};
-ghost use Rattle.std.specs.Prelude.{◌&&◌, nat_eq, IfErr, IfOk, OnOk, Some, None};
-ghost use Rattle.std.specs.List.{Contains};
+ghost use Rattle.std.specs.Prelude.{◌&&◌, nat_eq, slice_index_or, IfErr, IfOk, OnOk, Some, None};
 ghost use Rattle.gimli_index.specs.Contents.{path_at};
 ghost use Rattle.gimli_index.specs.Found.{texts_of, Texts, is_one_path};
 ghost use Rattle.gimli_index.specs.Refused.{AreFound};
@@ -134,8 +133,9 @@ fn take_rows<R: Reader>(
     statements: &mut Vec<Statement>,
 ) -> Result<(), MakeError>
     requires unit { unit < length origin.now.lookup.now }
-    requires there { (u : KeptUnit) → slice_get origin.now.lookup.now unit ≡ Some u
-        → Contains u.sequences (rows_of rows.entry) }
+    requires sequence { (k : ℕ) × ((d : KeptUnit)
+        → slice_get (slice_index_or origin.now.lookup.now unit d).sequences k
+        ≡ Some (rows_of rows)) }
     requires inside { AreInside table.old statements.old.items }
     requires are { AreSources
         (texts_of R.bytes origin.now.strings.now origin.now.compilations.now)
