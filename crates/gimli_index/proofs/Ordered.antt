@@ -16,7 +16,7 @@ use Rattle.gimli_core.specs.Numbers.{le_value}
 use Rattle.gimli_lookup.specs.Components.{components}
 use Rattle.gimli_lookup.specs.Statements.{ascending_once}
 use Rattle.gimli_lookup.specs.inside.StatementLines.{IsFirstWith}
-use Rattle.gimli_index.specs.Header.{highest_base, size_of}
+use Rattle.gimli_index.specs.Header.{highest_base, size_of, statement_size}
 use Rattle.gimli_index.specs.Lines.{addresses_of, begins_with, is_named, is_of, without_repeats}
 use Rattle.gimli_index.specs.Meaning.{Statement, path_of, source_at, statement_at, statement_from, statements_of}
 use Rattle.gimli_index.specs.Numbers.{number_at}
@@ -55,9 +55,6 @@ name_less name other a b differ le c = elim (cases_order name other) [
 -- ---- ranks by the numbers in the bytes
 
 module _ (index : Index) where
-  at : ℕ → Statement
-  at = statement_at index
-
   -- the number of a name is that of the path's
   name_is : AreNamesRight index index.sources → (k : ℕ) → statement_name index k ≡ path_number (statement_at index k).path
   name_is names k = by_test (nat_lt source index.sources) refl
@@ -149,7 +146,7 @@ AreFew index = (k : ℕ) → (statement_at index k).address < 2 ^ 64
 pub are_few : (index : Index) → index.base ≤ highest_base index.start_size
     → All (λ b. b < 256) index.statement_bytes → AreFew index
 are_few index low all k =
-    few_from index.start_size index.base (statement_from index k) low (All-drop (λ b. b < 256) _ index.statement_bytes all)
+    few_from index.start_size index.base (statement_from index k) low (All-drop (λ b. b < 256) (statement_size index.start_size * k) index.statement_bytes all)
 
 pub keys_rise : (index : Index) → AreFew index → IsOrdered index → (j k : ℕ) → j ≤ k → k < index.statements
     → key_at index j ≤ key_at index k
