@@ -7,6 +7,7 @@ use Rattle.std.specs.List.{list_any}
 use Rattle.std.specs.Str.{bytes_eq}
 use Rattle.std.proofs.Math.Nat.{le_refl, le_trans, le-min, min-eq_left, min-le_left, min-le_right}
 use Rattle.std.proofs.lemmas.Bool.{cases_lt, cases_order, eq-eqb, eqb-true, false≢true, ltb-true}
+use Rattle.std.proofs.lemmas.List.{get_or_default}
 use Rattle.std.proofs.lemmas.List.Elements.{All-drop}
 use Rattle.std.proofs.lemmas.List.Folds.{list_any_at, list_any_none}
 use Rattle.std.proofs.lemmas.List.FromFn.{get_or-map-range_with_len, length-map-range_with_len}
@@ -144,9 +145,11 @@ abbrev pub AreFew : Index → Type 0
 AreFew index = (k : ℕ) → (statement_at index k).address < 2 ^ 64
 
 pub are_few : (index : Index) → index.base ≤ highest_base index.start_size
-    → All (λ b. b < 256) index.statement_bytes → AreFew index
-are_few index low all k =
-    few_from index.start_size index.base (statement_from index k) low (All-drop (λ b. b < 256) (statement_size index.start_size * k) index.statement_bytes all)
+    → ((i : ℕ) → get_or index.statement_bytes i 0 < 256) → AreFew index
+are_few index low fit k =
+    few_from index.start_size index.base (statement_from index k) low
+    (All-drop (λ b. b < 256) (statement_size index.start_size * k) index.statement_bytes (λ i d lt.
+    subst (λ b. b < 256) (get_or_default index.statement_bytes i 0 d lt) (fit i)))
 
 pub keys_rise : (index : Index) → AreFew index → IsOrdered index → (j k : ℕ) → j ≤ k → k < index.statements
     → key_at index j ≤ key_at index k
@@ -169,8 +172,8 @@ and_right true b is = is
 and_right false b is = absurd (false≢true is)
 
 not_true : (b : Bool) → (b ≡ true → ⊥) → b ≡ false
-not_true true no = absurd (no refl)
-not_true false no = refl
+not_true true never = absurd (never refl)
+not_true false never = refl
 
 -- a file that a path names has the number of its name
 named_number : (path : List ℕ) (own : Result (List ℕ) NoPath) → is_named path own ≡ true
