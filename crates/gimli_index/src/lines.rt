@@ -17,6 +17,7 @@ ghost use Rattle.gimli_index.specs.inside.Order.{left_from, IsFirstPlace};
 use crate::addresses::Addresses;
 use crate::components::Components;
 use crate::line_index::LineIndex;
+use crate::number::are_bytes;
 use crate::order::{key_of, path_number};
 use crate::path_ends::ends_with;
 
@@ -89,6 +90,7 @@ impl<'a> LineIndex<'a> {
         ensures place { IsOrdered (index_of self.now) → IfSome result
             (λ first. IsFirstPlace (index_of self.now) path.now first.line first.number) }
     {
+        are_bytes(self.statement_bytes);
         for number in self.first_at(key_of(name, asked))..self.statements {
             if self.statement_name(number) != name {
                 return None;

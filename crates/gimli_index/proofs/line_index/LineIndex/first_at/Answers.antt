@@ -10,7 +10,7 @@ loop-low-preserved-then-statement_key-key c =
     let middle = low + (high - low) / 2 in
     let i = c.loop-low.invariant in
     let index = index_of c.args.self.now in
-    let few : AreFew index = are_few index c.args.self.now.low c.type_inv.self.9.1 in
+    let few : AreFew index = are_few index c.args.self.now.low c.are_bytes.ensures in
     let within : middle < index.statements = omega (arith, i.high) in
     record {
       low = omega arith;
@@ -27,7 +27,7 @@ loop-low-preserved c =
     let middle = low + (high - low) / 2 in
     let i = c.loop-low.invariant in
     let index = index_of c.args.self.now in
-    let few : AreFew index = are_few index c.args.self.now.low c.type_inv.self.9 in
+    let few : AreFew index = are_few index c.args.self.now.low c.are_bytes.ensures in
     record {
       low = omega arith;
       high = omega (arith, i.high);
