@@ -65,8 +65,7 @@ module _ (path : List ℕ) (line : ℕ) (f : ℕ → Statement) where
       by_test : (b : Bool) → is_of path line (f first) ≡ b → Climbs (picked (first + 1) n)
           → Climbs (picked first (suc n))
       by_test true is later =
-          subst Climbs (sym (one_picked first n is))
-          (
+          subst Climbs (sym (one_picked first n is)) (
             low_picked (f first).address n (first + 1)
                 (λ q le lt also. rise first q (omega arith) (omega arith) (omega arith) is also),
             later,
