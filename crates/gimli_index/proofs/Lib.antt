@@ -9,6 +9,9 @@ mod ReadBack
 mod Puts
 mod OneFound
 mod LastComponents
+mod Once
+mod LineStatements
+mod Ordered
 mod Starts
 mod PathStarts
 mod WrittenEnds

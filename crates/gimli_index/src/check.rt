@@ -81,7 +81,10 @@ impl<'a> LineIndex<'a> {
         ensures yes { result ≡ true → IsOrdered (index_of self.now) }
         ensures no { result ≡ false → IsOrdered (index_of self.now) → ⊥ }
     {
-        self.names_are_right() && self.statements_ascend()
+        if !self.names_are_right() {
+            return false;
+        }
+        self.statements_ascend()
     }
 
     /// Checks what [`find`](LineIndex::find) and [`addresses_of`](LineIndex::addresses_of) rest on,

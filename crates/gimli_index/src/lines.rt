@@ -1,8 +1,9 @@
 //! From a line of a path to addresses.
 
-ghost use Rattle.std.specs.Prelude.{◌≡◌, ◌<◌, ◌≤◌, ◌+◌, ◌^◌, ◌∷◌, ◌++◌, [], ℕ, Bool, false};
-ghost use Rattle.std.specs.Prelude.{IfSome, MatchOption, length, map, option_map};
+ghost use Rattle.std.specs.Prelude.{◌≡◌, ◌<◌, ◌≤◌, ◌+◌, ◌^◌, ◌∷◌, [], ℕ, Bool, true, false, nat_eq};
+ghost use Rattle.std.specs.Prelude.{IfSome, MatchOption, Some, length, option_map};
 ghost use Rattle.std.specs.List.{list_any};
+ghost use Rattle.std.specs.Option.{option_map_or};
 ghost use Rattle.gimli_core.specs.Reading.{result_map};
 ghost use Rattle.gimli_lookup.specs.Components.{components};
 ghost use Rattle.gimli_lookup.specs.inside.StatementLines.{IsFirstWith};
@@ -16,6 +17,7 @@ ghost use Rattle.gimli_index.specs.inside.Order.{left_from, IsFirstPlace};
 use crate::addresses::Addresses;
 use crate::components::Components;
 use crate::line_index::LineIndex;
+use crate::number::are_bytes;
 use crate::order::{key_of, path_number};
 use crate::path_ends::ends_with;
 
@@ -58,6 +60,25 @@ impl<'a> LineIndex<'a> {
         self.statement_line(number) == line && self.is_named(number, path)
     }
 
+    /// The line of a statement, if it is of the files that a path names, and not below the asked
+    /// one.
+    fn line_from(&self, number: usize, path: &[u8], asked: u64) -> Option<u64>
+        requires { number < self.now.statements }
+        ensures line { let s = statement_at (index_of self.now) number in MatchOption result
+            ((l : ℕ) → asked ≤ l → is_of path.now l s ≡ false)
+            (λ line. (asked ≤ line) × (is_of path.now line s ≡ true)) }
+        ensures few { IfSome result (λ line. line < 2 ^ 32) }
+    {
+        let line = self.statement_line(number);
+        if line < asked {
+            return None;
+        }
+        if !self.is_named(number, path) {
+            return None;
+        }
+        Some(line)
+    }
+
     /// The least line from the asked one on of which there is a statement in files that a path
     /// names, whose name has this number.
     fn first_line(&self, path: &[u8], name: u64, asked: u64) -> Option<FirstLine>
@@ -69,12 +90,12 @@ impl<'a> LineIndex<'a> {
         ensures place { IsOrdered (index_of self.now) → IfSome result
             (λ first. IsFirstPlace (index_of self.now) path.now first.line first.number) }
     {
+        are_bytes(self.statement_bytes);
         for number in self.first_at(key_of(name, asked))..self.statements {
-            let line = self.statement_line(number);
             if self.statement_name(number) != name {
                 return None;
             }
-            if asked <= line && self.is_named(number, path) {
+            if let Some(line) = self.line_from(number, path, asked) {
                 return Some(FirstLine { line, number });
             }
         }
@@ -128,10 +149,20 @@ impl<'a, 'p> Addresses<'a, 'p> {
         self.end.saturating_sub(self.next)
     }
 
+    /// Whether an address is the one that was given last.
+    fn is_last(&self, address: u64) -> bool
+        ensures { result ≡ option_map_or (nat_eq address) self.now.last false }
+    {
+        match self.last {
+            Some(last) => address == last,
+            None => false,
+        }
+    }
+
     /// The address of a statement, if it is one of the line and not the address that was given
     /// last.
     fn new_address(&self, number: usize) -> Option<u64>
-        requires { number < self.now.index.statements }
+        requires { number < self.now.end }
         ensures { MatchOption result (left_from self.now number ≡ left_from self.now (number + 1))
             (λ address. left_from self.now number
             ≡ address ∷ left_from (record self.now { last = Some address }) (number + 1)) }
@@ -140,10 +171,10 @@ impl<'a, 'p> Addresses<'a, 'p> {
             return None;
         }
         let address = self.index.statement_address(number);
-        match self.last {
-            Some(last) if last == address => None,
-            _ => Some(address),
+        if self.is_last(address) {
+            return None;
         }
+        Some(address)
     }
 
     /// The next statement of the line with another address, and that address.

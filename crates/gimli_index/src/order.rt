@@ -13,7 +13,7 @@ ghost use Rattle.gimli_index.specs.inside.Order.{key_at, rank_at, statement_name
 use crate::components::Components;
 use crate::header::StartSize;
 use crate::line_index::{LineIndex, path_of};
-use crate::number::{long, word};
+use crate::number::{are_bytes, long, word};
 use crate::place::NoPath;
 
 /// The highest line of a key.
@@ -157,6 +157,7 @@ impl<'a> LineIndex<'a> {
         ensures after { IsOrdered (index_of self.now) → (k : ℕ) → result ≤ k
             → k < self.now.statements → key ≤ key_at (index_of self.now) k }
     {
+        are_bytes(self.statement_bytes);
         let mut low = 0;
         let mut high = self.statements;
         while low < high {
