@@ -13,6 +13,7 @@ ghost use Rattle.gimli_index.specs.Contents.{FitsStatement};
 ghost use Rattle.gimli_index.specs.Contents.{IsNear, HasColumn, column_word};
 ghost use Rattle.gimli_index.specs.Header.{magic, size_of};
 ghost use Rattle.gimli_index.specs.Made.{all_addresses, base_for, greatest, least, size_for};
+ghost use Rattle.gimli_index.specs.inside.Ranks.{least_of};
 ghost use Rattle.gimli_index.specs.Order.{path_number};
 ghost use Rattle.gimli_index.specs.Made.{EntriesAscend, IsMakeFault, IsWritten};
 ghost use Rattle.gimli_index.specs.declared.error.MakeError.TheVariants.{OutOfMemory};
@@ -331,28 +332,44 @@ fn lesser(found: Option<u64>, number: u64) -> u64
     }
 }
 
-/// The least of the addresses of entries and statements; 0 where there are none.
-fn least_address(entries: &[Entry], statements: &[Statement]) -> u64
-    ensures { result ≡ least (all_addresses entries.now statements.now) }
+/// The least of the addresses of entries, if there are any.
+fn least_of_entries(entries: &[Entry]) -> Option<u64>
+    ensures { result ≡ least_of (map (λ e. e.address) entries.now) }
 {
     let mut found: Option<u64> = None;
     for entry in entries {
         found = Some(lesser(found, entry.address));
     }
+    found
+}
+
+/// The least of the addresses of entries and statements; 0 where there are none.
+fn least_address(entries: &[Entry], statements: &[Statement]) -> u64
+    ensures { result ≡ least (all_addresses entries.now statements.now) }
+{
+    let mut found = least_of_entries(entries);
     for statement in statements {
         found = Some(lesser(found, statement.address));
     }
     found.unwrap_or(0)
 }
 
-/// The greatest of the addresses of entries and statements; 0 where there are none.
-fn greatest_address(entries: &[Entry], statements: &[Statement]) -> u64
-    ensures { result ≡ greatest (all_addresses entries.now statements.now) }
+/// The greatest of the addresses of entries; 0 where there are none.
+fn greatest_of_entries(entries: &[Entry]) -> u64
+    ensures { result ≡ greatest (map (λ e. e.address) entries.now) }
 {
     let mut found: u64 = 0;
     for entry in entries {
         found = found.max(entry.address);
     }
+    found
+}
+
+/// The greatest of the addresses of entries and statements; 0 where there are none.
+fn greatest_address(entries: &[Entry], statements: &[Statement]) -> u64
+    ensures { result ≡ greatest (all_addresses entries.now statements.now) }
+{
+    let mut found = greatest_of_entries(entries);
     for statement in statements {
         found = found.max(statement.address);
     }
