@@ -21,5 +21,6 @@ mod Sources
 mod TurnPlaces
 mod TurnOrder
 mod WalkedStarts
+mod BegunLines
 mod TurnLines
 mod TurnSteps

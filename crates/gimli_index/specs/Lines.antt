@@ -42,9 +42,9 @@ addresses_of path statements line = ascending_once (addresses_in path line state
 -- numbers without those that are the same as the one before them
 abbrev pub without_repeats : Option ℕ → List ℕ → List ℕ
 without_repeats last [] = []
-without_repeats last (a ∷ as) =
-    if option_map_or (nat_eq a) last false then without_repeats last as
-    else a ∷ without_repeats (Some a) as
+without_repeats last (a ∷ rest) =
+    if option_map_or (nat_eq a) last false then without_repeats last rest
+    else a ∷ without_repeats (Some a) rest
 
 -- the statements that an answer has yet to look at
 abbrev pub statements_left : Addresses → List Statement

@@ -1,3 +1,4 @@
+use Rattle.gimli_index.proofs.BegunLines.{say_where_lines_begin}
 use Rattle.std.proofs.Common.{◌∙◌, sym, arith}
 use Rattle.gimli_lookup.specs.SequenceRows.{rows_of}
 use Rattle.gimli_index.proofs.TurnSteps.{code_ended, code_open}
