@@ -24,3 +24,5 @@ mod WalkedStarts
 mod BegunLines
 mod TurnLines
 mod TurnSteps
+mod Ordered
+mod AddressEnds

@@ -2,6 +2,7 @@
 
 ghost use Rattle.std.specs.Prelude.{◌≡◌, ◌≢◌, ◌≤◌, ◌<◌, ◌+◌, ◌-◌, ◌^◌, ◌++◌, true, false, length};
 ghost use Rattle.std.specs.Prelude.{ℕ, List, [], map, min};
+ghost use Rattle.std.specs.List.{Contains};
 ghost use Rattle.std.specs.Option.{option_map_or};
 ghost use Rattle.std.specs.Prelude.{◌↔◌, flat_map, All, IfErr, IsTrue, OnOk};
 ghost use Rattle.gimli_core.specs.Numbers.{is_address_size};
@@ -471,8 +472,7 @@ impl Contents<'_> {
         requires columns { All (λ e. HasColumn e.place) self.now.entries.now }
         requires names { names.now
             ≡ map (λ s. path_number (source_path self.now.paths.now s)) self.now.sources.now }
-        requires within { (P : Statement → Type 0) → All P self.now.statements.now
-            → All P statements.now }
+        requires within { All (Contains self.now.statements.now) statements.now }
         ensures bytes { OnOk result
             (out.new.items ≡ out.old.items ++ index_bytes (contents_of self.now statements.now)) }
         ensures fits { OnOk result (Fits (contents_of self.now statements.now)) }

@@ -1,6 +1,7 @@
 //! The statements of an index in the making, put in order.
 
 ghost use Rattle.std.specs.Prelude.{◌≡◌, ◌<◌, ◌≤◌, ◌^◌, length, map, All, IfOk, [], true};
+ghost use Rattle.std.specs.List.{Contains};
 ghost use Rattle.gimli_index.specs.Contents.{source_path, statement_in};
 ghost use Rattle.gimli_index.specs.Made.{contents_of, HasOrder, SayTheSameLines};
 ghost use Rattle.gimli_index.specs.Order.{path_number};
@@ -86,15 +87,15 @@ impl Contents<'_> {
     }
 
     /// Whether a statement says what another one says: the same line and address of the same path.
-    fn is_repeated(&self, last: Ranked, next: Ranked) -> bool
-        ensures { result ≡ true → statement_in (contents_of self.now []) last.statement
-            ≡ statement_in (contents_of self.now []) next.statement }
+    fn is_repeated(&self, last: Statement, next: Statement) -> bool
+        ensures { result ≡ true → statement_in (contents_of self.now []) last
+            ≡ statement_in (contents_of self.now []) next }
     {
-        if last.rank != next.rank || last.statement.line != next.statement.line {
+        if last.line != next.line || last.address != next.address {
             return false;
         }
-        let first = self.sources.get(last.statement.source as usize);
-        match (first, self.sources.get(next.statement.source as usize)) {
+        let first = self.sources.get(last.source as usize);
+        match (first, self.sources.get(next.source as usize)) {
             (Some(first), Some(second)) => is_same_path(first, second),
             _ => false,
         }
@@ -107,11 +108,14 @@ impl Contents<'_> {
         ensures same { IfOk result (λ s. SayTheSameLines (contents_of self.now [])
             (map (λ (r : Ranked). r.statement) ranked.now) s.items) }
         ensures few { IfOk result (λ s. length s.items ≤ length ranked.now) }
+        ensures within { IfOk result
+            (λ s. All (Contains (map (λ (r : Ranked). r.statement) ranked.now)) s.items) }
     {
         let mut distinct = Vec::new(alloc);
         for index in 0..ranked.len() {
-            if index == 0 || !self.is_repeated(ranked[index - 1], ranked[index]) {
-                distinct.push(ranked[index].statement)?;
+            let next = ranked[index].statement;
+            if index == 0 || !self.is_repeated(ranked[index - 1].statement, next) {
+                distinct.push(next)?;
             }
         }
         Ok(distinct)
@@ -126,8 +130,7 @@ impl Contents<'_> {
         ensures same { IfOk result (λ s. SayTheSameLines (contents_of self.now [])
             self.now.statements.now s.items) }
         ensures few { IfOk result (λ s. length s.items ≤ length self.now.statements.now) }
-        ensures within { IfOk result (λ s. (P : Statement → Type 0)
-            → All P self.now.statements.now → All P s.items) }
+        ensures within { IfOk result (λ s. All (Contains self.now.statements.now) s.items) }
     {
         let mut ranked = self.all_ranked(alloc, names)?;
         ranked.sort_by_key(|one| one.rank)?;
