@@ -487,7 +487,8 @@ impl Contents<'_> {
         put_entries(out, self.entries)?;
         put_statements(out, size, base, statements)?;
         out.extend_from_slice(self.paths)?;
-        out.extend_from_slice(self.identity)
+        out.extend_from_slice(self.identity)?;
+        Ok(())
     }
 
     /// Refuses what 32 bits don't count.
@@ -543,6 +544,7 @@ impl Contents<'_> {
         put_sizes(out, self.address_size, size, base)?;
         put_words(out, self.entries.len() as u32, self.sources.len() as u32)?;
         put_words(out, self.paths.len() as u32, self.identity.len() as u32)?;
-        put_words(out, statements as u32, 0)
+        put_words(out, statements as u32, 0)?;
+        Ok(())
     }
 }
