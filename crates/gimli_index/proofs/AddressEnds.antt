@@ -1,60 +1,40 @@
 -- The least and the greatest of addresses, and what starts between them need.
-use Rattle.std.proofs.Common.{◌≡◌, ◌∙◌, ◌<◌, ◌≤◌, ◌+◌, ◌-◌, ◌^◌, ℕ, zero, suc, Bool, true, false, cond, List, [], ◌∷◌, ◌++◌, take}
-use Rattle.std.proofs.Common.{fold, get_or, length, map, nat_lt, Option, Some, None, refl, sym, ap, subst, arith, inl, inr}
+use Rattle.std.proofs.Common.{◌≡◌, ◌∙◌, ◌<◌, ◌≤◌, ◌+◌, ◌-◌, ◌^◌, ℕ, zero, suc, Bool, true, false, cond, List, [], ◌∷◌, ◌++◌}
+use Rattle.std.proofs.Common.{fold, get_or, length, map, nat_lt, refl, sym, subst, arith, inl, inr}
 use Rattle.std.specs.Prelude.{min, max, All}
 use Rattle.std.specs.List.{Contains}
-use Rattle.std.specs.Option.{option_map_or}
 use Rattle.std.proofs.Math.Nat.{le-max_left, le-max_right, le-min, min-le_left, min-le_right}
 use Rattle.std.proofs.lemmas.Bool.{cases_lt, ltb-true}
-use Rattle.std.proofs.lemmas.List.{map-append, take_more}
 use Rattle.std.proofs.lemmas.List.Elements.{All-contains}
-use Rattle.std.proofs.lemmas.List.Sums.{fold-append}
 use Rattle.gimli_index.specs.Header.{highest_base}
 use Rattle.gimli_index.specs.Made.{all_addresses, base_for, greatest, least, size_for}
 use Rattle.gimli_index.specs.declared.contents.Entry.{Entry}
 use Rattle.gimli_index.specs.declared.contents.Statement.{Statement}
 use Rattle.gimli_index.specs.declared.header.StartSize.{StartSize}
 use Rattle.gimli_index.specs.declared.header.StartSize.TheVariants.{Four, Eight}
-use Rattle.gimli_index.specs.inside.Ranks.{least_of}
-
--- ---- one number more
-
-pub least_more : (ns : List ℕ) (n : ℕ)
-    → least_of (ns ++ n ∷ []) ≡ Some (option_map_or (λ (m : ℕ). min m n) (least_of ns) n)
-least_more [] n = refl
-least_more (m ∷ ns) n = ap (λ (x : ℕ). Some x) (fold-append min m ns (n ∷ []))
-
-pub greatest_more : (ns : List ℕ) (n : ℕ) → greatest (ns ++ n ∷ []) ≡ max (greatest ns) n
-greatest_more ns n = fold-append max 0 ns (n ∷ [])
-
--- the least, and 0 where there are none
-pub least_is : (ns : List ℕ) → option_map_or (λ (n : ℕ). n) (least_of ns) 0 ≡ least ns
-least_is [] = refl
-least_is (n ∷ ns) = refl
-
-pub mapped_more : {X : Type 0} (f : X → ℕ) (xs : List X) (k : ℕ) (d : X) → k < length xs
-    → map f (take (k + 1) xs) ≡ map f (take k xs) ++ f (get_or xs k d) ∷ []
-mapped_more {X} f xs k d within =
-    ap (map f) (take_more xs k d within) ∙ map-append f (take k xs) (get_or xs k d ∷ [])
 
 -- ---- bounds
 
 min_first : (n : ℕ) (ns : List ℕ) → fold min n ns ≤ n
 min_first n [] = omega arith
-min_first n (m ∷ ns) = omega (arith, min_first (min n m) ns, min-le_left n m)
+min_first n (m ∷ ns) =
+    let rest : fold min n (m ∷ ns) ≤ min n m = min_first (min n m) ns in omega (arith, rest, min-le_left n m)
 
 min_each : (n : ℕ) (ns : List ℕ) → All (λ m. fold min n ns ≤ m) ns
 min_each n [] k d within = absurd (omega (arith, within))
-min_each n (m ∷ ns) zero d within = omega (arith, min_first (min n m) ns, min-le_right n m)
+min_each n (m ∷ ns) zero d within =
+    let rest : fold min n (m ∷ ns) ≤ min n m = min_first (min n m) ns in omega (arith, rest, min-le_right n m)
 min_each n (m ∷ ns) (suc k) d within = min_each (min n m) ns k d (omega (arith, within))
 
 max_first : (n : ℕ) (ns : List ℕ) → n ≤ fold max n ns
 max_first n [] = omega arith
-max_first n (m ∷ ns) = omega (arith, max_first (max n m) ns, le-max_left n m)
+max_first n (m ∷ ns) =
+    let rest : max n m ≤ fold max n (m ∷ ns) = max_first (max n m) ns in omega (arith, rest, le-max_left n m)
 
 max_each : (n : ℕ) (ns : List ℕ) → All (λ m. m ≤ fold max n ns) ns
 max_each n [] k d within = absurd (omega (arith, within))
-max_each n (m ∷ ns) zero d within = omega (arith, max_first (max n m) ns, le-max_right n m)
+max_each n (m ∷ ns) zero d within =
+    let rest : max n m ≤ fold max n (m ∷ ns) = max_first (max n m) ns in omega (arith, rest, le-max_right n m)
 max_each n (m ∷ ns) (suc k) d within = max_each (max n m) ns k d (omega (arith, within))
 
 least_each : (ns : List ℕ) → All (λ n. least ns ≤ n) ns

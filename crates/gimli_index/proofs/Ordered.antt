@@ -19,36 +19,13 @@ use Rattle.gimli_index.specs.Lines.{addresses_in, addresses_of, is_of}
 use Rattle.gimli_index.specs.Made.{SayTheSameLines}
 use Rattle.gimli_index.specs.Meaning.{path_in}
 use Rattle.gimli_index.specs.Meaning.{Statement as StatementMeaning}
-use Rattle.gimli_index.specs.Order.{key_of, path_number, rank_of, AreOrdered}
+use Rattle.gimli_index.specs.Order.{rank_of, AreOrdered}
 use Rattle.gimli_index.specs.declared.contents.Source.{Source}
 use Rattle.gimli_index.specs.declared.contents.Statement.{Statement}
 use Rattle.gimli_index.specs.declared.ordering.Ranked.{Ranked}
 use Rattle.gimli_index.specs.declared.place.NoPath.{NoPath}
 use Rattle.gimli_index.specs.declared.place.NoPath.TheVariants.{Outside, Reason}
 use Rattle.gimli_index.specs.inside.Ranks.{AreRanked}
-
--- ---- the numbers of names
-
-name_at_number : (paths : List ℕ) (sources : List Source) (k : ℕ)
-    → path_number (option_map_or (source_path paths) (slice_get sources k) (Err Outside))
-    ≡ option_map_or (λ (n : ℕ). n) (slice_get (map (λ s. path_number (source_path paths s)) sources) k) 0
-name_at_number paths [] k = refl
-name_at_number paths (s ∷ sources) zero = refl
-name_at_number paths (s ∷ sources) (suc k) = name_at_number paths sources k
-
--- the number that a list of names gives of a source
-pub name_listed : (c : Contents) (names : List ℕ) (k : ℕ) (o : Option ℕ)
-    → names ≡ map (λ s. path_number (source_path c.paths s)) c.sources → slice_get names k ≡ o
-    → option_map_or (λ (n : ℕ). n) o 0 ≡ path_number (path_at c k)
-name_listed c names k o are there =
-    ap (λ (x : Option ℕ). option_map_or (λ (n : ℕ). n) x 0) (sym there)
-    ∙ ap (λ (ns : List ℕ). option_map_or (λ (n : ℕ). n) (slice_get ns k) 0) are
-    ∙ sym (name_at_number c.paths c.sources k)
-
--- the rank by that number
-pub rank_by_name : (c : Contents) (s : Statement) (name : ℕ) → name ≡ path_number (path_at c s.source)
-    → key_of name s.line * 2 ^ 64 + s.address ≡ rank_of (statement_in c s)
-rank_by_name c s name is = ap (λ n. key_of n s.line * 2 ^ 64 + s.address) is
 
 -- ---- statements that say the same
 
@@ -150,11 +127,17 @@ pub record AreKept (c : Contents) (ranked : List Ranked) (count : ℕ) (kept : L
   pub few : length kept ≤ length (take count ranked)
   pub within : All (Contains (statements_of_ranked ranked)) kept
 
+none_taken : (ranked : List Ranked) → take 0 ranked ≡ []
+none_taken [] = refl
+none_taken (r ∷ ranked) = refl
+
 pub none_kept : (c : Contents) (ranked : List Ranked) → AreKept c ranked 0 []
 none_kept c ranked = record {
   rise = IsNonDecreasingBy-short rank_of [] (omega arith);
   below = λ j from inside k d within. absurd (omega (arith, within));
-  same = λ path line. refl;
+  same = λ path line.
+      ap (λ (rs : List Ranked). addresses_of path (map (statement_in c) (statements_of_ranked rs)) line)
+      (none_taken ranked);
   few = omega arith;
   within = λ k d within. absurd (omega (arith, within));
 }

@@ -582,6 +582,20 @@ path_at_read c k fits = elim ((slice_get_cases c.sources k).1) [
       ∙ sym (ap (λ o. option_map_or (source_path c.paths) o (Err Outside)) past.1)
 ]
 
+-- the numbers of a statement fit
+source_fits : (size : StartSize) (base : ℕ) (s : Statement) → FitsStatement size base s → s.source < 2 ^ 32
+source_fits size base s (source, (line, (low, near))) = source
+
+line_fits : (size : StartSize) (base : ℕ) (s : Statement) → FitsStatement size base s → s.line < 2 ^ 32
+line_fits size base s (source, (line, (low, near))) = line
+
+address_low : (size : StartSize) (base : ℕ) (s : Statement) → FitsStatement size base s → base ≤ s.address
+address_low size base s (source, (line, (low, near))) = low
+
+address_fits : (size : StartSize) (base : ℕ) (s : Statement) → FitsStatement size base s
+    → s.address - base < 256 ^ size_of size
+address_fits size base s (source, (line, (low, near))) = omega (arith, low, near)
+
 -- a statement's address is read as far as it is above the base
 address_read : (size : StartSize) (base : ℕ) (s : Statement) (rest : List ℕ) → s.address - base < 256 ^ size_of size
     → number_at (size_of size) 8 (statement_bytes size base s ++ rest) ≡ s.address - base
@@ -605,11 +619,11 @@ statement_is c fits i s there =
     element_at (statement_bytes size c.base) (statement_size size) (statement_length size c.base) c.statements i s
     there in
     let bytes = statement_bytes size c.base s ++ here.0 in
-    let source = source_number_read size c.base s here.0 (omega (arith, own.0)) in
-    let line = line_number_read size c.base s here.0 (omega (arith, own.1)) in
-    let near : s.address - c.base < 256 ^ size_of size = omega (arith, own.2.0, own.2.1) in
-    let above = address_read size c.base s here.0 near in
-    let address : c.base + number_at (size_of size) 8 bytes ≡ s.address = omega (arith, above, own.2.0) in
+    let source = source_number_read size c.base s here.0 (omega (arith, source_fits size c.base s own)) in
+    let line = line_number_read size c.base s here.0 (omega (arith, line_fits size c.base s own)) in
+    let above = address_read size c.base s here.0 (address_fits size c.base s own) in
+    let address : c.base + number_at (size_of size) 8 bytes ≡ s.address =
+    omega (arith, above, address_low size c.base s own) in
     ap by_bytes here.1
     ∙ ap (λ k. by_parts (source_path_at (index_of_contents c) k) (number_at 4 4 bytes)
     (c.base + number_at (size_of size) 8 bytes)) source
