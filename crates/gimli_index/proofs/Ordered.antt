@@ -25,7 +25,7 @@ use Rattle.gimli_index.specs.declared.contents.Statement.{Statement}
 use Rattle.gimli_index.specs.declared.ordering.Ranked.{Ranked}
 use Rattle.gimli_index.specs.declared.place.NoPath.{NoPath}
 use Rattle.gimli_index.specs.declared.place.NoPath.TheVariants.{Outside, Reason}
-use Rattle.gimli_index.specs.inside.Ranks.{AreRanked}
+use Rattle.gimli_index.specs.inside.Ranks.{nothing, AreRanked}
 
 -- ---- statements that say the same
 
@@ -113,9 +113,6 @@ moved_same c xs ys moved path line =
 
 abbrev pub statements_of_ranked : List Ranked → List Statement
 statements_of_ranked ranked = map (λ (r : Ranked). r.statement) ranked
-
-abbrev pub nothing : Ranked
-nothing = record { rank = 0; statement = record { source = 0; line = 0; address = 0 } }
 
 -- statements that were kept of the first of some: they are in order, none after those that are left,
 -- and give the same addresses

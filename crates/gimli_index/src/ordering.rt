@@ -1,11 +1,12 @@
 //! The statements of an index in the making, put in order.
 
-ghost use Rattle.std.specs.Prelude.{◌≡◌, ◌<◌, ◌≤◌, ◌^◌, length, map, All, IfOk, [], true};
+ghost use Rattle.std.specs.Prelude.{◌≡◌, ◌<◌, ◌≤◌, ◌-◌, ◌^◌, length, map, slice_index_or, All};
+ghost use Rattle.std.specs.Prelude.{IfOk, [], true};
 ghost use Rattle.std.specs.List.{Contains};
 ghost use Rattle.gimli_index.specs.Contents.{source_path, statement_in};
 ghost use Rattle.gimli_index.specs.Made.{contents_of, HasOrder, SayTheSameLines};
 ghost use Rattle.gimli_index.specs.Order.{path_number};
-ghost use Rattle.gimli_index.specs.inside.Ranks.{AreRanked, IsRanked};
+ghost use Rattle.gimli_index.specs.inside.Ranks.{nothing, AreRanked, IsRanked};
 
 use crate::contents::{Contents, Source, Statement};
 use crate::line_index::path_in;
@@ -101,6 +102,21 @@ impl Contents<'_> {
         }
     }
 
+    /// Whether the statement at an index says what the one before it says.
+    fn is_repeated_at(&self, ranked: &[Ranked], index: usize) -> bool
+        requires { index < length ranked.now }
+        ensures some { result ≡ true → 0 < index }
+        ensures same { result ≡ true → statement_in (contents_of self.now [])
+            (slice_index_or ranked.now (index - 1) nothing).statement
+            ≡ statement_in (contents_of self.now [])
+            (slice_index_or ranked.now index nothing).statement }
+    {
+        if index == 0 {
+            return false;
+        }
+        self.is_repeated(ranked[index - 1].statement, ranked[index].statement)
+    }
+
     /// The statements of ranked ones, without those that say what the one before them says.
     fn distinct(&self, alloc: Global, ranked: &[Ranked]) -> Result<Vec<Statement>, AllocError>
         requires { AreRanked (contents_of self.now []) ranked.now }
@@ -113,9 +129,8 @@ impl Contents<'_> {
     {
         let mut distinct = Vec::new(alloc);
         for index in 0..ranked.len() {
-            let next = ranked[index].statement;
-            if index == 0 || !self.is_repeated(ranked[index - 1].statement, next) {
-                distinct.push(next)?;
+            if !self.is_repeated_at(ranked, index) {
+                distinct.push(ranked[index].statement)?;
             }
         }
         Ok(distinct)

@@ -18,3 +18,7 @@ pub record AreRanked (c : Contents) (all : List Ranked) : Type 0 where
 abbrev pub least_of : List ℕ → Option ℕ
 least_of [] = None
 least_of (n ∷ ns) = Some (fold min n ns)
+
+-- what stands past the end of some
+abbrev pub nothing : Ranked
+nothing = record { rank = 0; statement = record { source = 0; line = 0; address = 0 } }
