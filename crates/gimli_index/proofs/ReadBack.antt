@@ -260,7 +260,7 @@ part_lengths c = (
   elements_length (start_bytes c.start_size c.base) (size_of c.start_size) (start_length c.start_size c.base) c.entries,
   elements_length entry_bytes 12 entry_length c.entries,
   elements_length (statement_bytes c.start_size c.base) (statement_size c.start_size)
-  (statement_length c.start_size c.base) c.statements,
+      (statement_length c.start_size c.base) c.statements,
 )
 
 whole_length : (h s t e o p i r : List ℕ)
