@@ -89,14 +89,15 @@ said_twice path line xs s =
 has_address : (path : List ℕ) (line a : ℕ) (xs : List StatementMeaning)
     → has a (addresses_in path line xs) ≡ list_any (λ s. is_of path line s && nat_eq a s.address) xs
 has_address path line a [] = refl
-has_address path line a (s ∷ xs) = by_test (is_of path line s)
+has_address path line a (s ∷ xs) = by_test (is_of path line s) (has_address path line a xs)
   where
     by_test : (b : Bool)
+        → has a (addresses_in path line xs) ≡ list_any (λ x. is_of path line x && nat_eq a x.address) xs
         → has a (map (λ (x : StatementMeaning). x.address)
         (cond b (s ∷ filter (is_of path line) xs) (filter (is_of path line) xs)))
         ≡ ((b && nat_eq a s.address) || list_any (λ x. is_of path line x && nat_eq a x.address) xs)
-    by_test true = ap (λ h. nat_eq a s.address || h) (has_address path line a xs)
-    by_test false = has_address path line a xs
+    by_test true later = ap (λ h. nat_eq a s.address || h) later
+    by_test false later = later
 
 -- statements in another order give the same addresses
 pub moved_same : (c : Contents) (xs ys : List Statement) → IsPermutation xs ys → SayTheSameLines c xs ys

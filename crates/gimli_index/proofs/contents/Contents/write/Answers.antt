@@ -12,9 +12,9 @@ returns-clause-written c =
       bytes =
           c.in_ok-write_parts.ensures.bytes
           ∙ ap (λ (xs : List Statement). c.args.out.now.items ++ index_bytes (contents_of c.args.self.now xs))
-          c.deref-2.ensures.value;
+          c.deref-3.ensures.value;
       fits =
-          subst (λ (xs : List Statement). Fits (contents_of c.args.self.now xs)) c.deref-2.ensures.value
+          subst (λ (xs : List Statement). Fits (contents_of c.args.self.now xs)) c.deref-3.ensures.value
           c.in_ok-write_parts.ensures.fits;
       ordered = c.in_ok-statements.ensures.ordered;
       same = c.in_ok-statements.ensures.same;
