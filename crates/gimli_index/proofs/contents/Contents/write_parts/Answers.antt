@@ -1,4 +1,4 @@
-use Rattle.std.proofs.Common.{◌≡◌, ◌<◌, ◌≤◌, ◌+◌, ◌^◌, ◌++◌, ℕ, List, [], ap, arith, length, map, subst, sym, ◌∙◌}
+use Rattle.std.proofs.Common.{◌≡◌, ◌<◌, ◌≤◌, ◌+◌, ◌^◌, ◌++◌, ℕ, List, [], ap, arith, length, map, refl, subst, sym, ◌∙◌}
 use Rattle.std.specs.Prelude.{flat_map, All}
 use Rattle.gimli_index.specs.Contents.{entry_bytes, header_bytes, source_bytes, start_bytes, statement_bytes}
 use Rattle.gimli_index.specs.Header.{highest_base}
@@ -22,8 +22,8 @@ base_known : (first base : ℕ) (addresses : List ℕ) (size : StartSize) → ba
     → first ≡ least addresses → base ≡ base_for size (least addresses)
 base_known first base addresses size is first_is = is ∙ ap (λ n. base_for size n) first_is
 
-pub put_starts-requires-base : goal.put_starts-requires-base
-put_starts-requires-base c =
+pub put_starts-requires-clause-base : goal.put_starts-requires-clause-base
+put_starts-requires-clause-base c =
     let entries = c.args.self.now.entries.now in
     let statements = c.args.self.now.statements.now in
     let addresses = all_addresses entries statements in
@@ -33,8 +33,8 @@ put_starts-requires-base c =
     c.least_address-first.ensures))
     (entries_low entries statements size)
 
-pub put_starts-requires-near : goal.put_starts-requires-near
-put_starts-requires-near c =
+pub put_starts-requires-clause-near : goal.put_starts-requires-clause-near
+put_starts-requires-clause-near c =
     let entries = c.args.self.now.entries.now in
     let statements = c.args.self.now.statements.now in
     let addresses = all_addresses entries statements in
@@ -48,8 +48,8 @@ put_starts-requires-near c =
     (size_known c.least_address-first.result c.greatest_address.result addresses size c.size_for-size.ensures
     c.least_address-first.ensures c.greatest_address.ensures) four small)
 
-pub put_statements-requires-base : goal.put_statements-requires-base
-put_statements-requires-base c =
+pub put_statements-requires-clause-base : goal.put_statements-requires-clause-base
+put_statements-requires-clause-base c =
     let entries = c.args.self.now.entries.now in
     let statements = c.args.self.now.statements.now in
     let addresses = all_addresses entries statements in
@@ -60,8 +60,8 @@ put_statements-requires-base c =
     c.least_address-first.ensures))
     (among_low entries statements size some c.requires.within)
 
-pub put_statements-requires-near : goal.put_statements-requires-near
-put_statements-requires-near c =
+pub put_statements-requires-clause-near : goal.put_statements-requires-clause-near
+put_statements-requires-clause-near c =
     let entries = c.args.self.now.entries.now in
     let statements = c.args.self.now.statements.now in
     let addresses = all_addresses entries statements in
@@ -75,21 +75,6 @@ put_statements-requires-near c =
     (among_near entries statements size some c.requires.within
     (size_known c.least_address-first.result c.greatest_address.result addresses size c.size_for-size.ensures
     c.least_address-first.ensures c.greatest_address.ensures) four small)
-
-pub put_header-requires-size : goal.put_header-requires-size
-put_header-requires-size c =
-    let addresses = all_addresses c.args.self.now.entries.now c.args.self.now.statements.now in
-    size_known c.least_address-first.result c.greatest_address.result addresses c.size_for-size.result
-    c.size_for-size.ensures c.least_address-first.ensures c.greatest_address.ensures
-
-pub put_header-requires-base : goal.put_header-requires-base
-put_header-requires-base c =
-    let addresses = all_addresses c.args.self.now.entries.now c.args.self.now.statements.now in
-    base_known c.least_address-first.result c.base_for-base.result addresses c.size_for-size.result
-    c.base_for-base.ensures c.least_address-first.ensures
-    ∙ ap (λ (s : StartSize). base_for s (least addresses))
-    (size_known c.least_address-first.result c.greatest_address.result addresses c.size_for-size.result
-    c.size_for-size.ensures c.least_address-first.ensures c.greatest_address.ensures)
 
 pub returns-clause-bytes : goal.returns-clause-bytes
 returns-clause-bytes c =
@@ -128,7 +113,7 @@ returns-clause-bytes c =
     ∙ ap (λ (s : StartSize). x4 ++ flat_map (statement_bytes s c.base_for-base.result) ordered) size_is
     ∙ ap (λ (b : ℕ). x4 ++ flat_map (statement_bytes size b) ordered) base_is in
     let put_header : x1 ≡ old ++ header =
-    c.in_ok-put_header.ensures ordered c.len.ensures
+    c.in_ok-put_header.ensures ordered refl
     ∙ ap (λ (bs : List ℕ). bs ++ header) c.reserve_exact.ensures.items in
     let put_sources : x2 ≡ x1 ++ sources = c.in_ok-put_sources.ensures.bytes contents.paths c.requires.names in
     then_put old (header ++ sources ++ starts ++ places ++ lines ++ contents.paths) contents.identity x6 x7
