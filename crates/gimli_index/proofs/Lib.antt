@@ -28,3 +28,5 @@ mod BegunLines
 mod BegunSteps
 mod TurnLines
 mod TurnSteps
+mod KeptStatements
+mod AddressEnds

@@ -2,6 +2,7 @@
 
 ghost use Rattle.std.specs.Prelude.{◌≡◌, ◌≢◌, ◌≤◌, ◌<◌, ◌+◌, ◌-◌, ◌^◌, ◌++◌, true, false, length};
 ghost use Rattle.std.specs.Prelude.{ℕ, List, [], map, min};
+ghost use Rattle.std.specs.List.{Contains};
 ghost use Rattle.std.specs.Option.{option_map_or};
 ghost use Rattle.std.specs.Prelude.{◌↔◌, flat_map, All, IfErr, IsTrue, OnOk};
 ghost use Rattle.gimli_core.specs.Numbers.{is_address_size};
@@ -13,6 +14,7 @@ ghost use Rattle.gimli_index.specs.Contents.{FitsStatement};
 ghost use Rattle.gimli_index.specs.Contents.{IsNear, HasColumn, column_word};
 ghost use Rattle.gimli_index.specs.Header.{magic, size_of};
 ghost use Rattle.gimli_index.specs.Made.{all_addresses, base_for, greatest, least, size_for};
+ghost use Rattle.gimli_index.specs.inside.Ranks.{least_of};
 ghost use Rattle.gimli_index.specs.Order.{path_number};
 ghost use Rattle.gimli_index.specs.Made.{EntriesAscend, IsMakeFault, IsWritten};
 ghost use Rattle.gimli_index.specs.declared.error.MakeError.TheVariants.{OutOfMemory};
@@ -331,28 +333,44 @@ fn lesser(found: Option<u64>, number: u64) -> u64
     }
 }
 
-/// The least of the addresses of entries and statements; 0 where there are none.
-fn least_address(entries: &[Entry], statements: &[Statement]) -> u64
-    ensures { result ≡ least (all_addresses entries.now statements.now) }
+/// The least of the addresses of entries, if there are any.
+fn least_of_entries(entries: &[Entry]) -> Option<u64>
+    ensures { result ≡ least_of (map (λ e. e.address) entries.now) }
 {
     let mut found: Option<u64> = None;
     for entry in entries {
         found = Some(lesser(found, entry.address));
     }
+    found
+}
+
+/// The least of the addresses of entries and statements; 0 where there are none.
+fn least_address(entries: &[Entry], statements: &[Statement]) -> u64
+    ensures { result ≡ least (all_addresses entries.now statements.now) }
+{
+    let mut found = least_of_entries(entries);
     for statement in statements {
         found = Some(lesser(found, statement.address));
     }
     found.unwrap_or(0)
 }
 
-/// The greatest of the addresses of entries and statements; 0 where there are none.
-fn greatest_address(entries: &[Entry], statements: &[Statement]) -> u64
-    ensures { result ≡ greatest (all_addresses entries.now statements.now) }
+/// The greatest of the addresses of entries; 0 where there are none.
+fn greatest_of_entries(entries: &[Entry]) -> u64
+    ensures { result ≡ greatest (map (λ e. e.address) entries.now) }
 {
     let mut found: u64 = 0;
     for entry in entries {
         found = found.max(entry.address);
     }
+    found
+}
+
+/// The greatest of the addresses of entries and statements; 0 where there are none.
+fn greatest_address(entries: &[Entry], statements: &[Statement]) -> u64
+    ensures { result ≡ greatest (all_addresses entries.now statements.now) }
+{
+    let mut found = greatest_of_entries(entries);
     for statement in statements {
         found = found.max(statement.address);
     }
@@ -454,8 +472,7 @@ impl Contents<'_> {
         requires columns { All (λ e. HasColumn e.place) self.now.entries.now }
         requires names { names.now
             ≡ map (λ s. path_number (source_path self.now.paths.now s)) self.now.sources.now }
-        requires within { (P : Statement → Type 0) → All P self.now.statements.now
-            → All P statements.now }
+        requires within { All (Contains self.now.statements.now) statements.now }
         ensures bytes { OnOk result
             (out.new.items ≡ out.old.items ++ index_bytes (contents_of self.now statements.now)) }
         ensures fits { OnOk result (Fits (contents_of self.now statements.now)) }
@@ -470,7 +487,8 @@ impl Contents<'_> {
         put_entries(out, self.entries)?;
         put_statements(out, size, base, statements)?;
         out.extend_from_slice(self.paths)?;
-        out.extend_from_slice(self.identity)
+        out.extend_from_slice(self.identity)?;
+        Ok(())
     }
 
     /// Refuses what 32 bits don't count.
@@ -526,6 +544,7 @@ impl Contents<'_> {
         put_sizes(out, self.address_size, size, base)?;
         put_words(out, self.entries.len() as u32, self.sources.len() as u32)?;
         put_words(out, self.paths.len() as u32, self.identity.len() as u32)?;
-        put_words(out, statements as u32, 0)
+        put_words(out, statements as u32, 0)?;
+        Ok(())
     }
 }

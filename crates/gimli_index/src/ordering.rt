@@ -1,10 +1,12 @@
 //! The statements of an index in the making, put in order.
 
-ghost use Rattle.std.specs.Prelude.{◌≡◌, ◌<◌, ◌≤◌, ◌^◌, length, map, All, IfOk, [], true};
+ghost use Rattle.std.specs.Prelude.{◌≡◌, ◌<◌, ◌≤◌, ◌-◌, ◌^◌, length, map, slice_index_or, All};
+ghost use Rattle.std.specs.Prelude.{IfOk, [], true};
+ghost use Rattle.std.specs.List.{Contains};
 ghost use Rattle.gimli_index.specs.Contents.{source_path, statement_in};
 ghost use Rattle.gimli_index.specs.Made.{contents_of, HasOrder, SayTheSameLines};
 ghost use Rattle.gimli_index.specs.Order.{path_number};
-ghost use Rattle.gimli_index.specs.inside.Ranks.{AreRanked, IsRanked};
+ghost use Rattle.gimli_index.specs.inside.Ranks.{nothing, AreRanked, IsRanked};
 
 use crate::contents::{Contents, Source, Statement};
 use crate::line_index::path_in;
@@ -86,18 +88,33 @@ impl Contents<'_> {
     }
 
     /// Whether a statement says what another one says: the same line and address of the same path.
-    fn is_repeated(&self, last: Ranked, next: Ranked) -> bool
-        ensures { result ≡ true → statement_in (contents_of self.now []) last.statement
-            ≡ statement_in (contents_of self.now []) next.statement }
+    fn is_repeated(&self, last: Statement, next: Statement) -> bool
+        ensures { result ≡ true → statement_in (contents_of self.now []) last
+            ≡ statement_in (contents_of self.now []) next }
     {
-        if last.rank != next.rank || last.statement.line != next.statement.line {
+        if last.line != next.line || last.address != next.address {
             return false;
         }
-        let first = self.sources.get(last.statement.source as usize);
-        match (first, self.sources.get(next.statement.source as usize)) {
+        let first = self.sources.get(last.source as usize);
+        match (first, self.sources.get(next.source as usize)) {
             (Some(first), Some(second)) => is_same_path(first, second),
             _ => false,
         }
+    }
+
+    /// Whether the statement at an index says what the one before it says.
+    fn is_repeated_at(&self, ranked: &[Ranked], index: usize) -> bool
+        requires { index < length ranked.now }
+        ensures some { result ≡ true → 0 < index }
+        ensures same { result ≡ true → statement_in (contents_of self.now [])
+            (slice_index_or ranked.now (index - 1) nothing).statement
+            ≡ statement_in (contents_of self.now [])
+            (slice_index_or ranked.now index nothing).statement }
+    {
+        if index == 0 {
+            return false;
+        }
+        self.is_repeated(ranked[index - 1].statement, ranked[index].statement)
     }
 
     /// The statements of ranked ones, without those that say what the one before them says.
@@ -107,10 +124,12 @@ impl Contents<'_> {
         ensures same { IfOk result (λ s. SayTheSameLines (contents_of self.now [])
             (map (λ (r : Ranked). r.statement) ranked.now) s.items) }
         ensures few { IfOk result (λ s. length s.items ≤ length ranked.now) }
+        ensures within { IfOk result
+            (λ s. All (Contains (map (λ (r : Ranked). r.statement) ranked.now)) s.items) }
     {
         let mut distinct = Vec::new(alloc);
         for index in 0..ranked.len() {
-            if index == 0 || !self.is_repeated(ranked[index - 1], ranked[index]) {
+            if !self.is_repeated_at(ranked, index) {
                 distinct.push(ranked[index].statement)?;
             }
         }
@@ -126,8 +145,7 @@ impl Contents<'_> {
         ensures same { IfOk result (λ s. SayTheSameLines (contents_of self.now [])
             self.now.statements.now s.items) }
         ensures few { IfOk result (λ s. length s.items ≤ length self.now.statements.now) }
-        ensures within { IfOk result (λ s. (P : Statement → Type 0)
-            → All P self.now.statements.now → All P s.items) }
+        ensures within { IfOk result (λ s. All (Contains self.now.statements.now) s.items) }
     {
         let mut ranked = self.all_ranked(alloc, names)?;
         ranked.sort_by_key(|one| one.rank)?;
