@@ -153,9 +153,9 @@ module _ (given : Given) {limit : ℕ} (table : Table) (entries : List Entry) (s
         f.row,
         contains_at at.rows at.index f.row at.stands,
         ap (λ (n : ℕ). let x : File = record { unit = n; path = source_path table.paths.bytes s } in x)
-        (of.offset ∙ ap (λ (u : KeptUnit). u.unit.offset) same)
-        ∙ ap (λ (p : Result (List ℕ) NoPath). let x : File = record { unit = at.unit.unit.offset; path = p } in x)
-        (of.path f.row found.3 ∙ ap (λ (u : KeptUnit). unit_path given.texts u.unit f.row) same),
+            (of.offset ∙ ap (λ (u : KeptUnit). u.unit.offset) same)
+            ∙ ap (λ (p : Result (List ℕ) NoPath). let x : File = record { unit = at.unit.unit.offset; path = p } in x)
+            (of.path f.row found.3 ∙ ap (λ (u : KeptUnit). unit_path given.texts u.unit f.row) same),
       )))
     where
       each_key : (k : ℕ) (key : SourceKey) → slice_get table.keys k ≡ Some key → IsFoundFile given.units key

@@ -3,6 +3,7 @@
 ghost use Rattle.std.specs.Prelude.{◌≡◌, ◌<◌, ◌≤◌, ◌-◌, ◌^◌, length, map, slice_index_or, All};
 ghost use Rattle.std.specs.Prelude.{IfOk, [], true};
 ghost use Rattle.std.specs.List.{Contains};
+ghost use Rattle.std.specs.Prelude.{slice_get};
 ghost use Rattle.gimli_index.specs.Contents.{source_path, statement_in};
 ghost use Rattle.gimli_index.specs.Made.{contents_of, HasOrder, SayTheSameLines};
 ghost use Rattle.gimli_index.specs.Order.{path_number};
@@ -21,9 +22,9 @@ struct Ranked {
 }
 
 /// Whether two sources have the same path, or the same reason why they have none.
-fn is_same_path(first: &Source, second: &Source) -> bool
-    ensures { result ≡ true → (first.now.first ≡ second.now.first)
-        × (first.now.size ≡ second.now.size) × (first.now.reason ≡ second.now.reason) }
+fn is_same_path(first: Source, second: Source) -> bool
+    ensures { result ≡ true → (first.first ≡ second.first) × (first.size ≡ second.size)
+        × (first.reason ≡ second.reason) }
 {
     first.first == second.first && first.size == second.size && first.reason == second.reason
 }
@@ -87,6 +88,16 @@ impl Contents<'_> {
         Ok(all)
     }
 
+    /// The source of a statement, if it is there.
+    fn source_of(&self, statement: Statement) -> Option<Source>
+        ensures { result ≡ slice_get self.now.sources.now statement.source }
+    {
+        match self.sources.get(statement.source as usize) {
+            Some(source) => Some(*source),
+            None => None,
+        }
+    }
+
     /// Whether a statement says what another one says: the same line and address of the same path.
     fn is_repeated(&self, last: Statement, next: Statement) -> bool
         ensures { result ≡ true → statement_in (contents_of self.now []) last
@@ -95,11 +106,13 @@ impl Contents<'_> {
         if last.line != next.line || last.address != next.address {
             return false;
         }
-        let first = self.sources.get(last.source as usize);
-        match (first, self.sources.get(next.source as usize)) {
-            (Some(first), Some(second)) => is_same_path(first, second),
-            _ => false,
-        }
+        let Some(first) = self.source_of(last) else {
+            return false;
+        };
+        let Some(second) = self.source_of(next) else {
+            return false;
+        };
+        is_same_path(first, second)
     }
 
     /// Whether the statement at an index says what the one before it says.

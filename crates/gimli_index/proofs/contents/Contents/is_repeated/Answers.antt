@@ -1,13 +1,12 @@
 use Rattle.std.proofs.Common.{◌≡◌, [], Some, arith, rules, slice_get}
 use Rattle.gimli_index.specs.Made.{contents_of}
-use Rattle.gimli_index.specs.declared.contents.Source.{Source}
 use Rattle.gimli_index.proofs.KeptStatements.{same_path, same_statement}
 use Rattle.gimli_index.proofs.contents.Contents.is_repeated.Goals as goal
 
-pub returns-in-Some-Some : goal.returns-in-Some-Some
-returns-in-Some-Some c = λ same.
-    let first : Source = c.in-Some-Some.first.now in
-    let second : Source = c.in-Some-Some.second.now in
+pub returns : goal.returns
+returns c = λ same.
+    let first = c.in-Some.first in
+    let second = c.in-Some-second.second in
     let sources = c.args.self.now.sources.now in
     let line : c.args.last.line ≡ c.args.next.line = omega arith in
     let address : c.args.last.address ≡ c.args.next.address = omega arith in
