@@ -24,5 +24,7 @@ mod Sources
 mod TurnPlaces
 mod TurnOrder
 mod WalkedStarts
+mod BegunLines
+mod BegunSteps
 mod TurnLines
 mod TurnSteps

@@ -300,8 +300,8 @@ fn write_entries<R: Reader>(
     }) origin.now.limit) }
     ensures kept { IfErr result (λ e. e ≢ OutOfMemory → out.new.items ≡ out.old.items) }
 {
-    let statements = statements_of(origin, table)?;
     let entries = entries_of(origin, table)?;
+    let statements = statements_of(origin, table)?;
     Contents {
         address_size,
         sources: table.sources(),

@@ -1,9 +1,9 @@
 -- The statements of a lookup, one row after the other.
-use Rattle.std.specs.Prelude.{◌≡◌, ◌<◌, ℕ, Bool, false, not, ◌&&◌, nat_eq, nat_lt, List, [], ◌∷◌, map}
+use Rattle.std.specs.Prelude.{◌≡◌, ◌<◌, ℕ, Bool, false, not, ◌&&◌, nat_eq, nat_lt, List, [], ◌∷◌, ◌++◌, map, IfSome}
 use Rattle.std.specs.Prelude.{flat_map, length, slice_get}
 use Rattle.std.specs.Prelude.{if◌then◌else◌, Option, None, Some, Result}
 use Rattle.std.specs.Option.{option_map, option_map_or}
-use Rattle.gimli_index.specs.Contents.{statement_in}
+use Rattle.gimli_index.specs.Contents.{path_at, statement_in}
 use Rattle.gimli_index.specs.Found.{Texts, file_path, is_one_path}
 use Rattle.gimli_index.specs.Meaning.{Statement}
 use Rattle.gimli_index.specs.declared.contents.Statement.{Statement as Made}
@@ -49,7 +49,7 @@ statements_in table statements = map (statement_in (with_table table)) statement
 -- what was given, by the source of its number
 abbrev pub given_in : Table → Option Given → Option PathLine
 given_in table given = option_map (λ (g : Given). record {
-  path = (statement_in (with_table table) (record { source = g.source; line = 0; address = 0 })).path;
+  path = path_at (with_table table) g.source;
   line = g.line;
 }) given
 
@@ -57,3 +57,14 @@ given_in table given = option_map (λ (g : Given). record {
 abbrev pub AreInside : Table → List Made → Type 0
 AreInside table statements = (k : ℕ) (s : Made) → slice_get statements k ≡ Some s
     → s.source < length table.sources
+
+-- what was given is of a source of a table
+abbrev pub IsGiven : Table → Option Given → Type 0
+IsGiven table given = IfSome given (λ (g : Given). g.source < length table.sources)
+
+-- statements and those that are still to come of rows are, after a step, the same
+abbrev pub GoesOnTo : Texts → ListedUnit → Table → List Made → Option Given → List LineRow → Table
+    → List Made → Option Given → List LineRow → Type 0
+GoesOnTo t u old statements given rows new more next rest =
+    statements_in old statements ++ begun t u (given_in old given) rows
+    ≡ statements_in new more ++ begun t u (given_in new next) rest
