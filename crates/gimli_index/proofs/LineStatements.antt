@@ -7,7 +7,7 @@ use Rattle.std.proofs.lemmas.Bool.{false≢true}
 use Rattle.gimli_lookup.specs.Statements.{ascending_once, HasNoLine, IsFirstLine}
 use Rattle.gimli_lookup.specs.inside.StatementLines.{IsFirstWith}
 use Rattle.gimli_lookup.proofs.AscendingOnce.{ascending_once_some}
-use Rattle.gimli_index.specs.Lines.{addresses_in, addresses_left, addresses_of, is_of, without_repeats}
+use Rattle.gimli_index.specs.Lines.{addresses_in, addresses_of, is_of, without_repeats}
 use Rattle.gimli_index.specs.Meaning.{Statement, statement_at}
 use Rattle.gimli_index.specs.Views.{index_of}
 use Rattle.gimli_index.specs.declared.addresses.Addresses.{Addresses}

@@ -15,7 +15,6 @@ use Rattle.std.proofs.lemmas.List.Sorted.{IsNonDecreasingBy-from_default}
 use Rattle.std.proofs.lemmas.Slice.Eq.{bytes_eq-Decides}
 use Rattle.gimli_core.specs.Numbers.{le_value}
 use Rattle.gimli_lookup.specs.Components.{components}
-use Rattle.gimli_lookup.specs.Statements.{ascending_once}
 use Rattle.gimli_lookup.specs.inside.StatementLines.{IsFirstWith}
 use Rattle.gimli_index.specs.Header.{highest_base, size_of, statement_size}
 use Rattle.gimli_index.specs.Lines.{addresses_of, begins_with, is_named, is_of, without_repeats}

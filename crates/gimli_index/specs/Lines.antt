@@ -1,6 +1,6 @@
 -- From a line of a path to addresses, by the statements of an index: the rule for breakpoints of
 -- DWARF 5, section 6.2.2.
-use Rattle.std.specs.Prelude.{◌≡◌, ℕ, ◌+◌, ◌-◌, Bool, false, ◌&&◌, List, [], ◌∷◌, map}
+use Rattle.std.specs.Prelude.{◌≡◌, ℕ, ◌-◌, Bool, false, ◌&&◌, List, [], ◌∷◌, map}
 use Rattle.std.specs.Prelude.{nat_eq, if◌then◌else◌, Option, Some, None, Result, Ok, Err}
 use Rattle.std.specs.List.{filter, range_with_len, starts_with}
 use Rattle.std.specs.Option.{option_map_or}

@@ -1,7 +1,5 @@
 use Rattle.std.proofs.Common.{◌≡◌, ◌∙◌, ◌∷◌, ◌+◌, nat_eq, false, sym, ap, subst, Some}
 use Rattle.std.specs.Option.{option_map_or}
-use Rattle.gimli_index.specs.Meaning.{statement_at}
-use Rattle.gimli_index.specs.Views.{index_of}
 use Rattle.gimli_index.specs.inside.Order.{left_from}
 use Rattle.gimli_index.proofs.LineStatements.{left_of_new, left_of_other, left_of_same}
 use Rattle.gimli_index.proofs.addresses.Addresses.new_address.Goals as goal

@@ -1,4 +1,4 @@
-use Rattle.std.proofs.Common.{◌<◌, ◌+◌, ◌-◌, ◌/◌, ℕ, get_or, arith}
+use Rattle.std.proofs.Common.{◌<◌, ◌+◌, ◌-◌, ◌/◌, arith}
 use Rattle.gimli_index.specs.Views.{index_of}
 use Rattle.gimli_index.proofs.Ordered.{are_few, keys_rise, AreFew}
 use Rattle.gimli_index.proofs.line_index.LineIndex.first_at.Goals as goal

@@ -1,4 +1,4 @@
-use Rattle.std.proofs.Common.{◌≡◌, ◌-◌, ◌≤◌, ap, arith, inl, inr}
+use Rattle.std.proofs.Common.{arith}
 use Rattle.gimli_index.specs.Views.{index_of}
 use Rattle.gimli_index.proofs.Ordered.{one_rank_more}
 use Rattle.gimli_index.proofs.line_index.LineIndex.statements_ascend.Goals as goal
