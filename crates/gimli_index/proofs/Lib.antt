@@ -22,7 +22,6 @@ mod PathLists
 mod Distinct
 mod Sources
 mod TurnPlaces
-mod TurnOrder
 mod WalkedStarts
 mod BegunLines
 mod BegunSteps

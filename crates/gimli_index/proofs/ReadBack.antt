@@ -584,17 +584,17 @@ path_at_read c k fits = elim ((slice_get_cases c.sources k).1) [
 
 -- the numbers of a statement fit
 source_fits : (size : StartSize) (base : ℕ) (s : Statement) → FitsStatement size base s → s.source < 2 ^ 32
-source_fits size base s (source, (line, (low, near))) = source
+source_fits size base s fits = fits.0
 
 line_fits : (size : StartSize) (base : ℕ) (s : Statement) → FitsStatement size base s → s.line < 2 ^ 32
-line_fits size base s (source, (line, (low, near))) = line
+line_fits size base s fits = fits.1
 
 address_low : (size : StartSize) (base : ℕ) (s : Statement) → FitsStatement size base s → base ≤ s.address
-address_low size base s (source, (line, (low, near))) = low
+address_low size base s fits = fits.2.0
 
 address_fits : (size : StartSize) (base : ℕ) (s : Statement) → FitsStatement size base s
     → s.address - base < 256 ^ size_of size
-address_fits size base s (source, (line, (low, near))) = omega (arith, low, near)
+address_fits size base s fits = omega (arith, fits.2.0, fits.2.1)
 
 -- a statement's address is read as far as it is above the base
 address_read : (size : StartSize) (base : ℕ) (s : Statement) (rest : List ℕ) → s.address - base < 256 ^ size_of size

@@ -20,9 +20,7 @@ use Rattle.gimli_lookup.specs.Ranges.{IsFoundAt}
 use Rattle.gimli_lookup.specs.Section.{KeptUnit, all_sequences}
 use Rattle.gimli_lookup.specs.SequenceRows.{rows_of}
 use Rattle.gimli_lookup.specs.declared.section_lookup.CoveringRows.{CoveringRows}
-use Rattle.gimli_index.specs.Found.{AreApart, EndsLast, StandBelow, Texts, SayWhereLinesBegin, found_place}
-use Rattle.gimli_index.specs.Found.{lookup_addresses, row_place}
-use Rattle.gimli_index.specs.Lines.{addresses_of}
+use Rattle.gimli_index.specs.Found.{Texts, found_place, row_place}
 use Rattle.gimli_index.specs.Meaning.{Start, place_at}
 use Rattle.gimli_index.specs.declared.contents.Entry.{Entry}
 use Rattle.gimli_index.specs.declared.turns.Turn.{Turn}
@@ -30,9 +28,7 @@ use Rattle.gimli_index.specs.inside.Table.{Entered, Table, starts_in}
 use Rattle.gimli_index.specs.inside.Turns.{AreTurns, IsTurn, UnitRows, Walked, end_after, rows_in, rows_of_turns}
 use Rattle.gimli_index.specs.inside.Turns.{rows_of_units, starts_of_turn}
 use Rattle.gimli_index.specs.inside.Turns.{turn_rows}
-use Rattle.gimli_index.proofs.LineStarts.{count_in, given_by, in_sequences, in_units}
 use Rattle.gimli_index.proofs.Lists.{append_none, get_inside, get_seam}
-use Rattle.gimli_index.proofs.TurnOrder.{each_two_permuted, end_is_last, in_turn, stands_below}
 use Rattle.gimli_index.proofs.TurnPlaces.{none_round, one_round, rows_of_all}
 
 abbrev rows_in_unit : UnitRows → List LineRow

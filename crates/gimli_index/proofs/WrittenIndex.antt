@@ -130,7 +130,7 @@ module _ (given : Given) {limit : ℕ} (table : Table) (entries : List Entry) (s
       ∙ ap (λ (ss : List StatementMeaning). addresses_of path ss line) same_meanings
       ∙ say_where_lines_begin given.texts given.units path line
 
-  file_by : List ℕ → Source → File
+  abbrev file_by : List ℕ → Source → File
   file_by ps s = record { unit = s.unit; path = source_path ps s }
 
   files_are : All (IsFileOfRow given.texts given.units) (map (source_file c) c.sources)

@@ -18,8 +18,8 @@ take_ranges-requires-clause-entered g c =
     rw (c.in_ok-entries.ensures, c.ranges-ranges.ensures)
     (none_entered t c.args.origin.now.lookup.now c.args.table.now c.requires)
 
-pub returns-then-are_in_turn : goal.returns-then-are_in_turn
-returns-then-are_in_turn g c =
+pub returns-then-are_in_turn-clause-entered : goal.returns-then-are_in_turn-clause-entered
+returns-then-are_in_turn-clause-entered g c =
     let t = texts_of g.R.Reader.bytes c.args.origin.now.strings.now c.args.origin.now.compilations.now in
     let units : List KeptUnit = c.args.origin.now.lookup.now in
     let limit = c.args.origin.now.limit in

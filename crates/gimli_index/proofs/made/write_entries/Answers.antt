@@ -28,7 +28,7 @@ returns-clause-bytes g c =
     let said = c.in_ok-statements.ensures in
     let entered =
     still_entered t units c.entries_of.new.table table c.in_ok-entries.entries.items None
-    (c.in_ok-entries.ensures) said.keeps said.are in
+    c.in_ok-entries.ensures.entered said.keeps said.are in
     with_ok c.write.result (IsWritten parts old new) (IsAppended given c.args.origin.now.limit old new)
     c.write.ensures.written
     (λ written.
@@ -69,7 +69,7 @@ returns-clause-err g c =
     let said = c.in_ok-statements.ensures in
     let entered =
     still_entered t units c.entries_of.new.table table c.in_ok-entries.entries.items None
-    (c.in_ok-entries.ensures) said.keeps said.are in
+    c.in_ok-entries.ensures.entered said.keeps said.are in
     on_fault c.write.result (IsMakeFault contents) (IsIndexFault given c.args.origin.now.limit) (λ e fault.
     contents_fault given table c.in_ok-entries.entries.items statements contents entered said.said
     c.sources.ensures

@@ -6,7 +6,7 @@ use Rattle.gimli_index.proofs.contents.Contents.is_repeated.Goals as goal
 pub returns : goal.returns
 returns c = λ same.
     let first = c.in-Some.first in
-    let second = c.in-Some-second.second in
+    let second = c.in-Some-source_of.second in
     let sources = c.args.self.now.sources.now in
     let line : c.args.last.line ≡ c.args.next.line = omega arith in
     let address : c.args.last.address ≡ c.args.next.address = omega arith in
