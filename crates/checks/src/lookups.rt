@@ -82,11 +82,11 @@ fn copied<R: Reader>(program: IncompleteLineProgram<R>) -> Result<Option<usize>>
     ]))
 }
 
-/// Whether line 1 begins at each second row of the first and the last sequence, and once in each
-/// other.
+/// Whether line 1 begins at each second row of the first and the last sequence, whose addresses are
+/// the same, and at the first row of each other, which is at 0x10: each address is given once.
 fn are_all(found: Result<Option<Addresses>>) -> bool {
     match found {
-        Ok(Some(found)) => found.line == 1 && found.addresses.len() == 2 * MANY,
+        Ok(Some(found)) => found.line == 1 && found.addresses.len() == MANY / 2 + 1,
         _ => false,
     }
 }

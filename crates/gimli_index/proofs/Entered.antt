@@ -24,7 +24,6 @@ use Rattle.gimli_index.specs.Short.{IsShort}
 use Rattle.gimli_index.specs.inside.Table.{Table, AreSources, Entered, IsInside, IsPushed, Keeps, SayTheSame, last_said}
 use Rattle.gimli_index.specs.inside.Table.{place_in, starts_in, with_table}
 use Rattle.gimli_index.proofs.OneFound.{one_found}
-use Rattle.gimli_index.proofs.LineStarts.{last_place}
 use Rattle.gimli_index.proofs.Lists.{get_pushed, get_seam}
 use Rattle.gimli_index.proofs.Sources.{inside_stays, place_stays, same_places, say_the_same}
 
@@ -126,6 +125,10 @@ before_end a start (Some e) lt above = omega (arith, lt, above)
 start_before : (start : ℕ) (end : Option ℕ) → IfSome end (λ e. start < e) → IsBefore start end
 start_before start None above = tt
 start_before start (Some e) above = above
+
+-- what the last of some starts says; nothing where there is none
+abbrev last_place : List Start → Option Place
+last_place starts = option_and_then (λ (s : Start). s.place) (slice_get starts (length starts - 1))
 
 pub last_place_is : (table : Table) (entries : List Entry)
     → last_place (starts_in table entries) ≡ place_in table (last_said entries)

@@ -2,12 +2,13 @@
 use Rattle.std.proofs.Common.{◌≡◌, ◌⊎◌, ℕ, zero, suc, ◌+◌, ◌-◌, ◌<◌, ◌≤◌, Bool, true, false, cond, if◌then◌else◌, List}
 use Rattle.std.proofs.Common.{[], ◌∷◌, ◌++◌, length, take, drop}
 use Rattle.std.proofs.Common.{Ok, Err, Option, None, Some, refl, sym, ap, ◌∙◌, inl, inr, arith, append_assoc}
-use Rattle.std.proofs.Common.{length-append}
+use Rattle.std.proofs.Common.{length-append, subst}
 use Rattle.std.specs.Option.{option_map_or}
-use Rattle.std.specs.Prelude.{slice_get, slice_range, nat_eq}
+use Rattle.std.specs.Prelude.{slice_get, slice_range, nat_eq, All}
 use Rattle.std.proofs.lemmas.Bool.{cases_lt}
 use Rattle.std.proofs.lemmas.Bool.Decides.{nat_tests}
-use Rattle.std.proofs.lemmas.Option.{slice_get_within}
+use Rattle.std.proofs.lemmas.List.Elements.{All-get_or}
+use Rattle.std.proofs.lemmas.Option.{slice_get_cases, slice_get_within}
 use Rattle.gimli_index.specs.Contents.{source_path}
 use Rattle.gimli_index.specs.Meaning.{path_in}
 use Rattle.gimli_index.specs.declared.contents.Source.{Source}
@@ -43,6 +44,18 @@ get_pushed (z ∷ xs) y zero x there = inl there
 get_pushed (z ∷ xs) y (suc k) x there = elim (get_pushed xs y k x there) [
   | inl before ↦ inl before
   | inr last ↦ inr (ap suc last.0, last.1)
+]
+
+-- what holds of all elements holds of one
+pub at_index : {X : Type 0} (P : X → Type 0) (xs : List X) (i : ℕ) (x : X) → slice_get xs i ≡ Some x → All P xs → P x
+at_index P xs i x there all = elim ((slice_get_cases xs i).1) [
+  | inl found ↦
+      let both : Some found.0 ≡ Some x = sym found.2 ∙ there in
+      let same : found.0 ≡ x = cc in
+      subst P (found.3 ∙ same) (All-get_or P xs i found.0 found.1 all)
+  | inr past ↦
+      let both : None ≡ Some x = sym past.1 ∙ there in
+      absurd cc
 ]
 
 -- ---- paths

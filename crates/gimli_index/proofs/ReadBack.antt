@@ -1,42 +1,51 @@
 -- What is written is read as what it was made of.
 use Rattle.std.proofs.Common.{◌≡◌, ℕ, zero, suc, ◌+◌, ◌-◌, ◌*◌, ◌^◌, ◌<◌, ◌≤◌, Bool, true, false, if◌then◌else◌, nat_lt}
-use Rattle.std.proofs.Common.{List, [], ◌∷◌, ◌++◌, length, take}
+use Rattle.std.proofs.Common.{List, [], ◌∷◌, ◌++◌, length, take, fold, ◌%◌}
 use Rattle.std.proofs.Common.{drop, map, Option, Some, None, Result, Ok, Err, slice_get, refl, sym, ap, ◌∙◌, arith}
 use Rattle.std.proofs.Common.{length-append, append_assoc, inl, inr}
 use Rattle.std.proofs.Common.{subst, nat_eq}
-use Rattle.std.specs.Prelude.{All, flat_map, nat_le, slice_index, slice_range}
-use Rattle.std.specs.Option.{option_map, option_and_then}
+use Rattle.std.specs.Prelude.{All, flat_map, slice_range}
+use Rattle.std.specs.Option.{option_map, option_map_or, option_and_then}
+use Rattle.std.proofs.lemmas.Bool.{le-leb, lt-leb}
 use Rattle.std.proofs.lemmas.Bool.Decides.{nat_tests}
-use Rattle.std.proofs.lemmas.Option.{slice_get-get_or, slice_get_cases}
+use Rattle.std.proofs.lemmas.Option.{slice_get_cases}
 use Rattle.std.proofs.lemmas.List.Elements.{All-get_or}
 use Rattle.gimli_core.specs.Numbers.{is_address_size, le_value}
 use Rattle.gimli_index.specs.Numbers.{number_at}
 use Rattle.gimli_index.specs.Steps.{◌>>=◌}
-use Rattle.gimli_index.specs.Header.{size_of, highest_base, address_size_of, start_size_of, base_of, fields_at}
+use Rattle.gimli_index.specs.Header.{size_of, statement_size, highest_base, address_size_of, start_size_of, base_of}
+use Rattle.gimli_index.specs.Header.{fields_at}
 use Rattle.gimli_index.specs.Header.{header_at}
-use Rattle.gimli_index.specs.Parts.{Index, index_at, parts_at, starts_offset, entries_offset, order_offset}
+use Rattle.gimli_index.specs.Parts.{Index, index_at, parts_at, starts_offset, entries_offset}
+use Rattle.gimli_index.specs.Parts.{statements_offset}
 use Rattle.gimli_index.specs.Parts.{paths_offset, identity_offset, end_offset}
 use Rattle.gimli_index.specs.declared.place.NoPath.{NoPath}
-use Rattle.gimli_index.specs.declared.place.NoPath.TheVariants.{Reason}
-use Rattle.gimli_index.specs.Meaning.{column_in, is_statement_in}
+use Rattle.gimli_index.specs.declared.place.NoPath.TheVariants.{Outside, Reason}
+use Rattle.gimli_index.specs.Files.{File, file_at, files_of, source_file}
+use Rattle.gimli_index.specs.Meaning.{column_in, ends_prologue_in, is_statement_in, source_at, source_path_at}
+use Rattle.gimli_index.specs.Meaning.{statement_at, statements_of}
+use Rattle.gimli_index.specs.Meaning.{Statement as StatementMeaning}
 use Rattle.gimli_index.specs.Meaning.{AreAscending, Place, Start, path_in, entry_place, place_from, start_at}
 use Rattle.gimli_index.specs.Meaning.{start_number, starts_of, path_of}
 use Rattle.gimli_index.specs.Contents.{Contents, Fits, FitsLine, FitsPlace, FitsSource, IsNear, entry_start, line_place}
-use Rattle.gimli_index.specs.Contents.{line_in, header_bytes, source_bytes}
+use Rattle.gimli_index.specs.Contents.{line_in, header_bytes, source_bytes, source_path, path_at, statement_bytes}
+use Rattle.gimli_index.specs.Contents.{statement_in, FitsStatement}
 use Rattle.gimli_index.specs.Contents.{column_word, start_bytes, line_bytes, place_bytes, entry_bytes, index_bytes}
 use Rattle.gimli_index.specs.Contents.{le_bytes}
 use Rattle.gimli_index.specs.Made.{EntriesAscend, HasOrder, SaysWhat}
-use Rattle.gimli_index.specs.Order.{ordered_number, IsOrder, IsOrdered}
+use Rattle.gimli_index.specs.Order.{last_number, name_at, name_number, path_number, AreOrdered, IsOrdered}
 use Rattle.gimli_index.specs.declared.contents.Entry.{Entry}
 use Rattle.gimli_index.specs.declared.contents.Source.{Source}
 use Rattle.gimli_index.specs.declared.contents.SourceLine.{SourceLine}
+use Rattle.gimli_index.specs.declared.contents.Statement.{Statement}
 use Rattle.gimli_index.specs.declared.error.IndexError.{IndexError}
 use Rattle.gimli_index.specs.declared.error.IndexError.TheVariants.{AddressSize, Base, Cut, HeaderCut}
 use Rattle.gimli_index.specs.declared.header.Header.{Header}
 use Rattle.gimli_index.specs.declared.header.StartSize.{StartSize}
 use Rattle.gimli_index.specs.declared.header.StartSize.TheVariants.{Four, Eight}
+use Rattle.gimli_lookup.specs.Components.{components}
+use Rattle.gimli_index.proofs.Lists.{at_index, get_inside}
 use Rattle.gimli_index.proofs.Numerals.{number_read}
-use Rattle.gimli_index.proofs.Ordered.{same_order}
 use Rattle.gimli_index.proofs.Slices.{element_at, elements_length, same_values, second_part, third_part, fourth_part}
 use Rattle.gimli_index.proofs.Slices.{fifth_part, sixth_part, seventh_part}
 
@@ -51,11 +60,11 @@ header_of c = record {
   sources = length c.sources;
   paths = length c.paths;
   identity = length c.identity;
-  ordered = length c.order;
+  statements = length c.statements;
 }
 
 abbrev with_fields : ℕ → StartSize → ℕ → ℕ → ℕ → ℕ → ℕ → ℕ → Header
-with_fields address_size start_size base starts sources paths identity ordered = record {
+with_fields address_size start_size base starts sources paths identity statements = record {
   address_size = address_size;
   start_size = start_size;
   base = base;
@@ -63,16 +72,16 @@ with_fields address_size start_size base starts sources paths identity ordered =
   sources = sources;
   paths = paths;
   identity = identity;
-  ordered = ordered;
+  statements = statements;
 }
 
 -- the header of its fields
 abbrev fields_by : ℕ → ℕ → ℕ → ℕ → ℕ → ℕ → ℕ → ℕ → Result Header IndexError
-fields_by address start base starts sources paths identity ordered =
+fields_by address start base starts sources paths identity statements =
     address_size_of address >>= λ address_size.
     start_size_of start >>= λ start_size.
     base_of start_size base >>= λ base.
-    Ok (with_fields address_size start_size base starts sources paths identity ordered)
+    Ok (with_fields address_size start_size base starts sources paths identity statements)
 
 same_fields : (a a' b b' c c' d d' e e' g g' h h' i i' : ℕ) → a ≡ a' → b ≡ b' → c ≡ c' → d ≡ d' → e ≡ e' → g ≡ g'
     → h ≡ h' → i ≡ i'
@@ -98,26 +107,26 @@ start_size_is Eight = refl
 
 fields_are : (c : Contents) → Fits c
     → fields_by c.address_size (size_of c.start_size) c.base (length c.entries) (length c.sources) (length c.paths)
-    (length c.identity) (length c.order)
+    (length c.identity) (length c.statements)
     ≡ Ok (header_of c)
 fields_are c fits =
     let starts = length c.entries in
     let sources = length c.sources in
     let paths = length c.paths in
     let identity = length c.identity in
-    let ordered = length c.order in
+    let statements = length c.statements in
     let address : address_size_of c.address_size
     ≡ Ok c.address_size = ap (λ (b : Bool). if b then Ok c.address_size else Err (AddressSize c.address_size))
     fits.address_size in
     ap (λ (r : Result ℕ IndexError). r >>= λ address_size. start_size_of (size_of c.start_size) >>= λ start_size.
     base_of start_size c.base >>= λ base.
-    Ok (with_fields address_size start_size base starts sources paths identity ordered))
+    Ok (with_fields address_size start_size base starts sources paths identity statements))
     address
     ∙ ap (λ (r : Result StartSize IndexError). r >>= λ start_size. base_of start_size c.base >>= λ base.
-    Ok (with_fields c.address_size start_size base starts sources paths identity ordered))
+    Ok (with_fields c.address_size start_size base starts sources paths identity statements))
     (start_size_is c.start_size)
     ∙ ap (λ (r : Result ℕ IndexError). r >>= λ base.
-    Ok (with_fields c.address_size c.start_size base starts sources paths identity ordered))
+    Ok (with_fields c.address_size c.start_size base starts sources paths identity statements))
     (base_fits c.start_size c.base fits.base)
 
 size_fits : (size : StartSize) → size_of size < 256 ^ 2
@@ -140,7 +149,7 @@ header_read c rest half fits =
     ap (λ (b : Bool). if b then Err HeaderCut else fields_at bytes) whole
     ∙ same_fields _ c.address_size _ (size_of c.start_size) _ c.base _ (length c.entries) _ (length c.sources) _
     (length c.paths) _ (length c.identity) _
-    (length c.order)
+    (length c.statements)
     (number_read 2 c.address_size (omega arith))
     (number_read 2 (size_of c.start_size) (size_fits c.start_size))
     (number_read 8 c.base (base_is_long c.start_size c.base fits.base))
@@ -148,13 +157,13 @@ header_read c rest half fits =
     (number_read 4 (length c.sources) (omega (arith, fits.counts.sources)))
     (number_read 4 (length c.paths) (omega (arith, fits.counts.paths)))
     (number_read 4 (length c.identity) (omega (arith, fits.counts.identity)))
-    (number_read 4 (length c.order) (omega (arith, fits.counts.order)))
+    (number_read 4 (length c.statements) (omega (arith, fits.counts.statements)))
     ∙ fields_are c fits
 
 -- ---- the parts
 
 abbrev sources_part : Contents → List ℕ
-sources_part c = flat_map source_bytes c.sources
+sources_part c = flat_map (source_bytes c.paths) c.sources
 
 abbrev starts_part : Contents → List ℕ
 starts_part c = flat_map (start_bytes c.start_size c.base) c.entries
@@ -162,8 +171,8 @@ starts_part c = flat_map (start_bytes c.start_size c.base) c.entries
 abbrev entries_part : Contents → List ℕ
 entries_part c = flat_map entry_bytes c.entries
 
-abbrev order_part : Contents → List ℕ
-order_part c = flat_map (le_bytes 4) c.order
+abbrev statements_part : Contents → List ℕ
+statements_part c = flat_map (statement_bytes c.start_size c.base) c.statements
 
 -- the index that is read
 abbrev index_of_contents : Contents → Index
@@ -173,11 +182,11 @@ index_of_contents c = record {
   base = c.base;
   starts = length c.entries;
   sources = length c.sources;
-  ordered = length c.order;
+  statements = length c.statements;
   source_bytes = sources_part c;
   start_bytes = starts_part c;
   entry_bytes = entries_part c;
-  order_bytes = order_part c;
+  statement_bytes = statements_part c;
   path_bytes = c.paths;
   identity = c.identity;
 }
@@ -193,8 +202,13 @@ entry_length e = of_place e.place
     of_place None = refl
     of_place (Some l) = refl
 
-source_length : (s : Source) → length (source_bytes s) ≡ 24
-source_length s = refl
+source_length : (paths : List ℕ) (s : Source) → length (source_bytes paths s) ≡ 24
+source_length paths s = refl
+
+statement_length : (size : StartSize) (base : ℕ) (s : Statement)
+    → length (statement_bytes size base s) ≡ statement_size size
+statement_length Four base s = refl
+statement_length Eight base s = refl
 
 -- seven parts and what follows them
 grouped : (a b c d e g h r : List ℕ)
@@ -208,11 +222,11 @@ grouped a b c d e g h r =
     ∙ append_assoc a b (c ++ (d ++ (e ++ (g ++ (h ++ r)))))
 
 abbrev index_of_parts : Contents → List ℕ → List ℕ → List ℕ → List ℕ → List ℕ → List ℕ → Index
-index_of_parts c sources starts entries order paths identity = record (index_of_contents c) {
+index_of_parts c sources starts entries statements paths identity = record (index_of_contents c) {
   source_bytes = sources;
   start_bytes = starts;
   entry_bytes = entries;
-  order_bytes = order;
+  statement_bytes = statements;
   path_bytes = paths;
   identity = identity;
 }
@@ -231,21 +245,22 @@ same_parts c a a' b b' d d' e e' g g' h h' p q r s t u =
 -- what follows the header
 abbrev tail_of : Contents → List ℕ → List ℕ
 tail_of c rest =
-    sources_part c ++ (starts_part c ++ (entries_part c ++ (order_part c ++ (c.paths ++ (c.identity ++ rest)))))
+    sources_part c ++ (starts_part c ++ (entries_part c ++ (statements_part c ++ (c.paths ++ (c.identity ++ rest)))))
 
 bytes_are : (c : Contents) (rest : List ℕ) → index_bytes c ++ rest ≡ header_bytes c ++ tail_of c rest
 bytes_are c rest =
-    grouped (header_bytes c) (sources_part c) (starts_part c) (entries_part c) (order_part c) c.paths c.identity rest
+    grouped (header_bytes c) (sources_part c) (starts_part c) (entries_part c) (statements_part c) c.paths c.identity rest
 
 part_lengths : (c : Contents)
     → (length (sources_part c) ≡ 24 * length c.sources)
     × (length (starts_part c) ≡ size_of c.start_size * length c.entries)
-    × (length (entries_part c) ≡ 12 * length c.entries) × (length (order_part c) ≡ 4 * length c.order)
+    × (length (entries_part c) ≡ 12 * length c.entries) × (length (statements_part c) ≡ statement_size c.start_size * length c.statements)
 part_lengths c = (
-  elements_length source_bytes 24 source_length c.sources,
+  elements_length (source_bytes c.paths) 24 (source_length c.paths) c.sources,
   elements_length (start_bytes c.start_size c.base) (size_of c.start_size) (start_length c.start_size c.base) c.entries,
   elements_length entry_bytes 12 entry_length c.entries,
-  elements_length (le_bytes 4) 4 (λ n. refl) c.order,
+  elements_length (statement_bytes c.start_size c.base) (statement_size c.start_size)
+      (statement_length c.start_size c.base) c.statements,
 )
 
 whole_length : (h s t e o p i r : List ℕ)
@@ -265,10 +280,10 @@ whole_length h s t e o p i r = omega (
 -- the parts of these bytes, where a header of these numbers stands before them
 parts_by : (c : Contents) (h s t e o p i r : List ℕ) → length h ≡ 48 → length s ≡ 24 * length c.sources
     → length t ≡ size_of c.start_size * length c.entries
-    → length e ≡ 12 * length c.entries → length o ≡ 4 * length c.order → length p ≡ length c.paths
+    → length e ≡ 12 * length c.entries → length o ≡ statement_size c.start_size * length c.statements → length p ≡ length c.paths
     → length i ≡ length c.identity
     → parts_at (h ++ (s ++ (t ++ (e ++ (o ++ (p ++ (i ++ r))))))) (header_of c) ≡ Ok (index_of_parts c s t e o p i)
-parts_by c h s t e o p i r in_header in_sources in_starts in_entries in_order in_paths in_identity =
+parts_by c h s t e o p i r in_header in_sources in_starts in_entries in_statements in_paths in_identity =
     let header = header_of c in
     let flat : List ℕ = h ++ (s ++ (t ++ (e ++ (o ++ (p ++ (i ++ r)))))) in
     let all = whole_length h s t e o p i r in
@@ -278,24 +293,24 @@ parts_by c h s t e o p i r in_header in_sources in_starts in_entries in_order in
     if b then Err Cut
     else Ok (index_of_parts c (slice_range flat 48 (starts_offset header))
     (slice_range flat (starts_offset header) (entries_offset header))
-    (slice_range flat (entries_offset header) (order_offset header))
-    (slice_range flat (order_offset header) (paths_offset header))
+    (slice_range flat (entries_offset header) (statements_offset header))
+    (slice_range flat (statements_offset header) (paths_offset header))
     (slice_range flat (paths_offset header) (identity_offset header))
     (slice_range flat (identity_offset header) (end_offset header))))
     whole
     ∙ ap (λ (index : Index). Ok index)
     (same_parts c (slice_range flat 48 (starts_offset header)) s
     (slice_range flat (starts_offset header) (entries_offset header)) t
-    (slice_range flat (entries_offset header) (order_offset header)) e
-    (slice_range flat (order_offset header) (paths_offset header)) o
+    (slice_range flat (entries_offset header) (statements_offset header)) e
+    (slice_range flat (statements_offset header) (paths_offset header)) o
     (slice_range flat (paths_offset header) (identity_offset header)) p
     (slice_range flat (identity_offset header) (end_offset header)) i
     (second_part h s (t ++ (e ++ (o ++ (p ++ (i ++ r))))) 48 (starts_offset header) (omega arith) (omega arith))
     (third_part h s t (e ++ (o ++ (p ++ (i ++ r)))) (starts_offset header) (entries_offset header) (omega arith)
     (omega arith))
-    (fourth_part h s t e (o ++ (p ++ (i ++ r))) (entries_offset header) (order_offset header) (omega arith)
+    (fourth_part h s t e (o ++ (p ++ (i ++ r))) (entries_offset header) (statements_offset header) (omega arith)
     (omega arith))
-    (fifth_part h s t e o (p ++ (i ++ r)) (order_offset header) (paths_offset header) (omega arith) (omega arith))
+    (fifth_part h s t e o (p ++ (i ++ r)) (statements_offset header) (paths_offset header) (omega arith) (omega arith))
     (sixth_part h s t e o p (i ++ r) (paths_offset header) (identity_offset header) (omega arith) (omega arith))
     (seventh_part h s t e o p i r (identity_offset header) (end_offset header) (omega arith) (omega arith)))
 
@@ -303,7 +318,7 @@ parts_read : (c : Contents) (rest : List ℕ)
     → parts_at (header_bytes c ++ tail_of c rest) (header_of c) ≡ Ok (index_of_contents c)
 parts_read c rest =
     let lengths = part_lengths c in
-    parts_by c (header_bytes c) (sources_part c) (starts_part c) (entries_part c) (order_part c) c.paths c.identity rest
+    parts_by c (header_bytes c) (sources_part c) (starts_part c) (entries_part c) (statements_part c) c.paths c.identity rest
     (header_length c) lengths.0 lengths.1
     lengths.2 lengths.3 refl refl
 
@@ -315,7 +330,8 @@ start_read : (size : StartSize) (base n : ℕ) (rest : List ℕ) → n < 256 ^ s
 start_read Four base n rest fits = number_read 4 n fits
 start_read Eight base n rest fits = number_read 8 n fits
 
-start_number_read : (c : Contents) → (i : ℕ) (e : Entry) → slice_get c.entries i ≡ Some e → IsNear c.start_size c.base e
+start_number_read : (c : Contents) → (i : ℕ) (e : Entry) → slice_get c.entries i ≡ Some e
+    → IsNear c.start_size c.base e.address
     → start_number (index_of_contents c) i ≡ e.address - c.base
 start_number_read c i e there fits =
     let size = size_of c.start_size in
@@ -325,94 +341,123 @@ start_number_read c i e there fits =
     ap (λ bytes. le_value (take size bytes)) here.1 ∙ start_read c.start_size c.base (e.address - c.base) here.0 near
 
 -- the word of a column
-word_fits : (l : SourceLine) → l.column < 2 ^ 31 → column_word l < 2 ^ 32
-word_fits l low = by_statement l.is_stmt
+word_fits : (l : SourceLine) → l.column < 2 ^ 30 → column_word l < 2 ^ 32
+word_fits l low = by_flags l.is_stmt l.prologue_end
   where
-    by_statement : (b : Bool) → (if b then l.column + 2 ^ 31 else l.column) < 2 ^ 32
-    by_statement true = omega (arith, low)
-    by_statement false = omega (arith, low)
+    by_flags : (b e : Bool) → l.column + (if b then 2 ^ 31 else 0) + (if e then 2 ^ 30 else 0) < 2 ^ 32
+    by_flags true true = omega (arith, low)
+    by_flags true false = omega (arith, low)
+    by_flags false true = omega (arith, low)
+    by_flags false false = omega (arith, low)
 
-column_read : (l : SourceLine) → l.column < 2 ^ 31 → column_in (column_word l) ≡ l.column
-column_read l low = by_statement l.is_stmt
+column_read : (l : SourceLine) → l.column < 2 ^ 30 → column_in (column_word l) ≡ l.column
+column_read l low = by_flags l.is_stmt l.prologue_end
   where
-    by_statement : (b : Bool) → column_in (if b then l.column + 2 ^ 31 else l.column) ≡ l.column
-    by_statement true =
-        let high : nat_lt (l.column + 2 ^ 31) (2 ^ 31) ≡ false = grind (arith, nat_tests) in
-        let less : (l.column + 2 ^ 31) - 2 ^ 31 ≡ l.column = omega arith in
-        ap (λ (b : Bool). if b then l.column + 2 ^ 31 else (l.column + 2 ^ 31) - 2 ^ 31) high ∙ less
-    by_statement false =
-        let within : nat_lt l.column (2 ^ 31) ≡ true = grind (arith, nat_tests) in
-        ap (λ (b : Bool). if b then l.column else l.column - 2 ^ 31) within
+    by_flags : (b e : Bool)
+        → (l.column + (if b then 2 ^ 31 else 0) + (if e then 2 ^ 30 else 0)) % 2 ^ 30 ≡ l.column
+    by_flags true true = omega (arith, low)
+    by_flags true false = omega (arith, low)
+    by_flags false true = omega (arith, low)
+    by_flags false false = omega (arith, low)
 
-statement_read : (l : SourceLine) → l.column < 2 ^ 31 → is_statement_in (column_word l) ≡ l.is_stmt
-statement_read l low = by_statement l.is_stmt
+statement_read : (l : SourceLine) → l.column < 2 ^ 30 → is_statement_in (column_word l) ≡ l.is_stmt
+statement_read l low = by_flags l.is_stmt l.prologue_end
   where
-    by_statement : (b : Bool) → is_statement_in (if b then l.column + 2 ^ 31 else l.column) ≡ b
-    by_statement true = let high : nat_le (2 ^ 31) (l.column + 2 ^ 31) ≡ true = grind (arith, nat_tests) in high
-    by_statement false = let within : nat_le (2 ^ 31) l.column ≡ false = grind (arith, nat_tests) in within
+    by_flags : (b e : Bool)
+        → is_statement_in (l.column + (if b then 2 ^ 31 else 0) + (if e then 2 ^ 30 else 0)) ≡ b
+    by_flags true true = le-leb (2 ^ 31) (l.column + 2 ^ 31 + 2 ^ 30) (omega arith)
+    by_flags true false = le-leb (2 ^ 31) (l.column + 2 ^ 31 + 0) (omega arith)
+    by_flags false true = lt-leb (2 ^ 31) (l.column + 0 + 2 ^ 30) (omega (arith, low))
+    by_flags false false = lt-leb (2 ^ 31) (l.column + 0 + 0) (omega (arith, low))
+
+prologue_read : (l : SourceLine) → l.column < 2 ^ 30 → ends_prologue_in (column_word l) ≡ l.prologue_end
+prologue_read l low = by_flags l.is_stmt l.prologue_end
+  where
+    by_flags : (b e : Bool)
+        → ends_prologue_in (l.column + (if b then 2 ^ 31 else 0) + (if e then 2 ^ 30 else 0)) ≡ e
+    by_flags true true = le-leb (2 ^ 30) ((l.column + 2 ^ 31 + 2 ^ 30) % 2 ^ 31) (omega (arith, low))
+    by_flags true false = lt-leb (2 ^ 30) ((l.column + 2 ^ 31 + 0) % 2 ^ 31) (omega (arith, low))
+    by_flags false true = le-leb (2 ^ 30) ((l.column + 0 + 2 ^ 30) % 2 ^ 31) (omega (arith, low))
+    by_flags false false = lt-leb (2 ^ 30) ((l.column + 0 + 0) % 2 ^ 31) (omega (arith, low))
+
+-- the number of a name has 31 bits
+number_few : (name : List ℕ) (n : ℕ) → n < 2 ^ 31 → fold (λ n byte. (n * 31 + byte) % 2 ^ 31) n name < 2 ^ 31
+number_few [] n few = few
+number_few (byte ∷ name) n few = number_few name ((n * 31 + byte) % 2 ^ 31) (omega arith)
+
+last_few : (names : List (List ℕ)) → last_number names < 2 ^ 31
+last_few [] = omega arith
+last_few (name ∷ names) = number_few name 0 (omega arith)
+
+pub path_number_few : (path : Result (List ℕ) NoPath) → path_number path < 2 ^ 31
+path_number_few (Ok path) = last_few (components path)
+path_number_few (Err e) = omega arith
+
+-- the path of a source is read as what it was
+path_read : (paths : List ℕ) (s : Source) (more : List ℕ) → FitsSource s
+    → path_of paths (source_bytes paths s ++ more) ≡ source_path paths s
+path_read paths s more fits =
+    let first : number_at 4 8 (source_bytes paths s ++ more)
+    ≡ s.first = number_read 4 s.first (omega (arith, fits.1)) in
+    let size : number_at 4 12 (source_bytes paths s ++ more)
+    ≡ s.size = number_read 4 s.size (omega (arith, fits.2)) in
+    let reason : number_at 4 16 (source_bytes paths s ++ more)
+    ≡ s.reason = number_read 4 s.reason (omega (arith, fits.3)) in
+    ap
+    (λ n. by_numbers n (number_at 4 8 (source_bytes paths s ++ more)) (number_at 4 12 (source_bytes paths s ++ more)))
+    reason
+    ∙ ap (λ n. by_numbers s.reason n (number_at 4 12 (source_bytes paths s ++ more))) first
+    ∙ ap (λ n. by_numbers s.reason s.first n) size
+  where
+    by_numbers : ℕ → ℕ → ℕ → Result (List ℕ) NoPath
+    by_numbers reason first size = if nat_eq reason 0 then path_in paths first size else Err (Reason reason)
+
+-- and so are its unit and the number of its name
+unit_read : (paths : List ℕ) (s : Source) (more : List ℕ) → FitsSource s
+    → number_at 8 0 (source_bytes paths s ++ more) ≡ s.unit
+unit_read paths s more fits = number_read 8 s.unit (omega (arith, fits.0))
+
+name_read : (paths : List ℕ) (s : Source) (more : List ℕ)
+    → number_at 4 20 (source_bytes paths s ++ more) ≡ path_number (source_path paths s)
+name_read paths s more =
+    number_read 4 (path_number (source_path paths s)) (omega (arith, path_number_few (source_path paths s)))
 
 -- a source is read as what it was
 source_read : (paths : List ℕ) (l : SourceLine) (s : Source) (rest more : List ℕ) → FitsLine l → FitsSource s
-    → place_from paths (line_bytes l ++ rest) (source_bytes s ++ more) ≡ line_in paths l s
+    → place_from paths (line_bytes l ++ rest) (source_bytes paths s ++ more) ≡ line_in paths l s
 source_read paths l s rest more fits source_fits =
     let line : number_at 4 4 (line_bytes l ++ rest) ≡ l.line = number_read 4 l.line (omega (arith, fits.1)) in
     let word : number_at 4 8 (line_bytes l ++ rest)
     ≡ column_word l = number_read 4 (column_word l) (word_fits l fits.2) in
-    let unit : number_at 8 0 (source_bytes s ++ more) ≡ s.unit = number_read 8 s.unit (omega (arith, source_fits.0)) in
-    let first : number_at 4 8 (source_bytes s ++ more)
-    ≡ s.first = number_read 4 s.first (omega (arith, source_fits.1)) in
-    let size : number_at 4 12 (source_bytes s ++ more) ≡ s.size = number_read 4 s.size (omega (arith, source_fits.2)) in
-    let reason : number_at 4 16 (source_bytes s ++ more)
-    ≡ s.reason = number_read 4 s.reason (omega (arith, source_fits.3)) in
-    ap
-    (λ n. record {
-      path = path_of paths (source_bytes s ++ more);
-      line = n;
-      column = column_in (number_at 4 8 (line_bytes l ++ rest));
-      is_stmt = is_statement_in (number_at 4 8 (line_bytes l ++ rest));
-      unit = number_at 8 0 (source_bytes s ++ more);
-    })
-    line
-    ∙ ap (λ n. record {
-      path = path_of paths (source_bytes s ++ more);
-      line = l.line;
-      column = column_in n;
-      is_stmt = is_statement_in n;
-      unit = number_at 8 0 (source_bytes s ++ more);
-    })
-    word
-    ∙ ap (λ n. record {
-      path = path_of paths (source_bytes s ++ more);
-      line = l.line;
-      column = n;
-      is_stmt = is_statement_in (column_word l);
-      unit = number_at 8 0 (source_bytes s ++ more);
-    })
+    let bytes = source_bytes paths s ++ more in
+    ap (λ n. with_word n (number_at 4 8 (line_bytes l ++ rest)) (path_of paths bytes) (number_at 8 0 bytes)) line
+    ∙ ap (λ n. with_word l.line n (path_of paths bytes) (number_at 8 0 bytes)) word
+    ∙ ap (λ path. with_word l.line (column_word l) path (number_at 8 0 bytes)) (path_read paths s more source_fits)
+    ∙ ap (λ n. with_word l.line (column_word l) (source_path paths s) n) (unit_read paths s more source_fits)
+    ∙ ap (λ n. with_flags n (is_statement_in (column_word l)) (ends_prologue_in (column_word l)))
     (column_read l fits.2)
-    ∙ ap (λ b. record {
-      path = path_of paths (source_bytes s ++ more);
-      line = l.line;
-      column = l.column;
-      is_stmt = b;
-      unit = number_at 8 0 (source_bytes s ++ more);
-    })
-    (statement_read l fits.2)
-    ∙ ap
-    (λ n. record {
-      path = path_of paths (source_bytes s ++ more);
-      line = l.line;
-      column = l.column;
-      is_stmt = l.is_stmt;
-      unit = n;
-    })
-    unit
-    ∙ ap (λ path. record { path = path; line = l.line; column = l.column; is_stmt = l.is_stmt; unit = s.unit }) (
-    ap (λ n. by_numbers n (number_at 4 8 (source_bytes s ++ more)) (number_at 4 12 (source_bytes s ++ more))) reason
-    ∙ ap (λ n. by_numbers s.reason n (number_at 4 12 (source_bytes s ++ more))) first
-    ∙ ap (λ n. by_numbers s.reason s.first n) size)
+    ∙ ap (λ b. with_flags l.column b (ends_prologue_in (column_word l))) (statement_read l fits.2)
+    ∙ ap (λ b. with_flags l.column l.is_stmt b) (prologue_read l fits.2)
   where
-    by_numbers : ℕ → ℕ → ℕ → Result (List ℕ) NoPath
-    by_numbers reason first size = if nat_eq reason 0 then path_in paths first size else Err (Reason reason)
+    with_word : ℕ → ℕ → Result (List ℕ) NoPath → ℕ → Place
+    with_word line word path unit = record {
+      path = path;
+      line = line;
+      column = column_in word;
+      is_stmt = is_statement_in word;
+      prologue_end = ends_prologue_in word;
+      unit = unit;
+    }
+
+    with_flags : ℕ → Bool → Bool → Place
+    with_flags column is_stmt prologue_end = record {
+      path = source_path paths s;
+      line = l.line;
+      column = column;
+      is_stmt = is_stmt;
+      prologue_end = prologue_end;
+      unit = s.unit;
+    }
 
 -- the place of a line, by the source that its number names
 place_read : (c : Contents) (l : SourceLine) (rest : List ℕ) → FitsLine l → All FitsSource c.sources
@@ -423,7 +468,7 @@ place_read c l rest fits sources =
       | inl found ↦
           let s = found.0 in
           let inside : nat_lt l.source (length c.sources) ≡ true = let within = found.1 in grind (arith, nat_tests) in
-          let here = element_at source_bytes 24 source_length c.sources l.source s found.2 in
+          let here = element_at (source_bytes c.paths) 24 (source_length c.paths) c.sources l.source s found.2 in
           let source_fits : FitsSource s =
           subst (λ (x : Source). FitsSource x) found.3
           (All-get_or FitsSource c.sources l.source s found.1 sources) in
@@ -463,22 +508,10 @@ entry_read : (c : Contents) (place : Option SourceLine) (rest : List ℕ) → Fi
 entry_read c None rest place fits = gap_read c rest fits.counts.sources
 entry_read c (Some l) rest place fits = place_read c l rest place fits.sources
 
--- what holds of all elements holds of one
-at_index : {X : Type 0} (P : X → Type 0) (xs : List X) (i : ℕ) (x : X) → slice_get xs i ≡ Some x → All P xs → P x
-at_index P xs i x there all = elim ((slice_get_cases xs i).1) [
-  | inl found ↦
-      let both : Some found.0 ≡ Some x = sym found.2 ∙ there in
-      let same : found.0 ≡ x = cc in
-      subst P (found.3 ∙ same) (All-get_or P xs i found.0 found.1 all)
-  | inr past ↦
-      let both : None ≡ Some x = sym past.1 ∙ there in
-      absurd cc
-]
-
 start_is : (c : Contents) → Fits c → (i : ℕ) (e : Entry) → slice_get c.entries i ≡ Some e
     → start_at (index_of_contents c) i ≡ entry_start c e
 start_is c fits i e there =
-    let near = at_index (IsNear c.start_size c.base) c.entries i e there fits.near in
+    let near = at_index (λ (x : Entry). IsNear c.start_size c.base x.address) c.entries i e there fits.near in
     let place_fits = at_index (λ (x : Entry). FitsPlace x.place) c.entries i e there fits.places in
     let number = start_number_read c i e there near in
     let address : c.base + start_number (index_of_contents c) i ≡ e.address = omega (arith, number, near.0) in
@@ -523,27 +556,144 @@ index_read c rest fits =
     (header_read c (tail_of c rest) (small_address c.address_size fits.address_size) fits)
     ∙ parts_read c rest
 
--- the order is read as it was
-number_is : (c : Contents) → Fits c → (k : ℕ) → k < length c.order
-    → slice_index c.order k ≡ ordered_number (index_of_contents c) k
-number_is c fits k within =
+-- ---- the statements
+
+-- a source that is there
+source_here : (c : Contents) (k : ℕ) (s : Source) → slice_get c.sources k ≡ Some s
+    → (more : List ℕ) × (source_at (index_of_contents c) k ≡ source_bytes c.paths s ++ more)
+source_here c k s there = element_at (source_bytes c.paths) 24 (source_length c.paths) c.sources k s there
+
+-- the path of a source, by its number
+path_at_read : (c : Contents) (k : ℕ) → Fits c → source_path_at (index_of_contents c) k ≡ path_at c k
+path_at_read c k fits = elim ((slice_get_cases c.sources k).1) [
+  | inl found ↦
+      let s = found.0 in
+      let inside : nat_lt k (length c.sources) ≡ true = let within = found.1 in grind (arith, nat_tests) in
+      let here = source_here c k s found.2 in
+      let bytes = source_at (index_of_contents c) k in
+      ap (λ (b : Bool). if b then path_of c.paths bytes else Err Outside) inside
+      ∙ ap (path_of c.paths) here.1
+      ∙ path_read c.paths s here.0 (at_index FitsSource c.sources k s found.2 fits.sources)
+      ∙ sym (ap (λ o. option_map_or (source_path c.paths) o (Err Outside)) found.2)
+  | inr past ↦
+      let outside : nat_lt k (length c.sources) ≡ false = let beyond = past.0 in grind (arith, nat_tests) in
+      let bytes = source_at (index_of_contents c) k in
+      ap (λ (b : Bool). if b then path_of c.paths bytes else Err Outside) outside
+      ∙ sym (ap (λ o. option_map_or (source_path c.paths) o (Err Outside)) past.1)
+]
+
+-- the numbers of a statement fit
+source_fits : (size : StartSize) (base : ℕ) (s : Statement) → FitsStatement size base s → s.source < 2 ^ 32
+source_fits size base s fits = fits.0
+
+line_fits : (size : StartSize) (base : ℕ) (s : Statement) → FitsStatement size base s → s.line < 2 ^ 32
+line_fits size base s fits = fits.1
+
+address_low : (size : StartSize) (base : ℕ) (s : Statement) → FitsStatement size base s → base ≤ s.address
+address_low size base s fits = fits.2.0
+
+address_fits : (size : StartSize) (base : ℕ) (s : Statement) → FitsStatement size base s
+    → s.address - base < 256 ^ size_of size
+address_fits size base s fits = omega (arith, fits.2.0, fits.2.1)
+
+-- a statement's address is read as far as it is above the base
+address_read : (size : StartSize) (base : ℕ) (s : Statement) (rest : List ℕ) → s.address - base < 256 ^ size_of size
+    → number_at (size_of size) 8 (statement_bytes size base s ++ rest) ≡ s.address - base
+address_read Four base s rest fits = number_read 4 (s.address - base) fits
+address_read Eight base s rest fits = number_read 8 (s.address - base) fits
+
+source_number_read : (size : StartSize) (base : ℕ) (s : Statement) (rest : List ℕ) → s.source < 256 ^ 4
+    → number_at 4 0 (statement_bytes size base s ++ rest) ≡ s.source
+source_number_read size base s rest fits = number_read 4 s.source fits
+
+line_number_read : (size : StartSize) (base : ℕ) (s : Statement) (rest : List ℕ) → s.line < 256 ^ 4
+    → number_at 4 4 (statement_bytes size base s ++ rest) ≡ s.line
+line_number_read size base s rest fits = number_read 4 s.line fits
+
+statement_is : (c : Contents) → Fits c → (i : ℕ) (s : Statement) → slice_get c.statements i ≡ Some s
+    → statement_at (index_of_contents c) i ≡ statement_in c s
+statement_is c fits i s there =
+    let size = c.start_size in
+    let own = at_index (FitsStatement size c.base) c.statements i s there fits.statements in
     let here =
-    element_at (le_bytes 4) 4 (λ n. refl) c.order k (slice_index c.order k) (slice_get-get_or c.order k 0 within) in
-    let low : slice_index c.order k < 2 ^ 32 = fits.order k 0 within in
-    sym (ap (λ bytes. le_value (take 4 bytes)) here.1 ∙ number_read 4 (slice_index c.order k) (omega (arith, low)))
+    element_at (statement_bytes size c.base) (statement_size size) (statement_length size c.base) c.statements i s
+    there in
+    let bytes = statement_bytes size c.base s ++ here.0 in
+    let source = source_number_read size c.base s here.0 (omega (arith, source_fits size c.base s own)) in
+    let line = line_number_read size c.base s here.0 (omega (arith, line_fits size c.base s own)) in
+    let above = address_read size c.base s here.0 (address_fits size c.base s own) in
+    let address : c.base + number_at (size_of size) 8 bytes ≡ s.address =
+    omega (arith, above, address_low size c.base s own) in
+    ap by_bytes here.1
+    ∙ ap (λ k. by_parts (source_path_at (index_of_contents c) k) (number_at 4 4 bytes)
+    (c.base + number_at (size_of size) 8 bytes)) source
+    ∙ ap (λ path. by_parts path (number_at 4 4 bytes) (c.base + number_at (size_of size) 8 bytes))
+    (path_at_read c s.source fits)
+    ∙ ap (λ n. by_parts (path_at c s.source) n (c.base + number_at (size_of size) 8 bytes)) line
+    ∙ ap (λ n. by_parts (path_at c s.source) s.line n) address
+  where
+    by_parts : Result (List ℕ) NoPath → ℕ → ℕ → StatementMeaning
+    by_parts path line address = record { path = path; line = line; address = address }
+
+    by_bytes : List ℕ → StatementMeaning
+    by_bytes bytes =
+        by_parts (source_path_at (index_of_contents c) (number_at 4 0 bytes)) (number_at 4 4 bytes)
+        (c.base + number_at (size_of c.start_size) 8 bytes)
+
+statements_are : (c : Contents) → Fits c → statements_of (index_of_contents c) ≡ map (statement_in c) c.statements
+statements_are c fits =
+    same_values (statement_at (index_of_contents c)) (statement_in c) c.statements 0 (λ i s there.
+    let same : 0 + i ≡ i = omega arith in
+    ap (statement_at (index_of_contents c)) same ∙ statement_is c fits i s there)
+
+-- ---- the files
+
+file_is : (c : Contents) → Fits c → (i : ℕ) (s : Source) → slice_get c.sources i ≡ Some s
+    → file_at (index_of_contents c) i ≡ source_file c s
+file_is c fits i s there =
+    let own = at_index FitsSource c.sources i s there fits.sources in
+    let here = source_here c i s there in
+    ap by_bytes here.1
+    ∙ ap (λ n. by_parts n (path_of c.paths (source_bytes c.paths s ++ here.0))) (unit_read c.paths s here.0 own)
+    ∙ ap (λ path. by_parts s.unit path) (path_read c.paths s here.0 own)
+  where
+    by_parts : ℕ → Result (List ℕ) NoPath → File
+    by_parts unit path = record { unit = unit; path = path }
+
+    by_bytes : List ℕ → File
+    by_bytes bytes = by_parts (number_at 8 0 bytes) (path_of c.paths bytes)
+
+files_are : (c : Contents) → Fits c → files_of (index_of_contents c) ≡ map (source_file c) c.sources
+files_are c fits = same_values (file_at (index_of_contents c)) (source_file c) c.sources 0 (λ i s there.
+    let same : 0 + i ≡ i = omega arith in
+    ap (file_at (index_of_contents c)) same ∙ file_is c fits i s there)
+
+-- ---- the order
+
+name_is : (c : Contents) → Fits c → (k : ℕ) → k < length c.sources
+    → name_at (index_of_contents c) k ≡ path_number (path_of c.paths (source_at (index_of_contents c) k))
+name_is c fits k within =
+    let found = get_inside c.sources k within in
+    let s = found.0 in
+    let here = source_here c k s found.1 in
+    ap (number_at 4 20) here.1 ∙ name_read c.paths s here.0
+    ∙ ap path_number
+    (sym (path_read c.paths s here.0 (at_index FitsSource c.sources k s found.1 fits.sources))
+    ∙ sym (ap (path_of c.paths) here.1))
 
 ordered_as : (c : Contents) → Fits c → HasOrder c → IsOrdered (index_of_contents c)
-ordered_as c fits order =
-    subst (λ (starts : List Start). IsOrder starts (length c.order) (ordered_number (index_of_contents c)))
-    (sym (starts_are c fits))
-    (same_order (map (entry_start c) c.entries) (length c.order) (slice_index c.order)
-    (ordered_number (index_of_contents c)) (number_is c fits) order)
+ordered_as c fits order = record {
+  names = name_is c fits;
+  statements = subst AreOrdered (sym (statements_are c fits)) order;
+}
 
 pub read_back : (c : Contents) (rest : List ℕ) → Fits c → SaysWhat c (index_at (index_bytes c ++ rest))
 read_back c rest fits = record {
   index = index_of_contents c;
   is_read = ap index_at (bytes_are c rest) ∙ index_read c rest fits;
   starts = starts_are c fits;
+  statements = statements_are c fits;
+  files = files_are c fits;
   ascending =
       λ ascend. subst (λ (starts : List Start). AreAscending starts) (sym (starts_are c fits)) (starts_ascend c ascend);
   ordered = ordered_as c fits;

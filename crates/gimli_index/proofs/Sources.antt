@@ -1,20 +1,23 @@
 -- The sources of an index in the making: they stay as more are added.
-use Rattle.std.proofs.Common.{◌≡◌, ◌≢◌, ◌⊎◌, ℕ, zero, suc, ◌+◌, ◌<◌, ◌≤◌, Bool, false, List, [], ◌∷◌, ◌++◌, length}
-use Rattle.std.proofs.Common.{Option, None}
+use Rattle.std.proofs.Common.{◌≡◌, ◌≢◌, ◌⊎◌, ℕ, zero, suc, ◌+◌, ◌<◌, ◌≤◌, Bool, true, false, List, [], ◌∷◌, ◌++◌, length}
+use Rattle.std.proofs.Common.{Option, None, ◌&&◌}
 use Rattle.std.proofs.Common.{Some, Result, Ok, Err, refl, sym, ap, subst, ◌∙◌, inl, inr, arith, length-append}
 use Rattle.std.proofs.Common.{if◌then◌else◌}
-use Rattle.std.specs.Prelude.{map, min, slice_get, slice_index_or, nat_eq, All}
-use Rattle.std.specs.Option.{option_map}
+use Rattle.std.specs.Prelude.{map, min, slice_get, slice_index_or, nat_eq, All, bytes_eq}
+use Rattle.std.specs.Option.{option_map, option_map_or}
+use Rattle.std.proofs.lemmas.Bool.{eq-eqb, eqb-true, false≢true}
 use Rattle.std.proofs.lemmas.Bool.Decides.{nat_tests}
 use Rattle.std.proofs.lemmas.List.Elements.{All-push}
 use Rattle.std.proofs.lemmas.List.Quantifiers.{all_pairs_push}
 use Rattle.std.proofs.lemmas.Option.{slice_get_within}
+use Rattle.std.proofs.lemmas.Slice.Eq.{bytes_eq-Decides}
 use Rattle.gimli_line.specs.declared.run.row.LineRow.{LineRow}
 use Rattle.gimli_lookup.specs.Paths.{row_path}
 use Rattle.gimli_lookup.specs.Section.{KeptHeader, KeptUnit, ListedUnit}
 use Rattle.gimli_lookup.specs.declared.path_error.PathError.{PathError}
 use Rattle.gimli_lookup.specs.declared.section_lookup.CoveringRows.{CoveringRows}
-use Rattle.gimli_index.specs.Contents.{line_in, source_path}
+use Rattle.gimli_index.specs.Contents.{line_in, path_at, source_path}
+use Rattle.gimli_index.specs.Found.{is_one_path}
 use Rattle.gimli_index.specs.Found.{Texts, found_place, path_by, path_said, row_place, unit_path, unit_paths}
 use Rattle.gimli_index.specs.Meaning.{Place, path_in}
 use Rattle.gimli_index.specs.Refused.{AreFound, HasLongPaths, HasManyFiles, IsFoundFile, IsFoundPath}
@@ -23,6 +26,7 @@ use Rattle.gimli_index.specs.declared.contents.Source.{Source}
 use Rattle.gimli_index.specs.declared.contents.SourceLine.{SourceLine}
 use Rattle.gimli_index.specs.declared.error.MakeError.{MakeError}
 use Rattle.gimli_index.specs.declared.error.MakeError.TheVariants.{NotAscending, TooManyEntries, TooManySources}
+use Rattle.gimli_index.specs.declared.error.MakeError.TheVariants.{TooManyStatements}
 use Rattle.gimli_index.specs.declared.error.MakeError.TheVariants.{PathsTooLarge, IdentityTooLarge, LineTooLarge}
 use Rattle.gimli_index.specs.declared.error.MakeError.TheVariants.{ColumnTooLarge, OutOfMemory}
 use Rattle.gimli_index.specs.declared.place.NoPath.{NoPath}
@@ -30,7 +34,7 @@ use Rattle.gimli_index.specs.declared.place.NoPath.TheVariants.{Outside, Reason}
 use Rattle.gimli_index.specs.declared.source_keys.SourceKey.{SourceKey}
 use Rattle.gimli_index.specs.inside.Paths.{ArePaths, GoesOn, IsKept, IsSourceFault, PathList}
 use Rattle.gimli_index.specs.inside.Table.{Table, AreSources, IsInside, IsSourceOf, IsTableFault, Keeps, SayTheSame}
-use Rattle.gimli_index.specs.inside.Table.{key_of, no_table, place_in}
+use Rattle.gimli_index.specs.inside.Table.{key_of, no_table, place_in, with_table}
 use Rattle.gimli_index.proofs.Lists.{append_none, get_inside, get_before, get_last, get_pushed, source_goes_on}
 use Rattle.gimli_index.proofs.PathLists.{joined_push, none_are, one_span, span_read, span_stays}
 
@@ -161,6 +165,7 @@ module _ (t : Texts) (units : List KeptUnit) {limit : ℕ} (old : Table) (f : Co
     path_fault (Ok path) OutOfMemory is fault = tt
     path_fault (Ok path) NotAscending is fault = fault
     path_fault (Ok path) TooManyEntries is fault = fault
+    path_fault (Ok path) TooManyStatements is fault = fault
     path_fault (Ok path) TooManySources is fault = absurd fault
     path_fault (Ok path) IdentityTooLarge is fault = fault
     path_fault (Ok path) LineTooLarge is fault = absurd fault
@@ -279,56 +284,156 @@ none_are_sources t units = record {
 
 -- ---- places
 
--- the place of a line of a known source
-pub place_known : (t : Texts) (units : List KeptUnit) {limit : ℕ} (table : Table) (number : ℕ) (line column : ℕ)
-    (is_stmt : Bool) (key : SourceKey)
+-- the path of a known source
+pub path_known : (t : Texts) (units : List KeptUnit) {limit : ℕ} (table : Table) (number : ℕ) (key : SourceKey)
     (u : KeptUnit)
     (r : LineRow)
     → AreSources t units limit table
-    → slice_get table.keys number ≡ Some key → slice_get units key.unit ≡ Some u → r.file ≡ key.file → line ≡ r.line
-    → column ≡ r.column → is_stmt ≡ r.is_stmt
-    → place_in table
-    (let l : SourceLine = record { source = number; line = line; column = column; is_stmt = is_stmt } in Some l)
-    ≡ Some (let p : Place = record {
-      path = unit_path t u.unit r;
-      line = r.line;
-      column = r.column;
-      is_stmt = r.is_stmt;
-      unit = u.unit.offset;
-    } in
-    p)
-place_known t units table number line column is_stmt key u r are there unit file lines columns stmts =
+    → slice_get table.keys number ≡ Some key → slice_get units key.unit ≡ Some u → r.file ≡ key.file
+    → path_at (with_table table) number ≡ unit_path t u.unit r
+path_known t units table number key u r are there unit file =
     let known =
     get_inside table.sources number (omega (arith, slice_get_within table.keys number key there, are.count)) in
     let s = known.0 in
     let of = are.each number key s there known.1 in
     let both : Some of.unit ≡ Some u = sym of.there ∙ unit in
     let same : of.unit ≡ u = cc in
-    let l : SourceLine = record { source = number; line = line; column = column; is_stmt = is_stmt } in
+    ap (λ (o : Option Source). option_map_or (source_path table.paths.bytes) o (Err Outside)) known.1
+    ∙ of.path r file ∙ ap (λ (v : KeptUnit). unit_path t v.unit r) same
+
+-- the place of a line of a known source
+pub place_known : (t : Texts) (units : List KeptUnit) {limit : ℕ} (table : Table) (l : SourceLine) (key : SourceKey)
+    (u : KeptUnit)
+    (r : LineRow)
+    → AreSources t units limit table
+    → slice_get table.keys l.source ≡ Some key → slice_get units key.unit ≡ Some u → r.file ≡ key.file
+    → l.line ≡ r.line
+    → l.column ≡ r.column → l.is_stmt ≡ r.is_stmt → l.prologue_end ≡ r.prologue_end
+    → place_in table (Some l) ≡ Some (row_place t u.unit r)
+place_known t units table l key u r are there unit file lines columns stmts ends =
+    let known =
+    get_inside table.sources l.source (omega (arith, slice_get_within table.keys l.source key there, are.count)) in
+    let s = known.0 in
+    let of = are.each l.source key s there known.1 in
+    let both : Some of.unit ≡ Some u = sym of.there ∙ unit in
+    let same : of.unit ≡ u = cc in
     ap (option_map (line_in table.paths.bytes l)) known.1
-    ∙ ap (λ (p : Result (List ℕ) NoPath).
-    let q : Place = record { path = p; line = line; column = column; is_stmt = is_stmt; unit = s.unit } in
-    Some q)
+    ∙ ap (λ (p : Result (List ℕ) NoPath). Some (place_by p l.line l.column l.is_stmt l.prologue_end s.unit))
     (of.path r file ∙ ap (λ (v : KeptUnit). unit_path t v.unit r) same)
-    ∙ ap (λ (n : ℕ).
-    let q : Place = record { path = unit_path t u.unit r; line = line; column = column; is_stmt = is_stmt; unit = n } in
-    Some q)
+    ∙ ap (λ (n : ℕ). Some (place_by (unit_path t u.unit r) l.line l.column l.is_stmt l.prologue_end n))
     (of.offset ∙ ap (λ (v : KeptUnit). v.unit.offset) same)
-    ∙ ap
-    (λ (n : ℕ). let q : Place =
-    record { path = unit_path t u.unit r; line = n; column = column; is_stmt = is_stmt; unit = u.unit.offset } in
-    Some q)
-    lines
-    ∙ ap (λ (n : ℕ).
-    let q : Place =
-    record { path = unit_path t u.unit r; line = r.line; column = n; is_stmt = is_stmt; unit = u.unit.offset } in
-    Some q)
-    columns
-    ∙ ap (λ (b : Bool).
-    let q : Place =
-    record { path = unit_path t u.unit r; line = r.line; column = r.column; is_stmt = b; unit = u.unit.offset } in
-    Some q)
-    stmts
+    ∙ ap (λ (n : ℕ). Some (place_by (unit_path t u.unit r) n l.column l.is_stmt l.prologue_end u.unit.offset)) lines
+    ∙ ap (λ (n : ℕ). Some (place_by (unit_path t u.unit r) r.line n l.is_stmt l.prologue_end u.unit.offset)) columns
+    ∙ ap (λ (b : Bool). Some (place_by (unit_path t u.unit r) r.line r.column b l.prologue_end u.unit.offset)) stmts
+    ∙ ap (λ (b : Bool). Some (place_by (unit_path t u.unit r) r.line r.column r.is_stmt b u.unit.offset)) ends
+  where
+    place_by : Result (List ℕ) NoPath → ℕ → ℕ → Bool → Bool → ℕ → Place
+    place_by path line column is_stmt prologue_end unit = record {
+      path = path;
+      line = line;
+      column = column;
+      is_stmt = is_stmt;
+      prologue_end = prologue_end;
+      unit = unit;
+    }
+
+-- the path of a source stays where a table goes on
+pub path_stays : (t : Texts) (units : List KeptUnit) {limit : ℕ} (old new : Table) (number : ℕ)
+    → AreSources t units limit old → Keeps old new
+    → number < length old.sources → path_at (with_table new) number ≡ path_at (with_table old) number
+path_stays t units old new number are keeps inside =
+    let source = get_inside old.sources number inside in
+    let key = get_inside old.keys number (omega (arith, inside, are.count)) in
+    let s = source.0 in
+    let there : slice_get new.sources number
+    ≡ Some s = ap (λ (ss : List Source). slice_get ss number) keeps.sources.1
+    ∙ get_before old.sources keeps.sources.0 number s source.1 in
+    let path : source_path new.paths.bytes s ≡ source_path old.paths.bytes s =
+    ap (λ (ps : List ℕ). source_path ps s) keeps.paths.1
+    ∙ source_goes_on old.paths.bytes keeps.paths.0 s
+    (source_inside t units old.paths key.0 s (are.each number key.0 s key.1 source.1)) in
+    ap (λ (o : Option Source). option_map_or (source_path new.paths.bytes) o (Err Outside)) there
+    ∙ path
+    ∙ ap (λ (o : Option Source). option_map_or (source_path old.paths.bytes) o (Err Outside)) (sym source.1)
+
+-- two sources have one path where both begin at one place
+pub one_path : (t : Texts) (units : List KeptUnit) {limit : ℕ} (table : Table) (m n : ℕ) (a b : Source)
+    → AreSources t units limit table → slice_get table.sources m ≡ Some a → slice_get table.sources n ≡ Some b
+    → (nat_eq a.reason 0 && nat_eq b.reason 0 && nat_eq a.first b.first && nat_eq a.size b.size)
+    ≡ is_one_path (path_at (with_table table) m) (path_at (with_table table) n)
+one_path t units table m n a b are one other =
+    let key = get_inside table.keys m (omega (arith, slice_get_within table.sources m a one, are.count)) in
+    let key' = get_inside table.keys n (omega (arith, slice_get_within table.sources n b other, are.count)) in
+    let of = are.each m key.0 a key.1 one in
+    let of' = are.each n key'.0 b key'.1 other in
+    by_reasons (nat_eq a.reason 0) (nat_eq b.reason 0) refl refl of.span of'.span
+    ∙ sym (ap (λ (o : Option Source). is_one_path (option_map_or (source_path table.paths.bytes) o (Err Outside))
+    (path_at (with_table table) n)) one
+    ∙ ap (λ (o : Option Source). is_one_path (source_path table.paths.bytes a)
+    (option_map_or (source_path table.paths.bytes) o (Err Outside))) other)
+  where
+    Span : Source → Type 0
+    Span s = s.reason ≡ 0 → (path : List ℕ) × IsSpanOf table.paths.known s.first path × (s.size ≡ length path)
+
+    told : (x : Source) → nat_eq x.reason 0 ≡ true → Span x
+        → (p : List ℕ) × (source_path table.paths.bytes x ≡ Ok p) × IsSpanOf table.paths.known x.first p
+        × (x.size ≡ length p)
+    told x zero_is span =
+        let s = span (eqb-true x.reason 0 zero_is) in
+        let p = s.0 in (
+          p,
+          ap (λ (b : Bool). if b then path_in table.paths.bytes x.first x.size else Err (Reason x.reason)) zero_is
+              ∙ ap (λ (n : ℕ). path_in table.paths.bytes x.first n) s.2 ∙ span_read table.paths x.first p are.paths s.1,
+          s.1,
+          s.2,
+        )
+
+    untold : (x : Source) → nat_eq x.reason 0 ≡ false
+        → source_path table.paths.bytes x ≡ Err (Reason x.reason)
+    untold x some = ap (λ (b : Bool). if b then path_in table.paths.bytes x.first x.size else Err (Reason x.reason)) some
+
+    truth : (x y : Bool) → (x ≡ true → y ≡ true) → (y ≡ true → x ≡ true) → x ≡ y
+    truth true y there back = sym (there refl)
+    truth false true there back = absurd (false≢true (back refl))
+    truth false false there back = refl
+
+    both : (x y : Bool) → (x && y) ≡ true → (x ≡ true) × (y ≡ true)
+    both true true is = (refl, refl)
+    both true false is = absurd (false≢true is)
+    both false y is = absurd (false≢true is)
+
+    by_reasons : (x y : Bool) → nat_eq a.reason 0 ≡ x → nat_eq b.reason 0 ≡ y → Span a → Span b
+        → (x && y && nat_eq a.first b.first && nat_eq a.size b.size)
+        ≡ is_one_path (source_path table.paths.bytes a) (source_path table.paths.bytes b)
+    by_reasons false y here there span span' =
+        sym (ap (λ (p : Result (List ℕ) NoPath). is_one_path p (source_path table.paths.bytes b)) (untold a here))
+    by_reasons true false here there span span' =
+        let first = told a here span in
+        sym (ap (λ (p : Result (List ℕ) NoPath). is_one_path p (source_path table.paths.bytes b)) first.1
+        ∙ ap (λ (p : Result (List ℕ) NoPath). is_one_path (Ok first.0) p) (untold b there))
+    by_reasons true true here there span span' =
+        let first = told a here span in
+        let second = told b there span' in
+        truth (nat_eq a.first b.first && nat_eq a.size b.size) (bytes_eq first.0 second.0)
+        (λ is.
+        let parts = both (nat_eq a.first b.first) (nat_eq a.size b.size) is in
+        let paths : source_path table.paths.bytes a ≡ source_path table.paths.bytes b =
+        ap (λ (x : Bool). if x then path_in table.paths.bytes a.first a.size else Err (Reason a.reason)) here
+        ∙ ap (λ (n : ℕ). path_in table.paths.bytes n a.size) (eqb-true a.first b.first parts.0)
+        ∙ ap (λ (n : ℕ). path_in table.paths.bytes b.first n) (eqb-true a.size b.size parts.1)
+        ∙ sym (ap (λ (x : Bool). if x then path_in table.paths.bytes b.first b.size else Err (Reason b.reason)) there) in
+        let same : Ok first.0 ≡ Ok second.0 = sym first.1 ∙ paths ∙ second.1 in
+        let equal : first.0 ≡ second.0 = cc in
+        (bytes_eq-Decides first.0 second.0).1 equal)
+        (λ is.
+        let equal = (bytes_eq-Decides first.0 second.0).0 is in
+        let also : IsSpanOf table.paths.known b.first first.0 =
+        subst (λ (p : List ℕ). IsSpanOf table.paths.known b.first p) (sym equal) second.2 in
+        let firsts = one_span table.paths.known a.first b.first first.0 are.paths.distinct first.2 also in
+        let sizes : a.size ≡ b.size = first.3 ∙ ap (λ (p : List ℕ). length p) equal ∙ sym second.3 in
+        ap (λ (x : Bool). x && nat_eq a.size b.size) (eq-eqb a.first b.first firsts) ∙ eq-eqb a.size b.size sizes)
+        ∙ sym (ap (λ (p : Result (List ℕ) NoPath). is_one_path p (source_path table.paths.bytes b)) first.1
+        ∙ ap (λ (p : Result (List ℕ) NoPath). is_one_path (Ok first.0) p) second.1)
 
 -- a place stays where a table goes on
 pub place_stays : (t : Texts) (units : List KeptUnit) {limit : ℕ} (old new : Table) (place : Option SourceLine)
@@ -348,7 +453,14 @@ place_stays t units old new (Some l) are keeps inside =
     (source_inside t units old.paths key.0 s (are.each l.source key.0 s key.1 source.1)) in
     ap (option_map (line_in new.paths.bytes l)) there
     ∙ ap (λ (p : Result (List ℕ) NoPath).
-    let q : Place = record { path = p; line = l.line; column = l.column; is_stmt = l.is_stmt; unit = s.unit } in
+    let q : Place = record {
+      path = p;
+      line = l.line;
+      column = l.column;
+      is_stmt = l.is_stmt;
+      prologue_end = l.prologue_end;
+      unit = s.unit;
+    } in
     Some q)
     path
     ∙ ap (option_map (line_in old.paths.bytes l)) (sym source.1)
@@ -456,6 +568,7 @@ say_the_same t units table (Some a) (Some b) are inside also same =
       ap (λ (p : Place). p.line) places,
       ap (λ (p : Place). p.column) places,
       ap (λ (p : Place). p.is_stmt) places,
+      ap (λ (p : Place). p.prologue_end) places,
     )
 
 -- and those that name the same source say the same
@@ -466,14 +579,21 @@ same_places table None (Some b) same = absurd same
 same_places table (Some a) None same = absurd same
 same_places table (Some a) (Some b) same =
     ap (λ (o : Option Source). option_map (line_in table.paths.bytes a) o) same.0
-    ∙ ap (λ (n : ℕ). place_by n a.column a.is_stmt) same.1
-    ∙ ap (λ (n : ℕ). place_by b.line n a.is_stmt) same.2
-    ∙ ap (λ (s : Bool). place_by b.line b.column s) same.3
+    ∙ ap (λ (n : ℕ). place_by n a.column a.is_stmt a.prologue_end) same.1
+    ∙ ap (λ (n : ℕ). place_by b.line n a.is_stmt a.prologue_end) same.2
+    ∙ ap (λ (s : Bool). place_by b.line b.column s a.prologue_end) same.3
+    ∙ ap (λ (s : Bool). place_by b.line b.column b.is_stmt s) same.4
   where
-    place_by : ℕ → ℕ → Bool → Option Place
-    place_by line column is_stmt =
+    place_by : ℕ → ℕ → Bool → Bool → Option Place
+    place_by line column is_stmt prologue_end =
         option_map
-        (line_in table.paths.bytes (record { source = b.source; line = line; column = column; is_stmt = is_stmt }))
+        (line_in table.paths.bytes (record {
+          source = b.source;
+          line = line;
+          column = column;
+          is_stmt = is_stmt;
+          prologue_end = prologue_end;
+        }))
         (slice_get table.sources b.source)
 
 -- ---- one more source, by its parts

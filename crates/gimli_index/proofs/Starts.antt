@@ -1,13 +1,9 @@
--- The starts of an index one by one, and their rows.
-use Rattle.std.proofs.Common.{◌≡◌, ◌∙◌, ◌+◌, ◌<◌, ◌≤◌, ℕ, List, [], ◌∷◌, drop, length, map, get_or, Option, None, Some}
-use Rattle.std.proofs.Common.{refl, sym, ap, arith}
-use Rattle.std.specs.Prelude.{option_map}
+-- The starts of an index one by one.
+use Rattle.std.proofs.Common.{◌≡◌, ◌∙◌, ◌+◌, ◌<◌, ◌≤◌, ℕ, List, [], ◌∷◌, drop, length, map, ap, arith}
 use Rattle.std.specs.List.{range_with_len}
-use Rattle.std.proofs.lemmas.List.{drop_all, drop_more, drop-map, length-map}
-use Rattle.std.proofs.lemmas.Option.{get_or_from_slice_get, slice_get-map}
-use Rattle.gimli_line.specs.declared.run.row.LineRow.{LineRow}
-use Rattle.gimli_index.specs.Lines.{row_of, rows_of, start_row}
-use Rattle.gimli_index.specs.Meaning.{Place, start_at, starts_of}
+use Rattle.std.proofs.lemmas.List.{drop_all, drop_more}
+use Rattle.std.proofs.lemmas.Option.{get_or_from_slice_get}
+use Rattle.gimli_index.specs.Meaning.{start_at, starts_of}
 use Rattle.gimli_index.specs.Parts.{Index}
 use Rattle.gimli_index.proofs.Values.{value_at, value_count}
 
@@ -29,30 +25,3 @@ start_here index i within = value_here (start_at index) index.starts i within
 
 pub no_start : (index : Index) (i : ℕ) → index.starts ≤ i → drop i (starts_of index) ≡ []
 no_start index i past = no_value_here (start_at index) index.starts i past
-
-module _ (index : Index) (path : List ℕ) where
-  abbrev rows : List LineRow
-  rows = rows_of path (starts_of index)
-
-  pub row_here : (i : ℕ) → i < index.starts → drop i rows ≡ row_of path (start_at index i) ∷ drop (i + 1) rows
-  row_here i within =
-      drop-map (row_of path) i (starts_of index) ∙ ap (map (row_of path)) (start_here index i within)
-      ∙ ap (λ (rs : List LineRow). row_of path (start_at index i) ∷ rs)
-      (sym (drop-map (row_of path) (i + 1) (starts_of index)))
-
-  pub no_row : (i : ℕ) → index.starts ≤ i → drop i rows ≡ []
-  no_row i past = drop-map (row_of path) i (starts_of index) ∙ ap (map (row_of path)) (no_start index i past)
-
-  pub row_got : (i : ℕ) (d : LineRow) → i < index.starts → get_or rows i d ≡ row_of path (start_at index i)
-  row_got i d within =
-      get_or_from_slice_get rows i (row_of path (start_at index i)) d
-      (slice_get-map (row_of path) (starts_of index) i
-      ∙ ap (option_map (row_of path)) (value_at (start_at index) index.starts i within))
-
-  pub row_count : length rows ≡ index.starts
-  row_count = length-map (starts_of index) (row_of path) ∙ value_count (start_at index) index.starts
-
--- the address of a row is that of its start
-pub row_address : (path : List ℕ) (a : ℕ) (p : Option Place) → (start_row path a p).address ≡ a
-row_address path a None = refl
-row_address path a (Some p) = refl

@@ -1,4 +1,4 @@
--- The entries of all sequences of a lookup say what is found at each address, and where the code of each line begins.
+-- The entries of all sequences of a lookup say what is found at each address.
 use Rattle.std.proofs.Common.{◌≡◌, ◌∙◌, ◌⊎◌, ℕ, zero, suc, ◌^◌, ◌<◌, ◌≤◌, true, nat_eq, List, [], ◌∷◌, ◌++◌, length}
 use Rattle.std.proofs.Common.{map, Option, Some, None, refl}
 use Rattle.std.proofs.Common.{sym}
@@ -20,9 +20,7 @@ use Rattle.gimli_lookup.specs.Ranges.{IsFoundAt}
 use Rattle.gimli_lookup.specs.Section.{KeptUnit, all_sequences}
 use Rattle.gimli_lookup.specs.SequenceRows.{rows_of}
 use Rattle.gimli_lookup.specs.declared.section_lookup.CoveringRows.{CoveringRows}
-use Rattle.gimli_index.specs.Found.{AreApart, EndsLast, StandBelow, Texts, SayWhereLinesBegin, found_place}
-use Rattle.gimli_index.specs.Found.{lookup_addresses, row_place}
-use Rattle.gimli_index.specs.Lines.{addresses_of}
+use Rattle.gimli_index.specs.Found.{Texts, found_place, row_place}
 use Rattle.gimli_index.specs.Meaning.{Start, place_at}
 use Rattle.gimli_index.specs.declared.contents.Entry.{Entry}
 use Rattle.gimli_index.specs.declared.turns.Turn.{Turn}
@@ -30,9 +28,7 @@ use Rattle.gimli_index.specs.inside.Table.{Entered, Table, starts_in}
 use Rattle.gimli_index.specs.inside.Turns.{AreTurns, IsTurn, UnitRows, Walked, end_after, rows_in, rows_of_turns}
 use Rattle.gimli_index.specs.inside.Turns.{rows_of_units, starts_of_turn}
 use Rattle.gimli_index.specs.inside.Turns.{turn_rows}
-use Rattle.gimli_index.proofs.LineStarts.{count_in, given_by, in_sequences, in_units}
 use Rattle.gimli_index.proofs.Lists.{append_none, get_inside, get_seam}
-use Rattle.gimli_index.proofs.TurnOrder.{each_two_permuted, end_is_last, in_turn, stands_below}
 use Rattle.gimli_index.proofs.TurnPlaces.{none_round, one_round, rows_of_all}
 
 abbrev rows_in_unit : UnitRows → List LineRow
@@ -118,88 +114,6 @@ module _ (t : Texts) (units : List KeptUnit) (turns : List Turn) (are : AreTurns
       (subst (IsPermutation (map rows_in_unit (rows_of_units units))) (sequences_same units some_unit turns)
       (IsPermutation-map rows_in_unit (rows_of_units units) ordered shuffled))
 
-  -- ---- where they don't overlap
-
-  module _ (order : IsNonDecreasingBy (λ (turn : Turn). turn.key) turns) (apart : AreApart (all_sequences units)) where
-    in_orders : All (λ rows. never_go_down rows ≡ true) (map (λ (turn : Turn). rows_of turn.rows) turns)
-    in_orders =
-        All-permutation (λ rows. never_go_down rows ≡ true) (all_sequences units)
-        (map (λ (turn : Turn). rows_of turn.rows) turns)
-        sequences_shuffled apart.in_order
-
-    turn_down : (k : ℕ) (turn : Turn) → slice_get turns k ≡ Some turn → never_go_down (rows_of turn.rows) ≡ true
-    turn_down k turn there =
-        all_at (λ rows. never_go_down rows ≡ true) (λ (turn : Turn). rows_of turn.rows) turns in_orders k turn there
-
-    few_of : (turn : Turn) → IsTurn units turn → end_after 0 (rows_of turn.rows) < 2 ^ 64
-    few_of turn is = by_rows (rows_of turn.rows) is.few
-      where
-        by_rows : (rows : List LineRow) → IfSome (range rows) (λ ends. ends.1 < 2 ^ 64) → end_after 0 rows < 2 ^ 64
-        by_rows [] few = omega arith
-        by_rows (r ∷ rows) few = omega (arith, few, end_is_last 0 r rows)
-
-    two_below : (i j : ℕ) (x y : Turn) → i < j → slice_get turns i ≡ Some x → slice_get turns j ≡ Some y
-        → StandBelow (rows_of x.rows) (rows_of y.rows)
-    two_below i j x y lt one two =
-        let i_in = slice_get_within turns i x one in
-        let j_in = slice_get_within turns j y two in
-        let x_is = each_at (IsTurn units) turns are.each i x one in
-        let y_is = each_at (IsTurn units) turns are.each j y two in
-        let keys : x.key ≤ y.key =
-        subst (λ (z : Turn). z.key ≤ y.key) (get_or_from_slice_get turns i x x one)
-        (subst (λ (z : Turn). (slice_index_or turns i x).key ≤ z.key) (get_or_from_slice_get turns j y x two)
-        (order i j x (omega (arith, lt)) j_in)) in
-        stands_below (rows_of x.rows) (rows_of y.rows) (turn_down i x one) (turn_down j y two)
-        (omega (arith, keys, x_is.key, y_is.key)) (few_of x x_is) (few_of y y_is)
-        (either i j x y lt one two)
-      where
-        either : (i j : ℕ) (x y : Turn) → i < j → slice_get turns i ≡ Some x → slice_get turns j ≡ Some y
-            → StandBelow (rows_of x.rows) (rows_of y.rows) ⊎ StandBelow (rows_of y.rows) (rows_of x.rows)
-        either i j x y lt one two =
-            let S = map (λ (turn : Turn). rows_of turn.rows) turns in
-            let j_in = slice_get_within turns j y two in
-            let long = length-map turns (λ (turn : Turn). rows_of turn.rows) in
-            let d = rows_of x.rows in
-            let x_at : slice_index_or S i d ≡ rows_of x.rows =
-            get_or_from_slice_get S i (rows_of x.rows) d
-            (slice_get-map (λ (turn : Turn). rows_of turn.rows) turns i
-            ∙ ap (option_map (λ (turn : Turn). rows_of turn.rows)) one) in
-            let y_at : slice_index_or S j d ≡ rows_of y.rows =
-            get_or_from_slice_get S j (rows_of y.rows) d
-            (slice_get-map (λ (turn : Turn). rows_of turn.rows) turns j
-            ∙ ap (option_map (λ (turn : Turn). rows_of turn.rows)) two) in
-            subst (λ (rs : List LineRow). StandBelow rs (rows_of y.rows) ⊎ StandBelow (rows_of y.rows) rs) x_at
-            (subst (λ (rs : List LineRow). StandBelow (slice_index_or S i d) rs ⊎ StandBelow rs (slice_index_or S i d))
-            y_at
-            (each_two_permuted (λ xs ys. StandBelow xs ys ⊎ StandBelow ys xs)
-            (λ xs ys is. elim is [ inl a ↦ inr a | inr b ↦ inl b ])
-            (all_sequences units) S sequences_shuffled apart.apart i j d (omega (arith, lt, j_in, long))
-            (omega (arith, j_in, long)) (λ same.
-            omega (arith, same, lt))))
-
-    pub never_down : never_go_down (rows_of_turns turns) ≡ true
-    never_down =
-        in_turn (λ (turn : Turn). rows_of turn.rows) 0 turns turn_down two_below (λ k x i r there stands. omega arith)
-
-    ends_last : (k : ℕ) (s : UnitRows) → slice_get ordered k ≡ Some s → EndsLast s.rows
-    ends_last k s there =
-        all_at EndsLast rows_in_unit ordered
-        (subst (All EndsLast) (sym (sequences_same units some_unit turns))
-        (All-permutation EndsLast (all_sequences units) (map (λ (turn : Turn). rows_of turn.rows) turns)
-        sequences_shuffled apart.ends))
-        k s there
-
-    pub lines_are : (path : List ℕ) (line a : ℕ)
-        → count_by (nat_eq a) (addresses_of path (flat_map (starts_of_turn t) ordered) line)
-        ≡ count_by (nat_eq a) (lookup_addresses t path units line)
-    lines_are path line a =
-        ap (count_by (nat_eq a)) (in_sequences t path line ordered ends_last)
-        ∙ count_in t path line (nat_eq a) ordered
-        ∙ sum_by-IsPermutation (λ (s : UnitRows). count_by (nat_eq a) (given_by t path line s)) (rows_of_units units)
-        ordered shuffled
-        ∙ sym (count_in t path line (nat_eq a) (rows_of_units units))
-        ∙ ap (count_by (nat_eq a)) (in_units t path line units)
-
   -- ---- where no row has an address below that of one before it
 
   module _ (down : never_go_down (rows_of_turns turns) ≡ true) where
@@ -250,18 +164,5 @@ module _ (t : Texts) (units : List KeptUnit) (turns : List Turn) (are : AreTurns
       ascending = h.ascending;
       columns = h.columns;
       short = h.short;
-      says = λ a found before is. h.agree.places a ∙ found_is_said a found is;
+      says = λ a found before is. h.agree a ∙ found_is_said a found is;
     }
-
-  -- and where the code of a line begins
-  pub all_lines : {limit : ℕ} → IsNonDecreasingBy (λ (turn : Turn). turn.key) turns
-      → (table : Table) (entries : List Entry) (end : ℕ)
-      → Walked t units limit table entries (flat_map (starts_of_turn t) ordered) end
-      → SayWhereLinesBegin t units (starts_in table entries)
-  all_lines order table entries end h apart path line a =
-      ap (λ (ss : List Start). count_by (nat_eq a) (addresses_of path ss line))
-      (sym (append_none (starts_in table entries)))
-      ∙ ap (count_by (nat_eq a)) (h.agree.lines path line [])
-      ∙ ap (λ (ss : List Start). count_by (nat_eq a) (addresses_of path ss line))
-      (append_none (flat_map (starts_of_turn t) ordered))
-      ∙ lines_are order apart path line a

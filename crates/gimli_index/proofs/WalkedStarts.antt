@@ -1,7 +1,7 @@
 -- The entries of sequences in the making agree with the starts of all rows so far.
 use Rattle.std.proofs.Common.{◌≡◌, ◌∙◌, ◌⊎◌, ℕ, ◌-◌, ◌<◌, ◌≤◌, leb, List, [], ◌∷◌, ◌++◌, length, Option, None, Some}
 use Rattle.std.proofs.Common.{refl, sym, ap, subst}
-use Rattle.std.proofs.Common.{inl, inr, arith, append_assoc}
+use Rattle.std.proofs.Common.{inl, inr, arith}
 use Rattle.std.specs.Prelude.{slice_get, nat_le, if◌then◌else◌}
 use Rattle.std.specs.Option.{option_and_then}
 use Rattle.std.proofs.lemmas.Bool.{cases_lt, cond-false, cond-true, le-leb, lt-leb}
@@ -12,7 +12,6 @@ use Rattle.std.proofs.lemmas.Option.{slice_get_within}
 use Rattle.gimli_lookup.specs.Section.{KeptUnit}
 use Rattle.gimli_index.specs.Contents.{HasColumn, entry_start}
 use Rattle.gimli_index.specs.Found.{Texts}
-use Rattle.gimli_index.specs.Lines.{addresses_of}
 use Rattle.gimli_index.specs.Meaning.{Place, Start, place_at}
 use Rattle.gimli_index.specs.Short.{IsShort}
 use Rattle.gimli_index.specs.declared.contents.Entry.{Entry}
@@ -20,7 +19,6 @@ use Rattle.gimli_index.specs.inside.Table.{Table, AreSources, IsInside, IsPushed
 use Rattle.gimli_index.specs.inside.Table.{place_in, starts_in, with_table}
 use Rattle.gimli_index.specs.inside.Turns.{Agree, Walked}
 use Rattle.gimli_index.proofs.Entered.{at_end, last_place_is, same_starts, short_push}
-use Rattle.gimli_index.proofs.LineStarts.{adds_none}
 use Rattle.gimli_index.proofs.Lists.{get_pushed}
 use Rattle.gimli_index.proofs.Sources.{inside_stays, place_stays, same_places, say_the_same}
 
@@ -34,7 +32,7 @@ none_walked t units table are = record {
   ascending = λ i j x y lt first second. absurd cc;
   columns = λ k d within. absurd (omega (arith, within));
   short = record { first = λ s there. absurd cc; merged = λ k s u first second. absurd cc };
-  agree = record { places = λ a. refl; lines = λ path line more. refl };
+  agree = λ a. refl;
 }
 
 -- the table goes on
@@ -68,13 +66,7 @@ places_push starts said s a same =
     ∙ sym (fold-append (λ (c : Option Place) (x : Start). if nat_le x.address a then x.place else c) None said (s ∷ []))
 
 agree_push : (starts said : List Start) (s : Start) → Agree starts said → Agree (starts ++ s ∷ []) (said ++ s ∷ [])
-agree_push starts said s h = record {
-  places = λ a. places_push starts said s a (h.places a);
-  lines = λ path line more.
-      ap (λ (ss : List Start). addresses_of path ss line) (append_assoc starts (s ∷ []) more)
-      ∙ h.lines path line (s ∷ more)
-      ∙ sym (ap (λ (ss : List Start). addresses_of path ss line) (append_assoc said (s ∷ []) more));
-}
+agree_push starts said s h a = places_push starts said s a (h a)
 
 module _ (t : Texts) (units : List KeptUnit) {limit : ℕ} (table : Table) (entries new : List Entry) (e : Entry)
     (said : List Start) (end : ℕ)
@@ -141,23 +133,17 @@ module _ (t : Texts) (units : List KeptUnit) {limit : ℕ} (table : Table) (entr
     ascending = h.ascending;
     columns = h.columns;
     short = h.short;
-    agree = record {
-      places = λ a.
-          by_order a (cases_lt a e.address)
-          ∙ sym (fold-append (λ (c : Option Place) (x : Start). if nat_le x.address a then x.place else c) None said
-          (start ∷ []));
-      lines = λ path line more.
-          sym (adds_none path line (starts_in table entries) start more (last_place_is table entries ∙ same))
-          ∙ h.agree.lines path line (start ∷ more)
-          ∙ sym (ap (λ (ss : List Start). addresses_of path ss line) (append_assoc said (start ∷ []) more));
-    };
+    agree = λ a.
+        by_order a (cases_lt a e.address)
+        ∙ sym (fold-append (λ (c : Option Place) (x : Start). if nat_le x.address a then x.place else c) None said
+        (start ∷ []));
   }
     where
       by_order : (a : ℕ) → (a < e.address) ⊎ (e.address ≤ a)
           → place_at a (starts_in table entries)
           ≡ (if nat_le e.address a then place_in table e.place else place_at a said)
       by_order a (inl low) =
-          h.agree.places a
+          h.agree a
           ∙ sym (cond-false (leb e.address a) (place_in table e.place) (place_at a said) (lt-leb e.address a low))
       by_order a (inr high) =
           at_end table a entries (λ k x there. omega (arith, h.below k x there, above, high)) ∙ same

@@ -1,25 +1,38 @@
--- The index that was written of the entries of a lookup.
+-- The index that was written of the entries and the statements of a lookup.
 use Rattle.std.proofs.Common.{◌≡◌, ◌≤◌, ◌∙◌, ℕ, List, [], ◌∷◌, ◌++◌, length, drop, map, None, Some, Result, Ok, Err}
 use Rattle.std.proofs.Common.{refl, sym, ap, subst, arith}
 use Rattle.std.specs.Prelude.{All, IfErr, OnOk, slice_get}
-use Rattle.std.specs.Option.{option_map, option_and_then}
+use Rattle.std.specs.List.{Contains}
+use Rattle.std.specs.Option.{option_map, option_map_or, option_and_then}
 use Rattle.std.proofs.lemmas.List.{length-map}
-use Rattle.std.proofs.lemmas.Option.{slice_get_within}
-use Rattle.gimli_index.specs.Contents.{Contents, Fits, HasColumn, entry_start, index_bytes, line_in}
+use Rattle.std.proofs.lemmas.Option.{get_or_from_slice_get, slice_get_within, slice_get-map}
+use Rattle.gimli_index.specs.Contents.{Contents, Fits, HasColumn, entry_start, index_bytes, line_in, source_path}
+use Rattle.gimli_index.specs.Contents.{statement_in}
+use Rattle.gimli_index.specs.Files.{File, source_file}
 use Rattle.gimli_index.specs.Found.{Given, AreContentsOf, IsAppended, IsIndexAppended, IsIndexOf, SayWhatIsFound}
-use Rattle.gimli_index.specs.Found.{SayWhereLinesBegin}
-use Rattle.gimli_index.specs.Made.{EntriesAscend, HasOrder, IsMakeFault}
+use Rattle.gimli_index.specs.Found.{IsFileOfRow, SayWhereLinesBegin, unit_path}
+use Rattle.gimli_index.specs.Lines.{addresses_of}
+use Rattle.gimli_index.specs.Made.{EntriesAscend, HasOrder, IsMakeFault, SayTheSameLines}
 use Rattle.gimli_index.specs.Meaning.{Start, place_at}
-use Rattle.gimli_index.specs.Refused.{IsIndexFault}
+use Rattle.gimli_index.specs.Meaning.{Statement as StatementMeaning}
+use Rattle.gimli_index.specs.Refused.{IsFoundFile, IsIndexFault}
 use Rattle.gimli_index.specs.Short.{HasPathsOnce, IsShort}
 use Rattle.gimli_index.specs.declared.contents.Entry.{Entry}
 use Rattle.gimli_index.specs.declared.contents.Source.{Source}
 use Rattle.gimli_index.specs.declared.contents.SourceLine.{SourceLine}
+use Rattle.gimli_index.specs.declared.contents.Statement.{Statement}
 use Rattle.gimli_index.specs.declared.error.MakeError.{MakeError}
 use Rattle.gimli_index.specs.declared.error.MakeError.TheVariants.{NotAscending, TooManyEntries, TooManySources}
+use Rattle.gimli_index.specs.declared.error.MakeError.TheVariants.{TooManyStatements}
 use Rattle.gimli_index.specs.declared.error.MakeError.TheVariants.{PathsTooLarge, IdentityTooLarge, LineTooLarge}
 use Rattle.gimli_index.specs.declared.error.MakeError.TheVariants.{ColumnTooLarge, OutOfMemory}
-use Rattle.gimli_index.specs.inside.Table.{Entered, Table, starts_in}
+use Rattle.gimli_index.specs.declared.place.NoPath.{NoPath}
+use Rattle.gimli_index.specs.declared.place.NoPath.TheVariants.{Outside}
+use Rattle.gimli_index.specs.declared.source_keys.SourceKey.{SourceKey}
+use Rattle.gimli_index.specs.inside.Begun.{begun_in_units, statements_in}
+use Rattle.gimli_index.specs.inside.Table.{Entered, Table, starts_in, with_table}
+use Rattle.gimli_index.proofs.BegunLines.{few_begun, say_where_lines_begin}
+use Rattle.gimli_lookup.specs.Section.{KeptUnit}
 use Rattle.gimli_index.proofs.Lists.{get_inside}
 use Rattle.gimli_index.proofs.ReadBack.{read_back, starts_ascend}
 
@@ -42,7 +55,8 @@ index_of given c rest are =
       ascending = read.ascending are.ascending;
       ordered = read.ordered are.ordered;
       says = λ a found is. ap (place_at a) read.starts ∙ are.says a found is;
-      lines = subst (SayWhereLinesBegin given.texts given.units) (sym read.starts) are.lines;
+      lines = subst (SayWhereLinesBegin given.texts given.units) (sym read.statements) are.lines;
+      files = subst (All (IsFileOfRow given.texts given.units)) (sym read.files) are.files;
       short = subst IsShort (sym read.starts) are.short;
       address_size = read.address_size ∙ are.address_size;
       identity = read.identity ∙ are.identity;
@@ -65,9 +79,30 @@ start_by sources paths e = record {
   place = option_and_then (λ (l : SourceLine). option_map (line_in paths l) (slice_get sources l.source)) e.place;
 }
 
-module _ (given : Given) {limit : ℕ} (table : Table) (entries : List Entry) (c : Contents)
+-- what a statement says, by the sources and the bytes of paths
+abbrev statement_by : List Source → List ℕ → Statement → StatementMeaning
+statement_by sources paths s = record {
+  path = option_map_or (source_path paths) (slice_get sources s.source) (Err Outside);
+  line = s.line;
+  address = s.address;
+}
+
+-- what stands at a place is contained
+contains_at : {X : Type 0} (xs : List X) (k : ℕ) (x : X) → slice_get xs k ≡ Some x → Contains xs x
+contains_at xs k x there = (k, slice_get_within xs k x there, get_or_from_slice_get xs k x x there)
+
+-- what holds of each value that a function makes
+all_made : {X Y : Type 0} (P : Y → Type 0) (f : X → Y) (xs : List X)
+    → ((k : ℕ) (x : X) → slice_get xs k ≡ Some x → P (f x)) → All P (map f xs)
+all_made {X} P f xs each k d within =
+    let known = get_inside xs k (omega (arith, within, length-map xs f)) in
+    let made = slice_get-map f xs k ∙ ap (option_map f) known.1 in
+    subst P (sym (get_or_from_slice_get (map f xs) k (f known.0) d made)) (each k known.0 known.1)
+
+module _ (given : Given) {limit : ℕ} (table : Table) (entries : List Entry) (statements : List Statement) (c : Contents)
     (h : Entered given.texts given.units limit table entries None)
-    (lines : SayWhereLinesBegin given.texts given.units (starts_in table entries)) (sources : c.sources ≡ table.sources)
+    (said : statements_in table statements ≡ begun_in_units given.texts given.units)
+    (sources : c.sources ≡ table.sources)
     (entries_are : c.entries ≡ entries)
     (paths : c.paths ≡ table.paths.bytes) where
   same_starts : map (entry_start c) c.entries ≡ starts_in table entries
@@ -82,8 +117,51 @@ module _ (given : Given) {limit : ℕ} (table : Table) (entries : List Entry) (c
   says : SayWhatIsFound given.texts given.units (map (entry_start c) c.entries)
   says a found is = ap (place_at a) same_starts ∙ h.says a found tt is
 
-  say_lines : SayWhereLinesBegin given.texts given.units (map (entry_start c) c.entries)
-  say_lines = subst (SayWhereLinesBegin given.texts given.units) (sym same_starts) lines
+  same_meanings : map (statement_in c) statements ≡ begun_in_units given.texts given.units
+  same_meanings =
+      ap (λ (ss : List Source). map (statement_by ss c.paths) statements) sources
+      ∙ ap (λ (ps : List ℕ). map (statement_by table.sources ps) statements) paths
+      ∙ said
+
+  say_lines : SayTheSameLines c statements c.statements
+      → SayWhereLinesBegin given.texts given.units (map (statement_in c) c.statements)
+  say_lines same path line =
+      sym (same path line)
+      ∙ ap (λ (ss : List StatementMeaning). addresses_of path ss line) same_meanings
+      ∙ say_where_lines_begin given.texts given.units path line
+
+  abbrev file_by : List ℕ → Source → File
+  file_by ps s = record { unit = s.unit; path = source_path ps s }
+
+  files_are : All (IsFileOfRow given.texts given.units) (map (source_file c) c.sources)
+  files_are =
+      subst (All (IsFileOfRow given.texts given.units))
+      (ap (λ (ps : List ℕ). map (file_by ps) table.sources) (sym paths)
+      ∙ ap (λ (ss : List Source). map (file_by c.paths) ss) (sym sources))
+      (all_made (IsFileOfRow given.texts given.units) (file_by table.paths.bytes) table.sources (λ k s there.
+      let key = get_inside table.keys k (omega (arith, slice_get_within table.sources k s there, h.are.count)) in
+      let of = h.are.each k key.0 s key.1 there in
+      let found = each_key k key.0 key.1 in
+      let f = found.0 in
+      let at = found.1 in
+      let both : Some at.unit ≡ Some of.unit = sym at.there ∙ ap (slice_get given.units) found.2 ∙ of.there in
+      let same : of.unit ≡ at.unit = cc in (
+        at.unit,
+        contains_at given.units f.unit at.unit at.there,
+        at.rows,
+        contains_at at.unit.sequences at.sequence at.rows at.is_sequence,
+        f.row,
+        contains_at at.rows at.index f.row at.stands,
+        ap (λ (n : ℕ). let x : File = record { unit = n; path = source_path table.paths.bytes s } in x)
+            (of.offset ∙ ap (λ (u : KeptUnit). u.unit.offset) same)
+            ∙ ap (λ (p : Result (List ℕ) NoPath). let x : File = record { unit = at.unit.unit.offset; path = p } in x)
+            (of.path f.row found.3 ∙ ap (λ (u : KeptUnit). unit_path given.texts u.unit f.row) same),
+      )))
+    where
+      each_key : (k : ℕ) (key : SourceKey) → slice_get table.keys k ≡ Some key → IsFoundFile given.units key
+      each_key k key there =
+          subst (IsFoundFile given.units) (get_or_from_slice_get table.keys k key key there)
+          (h.are.files k key (slice_get_within table.keys k key there))
 
   short : IsShort (map (entry_start c) c.entries)
   short = subst IsShort (sym same_starts) h.short
@@ -99,13 +177,16 @@ module _ (given : Given) {limit : ℕ} (table : Table) (entries : List Entry) (c
         (h.are.each k key.0 s key.1 at).span zero_is;
   }
 
-  pub contents_are : Fits c → HasOrder c → c.address_size ≡ given.size → c.identity ≡ given.name → AreContentsOf given c
-  contents_are fits ordered size name = record {
+  pub contents_are : Fits c → HasOrder c → SayTheSameLines c statements c.statements → c.address_size ≡ given.size
+      → c.identity ≡ given.name
+      → AreContentsOf given c
+  contents_are fits ordered same size name = record {
     fits = fits;
     ascending = ascends;
     ordered = ordered;
     says = says;
-    lines = say_lines;
+    lines = say_lines same;
+    files = files_are;
     short = short;
     paths_once = paths_once;
     address_size = size;
@@ -116,26 +197,35 @@ module _ (given : Given) {limit : ℕ} (table : Table) (entries : List Entry) (c
   within = omega (arith, ap (λ (ps : List ℕ). length ps) paths, h.are.paths.within)
 
   -- why the contents aren't written
-  pub contents_fault : (e : MakeError) → c.identity ≡ given.name → IsMakeFault c e → IsIndexFault given limit e
-  contents_fault NotAscending name fault = absurd (fault ascends)
-  contents_fault TooManyEntries name fault = record {
+  pub contents_fault : (e : MakeError) → c.statements ≡ statements → c.identity ≡ given.name → IsMakeFault c e
+      → IsIndexFault given limit e
+  contents_fault NotAscending all name fault = absurd (fault ascends)
+  contents_fault TooManyEntries all name fault = record {
     starts = map (entry_start c) c.entries;
     ascending = starts_ascend c ascends;
     says = says;
-    lines = say_lines;
     short = short;
     many = omega (arith, fault, length-map c.entries (entry_start c));
   }
-  contents_fault TooManySources name fault =
+  contents_fault TooManyStatements all name fault =
+      omega (
+        arith,
+        fault,
+        ap (λ (ss : List Statement). length ss) all,
+        length-map statements (statement_in (with_table table)),
+        ap (λ (ss : List StatementMeaning). length ss) said,
+        few_begun given.texts given.units,
+      )
+  contents_fault TooManySources all name fault =
       absurd (omega (arith, fault, h.are.few, ap (λ (ss : List Source). length ss) sources))
-  contents_fault PathsTooLarge name fault =
+  contents_fault PathsTooLarge all name fault =
       absurd (omega (arith, fault, h.are.paths.few, ap (λ (ps : List ℕ). length ps) paths))
-  contents_fault IdentityTooLarge name fault = omega (arith, fault, ap (λ (ns : List ℕ). length ns) name)
-  contents_fault LineTooLarge name fault = absurd fault
-  contents_fault ColumnTooLarge name fault =
+  contents_fault IdentityTooLarge all name fault = omega (arith, fault, ap (λ (ns : List ℕ). length ns) name)
+  contents_fault LineTooLarge all name fault = absurd fault
+  contents_fault ColumnTooLarge all name fault =
       absurd
       (fault (subst (λ (es : List Entry). All (λ (e : Entry). HasColumn e.place) es) (sym entries_are) h.columns))
-  contents_fault OutOfMemory name fault = tt
+  contents_fault OutOfMemory all name fault = tt
 
 pub on_fault : {T : Type 0} (r : Result T MakeError) (P Q : MakeError → Type 0) → ((e : MakeError) → P e → Q e)
     → IfErr r P → IfErr r Q

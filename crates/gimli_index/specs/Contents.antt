@@ -2,16 +2,19 @@
 use Rattle.std.specs.Prelude.{◌≡◌, ◌≤◌, ◌<◌, ℕ, ◌+◌, ◌-◌, ◌^◌, true, false, List, ◌++◌, length}
 use Rattle.std.specs.Prelude.{flat_map, slice_get, nat_eq, if◌then◌else◌, Option, Some, None}
 use Rattle.std.specs.Prelude.{Result, Err, All, IfSome}
-use Rattle.std.specs.Option.{option_map, option_and_then}
+use Rattle.std.specs.Option.{option_map, option_map_or, option_and_then}
 use Rattle.gimli_core.specs.Numbers.{is_address_size, number_bytes}
 use Rattle.gimli_index.specs.Header.{magic, size_of, highest_base}
 use Rattle.gimli_index.specs.Meaning.{Place, Start, path_in}
+use Rattle.gimli_index.specs.Meaning.{Statement as StatementMeaning}
+use Rattle.gimli_index.specs.Order.{path_number}
 use Rattle.gimli_index.specs.declared.contents.Entry.{Entry}
 use Rattle.gimli_index.specs.declared.contents.Source.{Source}
 use Rattle.gimli_index.specs.declared.contents.SourceLine.{SourceLine}
+use Rattle.gimli_index.specs.declared.contents.Statement.{Statement}
 use Rattle.gimli_index.specs.declared.header.StartSize.{StartSize}
 use Rattle.gimli_index.specs.declared.place.NoPath.{NoPath}
-use Rattle.gimli_index.specs.declared.place.NoPath.TheVariants.{Reason}
+use Rattle.gimli_index.specs.declared.place.NoPath.TheVariants.{Reason, Outside}
 
 pub record Contents : Type 0 where
   pub address_size : ℕ
@@ -19,8 +22,7 @@ pub record Contents : Type 0 where
   pub base : ℕ
   pub sources : List Source
   pub entries : List Entry
-  -- the numbers of the entries that are statements, in order
-  pub order : List ℕ
+  pub statements : List Statement
   pub paths : List ℕ
   pub identity : List ℕ
 
@@ -36,6 +38,7 @@ line_in paths l s = record {
   line = l.line;
   column = l.column;
   is_stmt = l.is_stmt;
+  prologue_end = l.prologue_end;
   unit = s.unit;
 }
 
@@ -46,6 +49,13 @@ line_place c l = option_map (line_in c.paths l) (slice_get c.sources l.source)
 abbrev pub entry_start : Contents → Entry → Start
 entry_start c e = record { address = e.address; place = option_and_then (line_place c) e.place }
 
+-- the path of the source of a number, if there is such a source
+abbrev pub path_at : Contents → ℕ → Result (List ℕ) NoPath
+path_at c k = option_map_or (source_path c.paths) (slice_get c.sources k) (Err Outside)
+
+abbrev pub statement_in : Contents → Statement → StatementMeaning
+statement_in c s = record { path = path_at c s.source; line = s.line; address = s.address }
+
 -- ---- their bytes
 
 -- a number in so many bytes, the least significant first
@@ -55,7 +65,7 @@ le_bytes size n = number_bytes false size n
 abbrev pub header_bytes : Contents → List ℕ
 header_bytes c =
     magic
-    ++ le_bytes 4 1
+    ++ le_bytes 4 2
     ++ le_bytes 2 c.address_size
     ++ le_bytes 2 (size_of c.start_size)
     ++ le_bytes 8 c.base
@@ -63,21 +73,24 @@ header_bytes c =
     ++ le_bytes 4 (length c.sources)
     ++ le_bytes 4 (length c.paths)
     ++ le_bytes 4 (length c.identity)
-    ++ le_bytes 4 (length c.order)
+    ++ le_bytes 4 (length c.statements)
     ++ le_bytes 4 0
 
-abbrev pub source_bytes : Source → List ℕ
-source_bytes s =
+-- a source, with the number of its name
+abbrev pub source_bytes : List ℕ → Source → List ℕ
+source_bytes paths s =
     le_bytes 8 s.unit ++ le_bytes 4 s.first ++ le_bytes 4 s.size ++ le_bytes 4 s.reason
-    ++ le_bytes 4 0
+    ++ le_bytes 4 (path_number (source_path paths s))
 
 -- a start, as far as it is above the base
 abbrev pub start_bytes : StartSize → ℕ → Entry → List ℕ
 start_bytes size base e = le_bytes (size_of size) (e.address - base)
 
--- the column in the lower 31 bits of a word; its highest bit says that the code is a statement
+-- the column in the lower 30 bits of a word; its highest bit says that the code is a statement, the
+-- next one that the prologue ends there
 abbrev pub column_word : SourceLine → ℕ
-column_word l = if l.is_stmt then l.column + 2 ^ 31 else l.column
+column_word l =
+    l.column + (if l.is_stmt then 2 ^ 31 else 0) + (if l.prologue_end then 2 ^ 30 else 0)
 
 abbrev pub line_bytes : SourceLine → List ℕ
 line_bytes l = le_bytes 4 l.source ++ le_bytes 4 l.line ++ le_bytes 4 (column_word l)
@@ -90,32 +103,40 @@ place_bytes (Some l) = line_bytes l
 abbrev pub entry_bytes : Entry → List ℕ
 entry_bytes e = place_bytes e.place
 
+abbrev pub statement_bytes : StartSize → ℕ → Statement → List ℕ
+statement_bytes size base s =
+    le_bytes 4 s.source ++ le_bytes 4 s.line ++ le_bytes (size_of size) (s.address - base)
+
 abbrev pub index_bytes : Contents → List ℕ
 index_bytes c =
     header_bytes c
-    ++ flat_map source_bytes c.sources
+    ++ flat_map (source_bytes c.paths) c.sources
     ++ flat_map (start_bytes c.start_size c.base) c.entries
     ++ flat_map entry_bytes c.entries
-    ++ flat_map (le_bytes 4) c.order
+    ++ flat_map (statement_bytes c.start_size c.base) c.statements
     ++ c.paths
     ++ c.identity
 
 -- ---- what fits
 
 abbrev pub FitsLine : SourceLine → Type 0
-FitsLine l = (l.source < 2 ^ 32) × (l.line < 2 ^ 32) × (l.column < 2 ^ 31)
+FitsLine l = (l.source < 2 ^ 32) × (l.line < 2 ^ 32) × (l.column < 2 ^ 30)
 
 abbrev pub FitsPlace : Option SourceLine → Type 0
 FitsPlace None = Unit {0}
 FitsPlace (Some l) = FitsLine l
 
--- the column of a place has 31 bits
+-- the column of a place has 30 bits
 abbrev pub HasColumn : Option SourceLine → Type 0
-HasColumn place = IfSome place (λ l. l.column < 2 ^ 31)
+HasColumn place = IfSome place (λ l. l.column < 2 ^ 30)
 
 -- an address isn't below the base, nor further above it than a start holds
-abbrev pub IsNear : StartSize → ℕ → Entry → Type 0
-IsNear size base e = (base ≤ e.address) × (e.address < base + 256 ^ size_of size)
+abbrev pub IsNear : StartSize → ℕ → ℕ → Type 0
+IsNear size base address = (base ≤ address) × (address < base + 256 ^ size_of size)
+
+abbrev pub FitsStatement : StartSize → ℕ → Statement → Type 0
+FitsStatement size base s =
+    (s.source < 2 ^ 32) × (s.line < 2 ^ 32) × IsNear size base s.address
 
 abbrev pub FitsSource : Source → Type 0
 FitsSource s = (s.unit < 2 ^ 64) × (s.first < 2 ^ 32) × (s.size < 2 ^ 32) × (s.reason < 2 ^ 32)
@@ -125,14 +146,14 @@ pub record FitsCounts (c : Contents) : Type 0 where
   pub sources : length c.sources < 2 ^ 32
   pub paths : length c.paths < 2 ^ 32
   pub identity : length c.identity < 2 ^ 32
-  pub order : length c.order < 2 ^ 32
+  pub statements : length c.statements < 2 ^ 32
 
 -- the numbers fit their fields
 pub record Fits (c : Contents) : Type 0 where
   pub address_size : is_address_size c.address_size ≡ true
   pub base : c.base ≤ highest_base c.start_size
   pub counts : FitsCounts c
-  pub near : All (IsNear c.start_size c.base) c.entries
+  pub near : All (λ e. IsNear c.start_size c.base e.address) c.entries
   pub places : All (λ e. FitsPlace e.place) c.entries
   pub sources : All FitsSource c.sources
-  pub order : All (λ i. i < 2 ^ 32) c.order
+  pub statements : All (FitsStatement c.start_size c.base) c.statements

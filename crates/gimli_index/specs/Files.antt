@@ -2,10 +2,12 @@
 use Rattle.std.specs.Prelude.{ℕ, List, map, drop, Result}
 use Rattle.std.specs.List.{range_with_len}
 use Rattle.gimli_core.specs.Reading.{result_map}
+use Rattle.gimli_index.specs.Contents.{Contents, source_path}
 use Rattle.gimli_index.specs.Meaning.{path_of, source_at}
 use Rattle.gimli_index.specs.Numbers.{number_at}
 use Rattle.gimli_index.specs.Parts.{Index}
 use Rattle.gimli_index.specs.Views.{index_of}
+use Rattle.gimli_index.specs.declared.contents.Source.{Source}
 use Rattle.gimli_index.specs.declared.place.NoPath.{NoPath}
 use Rattle.gimli_index.specs.declared.files.SourceFile.{SourceFile}
 use Rattle.gimli_index.specs.declared.files.SourceFiles.{SourceFiles}
@@ -32,3 +34,7 @@ file_of f = record { unit = f.unit; path = result_map (λ path. path.now) f.path
 
 abbrev pub files_left : SourceFiles → List File
 files_left files = drop files.next (files_of (index_of files.index))
+
+-- the file of a source of contents
+abbrev pub source_file : Contents → Source → File
+source_file c s = record { unit = s.unit; path = source_path c.paths s }

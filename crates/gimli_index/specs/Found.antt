@@ -1,15 +1,18 @@
 -- What a lookup finds at an address, and where it says that the code of a line begins, as an index
 -- says it.
-use Rattle.std.specs.Prelude.{◌≡◌, ◌⊎◌, ◌+◌, ◌<◌, ◌≤◌, ◌++◌, ℕ, Bool, true, false, List, length}
-use Rattle.std.specs.Prelude.{drop, map, flat_map, nat_eq, slice_get, Option}
-use Rattle.std.specs.Prelude.{None, Some, Result, Ok, Err, All, AllPairs}
-use Rattle.std.specs.List.{count_by}
+use Rattle.std.specs.Prelude.{◌≡◌, ◌≤◌, ◌++◌, ℕ, Bool, false, List, [], length, drop, map}
+use Rattle.std.specs.Prelude.{flat_map, slice_get, if◌then◌else◌, Option, None, Some, Result, Ok, Err}
+use Rattle.std.specs.Prelude.{All}
+use Rattle.std.specs.List.{Contains}
 use Rattle.std.specs.Option.{option_map, option_map_or}
+use Rattle.std.specs.Str.{bytes_eq}
 use Rattle.gimli_compilation.specs.Directories.{directory_for}
-use Rattle.gimli_index.specs.Contents.{Contents, Fits, entry_start, index_bytes}
+use Rattle.gimli_index.specs.Contents.{Contents, Fits, entry_start, index_bytes, statement_in}
+use Rattle.gimli_index.specs.Files.{File, files_of, source_file}
 use Rattle.gimli_index.specs.Lines.{addresses_of, is_named}
 use Rattle.gimli_index.specs.Made.{EntriesAscend, HasOrder}
-use Rattle.gimli_index.specs.Meaning.{Place, Start, AreAscending, place_at, starts_of}
+use Rattle.gimli_index.specs.Meaning.{Place, Start, Statement, AreAscending, place_at, starts_of}
+use Rattle.gimli_index.specs.Meaning.{statements_of}
 use Rattle.gimli_index.specs.Order.{IsOrdered}
 use Rattle.gimli_index.specs.Parts.{Index, index_at}
 use Rattle.gimli_index.specs.Short.{HasPathsOnce, IsShort}
@@ -18,10 +21,9 @@ use Rattle.gimli_index.specs.declared.place.NoPath.TheVariants.{Reason}
 use Rattle.gimli_line.specs.declared.run.row.LineRow.{LineRow}
 use Rattle.gimli_line.specs.header.Header.{Header}
 use Rattle.gimli_lookup.specs.Paths.{Paths, row_path}
-use Rattle.gimli_lookup.specs.Probes.{never_go_down}
 use Rattle.gimli_lookup.specs.Ranges.{IsFoundAt}
-use Rattle.gimli_lookup.specs.Section.{KeptHeader, KeptUnit, ListedUnit, all_sequences}
-use Rattle.gimli_lookup.specs.Statements.{addresses_of as addresses_in_sequences}
+use Rattle.gimli_lookup.specs.Section.{KeptHeader, KeptUnit, ListedUnit}
+use Rattle.gimli_lookup.specs.Statements.{addresses_in, ascending_once}
 use Rattle.gimli_lookup.specs.Strings.{Strings, strings}
 use Rattle.gimli_lookup.specs.declared.path_error.PathError.{PathError}
 use Rattle.gimli_lookup.specs.declared.path_error.PathError.TheVariants.{
@@ -90,6 +92,7 @@ row_place t u r = record {
   line = r.line;
   column = r.column;
   is_stmt = r.is_stmt;
+  prologue_end = r.prologue_end;
   unit = u.offset;
 }
 
@@ -125,40 +128,46 @@ row_of_file file = record {
   discriminator = 0;
 }
 
--- whether a path names the file of a number in a unit
-abbrev pub names_file : Texts → List ℕ → ListedUnit → ℕ → Bool
-names_file t path u file = is_named path (unit_path t u (row_of_file file))
+-- the path of the file of a number in a unit
+abbrev pub file_path : Texts → ListedUnit → ℕ → Result (List ℕ) NoPath
+file_path t u file = unit_path t u (row_of_file file)
 
--- the addresses at which the code of a line begins, of the files that a path names: those that
--- `SectionLookup::addresses_of_files` gives of these files in each unit, one unit after the other
+-- whether two files are of one path
+abbrev pub is_one_path : Result (List ℕ) NoPath → Result (List ℕ) NoPath → Bool
+is_one_path (Ok path) (Ok other) = bytes_eq path other
+is_one_path (Ok path) (Err e) = false
+is_one_path (Err e) other = false
+
+abbrev pub is_one_file : Texts → ListedUnit → ℕ → ℕ → Bool
+is_one_file t u file other = is_one_path (file_path t u file) (file_path t u other)
+
+-- the addresses of a line in the rows of a sequence: of each file that a path names, those that
+-- `SectionLookup::addresses_of_files` gives of the files of that file's path
+abbrev pub sequence_addresses : Texts → List ℕ → ListedUnit → ℕ → List LineRow → List ℕ
+sequence_addresses t path u line rows =
+    flat_map (λ (r : LineRow). if is_named path (file_path t u r.file)
+    then addresses_in (is_one_file t u r.file) line rows else []) rows
+
+-- those in all sequences of units
 abbrev pub lookup_addresses : Texts → List ℕ → List KeptUnit → ℕ → List ℕ
 lookup_addresses t path units line =
-    flat_map (λ u. addresses_in_sequences (names_file t path u.unit) u.sequences line) units
+    flat_map (λ (u : KeptUnit). flat_map (sequence_addresses t path u.unit line) u.sequences) units
 
--- no row of a sequence but the last ends it
-abbrev pub EndsLast : List LineRow → Type 0
-EndsLast rows = (k : ℕ) (r : LineRow) → slice_get rows k ≡ Some r → k + 1 < length rows
-    → r.end_sequence ≡ false
+-- the addresses that statements give of each line of a path are those of the lookup: in ascending
+-- order, each once
+abbrev pub SayWhereLinesBegin : Texts → List KeptUnit → List Statement → Type 0
+SayWhereLinesBegin t units statements =
+    (path : List ℕ) (line : ℕ) → addresses_of path statements line
+    ≡ ascending_once (lookup_addresses t path units line)
 
--- no row of a sequence has an address above that of a row of another
-abbrev pub StandBelow : List LineRow → List LineRow → Type 0
-StandBelow rows others = (i j : ℕ) (r s : LineRow) → slice_get rows i ≡ Some r
-    → slice_get others j ≡ Some s → r.address ≤ s.address
+-- ---- files
 
--- the addresses of each sequence never go down, and of any two sequences one ends before the other
--- begins, or where it does
-pub record AreApart (sequences : List (List LineRow)) : Type 0 where
-  pub in_order : All (λ rows. never_go_down rows ≡ true) sequences
-  pub ends : All EndsLast sequences
-  pub apart : AllPairs (λ rows others. StandBelow rows others ⊎ StandBelow others rows) sequences
-
--- the addresses that starts give of a line are those of the lookup, each as often, if its sequences
--- don't overlap
-abbrev pub SayWhereLinesBegin : Texts → List KeptUnit → List Start → Type 0
-SayWhereLinesBegin t units starts =
-    AreApart (all_sequences units) → (path : List ℕ) (line a : ℕ)
-    → count_by (nat_eq a) (addresses_of path starts line)
-    ≡ count_by (nat_eq a) (lookup_addresses t path units line)
+-- a file is that of a row of a unit
+abbrev pub IsFileOfRow : Texts → List KeptUnit → File → Type 0
+IsFileOfRow t units file =
+    (u : KeptUnit) × Contains units u × (rows : List LineRow) × Contains u.sequences rows
+    × (r : LineRow) × Contains rows r
+    × (file ≡ record { unit = u.unit.offset; path = unit_path t u.unit r })
 
 -- ---- the index of a lookup
 
@@ -170,13 +179,14 @@ pub record Given : Type 0 where
   pub name : List ℕ
 
 -- contents that say of each address what is found there, and nothing twice, and of each line where
--- its code begins
+-- its code begins, with no other sources than files of rows
 pub record AreContentsOf (given : Given) (c : Contents) : Type 0 where
   pub fits : Fits c
   pub ascending : EntriesAscend c.entries
   pub ordered : HasOrder c
   pub says : SayWhatIsFound given.texts given.units (map (entry_start c) c.entries)
-  pub lines : SayWhereLinesBegin given.texts given.units (map (entry_start c) c.entries)
+  pub lines : SayWhereLinesBegin given.texts given.units (map (statement_in c) c.statements)
+  pub files : All (IsFileOfRow given.texts given.units) (map (source_file c) c.sources)
   pub short : IsShort (map (entry_start c) c.entries)
   pub paths_once : HasPathsOnce c
   pub address_size : c.address_size ≡ given.size
@@ -190,14 +200,15 @@ pub record IsAppended (given : Given) (limit : ℕ) (old new : List ℕ) : Type 
   pub are : AreContentsOf given contents
 
 -- bytes begin with an index that says of each address what is found there, and nothing twice, and
--- of each line where its code begins
+-- of each line where its code begins, with no other sources than files of rows
 pub record IsIndexOf (given : Given) (bytes : List ℕ) : Type 0 where
   pub index : Index
   pub is_read : index_at bytes ≡ Ok index
   pub ascending : AreAscending (starts_of index)
   pub ordered : IsOrdered index
   pub says : SayWhatIsFound given.texts given.units (starts_of index)
-  pub lines : SayWhereLinesBegin given.texts given.units (starts_of index)
+  pub lines : SayWhereLinesBegin given.texts given.units (statements_of index)
+  pub files : All (IsFileOfRow given.texts given.units) (files_of index)
   pub short : IsShort (starts_of index)
   pub address_size : index.address_size ≡ given.size
   pub identity : index.identity ≡ given.name

@@ -1,5 +1,5 @@
 -- The header of an index: its first 48 bytes (docs/INDEX.md, "Header").
-use Rattle.std.specs.Prelude.{ℕ, List, [], ◌∷◌, length, nat_eq, nat_lt, not, if◌then◌else◌, Result}
+use Rattle.std.specs.Prelude.{ℕ, ◌+◌, List, [], ◌∷◌, length, nat_eq, nat_lt, not, if◌then◌else◌, Result}
 use Rattle.std.specs.Prelude.{Ok, Err}
 use Rattle.std.specs.List.{starts_with}
 use Rattle.gimli_core.specs.Numbers.{is_address_size}
@@ -26,6 +26,11 @@ magic = 0x4c ∷ 0x49 ∷ 0x4e ∷ 0x45 ∷ 0x49 ∷ 0x44 ∷ 0x58 ∷ 0 ∷ []
 abbrev pub size_of : StartSize → ℕ
 size_of Four = 4
 size_of Eight = 8
+
+-- the bytes of a statement: the number of its source, its line, and its address as far as it is
+-- above the base
+abbrev pub statement_size : StartSize → ℕ
+statement_size size = 8 + size_of size
 
 -- the highest base: what it and any start come to is an address of 64 bits
 abbrev pub highest_base : StartSize → ℕ
@@ -58,7 +63,7 @@ fields_at bytes =
       sources = number_at 4 28 bytes;
       paths = number_at 4 32 bytes;
       identity = number_at 4 36 bytes;
-      ordered = number_at 4 40 bytes;
+      statements = number_at 4 40 bytes;
     })
 
 -- the header that bytes begin with
@@ -66,5 +71,5 @@ abbrev pub header_at : List ℕ → Result Header IndexError
 header_at bytes =
     if not (starts_with nat_eq bytes magic) then Err NotIndex
     else (if nat_lt (length bytes) 48 then Err HeaderCut
-    else (if nat_eq (number_at 4 8 bytes) 1 then fields_at bytes
+    else (if nat_eq (number_at 4 8 bytes) 2 then fields_at bytes
     else Err (Version (number_at 4 8 bytes))))

@@ -9,9 +9,9 @@ pub mod Order
 pub mod Sound
 pub mod Lines
 pub mod Ranges
+pub mod Contents
 pub mod Files
 pub mod inside
-pub mod Contents
 pub mod Short
 pub mod Made
 pub mod Found

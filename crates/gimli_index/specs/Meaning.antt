@@ -1,12 +1,12 @@
 -- What an index says: from some addresses on a place holds, or nothing (docs/INDEX.md, "Starts").
-use Rattle.std.specs.Prelude.{◌≡◌, ℕ, ◌+◌, ◌-◌, ◌*◌, ◌^◌, ◌<◌, ◌≤◌, Bool, false, List, map, fold}
+use Rattle.std.specs.Prelude.{◌≡◌, ℕ, ◌+◌, ◌*◌, ◌%◌, ◌^◌, ◌<◌, ◌≤◌, Bool, false, List, map, fold}
 use Rattle.std.specs.Prelude.{drop, slice_get}
 use Rattle.std.specs.Prelude.{slice_range, nat_eq, nat_le, nat_lt, if◌then◌else◌, Option, Some}
 use Rattle.std.specs.Prelude.{None, Result, Ok, Err}
 use Rattle.std.specs.List.{range_with_len}
 use Rattle.std.specs.Option.{option_map_or}
 use Rattle.gimli_index.specs.Numbers.{number_at}
-use Rattle.gimli_index.specs.Header.{size_of}
+use Rattle.gimli_index.specs.Header.{size_of, statement_size}
 use Rattle.gimli_index.specs.Parts.{Index}
 use Rattle.gimli_index.specs.declared.place.NoPath.{NoPath}
 use Rattle.gimli_index.specs.declared.place.NoPath.TheVariants.{Reason, Outside}
@@ -21,6 +21,8 @@ pub record Place : Type 0 where
   pub column : ℕ
   -- the code is a recommended place for a breakpoint (DWARF 5, section 6.2.2)
   pub is_stmt : Bool
+  -- the prologue of a function ends here (DWARF 5, section 6.2.2)
+  pub prologue_end : Bool
   -- the offset in .debug_line of the unit that says so
   pub unit : ℕ
 
@@ -64,12 +66,16 @@ path_of paths source =
 abbrev pub source_at : Index → ℕ → List ℕ
 source_at index k = drop (24 * k) index.source_bytes
 
--- the highest bit of the word of a column says that the code is a statement
+-- the highest bit of the word of a column says that the code is a statement, the next one that the
+-- prologue ends there; the others are the column
 abbrev pub column_in : ℕ → ℕ
-column_in word = if nat_lt word (2 ^ 31) then word else word - 2 ^ 31
+column_in word = word % 2 ^ 30
 
 abbrev pub is_statement_in : ℕ → Bool
 is_statement_in word = nat_le (2 ^ 31) word
+
+abbrev pub ends_prologue_in : ℕ → Bool
+ends_prologue_in word = nat_le (2 ^ 30) (word % 2 ^ 31)
 
 -- the place of an entry and its source
 abbrev pub place_from : List ℕ → List ℕ → List ℕ → Place
@@ -78,6 +84,7 @@ place_from paths entry source = record {
   line = number_at 4 4 entry;
   column = column_in (number_at 4 8 entry);
   is_stmt = is_statement_in (number_at 4 8 entry);
+  prologue_end = ends_prologue_in (number_at 4 8 entry);
   unit = number_at 8 0 source;
 }
 
@@ -101,3 +108,33 @@ start_at index i = record {
 -- the starts, in order
 abbrev pub starts_of : Index → List Start
 starts_of index = map (start_at index) (range_with_len 0 index.starts)
+
+-- ---- the statements of an index
+
+-- an address at which code of a line begins
+pub record Statement : Type 0 where
+  -- the whole path of the file, or why there is none
+  pub path : Result (List ℕ) NoPath
+  pub line : ℕ
+  pub address : ℕ
+
+-- the path of the source of a number, if there is such a source
+abbrev pub source_path_at : Index → ℕ → Result (List ℕ) NoPath
+source_path_at index k =
+    if nat_lt k index.sources then path_of index.path_bytes (source_at index k) else Err Outside
+
+-- the bytes from a statement on
+abbrev pub statement_from : Index → ℕ → List ℕ
+statement_from index k = drop (statement_size index.start_size * k) index.statement_bytes
+
+abbrev pub statement_at : Index → ℕ → Statement
+statement_at index k =
+    let bytes = statement_from index k in record {
+      path = source_path_at index (number_at 4 0 bytes);
+      line = number_at 4 4 bytes;
+      address = index.base + number_at (size_of index.start_size) 8 bytes;
+    }
+
+-- the statements, in order
+abbrev pub statements_of : Index → List Statement
+statements_of index = map (statement_at index) (range_with_len 0 index.statements)

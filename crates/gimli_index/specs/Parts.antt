@@ -2,7 +2,7 @@
 use Rattle.std.specs.Prelude.{ℕ, ◌+◌, ◌*◌, List, length, nat_lt, slice_range, if◌then◌else◌, Result}
 use Rattle.std.specs.Prelude.{Ok, Err}
 use Rattle.gimli_index.specs.Steps.{◌>>=◌}
-use Rattle.gimli_index.specs.Header.{header_at, size_of}
+use Rattle.gimli_index.specs.Header.{header_at, size_of, statement_size}
 use Rattle.gimli_index.specs.declared.error.IndexError.{IndexError}
 use Rattle.gimli_index.specs.declared.error.IndexError.TheVariants.{Cut}
 use Rattle.gimli_index.specs.declared.header.Header.{Header}
@@ -16,13 +16,13 @@ pub record Index : Type 0 where
   -- how many starts there are, and how many sources
   pub starts : ℕ
   pub sources : ℕ
-  -- how many of the starts are in order
-  pub ordered : ℕ
+  -- how many statements there are
+  pub statements : ℕ
   -- the bytes of the parts
   pub source_bytes : List ℕ
   pub start_bytes : List ℕ
   pub entry_bytes : List ℕ
-  pub order_bytes : List ℕ
+  pub statement_bytes : List ℕ
   pub path_bytes : List ℕ
   pub identity : List ℕ
 
@@ -33,11 +33,11 @@ starts_offset h = 48 + 24 * h.sources
 abbrev pub entries_offset : Header → ℕ
 entries_offset h = starts_offset h + size_of h.start_size * h.starts
 
-abbrev pub order_offset : Header → ℕ
-order_offset h = entries_offset h + 12 * h.starts
+abbrev pub statements_offset : Header → ℕ
+statements_offset h = entries_offset h + 12 * h.starts
 
 abbrev pub paths_offset : Header → ℕ
-paths_offset h = order_offset h + 4 * h.ordered
+paths_offset h = statements_offset h + statement_size h.start_size * h.statements
 
 abbrev pub identity_offset : Header → ℕ
 identity_offset h = paths_offset h + h.paths
@@ -56,11 +56,11 @@ parts_at bytes h =
       base = h.base;
       starts = h.starts;
       sources = h.sources;
-      ordered = h.ordered;
+      statements = h.statements;
       source_bytes = slice_range bytes 48 (starts_offset h);
       start_bytes = slice_range bytes (starts_offset h) (entries_offset h);
-      entry_bytes = slice_range bytes (entries_offset h) (order_offset h);
-      order_bytes = slice_range bytes (order_offset h) (paths_offset h);
+      entry_bytes = slice_range bytes (entries_offset h) (statements_offset h);
+      statement_bytes = slice_range bytes (statements_offset h) (paths_offset h);
       path_bytes = slice_range bytes (paths_offset h) (identity_offset h);
       identity = slice_range bytes (identity_offset h) (end_offset h);
     })

@@ -1,14 +1,15 @@
 -- Why no index is made of a lookup, memory aside.
-use Rattle.std.specs.Prelude.{◌≡◌, ◌≢◌, ◌≤◌, ◌<◌, ◌^◌, ℕ, List, length, min, Some, Ok, All}
+use Rattle.std.specs.Prelude.{◌≡◌, ◌≢◌, ◌≤◌, ◌<◌, ◌^◌, ℕ, List, flat_map, length, min, Some, Ok, All}
 use Rattle.std.specs.Prelude.{slice_get, AllPairs}
 use Rattle.gimli_line.specs.declared.run.row.LineRow.{LineRow}
-use Rattle.gimli_lookup.specs.Section.{KeptUnit}
+use Rattle.gimli_lookup.specs.Section.{KeptUnit, all_sequences}
 use Rattle.gimli_lookup.specs.declared.section_lookup.CoveringRows.{CoveringRows}
-use Rattle.gimli_index.specs.Found.{Given, Texts, found_place, SayWhatIsFound, SayWhereLinesBegin}
+use Rattle.gimli_index.specs.Found.{Given, Texts, found_place, SayWhatIsFound}
 use Rattle.gimli_index.specs.Meaning.{AreAscending, Place, Start}
 use Rattle.gimli_index.specs.Short.{IsShort, joined}
 use Rattle.gimli_index.specs.declared.error.MakeError.{MakeError}
 use Rattle.gimli_index.specs.declared.error.MakeError.TheVariants.{NotAscending, TooManyEntries}
+use Rattle.gimli_index.specs.declared.error.MakeError.TheVariants.{TooManyStatements}
 use Rattle.gimli_index.specs.declared.error.MakeError.TheVariants.{TooManySources, PathsTooLarge}
 use Rattle.gimli_index.specs.declared.error.MakeError.TheVariants.{IdentityTooLarge, LineTooLarge}
 use Rattle.gimli_index.specs.declared.error.MakeError.TheVariants.{ColumnTooLarge, OutOfMemory}
@@ -54,13 +55,11 @@ pub record HasLongPaths (t : Texts) (units : List KeptUnit) (limit : ℕ) : Type
   pub distinct : AllPairs (λ x y. x ≢ y) paths
   pub long : min limit 0xffff_ffff < length (joined paths)
 
--- starts that say what is found, and where the code of lines begins, and no two side by side the
--- same, are more than 32 bits count
+-- starts that say what is found, no two side by side the same, are more than 32 bits count
 pub record HasManyStarts (t : Texts) (units : List KeptUnit) : Type 0 where
   pub starts : List Start
   pub ascending : AreAscending starts
   pub says : SayWhatIsFound t units starts
-  pub lines : SayWhereLinesBegin t units starts
   pub short : IsShort starts
   pub many : 2 ^ 32 ≤ length starts
 
@@ -69,10 +68,12 @@ abbrev pub IsIndexFault : Given → ℕ → MakeError → Type 0
 IsIndexFault given limit LineTooLarge =
     (r : LineRow) × IsFoundRow given.units r × (2 ^ 32 ≤ r.line)
 IsIndexFault given limit ColumnTooLarge =
-    (r : LineRow) × IsFoundRow given.units r × (2 ^ 31 ≤ r.column)
+    (r : LineRow) × IsFoundRow given.units r × (2 ^ 30 ≤ r.column)
 IsIndexFault given limit TooManySources = HasManyFiles given.units
 IsIndexFault given limit PathsTooLarge = HasLongPaths given.texts given.units limit
 IsIndexFault given limit TooManyEntries = HasManyStarts given.texts given.units
+IsIndexFault given limit TooManyStatements =
+    2 ^ 32 ≤ length (flat_map (λ rows. rows) (all_sequences given.units))
 IsIndexFault given limit IdentityTooLarge = 2 ^ 32 ≤ length given.name
 IsIndexFault given limit NotAscending = ⊥
 IsIndexFault given limit OutOfMemory = Unit {0}

@@ -1,5 +1,4 @@
--- An index that is sound: its starts ascend, its paths are inside, and its order is that of
--- its statements.
+-- An index that is sound: its starts ascend, its paths are inside, and its statements are in order.
 use Rattle.std.specs.Prelude.{◌≡◌, ℕ, ◌<◌, Err}
 use Rattle.gimli_index.specs.Parts.{Index}
 use Rattle.gimli_index.specs.Meaning.{AreAscending, starts_of, path_of, source_at}

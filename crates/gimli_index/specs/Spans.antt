@@ -2,7 +2,7 @@
 use Rattle.std.specs.Prelude.{◌≡◌, ◌<◌, ◌≤◌, ℕ, ◌+◌, ◌*◌, List, length, slice_range, Option}
 use Rattle.std.specs.Prelude.{IfSome, MatchOption, option_map}
 use Rattle.gimli_core.specs.Reading.{result_map}
-use Rattle.gimli_index.specs.Header.{size_of}
+use Rattle.gimli_index.specs.Header.{size_of, statement_size}
 use Rattle.gimli_index.specs.Parts.{Index}
 use Rattle.gimli_index.specs.Meaning.{Place, Start, place_at, start_at}
 use Rattle.gimli_index.specs.declared.span.Span.{Span}
@@ -13,7 +13,7 @@ use Rattle.gimli_index.specs.declared.span.StartSpan.{StartSpan}
 abbrev pub paths_begin : Index → ℕ
 paths_begin index =
     48 + 24 * index.sources + size_of index.start_size * index.starts + 12 * index.starts
-    + 4 * index.ordered
+    + statement_size index.start_size * index.statements
 
 -- where the identity begins: right after the paths
 abbrev pub identity_begin : Index → ℕ
@@ -38,6 +38,7 @@ place_among paths p = record {
   line = p.line;
   column = p.column;
   is_stmt = p.is_stmt;
+  prologue_end = p.prologue_end;
   unit = p.unit;
 }
 

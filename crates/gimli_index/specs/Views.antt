@@ -14,11 +14,11 @@ index_of a = record {
   base = a.base;
   starts = a.starts;
   sources = a.sources;
-  ordered = a.ordered;
+  statements = a.statements;
   source_bytes = a.source_bytes.now;
   start_bytes = a.start_bytes.now;
   entry_bytes = a.entry_bytes.now;
-  order_bytes = a.order_bytes.now;
+  statement_bytes = a.statement_bytes.now;
   path_bytes = a.path_bytes.now;
   identity = a.identity.now;
 }
@@ -29,6 +29,7 @@ place_of p = record {
   line = p.line;
   column = p.column;
   is_stmt = p.is_stmt;
+  prologue_end = p.prologue_end;
   unit = p.unit;
 }
 

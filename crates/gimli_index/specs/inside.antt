@@ -7,3 +7,4 @@ pub mod Paths
 pub mod Ranks
 pub mod Table
 pub mod Turns
+pub mod Begun

@@ -4,7 +4,7 @@ ghost use Rattle.std.specs.Prelude.{◌≤◌};
 
 use crate::line_index::LineIndex;
 
-/// The addresses for a breakpoint at a line, in ascending order: an iterator.
+/// The addresses for a breakpoint at a line, in ascending order, each once: an iterator.
 ///
 /// <!-- part of crates/uses/src/line_index.rt -->
 /// ```rust
@@ -18,9 +18,11 @@ pub struct Addresses<'a, 'p> {
     pub(crate) index: LineIndex<'a>,
     pub(crate) path: &'p [u8],
     pub(crate) line: u64,
-    /// Where the next start stands in the order of the index.
+    /// The number of the next statement.
     pub(crate) next: usize,
-    /// Where the starts of the line end there.
+    /// The number after the last statement of the line.
     pub(crate) end: usize,
-    ghost within: { end ≤ index.ordered },
+    /// The address that was given last.
+    pub(crate) last: Option<u64>,
+    ghost within: { end ≤ index.statements },
 }

@@ -13,7 +13,7 @@ pub enum IndexError {
     NotIndex,
     /// They end within the header.
     HeaderCut,
-    /// The version isn't 1.
+    /// The version isn't 2.
     Version(u32),
     /// The size of addresses is none of 1, 2, 4 and 8 bytes.
     AddressSize(u16),
@@ -27,7 +27,7 @@ pub enum IndexError {
     NotAscending,
     /// The path of a source isn't inside the part of paths, or no zero byte follows it.
     PathOutside,
-    /// The order isn't that of the statements.
+    /// The statements aren't in order.
     NotInOrder,
 }
 
@@ -59,6 +59,8 @@ pub enum MakeError {
     NotAscending,
     /// There are `2^32` entries or more.
     TooManyEntries,
+    /// There are `2^32` statements or more.
+    TooManyStatements,
     /// There are `2^32` sources or more.
     TooManySources,
     /// The paths have more bytes than the limit for them, or `2^32` or more, each with its zero
@@ -68,7 +70,7 @@ pub enum MakeError {
     IdentityTooLarge,
     /// A line is `2^32` or above.
     LineTooLarge,
-    /// A column is `2^31` or above.
+    /// A column is `2^30` or above.
     ColumnTooLarge,
     /// There was no memory for the index.
     OutOfMemory,
@@ -95,6 +97,7 @@ impl fmt::Display for MakeError {
         let description = match self {
             MakeError::NotAscending => "the entries do not ascend",
             MakeError::TooManyEntries => "there are too many entries for an index",
+            MakeError::TooManyStatements => "there are too many statements for an index",
             MakeError::TooManySources => "there are too many sources for an index",
             MakeError::PathsTooLarge => "the paths are larger than an index may have",
             MakeError::IdentityTooLarge => "the identity is too large for an index",

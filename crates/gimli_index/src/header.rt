@@ -2,7 +2,7 @@
 
 ghost use Rattle.std.specs.Prelude.{◌≡◌, ◌*◌, ◌<◌, ◌^◌, ◌≤◌, length, IfOk};
 ghost use Rattle.gimli_index.specs.Header.{header_at, fields_at, size_of, address_size_of};
-ghost use Rattle.gimli_index.specs.Header.{start_size_of, base_of, highest_base};
+ghost use Rattle.gimli_index.specs.Header.{start_size_of, statement_size, base_of, highest_base};
 
 use crate::error::IndexError;
 use crate::number::{long, uhalf, word};
@@ -11,7 +11,7 @@ use crate::number::{long, uhalf, word};
 pub(crate) const MAGIC: [u8; 8] = [b'L', b'I', b'N', b'E', b'I', b'D', b'X', 0];
 
 /// The version of the format.
-pub(crate) const VERSION: u32 = 1;
+pub(crate) const VERSION: u32 = 2;
 
 /// The bytes of the header.
 pub(crate) const HEADER_SIZE: usize = 48;
@@ -37,8 +37,8 @@ pub(crate) struct Header {
     pub(crate) paths: u32,
     /// The bytes of the identity.
     pub(crate) identity: u32,
-    /// How many of the starts are in order.
-    pub(crate) ordered: u32,
+    /// How many statements there are.
+    pub(crate) statements: u32,
 }
 
 /// A size of addresses.
@@ -94,6 +94,25 @@ impl StartSize {
             StartSize::Eight => 8 * starts as usize,
         }
     }
+
+    /// The bytes of a statement.
+    pub(crate) fn statement_size(self) -> usize
+        ensures bytes { result ≡ statement_size self }
+        ensures few { result ≤ 16 }
+    {
+        match self {
+            StartSize::Four => 12,
+            StartSize::Eight => 16,
+        }
+    }
+
+    /// The bytes of so many statements.
+    pub(crate) fn bytes_of_statements(self, statements: u32) -> usize
+        ensures bytes { result ≡ statement_size self * statements }
+        ensures few { result < 2 ^ 36 }
+    {
+        self.statement_size() * statements as usize
+    }
 }
 
 impl Header {
@@ -133,7 +152,7 @@ impl Header {
             sources: word(bytes, 28),
             paths: word(bytes, 32),
             identity: word(bytes, 36),
-            ordered: word(bytes, 40),
+            statements: word(bytes, 40),
         })
     }
 }

@@ -31,10 +31,11 @@ mod source_hints;
 mod source_keys;
 mod source_table;
 mod span;
+mod statements;
 mod turns;
 
 pub use addresses::Addresses;
-pub use contents::{Contents, Entry, Source, SourceLine};
+pub use contents::{Contents, Entry, Source, SourceLine, Statement};
 pub use error::{IndexError, MakeError};
 pub use files::{SourceFile, SourceFiles};
 pub use line_index::LineIndex;

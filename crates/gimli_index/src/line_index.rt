@@ -4,16 +4,16 @@ ghost use Rattle.std.specs.Prelude.{◌≡◌, ◌*◌, ◌<◌, ◌≤◌, ◌+
 ghost use Rattle.std.specs.Prelude.{ℕ, length, drop, slice_get};
 ghost use Rattle.std.specs.Prelude.{option_map, IfOk, IsTrue, Some, true};
 ghost use Rattle.gimli_core.specs.Reading.{result_map};
-ghost use Rattle.gimli_index.specs.Header.{size_of, highest_base};
+ghost use Rattle.gimli_index.specs.Header.{size_of, highest_base, statement_size};
 ghost use Rattle.gimli_index.specs.Parts.{index_at, parts_at};
 ghost use Rattle.gimli_index.specs.Meaning.{entry_place, path_in, path_of, place_at, place_from};
 ghost use Rattle.gimli_index.specs.Meaning.{source_at, start_at, start_number, starts_of};
-ghost use Rattle.gimli_index.specs.Meaning.{AreAscending, column_in, is_statement_in, is_zero_at};
-ghost use Rattle.gimli_index.specs.Order.{ordered_number};
+ghost use Rattle.gimli_index.specs.Meaning.{AreAscending, column_in, ends_prologue_in};
+ghost use Rattle.gimli_index.specs.Meaning.{is_statement_in, is_zero_at};
 ghost use Rattle.gimli_index.specs.Spans.{StandsIn};
 ghost use Rattle.gimli_index.specs.inside.Numbers.{CountIsBetween};
 
-use crate::contents::STATEMENT;
+use crate::contents::{COLUMNS, PROLOGUE_END, STATEMENT};
 use crate::error::IndexError;
 use crate::header::{HEADER_SIZE, Header, StartSize};
 use crate::number::{long, word};
@@ -24,9 +24,6 @@ pub(crate) const ENTRY_SIZE: usize = 12;
 
 /// The bytes of a source: the offset of its unit, where its path is, and why there is none.
 pub(crate) const SOURCE_SIZE: usize = 24;
-
-/// The bytes of a number of the order.
-pub(crate) const NUMBER_SIZE: usize = 4;
 
 /// A search looks at a guess first, and then at a start that is this part of all starts away.
 const NEAR: usize = 512;
@@ -41,39 +38,44 @@ const NEAR: usize = 512;
 #[derive(Clone, Copy, Debug)]
 pub struct LineIndex<'a> {
     address_size: u16,
-    start_size: StartSize,
+    pub(crate) start_size: StartSize,
     pub(crate) base: u64,
     pub(crate) starts: usize,
     pub(crate) sources: usize,
-    /// How many of the starts are in order.
-    pub(crate) ordered: usize,
+    /// How many statements there are.
+    pub(crate) statements: usize,
     source_bytes: &'a [u8],
     start_bytes: &'a [u8],
     pub(crate) entry_bytes: &'a [u8],
-    order_bytes: &'a [u8],
+    pub(crate) statement_bytes: &'a [u8],
     pub(crate) path_bytes: &'a [u8],
     identity: &'a [u8],
     pub(crate) paths_offset: usize,
     pub(crate) identity_offset: usize,
     ghost identity_there: { identity_offset ≡ paths_offset + length path_bytes.now },
     ghost paths_there: { paths_offset
-        ≡ 48 + 24 * sources + size_of start_size * starts + 12 * starts + 4 * ordered },
+        ≡ 48 + 24 * sources + size_of start_size * starts + 12 * starts
+        + statement_size start_size * statements },
     ghost low: { base ≤ highest_base start_size },
     ghost all_sources: { length source_bytes.now ≡ 24 * sources },
     ghost all_starts: { length start_bytes.now ≡ size_of start_size * starts },
     ghost all_entries: { length entry_bytes.now ≡ 12 * starts },
-    ghost all_ordered: { length order_bytes.now ≡ 4 * ordered },
+    ghost all_statements: { length statement_bytes.now
+        ≡ statement_size start_size * statements },
 }
 
 /// The column of its word.
 pub(crate) fn column_in(word: u32) -> u32
     ensures { result ≡ column_in word }
 {
-    if word < STATEMENT {
-        word
-    } else {
-        word - STATEMENT
-    }
+    word % COLUMNS
+}
+
+/// Whether the word of a column says that the prologue of a function ends there.
+pub(crate) fn ends_prologue_in(word: u32) -> bool
+    ensures { result ≡ ends_prologue_in word }
+{
+    PROLOGUE_END <= word % STATEMENT
 }
 
 /// Whether the word of a column says that the code is a statement.
@@ -157,8 +159,8 @@ impl<'a> LineIndex<'a> {
     {
         let starts = HEADER_SIZE + SOURCE_SIZE * header.sources as usize;
         let entries = starts + header.start_size.bytes_of(header.starts);
-        let order = entries + ENTRY_SIZE * header.starts as usize;
-        let paths = order + NUMBER_SIZE * header.ordered as usize;
+        let statements = entries + ENTRY_SIZE * header.starts as usize;
+        let paths = statements + header.start_size.bytes_of_statements(header.statements);
         let identity = paths + header.paths as usize;
         let end = identity + header.identity as usize;
         if bytes.len() < end {
@@ -170,11 +172,11 @@ impl<'a> LineIndex<'a> {
             base: header.base,
             starts: header.starts as usize,
             sources: header.sources as usize,
-            ordered: header.ordered as usize,
+            statements: header.statements as usize,
             source_bytes: &bytes[HEADER_SIZE..starts],
             start_bytes: &bytes[starts..entries],
-            entry_bytes: &bytes[entries..order],
-            order_bytes: &bytes[order..paths],
+            entry_bytes: &bytes[entries..statements],
+            statement_bytes: &bytes[statements..paths],
             path_bytes: &bytes[paths..identity],
             identity: &bytes[identity..end],
             paths_offset: paths,
@@ -230,14 +232,6 @@ impl<'a> LineIndex<'a> {
         self.base + self.start_number(index)
     }
 
-    /// The index of the start that stands at a place of the order.
-    pub(crate) fn ordered_number(&self, place: usize) -> usize
-        requires { place < self.now.ordered }
-        ensures { result ≡ ordered_number (index_of self.now) place }
-    {
-        word(self.order_bytes, NUMBER_SIZE * place) as usize
-    }
-
     /// The bytes from a source on.
     pub(crate) fn source(&self, index: usize) -> &'a [u8]
         requires { index < self.now.sources }
@@ -273,6 +267,7 @@ impl<'a> LineIndex<'a> {
             line: word(entry, 4),
             column: column_in(column),
             is_stmt: is_statement_in(column),
+            prologue_end: ends_prologue_in(column),
             unit: long(source, 0),
         }
     }

@@ -5,12 +5,11 @@ ghost use Rattle.std.specs.Prelude.{flat_map, map};
 ghost use Rattle.std.specs.Prelude.{slice_get, take, All, IfErr, IfOk, IsTrue, None, OnOk};
 ghost use Rattle.gimli_core.specs.Numbers.{is_address_size};
 ghost use Rattle.gimli_index.specs.Found.{texts_of, IsAppended, IsIndexAppended};
-ghost use Rattle.gimli_index.specs.Found.{SayWhereLinesBegin};
 ghost use Rattle.gimli_index.specs.Meaning.{Start};
 ghost use Rattle.gimli_index.specs.Refused.{IsIndexFault};
 ghost use Rattle.gimli_index.specs.declared.error.MakeError.TheVariants.{OutOfMemory};
 ghost use Rattle.gimli_index.specs.inside.Table.{AreSources, Entered, IsPushed, IsTableFault};
-ghost use Rattle.gimli_index.specs.inside.Table.{SayTheSame, starts_in};
+ghost use Rattle.gimli_index.specs.inside.Table.{SayTheSame};
 ghost use Rattle.gimli_index.specs.inside.Turns.{code_of, end_after, row_start, rows_of_turns};
 ghost use Rattle.gimli_index.specs.inside.Turns.{starts_of_turn, turn_rows, IsTurn, Walked};
 ghost use Rattle.gimli_lookup.specs.Probes.{never_go_below, never_go_down};
@@ -21,6 +20,7 @@ use crate::contents::{Contents, Entry, Source, SourceLine};
 use crate::error::MakeError;
 use crate::origin::Origin;
 use crate::source_table::SourceTable;
+use crate::statements::statements_of;
 use crate::turns::{Turn, are_in_turn, turns_of};
 use gimli_compilation::Compilations;
 use gimli_core::Reader;
@@ -55,6 +55,7 @@ fn is_same(sources: &[Source], first: Option<SourceLine>, second: Option<SourceL
             a.line == b.line
                 && a.column == b.column
                 && a.is_stmt == b.is_stmt
+                && a.prologue_end == b.prologue_end
                 && is_same_source(sources, a.source, b.source)
         }
         _ => false,
@@ -258,9 +259,6 @@ fn entries_of<R: Reader>(
     ensures entered { IfOk result (λ entries. Entered
         (texts_of R.bytes origin.now.strings.now origin.now.compilations.now)
         origin.now.lookup.now origin.now.limit table.new entries.items None) }
-    ensures lines { IfOk result (λ entries. SayWhereLinesBegin
-        (texts_of R.bytes origin.now.strings.now origin.now.compilations.now)
-        origin.now.lookup.now (starts_in table.new entries.items)) }
     ensures err { IfErr result (IsTableFault
         (texts_of R.bytes origin.now.strings.now origin.now.compilations.now)
         origin.now.lookup.now origin.now.limit) }
@@ -303,10 +301,12 @@ fn write_entries<R: Reader>(
     ensures kept { IfErr result (λ e. e ≢ OutOfMemory → out.new.items ≡ out.old.items) }
 {
     let entries = entries_of(origin, table)?;
+    let statements = statements_of(origin, table)?;
     Contents {
         address_size,
         sources: table.sources(),
         entries: entries.as_slice(),
+        statements: statements.as_slice(),
         paths: table.paths(),
         identity,
     }
@@ -318,14 +318,12 @@ fn write_entries<R: Reader>(
 /// these sections of strings and the directory of its compilation. The identity names what the
 /// index is made of: a build id or a checksum.
 ///
-/// If the sequences of the lookup don't overlap, there is a start for each row, though another of
-/// the same address follows it: so [`LineIndex::addresses_of`](crate::LineIndex::addresses_of)
-/// gives the addresses of a line that the rows give. If they do, there are only starts that hold
-/// somewhere (`docs/INDEX.md`, "From a line to addresses").
+/// [`LineIndex::addresses_of`](crate::LineIndex::addresses_of) gives the addresses of a line that
+/// the lookup gives, whichever of its sequences overlap. The sources are files of rows.
 ///
 /// Adjacent starts of one place are one. A path that can't be told is a source with the number of
-/// its reason (`docs/INDEX.md`, "Sources"). Refuses lines, columns, and more entries, sources or
-/// bytes of paths or of the identity than 32 bits count, by name, and appends nothing then; else it
+/// its reason (`docs/INDEX.md`, "Sources"). Refuses lines, columns, and more entries,
+/// statements, sources or bytes of paths or of the identity than 32 bits count, by name, and appends nothing then; else it
 /// fails only with `OutOfMemory`, where a part of the bytes may be appended. Requires an address
 /// size of 1, 2, 4 or 8 bytes.
 ///

@@ -1,6 +1,6 @@
 //! The numbers of an index: the least significant byte first.
 
-ghost use Rattle.std.specs.Prelude.{◌≡◌, ◌+◌, ◌≤◌, length};
+ghost use Rattle.std.specs.Prelude.{◌≡◌, ◌+◌, ◌<◌, ◌≤◌, ℕ, length, slice_index_or};
 ghost use Rattle.gimli_index.specs.Numbers.{number_at};
 
 use gimli_core::{Endianity, LittleEndian};
@@ -27,4 +27,12 @@ pub(crate) fn long(bytes: &[u8], offset: usize) -> u64
     ensures { result ≡ number_at 8 offset bytes.now }
 {
     LittleEndian.read_u64(&bytes[offset..])
+}
+
+/// A law, which does nothing: bytes are below 256.
+#[inline(always)]
+pub(crate) fn are_bytes(bytes: &[u8])
+    ensures { (k : ℕ) → slice_index_or bytes.now k 0 < 256 }
+{
+    let _ = bytes;
 }

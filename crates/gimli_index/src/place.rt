@@ -20,6 +20,9 @@ pub struct Place<'a> {
     pub column: u32,
     /// Whether the code is a recommended place for a breakpoint (DWARF 5, section 6.2.2).
     pub is_stmt: bool,
+    /// Whether a breakpoint at the entry of a function belongs here, after its prologue (DWARF 5,
+    /// section 6.2.2).
+    pub prologue_end: bool,
     /// The offset in `.debug_line` of the unit that says so, by which `DW_AT_stmt_list` names it.
     pub unit: u64,
 }

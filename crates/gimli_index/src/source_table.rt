@@ -11,7 +11,7 @@ ghost use Rattle.gimli_index.specs.declared.error.MakeError.TheVariants.{LineToo
 ghost use Rattle.gimli_index.specs.inside.Table.{AreSources, IsInside, IsTableFault, Keeps, key_of};
 ghost use Rattle.gimli_index.specs.inside.Table.{no_table, place_in};
 
-use crate::contents::{MOST, STATEMENT, Source, SourceLine};
+use crate::contents::{COLUMNS, MOST, Source, SourceLine};
 use crate::error::MakeError;
 use crate::origin::Origin;
 use crate::path_bytes::PathBytes;
@@ -46,7 +46,7 @@ impl Model for SourceTable {
 
 /// A line in 32 bits.
 #[inline(always)]
-fn line_of(row: &LineRow) -> Result<u32, MakeError>
+pub(crate) fn line_of(row: &LineRow) -> Result<u32, MakeError>
     ensures ok { IfOk result (λ line. line ≡ row.now.line) }
     ensures err { IfErr result (λ e. (e ≡ LineTooLarge) × (2 ^ 32 ≤ row.now.line)) }
 {
@@ -60,18 +60,18 @@ fn line_of(row: &LineRow) -> Result<u32, MakeError>
     }
 }
 
-/// A column in 31 bits.
+/// A column in 30 bits.
 #[inline(always)]
 fn column_of(row: &LineRow) -> Result<u32, MakeError>
     ensures ok { IfOk result (λ column. column ≡ row.now.column) }
-    ensures few { IfOk result (λ column. column < 2 ^ 31) }
-    ensures err { IfErr result (λ e. (e ≡ ColumnTooLarge) × (2 ^ 31 ≤ row.now.column)) }
+    ensures few { IfOk result (λ column. column < 2 ^ 30) }
+    ensures err { IfErr result (λ e. (e ≡ ColumnTooLarge) × (2 ^ 30 ≤ row.now.column)) }
 {
     let column = match row.column() {
         ColumnType::LeftEdge => 0,
         ColumnType::Column(column) => column.get(),
     };
-    if column < u64::from(STATEMENT) {
+    if column < u64::from(COLUMNS) {
         Ok(column as u32)
     } else {
         Err(MakeError::ColumnTooLarge)
@@ -184,7 +184,7 @@ impl SourceTable {
     /// The number of the source of a row's file, which is appended where there is none. Requires an
     /// index of a unit.
     #[inline(always)]
-    fn source_of<R: Reader>(
+    pub(crate) fn source_of<R: Reader>(
         &mut self,
         origin: &Origin<'_, R>,
         rows: &CoveringRows,
@@ -246,6 +246,7 @@ impl SourceTable {
             line,
             column,
             is_stmt: rows.row.is_stmt(),
+            prologue_end: rows.row.prologue_end(),
         }))
     }
 }

@@ -9,7 +9,9 @@ ghost use Rattle.gimli_index.specs.Ranges.{first_start};
 ghost use Rattle.gimli_index.specs.Spans.{identity_begin, paths_begin, path_at, place_among};
 ghost use Rattle.gimli_index.specs.Spans.{start_among, HoldsAround, IsRangeOf};
 
-use crate::line_index::{ENTRY_SIZE, LineIndex, column_in, is_statement_in, is_zero_at};
+use crate::line_index::{
+    ENTRY_SIZE, LineIndex, column_in, ends_prologue_in, is_statement_in, is_zero_at,
+};
 use crate::number::{long, word};
 use crate::place::NoPath;
 
@@ -34,6 +36,8 @@ pub struct PlaceSpan {
     pub column: u32,
     /// Whether the code is a recommended place for a breakpoint (DWARF 5, section 6.2.2).
     pub is_stmt: bool,
+    /// Whether the prologue of a function ends here.
+    pub prologue_end: bool,
     /// The offset in `.debug_line` of the unit that says so.
     pub unit: u64,
     /// The first address of those around the one that was asked for, of which all this holds.
@@ -129,6 +133,7 @@ impl<'a> LineIndex<'a> {
             line: word(entry, 4),
             column: column_in(column),
             is_stmt: is_statement_in(column),
+            prologue_end: ends_prologue_in(column),
             unit: long(source, 0),
             first,
             end,

@@ -8,6 +8,7 @@ pub mod OneAnswer
 pub mod KeptCut
 pub mod PairSearches
 pub mod StatementRuns
+pub mod AscendingOnce
 pub mod PathFileNumbers
 pub mod RowsTaken
 pub mod Cuts

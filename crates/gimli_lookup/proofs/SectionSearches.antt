@@ -1,10 +1,12 @@
 -- What is found at some addresses in the units of a section, one after the other.
-use Rattle.std.proofs.Common.{◌≡◌, ◌⊎◌, ℕ, zero, suc, ◌<◌, List, [], ◌∷◌, ◌++◌, length, map, take, refl, sym, ap, subst}
+use Rattle.std.proofs.Common.{◌≡◌, ◌⊎◌, ℕ, zero, suc, ◌+◌, ◌<◌, List, [], ◌∷◌, ◌++◌, length, map, take, refl, sym, ap, subst}
 use Rattle.std.proofs.Common.{◌∙◌, append_assoc, inl, inr}
 use Rattle.std.proofs.Common.{arith}
-use Rattle.std.specs.Prelude.{false, is_some, Option, Some, None, Result, Ok, Err, All, IfSome, slice_get}
-use Rattle.std.specs.Prelude.{slice_index_or, option_map}
+use Rattle.std.specs.Prelude.{Bool, true, false, ◌||◌, ◌&&◌, ◌≢◌, is_none, is_some, Option, Some, None, Result, Ok, Err}
+use Rattle.std.specs.Prelude.{All, slice_get, slice_index_or}
+use Rattle.std.specs.List.{list_any}
 use Rattle.std.specs.Option.{option_or}
+use Rattle.std.proofs.lemmas.Bool.{cond-true, cond-false, cond_both, eq-eqb, ne_eqb, or_from, or_left, or_right}
 use Rattle.std.proofs.lemmas.Bool.{true≢false}
 use Rattle.std.proofs.lemmas.Grind.{flat_map-append}
 use Rattle.std.proofs.lemmas.List.{append-nil, map-append, length-append, take-append-le}
@@ -22,12 +24,13 @@ use Rattle.gimli_lookup.specs.declared.section_lookup.CoveringRows.{CoveringRows
 use Rattle.gimli_lookup.specs.FirstPair.{HasNoPair, IsFirstPair}
 use Rattle.gimli_lookup.specs.Ranges.{IsFoundAt}
 use Rattle.gimli_lookup.specs.RowsTaken.{header_of}
-use Rattle.gimli_lookup.specs.Section.{ListedUnit, KeptUnit, all_sequences, header_at}
-use Rattle.gimli_lookup.specs.SectionSearch.{IsListedWhole, IsListedBare, AreListed, AreFoundAt, AreFoundInSection}
+use Rattle.gimli_lookup.specs.Section.{ListedUnit, KeptUnit, all_sequences, header_at, without_header}
+use Rattle.gimli_lookup.specs.SectionSearch.{is_of_unit, listed_if, all_listed, AreFoundAt, AreFoundInSection}
 use Rattle.gimli_lookup.specs.SectionUnits.{IsUnitOf}
 use Rattle.gimli_lookup.specs.UnitRun.{IsKept}
-use Rattle.gimli_lookup.specs.inside.SectionSearch.{bare_unit, IsSearched}
-use Rattle.gimli_lookup.specs.inside.UnitSearch.{first_covering, AreKeptBehind, IsFoundOf}
+use Rattle.gimli_lookup.specs.inside.SectionSearch.{bare_unit, IsFoundBehind, IsSearched}
+use Rattle.gimli_lookup.specs.inside.UnitSearch.{first_covering, finds_more, AreKeptBehind, IsFoundOf}
+use Rattle.gimli_lookup.proofs.CoveringSearches.{finds_no_more}
 use Rattle.gimli_lookup.proofs.SectionUnits.{is_unit_of, IsGiven}
 
 -- ---- lists with one more
@@ -44,6 +47,9 @@ get_seam (x ∷ xs) y = get_seam xs y
 none_of_length : {X : Type 0} (xs ys : List X) → length (xs ++ ys) ≡ length xs → ys ≡ []
 none_of_length xs [] same = refl
 none_of_length xs (y ∷ ys) same = absurd (omega (arith, same, length-append xs (y ∷ ys)))
+
+same_pairs : (old more new : List CoveringRows) → new ≡ old ++ more → more ≡ [] → new ≡ old
+same_pairs old more new parts none = parts ∙ ap (λ (ps : List CoveringRows). old ++ ps) none ∙ append-nil old
 
 -- ---- one unit
 
@@ -64,7 +70,7 @@ refused lowest index addresses e offset pairs = record {
   found =
       λ k d lt.
       (None, (λ j s less. absurd (omega arith)), or_none (first_covering (slice_index_or addresses k d) pairs));
-  is_listed = inl refl;
+  is_listed = refl;
 }
 
 pub none_is : (o : Option Error) → is_some o ≡ false → o ≡ None
@@ -88,12 +94,12 @@ pub searched : {R Offset Endian : Type 0} (lowest index : ℕ) (addresses : List
     → IsKept program.layout lowest program.meaning (header_of run) fault parts
     → run.source.layout ≡ program.layout
     → All (λ a. IsFoundOf index parts a (first_covering a found)) addresses → AreKeptBehind addresses old found new
-    → (listed ≡ whole_unit offset run fault)
+    → (((length new ≢ length old) ⊎ (is_some fault ≡ true)) × (listed ≡ whole_unit offset run fault))
     ⊎ ((length new ≡ length old) × (fault ≡ None) × (listed ≡ bare_unit offset fault))
     → IsSearched lowest index addresses (Ok program) listed old new
 searched lowest index addresses program run offset fault listed old found new parts is_kept layout here kept is =
     record {
-      unit = whole_unit offset run fault;
+      unit = unit;
       parts = parts;
       outcome = (header_at run, refl, layout, is_kept);
       more = kept.more;
@@ -102,16 +108,32 @@ searched lowest index addresses program run offset fault listed old found new pa
       is_listed = by_length is;
     }
   where
-    by_length : (listed ≡ whole_unit offset run fault)
+    unit : ListedUnit
+    unit = whole_unit offset run fault
+
+    finds : Bool
+    finds = finds_more addresses old new
+
+    is_needed : (length new ≢ length old) ⊎ (is_some fault ≡ true) → (kept.more ≡ []) ⊎ (finds ≡ true)
+        → (is_some fault || finds) ≡ true
+    is_needed (inr faulty) needed = or_left (is_some fault) finds faulty
+    is_needed (inl longer) (inr needed) = or_right (is_some fault) finds needed
+    is_needed (inl longer) (inl none) =
+        absurd (longer (ap (λ (ps : List CoveringRows). length ps) (same_pairs old kept.more new kept.parts none)))
+
+    by_length : (((length new ≢ length old) ⊎ (is_some fault ≡ true)) × (listed ≡ unit))
         ⊎ ((length new ≡ length old) × (fault ≡ None) × (listed ≡ bare_unit offset fault))
-        → (listed ≡ whole_unit offset run fault)
-        ⊎ ((kept.more ≡ []) × IsListedBare (whole_unit offset run fault) listed)
-    by_length (inl whole) = inl whole
+        → listed ≡ listed_if finds unit
+    by_length (inl whole) =
+        whole.1
+        ∙ sym (cond-true (is_some fault || finds) unit (without_header unit) (is_needed whole.0 kept.needed))
     by_length (inr bare) =
-        inr (
-          none_of_length old kept.more (sym (ap (λ (ps : List CoveringRows). length ps) kept.parts) ∙ bare.0),
-          (bare.1, bare.2),
-        )
+        let none : kept.more ≡ [] =
+        none_of_length old kept.more (sym (ap (λ (ps : List CoveringRows). length ps) kept.parts) ∙ bare.0) in
+        bare.2
+        ∙ sym (cond-false (is_some fault || finds) unit (without_header unit)
+        (or_from (is_some fault) finds (ap is_some bare.1)
+        (finds_no_more addresses old new (same_pairs old kept.more new kept.parts none))))
 
 -- ---- a unit more, at one address
 
@@ -129,72 +151,114 @@ of_each_unit a (u ∷ units) none =
     (all_left (HasNoPair a) u.sequences (all_sequences units) none)
     (of_each_unit a units (all_right (HasNoPair a) u.sequences (all_sequences units) none))
 
--- what is found at an address, and that its unit is listed whole
-abbrev pub IsFoundWhole : List KeptUnit → List ListedUnit → ℕ → Option CoveringRows → Type 0
-IsFoundWhole units listed a found = IsFoundAt units a found × IfSome found (IsListedWhole units listed)
-
-module _ (a : ℕ) (units : List KeptUnit) (listed : List ListedUnit) (u : KeptUnit) (l : ListedUnit)
-    (same : length listed ≡ length units) where
-  earlier_stays : (p : CoveringRows) → IsFoundWhole units listed a (Some p)
-      → IsFoundWhole (units ++ u ∷ []) (listed ++ l ∷ []) a (Some p)
-  earlier_stays p (found, whole) =
-      let lt : p.unit < length units = slice_get_within units p.unit found.unit found.there in (
-        record {
-          unit = found.unit;
-          there = get_left units (u ∷ []) p.unit lt ∙ found.there;
-          none_earlier =
-              subst (All (λ (w : KeptUnit). All (HasNoPair a) w.sequences))
-              (sym (take-append-le p.unit units (u ∷ []) (omega (arith, lt)))) found.none_earlier;
-          is_first = found.is_first;
-        },
-        get_left listed (l ∷ []) p.unit (omega (arith, lt, same)) ∙ whole
-            ∙ ap (option_map (λ (w : KeptUnit). w.unit)) (sym (get_left units (u ∷ []) p.unit lt)),
-      )
+module _ (a : ℕ) (units : List KeptUnit) (u : KeptUnit) where
+  earlier_stays : (p : CoveringRows) → IsFoundAt units a (Some p) → IsFoundAt (units ++ u ∷ []) a (Some p)
+  earlier_stays p found =
+      let lt : p.unit < length units = slice_get_within units p.unit found.unit found.there in
+      record {
+        unit = found.unit;
+        there = get_left units (u ∷ []) p.unit lt ∙ found.there;
+        none_earlier =
+            subst (All (λ (w : KeptUnit). All (HasNoPair a) w.sequences))
+            (sym (take-append-le p.unit units (u ∷ []) (omega (arith, lt)))) found.none_earlier;
+        is_first = found.is_first;
+      }
 
   none_still : All (HasNoPair a) (all_sequences units) → All (HasNoPair a) u.sequences
-      → IsFoundWhole (units ++ u ∷ []) (listed ++ l ∷ []) a None
-  none_still none here = (
-    subst (All (HasNoPair a))
-        (ap (λ (s : List (List LineRow)). all_sequences units ++ s) (sym (append-nil u.sequences))
-        ∙ sym (flat_map-append (λ (w : KeptUnit). w.sequences) units (u ∷ [])))
-        (All-append (HasNoPair a) (all_sequences units) u.sequences none here),
-    tt,
-  )
+      → IsFoundAt (units ++ u ∷ []) a None
+  none_still none here =
+      subst (All (HasNoPair a))
+      (ap (λ (s : List (List LineRow)). all_sequences units ++ s) (sym (append-nil u.sequences))
+      ∙ sym (flat_map-append (λ (w : KeptUnit). w.sequences) units (u ∷ [])))
+      (All-append (HasNoPair a) (all_sequences units) u.sequences none here)
 
-  comes_here : (p : CoveringRows) → p.unit ≡ length listed → l ≡ u.unit → All (HasNoPair a) (all_sequences units)
+  comes_here : (p : CoveringRows) → p.unit ≡ length units → All (HasNoPair a) (all_sequences units)
       → IsFirstPair a u.sequences p.row p.next
-      → IsFoundWhole (units ++ u ∷ []) (listed ++ l ∷ []) a (Some p)
-  comes_here p is whole none first =
-      let there : slice_get (units ++ u ∷ []) p.unit ≡ Some u = ap (slice_get (units ++ u ∷ [])) (is ∙ same)
-      ∙ get_seam units u in
-      let before : take p.unit (units ++ u ∷ []) ≡ units = ap (λ (n : ℕ). take n (units ++ u ∷ [])) (is ∙ same)
-      ∙ take-append_seam units (u ∷ []) in (
-        record {
-          unit = u;
-          there = there;
-          none_earlier =
-              subst (All (λ (w : KeptUnit). All (HasNoPair a) w.sequences)) (sym before) (of_each_unit a units none);
-          is_first = first;
-        },
-        ap (slice_get (listed ++ l ∷ [])) is ∙ get_seam listed l ∙ ap Some whole
-            ∙ ap (option_map (λ (w : KeptUnit). w.unit)) (sym there),
-      )
+      → IsFoundAt (units ++ u ∷ []) a (Some p)
+  comes_here p is none first =
+      let before : take p.unit (units ++ u ∷ []) ≡ units = ap (λ (n : ℕ). take n (units ++ u ∷ [])) is
+      ∙ take-append_seam units (u ∷ []) in
+      record {
+        unit = u;
+        there = ap (slice_get (units ++ u ∷ [])) is ∙ get_seam units u;
+        none_earlier =
+            subst (All (λ (w : KeptUnit). All (HasNoPair a) w.sequences)) (sym before) (of_each_unit a units none);
+        is_first = first;
+      }
 
-  -- what is found here is listed whole, since a pair was kept
-  found_next : (before here after : Option CoveringRows) → IsFoundWhole units listed a before
-      → IsFoundOf (length listed) u.sequences a here
-      → after ≡ option_or before here → (l ≡ u.unit) ⊎ (after ≡ before)
-      → IsFoundWhole (units ++ u ∷ []) (listed ++ l ∷ []) a after
-  found_next (Some p) here after found of is whole =
-      subst (IsFoundWhole (units ++ u ∷ []) (listed ++ l ∷ []) a) (sym is) (earlier_stays p found)
-  found_next None None after found of is whole =
-      subst (IsFoundWhole (units ++ u ∷ []) (listed ++ l ∷ []) a) (sym is) (none_still found.0 of)
-  found_next None (Some p) after found of is (inl whole) =
-      subst (IsFoundWhole (units ++ u ∷ []) (listed ++ l ∷ []) a) (sym is) (comes_here p of.0 whole found.0 of.1)
-  found_next None (Some p) after found of is (inr same_as) = absurd (not_both (sym same_as ∙ is))
-    where
-      not_both : None ≡ Some p → ⊥
-      not_both e = cc
+  found_next : (before here after : Option CoveringRows) → IsFoundAt units a before
+      → IsFoundOf (length units) u.sequences a here
+      → after ≡ option_or before here → IsFoundAt (units ++ u ∷ []) a after
+  found_next (Some p) here after found of is =
+      subst (IsFoundAt (units ++ u ∷ []) a) (sym is) (earlier_stays p found)
+  found_next None None after found of is = subst (IsFoundAt (units ++ u ∷ []) a) (sym is) (none_still found of)
+  found_next None (Some p) after found of is =
+      subst (IsFoundAt (units ++ u ∷ []) a) (sym is) (comes_here p of.0 found of.1)
+
+-- ---- units as they are listed
+
+any_same : (f g : ℕ → Bool) (addresses : List ℕ) → All (λ a. f a ≡ g a) addresses
+    → list_any f addresses ≡ list_any g addresses
+any_same f g [] same = refl
+any_same f g (a ∷ addresses) same =
+    ap (λ b. b || list_any f addresses) (All-head (λ n. f n ≡ g n) a addresses same)
+    ∙ ap (λ b. g a || b) (any_same f g addresses (All-tail (λ n. f n ≡ g n) a addresses same))
+
+-- whether rows of the unit at an index are found at one of the addresses
+abbrev finds_in : List ℕ → List CoveringRows → ℕ → Bool
+finds_in addresses pairs index = list_any (λ a. is_of_unit index (first_covering a pairs)) addresses
+
+any_found : (addresses : List ℕ) (pairs : List CoveringRows) (index : ℕ)
+    → list_any (is_of_unit index) (map (λ a. first_covering a pairs) addresses) ≡ finds_in addresses pairs index
+any_found [] pairs index = refl
+any_found (a ∷ addresses) pairs index =
+    ap (λ b. is_of_unit index (first_covering a pairs) || b) (any_found addresses pairs index)
+
+-- a unit more changes nothing for those before it
+not_of_earlier : (a index k : ℕ) (parts : List (List LineRow)) (before here after : Option CoveringRows) → k < index
+    → IsFoundOf index parts a here → after ≡ option_or before here → is_of_unit k after ≡ is_of_unit k before
+not_of_earlier a index k parts (Some p) here after lt of is = ap (is_of_unit k) is
+not_of_earlier a index k parts None None after lt of is = ap (is_of_unit k) is
+not_of_earlier a index k parts None (Some p) after lt of is =
+    let there = of.0 in
+    ap (is_of_unit k) is ∙ ne_eqb p.unit k (λ same. omega (arith, same, there, lt))
+
+-- what is found of a unit more is found at no address before
+of_this_unit : (a : ℕ) (units : List KeptUnit) (parts : List (List LineRow)) (before here after : Option CoveringRows)
+    → IsFoundAt units a before → IsFoundOf (length units) parts a here → after ≡ option_or before here
+    → is_of_unit (length units) after ≡ (is_none before && is_some after)
+of_this_unit a units parts (Some p) here after found of is =
+    let lt : p.unit < length units = slice_get_within units p.unit found.unit found.there in
+    ap (is_of_unit (length units)) is ∙ ne_eqb p.unit (length units) (λ same. omega (arith, same, lt))
+of_this_unit a units parts None None after found of is = rw is refl
+of_this_unit a units parts None (Some p) after found of is =
+    ap (is_of_unit (length units)) is ∙ eq-eqb p.unit (length units) of.0 ∙ sym (ap is_some is)
+
+listed_append : (rows : List (Option CoveringRows)) (index : ℕ) (units : List KeptUnit) (u : KeptUnit)
+    → all_listed rows index (units ++ u ∷ [])
+    ≡ all_listed rows index units ++ listed_if (list_any (is_of_unit (index + length units)) rows) u.unit ∷ []
+listed_append rows index [] u =
+    let here : index ≡ index + 0 = omega arith in
+    ap (λ n. listed_if (list_any (is_of_unit n) rows) u.unit ∷ []) here
+listed_append rows index (w ∷ units) u =
+    let next : suc index + length units ≡ index + suc (length units) = omega arith in
+    ap (λ listed. listed_if (list_any (is_of_unit index) rows) w.unit ∷ listed)
+    (listed_append rows (suc index) units u
+    ∙ ap (λ n. all_listed rows (suc index) units ++ listed_if (list_any (is_of_unit n) rows) u.unit ∷ []) next)
+
+listed_same : (rows others : List (Option CoveringRows)) (index : ℕ) (units : List KeptUnit)
+    → ((k : ℕ) → k < index + length units → list_any (is_of_unit k) rows ≡ list_any (is_of_unit k) others)
+    → all_listed rows index units ≡ all_listed others index units
+listed_same rows others index [] same = refl
+listed_same rows others index (w ∷ units) same =
+    ap (λ b. listed_if b w.unit ∷ all_listed rows (suc index) units) (same index (omega arith))
+    ∙ ap (λ listed. listed_if (list_any (is_of_unit index) others) w.unit ∷ listed)
+    (listed_same rows others (suc index) units (λ k lt. same k (omega (arith, lt))))
+
+as_many : (rows : List (Option CoveringRows)) (index : ℕ) (units : List KeptUnit)
+    → length (all_listed rows index units) ≡ length units
+as_many rows index [] = refl
+as_many rows index (w ∷ units) = ap suc (as_many rows (suc index) units)
 
 -- ---- the walk
 
@@ -204,48 +268,30 @@ pub record AreSearched (section : Unread) (entry : UnitEntry) (lowest : ℕ) (ad
     (walk : UnitWalk) : Type 0 where
   pub units : List KeptUnit
   pub each : All (IsUnitOf section entry lowest) units
-  pub listed_are : AreListed units listed
+  pub listed_are : listed ≡ all_listed (map (λ a. first_covering a pairs) addresses) 0 units
   pub to_come : offsets ≡ map (λ (u : KeptUnit). u.unit.offset) units ++ walk.offsets
   pub same_section : walk.section ≡ section
   pub same_entry : walk.entry ≡ entry
-  pub found : All (λ a. IsFoundWhole units listed a (first_covering a pairs)) addresses
+  pub found : All (λ a. IsFoundAt units a (first_covering a pairs)) addresses
 
 pub none_searched : (lowest : ℕ) (addresses : List ℕ) (walk : UnitWalk)
     → AreSearched walk.section walk.entry lowest addresses walk.offsets [] [] walk
 none_searched lowest addresses walk = record {
   units = [];
   each = All-nil (IsUnitOf walk.section walk.entry lowest);
-  listed_are = tt;
+  listed_are = refl;
   to_come = refl;
   same_section = refl;
   same_entry = refl;
-  found = λ k d lt. ((λ j s less. absurd (omega arith)), tt);
+  found = λ k d lt j s less. absurd (omega arith);
 }
 
 -- a listed unit has the offset of the unit
-same_offset : (u l : ListedUnit) (more : List CoveringRows) → (l ≡ u) ⊎ ((more ≡ []) × IsListedBare u l)
-    → l.offset ≡ u.offset
-same_offset u l more (inl same) = ap (λ (x : ListedUnit). x.offset) same
-same_offset u l more (inr bare) = ap (λ (x : ListedUnit). x.offset) bare.1.1
-
-listed_as : (u l : ListedUnit) (more : List CoveringRows) → (l ≡ u) ⊎ ((more ≡ []) × IsListedBare u l)
-    → (l ≡ u) ⊎ IsListedBare u l
-listed_as u l more (inl same) = inl same
-listed_as u l more (inr bare) = inr bare.1
-
-one_listed : (units : List KeptUnit) (listed : List ListedUnit) (u : KeptUnit) (l : ListedUnit) → AreListed units listed
-    → (l ≡ u.unit) ⊎ IsListedBare u.unit l
-    → AreListed (units ++ u ∷ []) (listed ++ l ∷ [])
-one_listed [] [] u l are one = (one, tt)
-one_listed [] (m ∷ listed) u l are one = absurd are
-one_listed (w ∷ units) [] u l are one = absurd are
-one_listed (w ∷ units) (m ∷ listed) u l are one = (are.0, one_listed units listed u l are.1 one)
-
-as_many : (units : List KeptUnit) (listed : List ListedUnit) → AreListed units listed → length listed ≡ length units
-as_many [] [] are = refl
-as_many [] (m ∷ listed) are = absurd are
-as_many (w ∷ units) [] are = absurd are
-as_many (w ∷ units) (m ∷ listed) are = ap suc (as_many units listed are.1)
+same_offset : (u l : ListedUnit) (has_rows : Bool) → l ≡ listed_if has_rows u → l.offset ≡ u.offset
+same_offset u l has_rows is =
+    ap (λ (x : ListedUnit). x.offset) is
+    ∙ cond_both (is_some u.fault || has_rows) u (without_header u) (λ (x : ListedUnit). x.offset ≡ u.offset)
+    (λ whole. refl) (λ bare. refl)
 
 pub one_searched : {R Offset Endian : Type 0} (section : Unread) (entry : UnitEntry) (lowest : ℕ)
     (addresses offsets : List ℕ) (listed : List ListedUnit)
@@ -257,8 +303,33 @@ pub one_searched : {R Offset Endian : Type 0} (section : Unread) (entry : UnitEn
 one_searched section entry lowest addresses offsets listed pairs new walk after o program l are given offset one =
     let units = are.units in
     let u : KeptUnit = record { unit = one.unit; sequences = one.parts } in
-    let at : one.unit.offset ≡ o = sym (same_offset one.unit l one.more one.is_listed) ∙ offset in
-    let same : length listed ≡ length units = as_many units listed are.listed_are in
+    let at : one.unit.offset ≡ o = sym (same_offset one.unit l (finds_more addresses pairs new) one.is_listed) ∙ offset in
+    let before = map (λ a. first_covering a pairs) addresses in
+    let after_it = map (λ a. first_covering a new) addresses in
+    let same : length listed ≡ length units = ap (λ (ls : List ListedUnit). length ls) are.listed_are
+    ∙ as_many before 0 units in
+    let here_of : All (λ a. IsFoundBehind (length units) one.parts (first_covering a pairs) a (first_covering a new))
+    addresses =
+    subst (λ (n : ℕ). All (λ a. IsFoundBehind n one.parts (first_covering a pairs) a (first_covering a new)) addresses)
+    same one.found in
+    let earlier : (k : ℕ) → k < 0 + length units → list_any (is_of_unit k) before ≡ list_any (is_of_unit k) after_it =
+    λ k lt. any_found addresses pairs k
+    ∙ any_same (λ a. is_of_unit k (first_covering a pairs)) (λ a. is_of_unit k (first_covering a new)) addresses
+    (λ i d inside.
+    let a = slice_index_or addresses i d in
+    let f = here_of i d inside in
+    sym (not_of_earlier a (length units) k one.parts (first_covering a pairs) f.0 (first_covering a new)
+    (omega (arith, lt)) f.1 f.2))
+    ∙ sym (any_found addresses new k) in
+    let this : list_any (is_of_unit (0 + length units)) after_it ≡ finds_more addresses pairs new =
+    ap (λ n. list_any (is_of_unit n) after_it) (omega arith)
+    ∙ any_found addresses new (length units)
+    ∙ any_same (λ a. is_of_unit (length units) (first_covering a new))
+    (λ a. is_none (first_covering a pairs) && is_some (first_covering a new)) addresses
+    (λ i d inside.
+    let a = slice_index_or addresses i d in
+    let f = here_of i d inside in
+    of_this_unit a units one.parts (first_covering a pairs) f.0 (first_covering a new) (are.found i d inside) f.1 f.2) in
     let here : IsUnitOf walk.section walk.entry lowest u =
     is_unit_of walk.section walk.entry lowest program one.unit o one.parts at given.unit given.refusal given.layout
     one.outcome in
@@ -268,7 +339,10 @@ one_searched section entry lowest addresses offsets listed pairs new walk after 
     record {
       units = units ++ u ∷ [];
       each = All-push (IsUnitOf section entry lowest) units u are.each there;
-      listed_are = one_listed units listed u l are.listed_are (listed_as one.unit l one.more one.is_listed);
+      listed_are = ap (λ (ls : List ListedUnit). ls ++ l ∷ []) (are.listed_are ∙ listed_same before after_it 0 units earlier)
+          ∙ ap (λ (m : ListedUnit). all_listed after_it 0 units ++ m ∷ [])
+          (one.is_listed ∙ ap (λ b. listed_if b one.unit) (sym this))
+          ∙ sym (listed_append after_it 0 units u);
       to_come = are.to_come
           ∙ ap (λ (os : List ℕ). map (λ (w : KeptUnit). w.unit.offset) units ++ os)
           (given.next ∙ ap (λ (n : ℕ). n ∷ after.offsets) (sym at))
@@ -279,30 +353,20 @@ one_searched section entry lowest addresses offsets listed pairs new walk after 
       same_entry = given.same_entry ∙ are.same_entry;
       found = λ k d lt.
           let a = slice_index_or addresses k d in
-          let f = one.found k d lt in
-          found_next a units listed u l same (first_covering a pairs) f.0 (first_covering a new) (are.found k d lt) f.1
-          f.2 (by_more a one.is_listed);
+          let f = here_of k d lt in
+          found_next a units u (first_covering a pairs) f.0 (first_covering a new) (are.found k d lt) f.1 f.2;
     }
-  where
-    by_more : (a : ℕ) → (l ≡ one.unit) ⊎ ((one.more ≡ []) × IsListedBare one.unit l)
-        → (l ≡ one.unit) ⊎ (first_covering a new ≡ first_covering a pairs)
-    by_more a (inl whole) = inl whole
-    by_more a (inr none) =
-        inr (ap (first_covering a) (one.added ∙ ap (λ (ps : List CoveringRows). pairs ++ ps) none.0 ∙ append-nil pairs))
 
 -- ---- at each address
 
-found_at_each : (units : List KeptUnit) (listed : List ListedUnit) (pairs : List CoveringRows) (addresses : List ℕ)
-    → All (λ a. IsFoundWhole units listed a (first_covering a pairs)) addresses
-    → AreFoundAt units listed addresses (map (λ a. first_covering a pairs) addresses)
-found_at_each units listed pairs [] found = tt
-found_at_each units listed pairs (a ∷ addresses) found =
-    let head = All-head (λ a. IsFoundWhole units listed a (first_covering a pairs)) a addresses found in (
-      head.0,
-      head.1,
-      found_at_each units listed pairs addresses
-          (All-tail (λ a. IsFoundWhole units listed a (first_covering a pairs)) a addresses found),
-    )
+found_at_each : (units : List KeptUnit) (pairs : List CoveringRows) (addresses : List ℕ)
+    → All (λ a. IsFoundAt units a (first_covering a pairs)) addresses
+    → AreFoundAt units addresses (map (λ a. first_covering a pairs) addresses)
+found_at_each units pairs [] found = tt
+found_at_each units pairs (a ∷ addresses) found = (
+  All-head (λ n. IsFoundAt units n (first_covering n pairs)) a addresses found,
+  found_at_each units pairs addresses (All-tail (λ n. IsFoundAt units n (first_covering n pairs)) a addresses found),
+)
 
 pub all_searched : (section : Unread) (entry : UnitEntry) (lowest : ℕ) (addresses offsets : List ℕ)
     (listed : List ListedUnit) (pairs : List CoveringRows)
@@ -319,7 +383,6 @@ all_searched section entry lowest addresses offsets listed pairs walk rows are n
         ∙ append-nil (map (λ (u : KeptUnit). u.unit.offset) are.units)) offsets_are;
     each = are.each;
   };
-  listed_are = are.listed_are;
-  found =
-      subst (AreFoundAt are.units listed addresses) (sym is) (found_at_each are.units listed pairs addresses are.found);
+  listed_are = are.listed_are ∙ ap (λ (os : List (Option CoveringRows)). all_listed os 0 are.units) (sym is);
+  found = subst (AreFoundAt are.units addresses) (sym is) (found_at_each are.units pairs addresses are.found);
 }

@@ -10,8 +10,7 @@ use Rattle.std.proofs.lemmas.Bool.{false≢true}
 use Rattle.std.proofs.lemmas.List.Splits.{slice_split-cons_yes, slice_split-cons_no}
 use Rattle.gimli_line.specs.declared.run.row.LineRow.{LineRow}
 use Rattle.gimli_lookup.specs.Statements.{is_of_line, runs, first_statement, addresses_in, addresses_of, IsFirstLine}
-use Rattle.gimli_lookup.specs.Statements.{AreAddressesFrom}
-use Rattle.gimli_lookup.specs.inside.Statements.{is_among}
+use Rattle.gimli_lookup.specs.inside.Statements.{is_among, AreCollectedFrom}
 use Rattle.gimli_lookup.specs.inside.StatementLines.{has_statement, have_statement, IsFirstWith}
 
 -- the addresses that runs give, the first of which has given its own already if `given` says so
@@ -161,7 +160,7 @@ first_with_same f g asked (Some line) same is =
 -- no line with a statement is no line with an address
 pub no_line : (is_file : ℕ → Bool) (sequences : List (List LineRow)) (asked : ℕ)
     → IsFirstWith (λ l. have_statement is_file l sequences) asked None
-    → AreAddressesFrom (addresses_of is_file sequences) asked None
+    → AreCollectedFrom (addresses_of is_file sequences) asked None
 no_line is_file sequences asked none = λ l from. none_in is_file l sequences (none l from)
 
 -- the first line with a statement is the first one with an address
@@ -207,7 +206,7 @@ no_statements line (rows ∷ sequences) =
 
 -- no file has an address
 pub no_files : (files : List ℕ) (sequences : List (List LineRow)) (asked : ℕ) → files ≡ []
-    → AreAddressesFrom (addresses_of (is_among files) sequences) asked None
+    → AreCollectedFrom (addresses_of (is_among files) sequences) asked None
 no_files files sequences asked none =
-    subst (λ (fs : List ℕ). AreAddressesFrom (addresses_of (is_among fs) sequences) asked None) (sym none)
+    subst (λ (fs : List ℕ). AreCollectedFrom (addresses_of (is_among fs) sequences) asked None) (sym none)
     (λ l from. none_in (λ n. false) l sequences (no_statements l sequences))

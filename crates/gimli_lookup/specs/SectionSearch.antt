@@ -1,6 +1,7 @@
 -- What one run over the units of a section finds at some addresses.
-use Rattle.std.specs.Prelude.{◌≡◌, ◌⊎◌, ℕ, List, [], ◌∷◌, slice_get, Option, None, option_map}
-use Rattle.std.specs.Prelude.{IfSome}
+use Rattle.std.specs.Prelude.{◌≡◌, ℕ, suc, Bool, false, ◌||◌, nat_eq, if◌then◌else◌, List, [], ◌∷◌}
+use Rattle.std.specs.Prelude.{Option, Some, None, is_some}
+use Rattle.std.specs.List.{list_any}
 use Rattle.gimli_line.specs.header.Header.{UnitEntry}
 use Rattle.gimli_line.specs.run.Unread.{Unread}
 use Rattle.gimli_lookup.specs.Ranges.{IsFoundAt}
@@ -8,30 +9,29 @@ use Rattle.gimli_lookup.specs.Section.{ListedUnit, KeptUnit, without_header}
 use Rattle.gimli_lookup.specs.SectionUnits.{AreUnitsOf}
 use Rattle.gimli_lookup.specs.declared.section_lookup.CoveringRows.{CoveringRows}
 
--- the unit of a pair of rows is listed with its header
-abbrev pub IsListedWhole : List KeptUnit → List ListedUnit → CoveringRows → Type 0
-IsListedWhole units listed found =
-    slice_get listed found.unit ≡ option_map (λ u. u.unit) (slice_get units found.unit)
+-- this is found at each address
+abbrev pub AreFoundAt : List KeptUnit → List ℕ → List (Option CoveringRows) → Type 0
+AreFoundAt units [] [] = Unit {0}
+AreFoundAt units (a ∷ addresses) (found ∷ rows) =
+    IsFoundAt units a found × AreFoundAt units addresses rows
+AreFoundAt units addresses rows = ⊥
 
--- this is found at each address, and its unit is listed whole
-abbrev pub AreFoundAt : List KeptUnit → List ListedUnit → List ℕ → List (Option CoveringRows)
-    → Type 0
-AreFoundAt units listed [] [] = Unit {0}
-AreFoundAt units listed (a ∷ addresses) (found ∷ rows) =
-    IsFoundAt units a found × IfSome found (IsListedWhole units listed)
-    × AreFoundAt units listed addresses rows
-AreFoundAt units listed addresses rows = ⊥
+-- whether what is found is in the unit at an index
+abbrev pub is_of_unit : ℕ → Option CoveringRows → Bool
+is_of_unit index None = false
+is_of_unit index (Some found) = nat_eq found.unit index
 
--- a unit whose run has no fault is listed without its header
-abbrev pub IsListedBare : ListedUnit → ListedUnit → Type 0
-IsListedBare unit listed = (unit.fault ≡ None) × (listed ≡ without_header unit)
+-- a unit as it is listed: as it is if rows of it are found or its run has a fault, and else without
+-- its header
+abbrev pub listed_if : Bool → ListedUnit → ListedUnit
+listed_if has_rows unit =
+    if is_some unit.fault || has_rows then unit else without_header unit
 
--- each unit is listed, as it is or without its header
-abbrev pub AreListed : List KeptUnit → List ListedUnit → Type 0
-AreListed [] [] = Unit {0}
-AreListed (u ∷ units) (l ∷ listed) =
-    ((l ≡ u.unit) ⊎ IsListedBare u.unit l) × AreListed units listed
-AreListed units listed = ⊥
+-- units as they are listed, the first of which has an index
+abbrev pub all_listed : List (Option CoveringRows) → ℕ → List KeptUnit → List ListedUnit
+all_listed rows index [] = []
+all_listed rows index (u ∷ units) =
+    listed_if (list_any (is_of_unit index) rows) u.unit ∷ all_listed rows (suc index) units
 
 -- at each address this is found among the units of a section
 pub record AreFoundInSection (section : Unread) (entry : UnitEntry) (lowest : ℕ)
@@ -39,5 +39,5 @@ pub record AreFoundInSection (section : Unread) (entry : UnitEntry) (lowest : �
   where
     pub units : List KeptUnit
     pub are : AreUnitsOf section entry lowest units
-    pub listed_are : AreListed units listed
-    pub found : AreFoundAt units listed addresses rows
+    pub listed_are : listed ≡ all_listed rows 0 units
+    pub found : AreFoundAt units addresses rows

@@ -1,5 +1,6 @@
 -- Where code of a line begins: the addresses for a breakpoint (DWARF 5, section 6.2.2).
-use Rattle.std.specs.Prelude.{◌≡◌, ◌≢◌, ◌≤◌, ◌<◌, ℕ, Bool, not, ◌&&◌, ◌==◌, nat_lt, if◌then◌else◌}
+use Rattle.std.specs.Prelude.{◌≡◌, ◌≢◌, ◌≤◌, ◌<◌, ℕ, Bool, not, ◌&&◌, ◌==◌, nat_eq, nat_lt}
+use Rattle.std.specs.Prelude.{if◌then◌else◌}
 use Rattle.std.specs.Prelude.{List, [], ◌∷◌, flat_map, Option, Some, None}
 use Rattle.std.specs.List.{slice_split}
 use Rattle.gimli_line.specs.declared.run.row.LineRow.{LineRow}
@@ -40,9 +41,21 @@ pub record IsFirstLine (addresses : ℕ → List ℕ) (asked line : ℕ) : Type 
   pub some : addresses line ≢ []
   pub none_before : (l : ℕ) → asked ≤ l → l < line → addresses l ≡ []
 
--- the answer for a line: the first line from it on that has an address, with all its addresses;
--- None where no line has any
+-- a number put among ascending ones, where it isn't there already
+abbrev pub put_once : ℕ → List ℕ → List ℕ
+put_once a [] = a ∷ []
+put_once a (b ∷ bs) =
+    if nat_lt a b then a ∷ b ∷ bs else (if nat_eq a b then b ∷ bs else b ∷ put_once a bs)
+
+-- numbers in ascending order, each once
+abbrev pub ascending_once : List ℕ → List ℕ
+ascending_once [] = []
+ascending_once (a ∷ rest) = put_once a (ascending_once rest)
+
+-- the answer for a line: the first line from it on that has an address, with all its addresses in
+-- ascending order, each once; None where no line has any
 abbrev pub AreAddressesFrom : (ℕ → List ℕ) → ℕ → Option Addresses → Type 0
 AreAddressesFrom addresses asked None = HasNoLine addresses asked
 AreAddressesFrom addresses asked (Some found) =
-    IsFirstLine addresses asked found.line × (found.addresses.items ≡ addresses found.line)
+    IsFirstLine addresses asked found.line
+    × (found.addresses.items ≡ ascending_once (addresses found.line))

@@ -43,5 +43,5 @@ pub use section_lookup::{CoveringRows, SectionLookup};
 pub use section_search::{FoundRows, find_in_section};
 pub use section_unit::UnitLookup;
 pub use sequence_rows::SequenceRows;
-pub use statements::{Addresses, join_addresses};
+pub use statements::Addresses;
 pub use string_sections::StringSections;

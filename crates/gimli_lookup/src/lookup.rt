@@ -162,8 +162,9 @@ impl<R: Reader> Lookup<R> {
 
     /// The addresses for a breakpoint at a line of a file, by the file's index in the header: of
     /// each run of rows of that line that stand side by side in a sequence, that of the first with
-    /// `is_stmt` (DWARF 5, section 6.2.2). Where the line has none, those of the next line that
-    /// has; None where no line from it on has any. Fails only with `OutOfMemory`.
+    /// `is_stmt` (DWARF 5, section 6.2.2); in ascending order, each once. Where the line has none,
+    /// those of the next line that has; None where no line from it on has any. Fails only with
+    /// `OutOfMemory`.
     pub fn addresses_of_file(&self, file: u64, line: u64) -> Result<Option<Addresses>>
         ensures ok { IfOk result
             (AreAddressesFrom (addresses_of (nat_eq file) self.now.rows) line) }

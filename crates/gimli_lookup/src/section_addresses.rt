@@ -9,13 +9,13 @@ ghost use Rattle.gimli_lookup.specs.SectionAddresses.{
   addresses_of_path,
 };
 ghost use Rattle.gimli_lookup.specs.Statements.{addresses_of, AreAddressesFrom};
-ghost use Rattle.gimli_lookup.specs.inside.Statements.{is_among};
+ghost use Rattle.gimli_lookup.specs.inside.Statements.{is_among, AreCollectedFrom};
 ghost use Rattle.gimli_lookup.specs.Strings.{strings};
 
 use crate::path_files::files_with_path;
 use crate::section_lookup::SectionLookup;
 use crate::section_unit::UnitLookup;
-use crate::statements::{Addresses, addresses_from, join_addresses};
+use crate::statements::{Addresses, addresses_from, collect_from, in_order, join_addresses};
 use crate::string_sections::StringSections;
 use gimli_core::{Error, Reader, Result};
 use std::alloc::Global;
@@ -40,9 +40,9 @@ fn unit_files<R: Reader>(
 impl<R: Reader> SectionLookup<R> {
     /// The addresses for a breakpoint at a line of a file of one unit, by the file's index in the
     /// unit's header: of each run of rows of that line that stand side by side in a sequence, that
-    /// of the first with `is_stmt` (DWARF 5, section 6.2.2). Where the line has none, those of the
-    /// next line that has; None where no line from it on has any. Fails only with `OutOfMemory`.
-    /// Requires an index of a unit.
+    /// of the first with `is_stmt` (DWARF 5, section 6.2.2); in ascending order, each once. Where
+    /// the line has none, those of the next line that has; None where no line from it on has any.
+    /// Fails only with `OutOfMemory`. Requires an index of a unit.
     pub fn addresses_of_file(&self, unit: usize, file: u64, line: u64) -> Result<Option<Addresses>>
         requires { unit < length self.now }
         ensures ok { (d : KeptUnit) → IfOk result (AreAddressesFrom
@@ -71,10 +71,9 @@ impl<R: Reader> SectionLookup<R> {
     }
 
     /// The addresses for a breakpoint at a line of the files that have a whole path, over all
-    /// units: as `addresses_of_file` gives them, in the order of the units, their sequences and
-    /// their rows. The line is the first from the asked one on that has an address in any unit. A
-    /// file that has no path is passed over, and so is a unit that was refused. Fails only with
-    /// `OutOfMemory`.
+    /// units: as `addresses_of_file` gives them, those of all units together in ascending order,
+    /// each once. The line is the first from the asked one on that has an address in any unit.
+    /// Skips a file that has no path, and a unit that was refused. Fails only with `OutOfMemory`.
     pub fn addresses_of(
         &self,
         sections: &StringSections<R>,
@@ -89,7 +88,7 @@ impl<R: Reader> SectionLookup<R> {
         for unit in 0..self.units().len() {
             found = join_addresses(found, self.unit_addresses(unit, sections, path, line)?)?;
         }
-        Ok(found)
+        Ok(in_order(found))
     }
 
     /// The unit at an index.
@@ -100,7 +99,7 @@ impl<R: Reader> SectionLookup<R> {
         &self.units()[unit]
     }
 
-    /// The same in one unit.
+    /// Collects those in one unit, before they are put in order.
     fn unit_addresses(
         &self,
         unit: usize,
@@ -109,11 +108,11 @@ impl<R: Reader> SectionLookup<R> {
         line: u64,
     ) -> Result<Option<Addresses>>
         requires { unit < length self.now }
-        ensures ok { (d : KeptUnit) → IfOk result (AreAddressesFrom (unit_addresses
+        ensures ok { (d : KeptUnit) → IfOk result (AreCollectedFrom (unit_addresses
             (strings R.bytes sections.now) path.now (slice_index_or self.now unit d)) line) }
         ensures err { IfErr result (λ e. e ≡ Error.OutOfMemory) }
     {
         let files = unit_files(self.allocator(), self.unit_at(unit), sections, path)?;
-        addresses_from(self.allocator(), self.sequences_of(unit), &files, line)
+        collect_from(self.allocator(), self.sequences_of(unit), &files, line)
     }
 }

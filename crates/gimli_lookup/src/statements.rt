@@ -4,8 +4,8 @@ ghost use Rattle.std.specs.Prelude.{◌≡◌, ◌<◌, ◌++◌, ◌==◌, ◌|
 ghost use Rattle.std.specs.Prelude.{IfOk, OnOk, MatchOption, [], ◌∷◌};
 ghost use Rattle.gimli_line.specs.declared.run.row.LineRow.{LineRow};
 ghost use Rattle.gimli_lookup.specs.Statements.{is_of_line, addresses_in, addresses_of};
-ghost use Rattle.gimli_lookup.specs.Statements.{AreAddressesFrom};
-ghost use Rattle.gimli_lookup.specs.inside.Statements.{is_among};
+ghost use Rattle.gimli_lookup.specs.Statements.{ascending_once, AreAddressesFrom};
+ghost use Rattle.gimli_lookup.specs.inside.Statements.{is_among, AreCollectedFrom};
 ghost use Rattle.gimli_lookup.specs.inside.StatementLines.{is_statement, has_statement};
 ghost use Rattle.gimli_lookup.specs.inside.StatementLines.{have_statement, IsFirstWith};
 
@@ -19,7 +19,7 @@ use std::alloc::Global;
 pub struct Addresses {
     /// The line.
     pub line: u64,
-    /// The addresses, in the order of the units, their sequences, and their rows.
+    /// The addresses, in ascending order, each once.
     pub addresses: Vec<u64>,
 }
 
@@ -141,16 +141,17 @@ pub(crate) fn first_line_of(sequences: &[KeptRows], files: &[u64], asked: u64) -
     first
 }
 
-/// The addresses of the first line from the asked one on that has any in sequences. None where no
-/// line has any; where there are no files, no row is looked at. Fails only with `OutOfMemory`.
-pub(crate) fn addresses_from(
+/// Collects the addresses of the first line from the asked one on that has any in sequences. None
+/// where no line has any; where there are no files, no row is looked at. Fails only with
+/// `OutOfMemory`.
+pub(crate) fn collect_from(
     alloc: Global,
     sequences: &[KeptRows],
     files: &[u64],
     asked: u64,
 ) -> Result<Option<Addresses>>
     ensures ok { IfOk result
-        (AreAddressesFrom (addresses_of (is_among files.now) sequences.now) asked) }
+        (AreCollectedFrom (addresses_of (is_among files.now) sequences.now) asked) }
     ensures err { IfErr result (λ e. e ≡ Error.OutOfMemory) }
 {
     if files.is_empty() {
@@ -164,15 +165,15 @@ pub(crate) fn addresses_from(
     Ok(Some(Addresses { line, addresses }))
 }
 
-/// The addresses in two parts of a section, one after the other, by those in each that are of the
-/// first line from one line on. Fails only with `OutOfMemory`.
-pub fn join_addresses(
+/// Joins what was collected in two parts of a section, by those in each that are of the first line
+/// from one line on. Fails only with `OutOfMemory`.
+pub(crate) fn join_addresses(
     first: Option<Addresses>,
     second: Option<Addresses>,
 ) -> Result<Option<Addresses>>
-    ensures ok { (before after : ℕ → List ℕ) (asked : ℕ) → AreAddressesFrom before asked first
-        → AreAddressesFrom after asked second
-        → IfOk result (AreAddressesFrom (λ line. before line ++ after line) asked) }
+    ensures ok { (before after : ℕ → List ℕ) (asked : ℕ) → AreCollectedFrom before asked first
+        → AreCollectedFrom after asked second
+        → IfOk result (AreCollectedFrom (λ line. before line ++ after line) asked) }
     ensures err { IfErr result (λ e. e ≡ Error.OutOfMemory) }
 {
     match (first, second) {
@@ -191,4 +192,41 @@ pub fn join_addresses(
         (Some(a), None) => Ok(Some(a)),
         (None, b) => Ok(b),
     }
+}
+
+/// Puts numbers in ascending order, and keeps each once.
+fn put_in_order(numbers: &mut Vec<u64>)
+    ensures { numbers.new.items ≡ ascending_once numbers.old.items }
+{
+    numbers.sort_unstable();
+    numbers.dedup();
+}
+
+/// Puts the addresses that were collected in ascending order, and keeps each once.
+pub(crate) fn in_order(collected: Option<Addresses>) -> Option<Addresses>
+    ensures { (addresses : ℕ → List ℕ) (asked : ℕ) → AreCollectedFrom addresses asked collected
+        → AreAddressesFrom addresses asked result }
+{
+    match collected {
+        Some(mut found) => {
+            put_in_order(&mut found.addresses);
+            Some(found)
+        }
+        None => None,
+    }
+}
+
+/// The addresses of the first line from the asked one on that has any in sequences, in ascending
+/// order, each once. None where no line has any. Fails only with `OutOfMemory`.
+pub(crate) fn addresses_from(
+    alloc: Global,
+    sequences: &[KeptRows],
+    files: &[u64],
+    asked: u64,
+) -> Result<Option<Addresses>>
+    ensures ok { IfOk result
+        (AreAddressesFrom (addresses_of (is_among files.now) sequences.now) asked) }
+    ensures err { IfErr result (λ e. e ≡ Error.OutOfMemory) }
+{
+    Ok(in_order(collect_from(alloc, sequences, files, asked)?))
 }

@@ -6,6 +6,7 @@ use Rattle.gimli_index.specs.Short.{joined, IsSpanOf}
 use Rattle.gimli_index.specs.declared.contents.Source.{Source}
 use Rattle.gimli_index.specs.declared.error.MakeError.{MakeError}
 use Rattle.gimli_index.specs.declared.error.MakeError.TheVariants.{NotAscending, TooManyEntries}
+use Rattle.gimli_index.specs.declared.error.MakeError.TheVariants.{TooManyStatements}
 use Rattle.gimli_index.specs.declared.error.MakeError.TheVariants.{TooManySources, PathsTooLarge}
 use Rattle.gimli_index.specs.declared.error.MakeError.TheVariants.{IdentityTooLarge, LineTooLarge}
 use Rattle.gimli_index.specs.declared.error.MakeError.TheVariants.{ColumnTooLarge, OutOfMemory}
@@ -60,6 +61,7 @@ IsPathFault limit p path PathsTooLarge =
 IsPathFault limit p path OutOfMemory = Unit {0}
 IsPathFault limit p path NotAscending = ⊥
 IsPathFault limit p path TooManyEntries = ⊥
+IsPathFault limit p path TooManyStatements = ⊥
 IsPathFault limit p path TooManySources = ⊥
 IsPathFault limit p path IdentityTooLarge = ⊥
 IsPathFault limit p path LineTooLarge = ⊥

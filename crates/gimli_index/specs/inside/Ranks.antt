@@ -1,20 +1,24 @@
--- The ranks of the statements of an index in the making: a key, and below it the index of a start.
-use Rattle.std.specs.Prelude.{◌≡◌, ◌≢◌, ◌<◌, ℕ, ◌+◌, ◌*◌, ◌^◌, List, length, take, is_some, true}
-use Rattle.std.specs.Prelude.{All}
-use Rattle.std.specs.Prelude.{AllPairs}
-use Rattle.std.specs.List.{count_by}
-use Rattle.gimli_index.specs.Meaning.{Start}
-use Rattle.gimli_index.specs.Order.{is_statement, statement_at, statement_key}
+-- The ranks of the statements of an index in the making.
+use Rattle.std.specs.Prelude.{◌≡◌, ℕ, List, [], ◌∷◌, fold, min, Option, None, Some, All}
+use Rattle.std.specs.List.Sorted.{IsNonDecreasingBy}
+use Rattle.gimli_index.specs.Contents.{Contents, statement_in}
+use Rattle.gimli_index.specs.Order.{rank_of}
+use Rattle.gimli_index.specs.declared.ordering.Ranked.{Ranked}
 
--- a rank is of a statement among the first starts
-pub record IsRank (starts : List Start) (count rank : ℕ) : Type 0 where
-  pub index : ℕ
-  pub before : index < count
-  pub statement : is_some (statement_at starts index) ≡ true
-  pub is : rank ≡ statement_key starts index * 2 ^ 32 + index
+-- a statement stands beside its rank
+abbrev pub IsRanked : Contents → Ranked → Type 0
+IsRanked c r = r.rank ≡ rank_of (statement_in c r.statement)
 
--- these are the ranks of the statements among the first starts, each once
-pub record AreRanks (starts : List Start) (count : ℕ) (ranks : List ℕ) : Type 0 where
-  pub each : All (IsRank starts count) ranks
-  pub distinct : AllPairs (λ x y. x ≢ y) ranks
-  pub all : length ranks ≡ count_by is_statement (take count starts)
+-- statements with their ranks don't go down
+pub record AreRanked (c : Contents) (all : List Ranked) : Type 0 where
+  pub each : All (IsRanked c) all
+  pub rise : IsNonDecreasingBy (λ (r : Ranked). r.rank) all
+
+-- the least of numbers, if there are any
+abbrev pub least_of : List ℕ → Option ℕ
+least_of [] = None
+least_of (n ∷ ns) = Some (fold min n ns)
+
+-- what stands past the end of some
+abbrev pub nothing : Ranked
+nothing = record { rank = 0; statement = record { source = 0; line = 0; address = 0 } }

@@ -13,6 +13,7 @@ use Rattle.gimli_index.specs.Short.{IsShort, IsSpanOf}
 use Rattle.gimli_index.specs.inside.Paths.{ArePaths, GoesOn, PathList, no_paths}
 use Rattle.gimli_index.specs.declared.error.MakeError.{MakeError}
 use Rattle.gimli_index.specs.declared.error.MakeError.TheVariants.{NotAscending, TooManyEntries}
+use Rattle.gimli_index.specs.declared.error.MakeError.TheVariants.{TooManyStatements}
 use Rattle.gimli_index.specs.declared.error.MakeError.TheVariants.{TooManySources, PathsTooLarge}
 use Rattle.gimli_index.specs.declared.error.MakeError.TheVariants.{IdentityTooLarge, LineTooLarge}
 use Rattle.gimli_index.specs.declared.error.MakeError.TheVariants.{ColumnTooLarge, OutOfMemory}
@@ -71,11 +72,12 @@ pub record Keeps (old new : Table) : Type 0 where
 -- why no more of what is found is taken in
 abbrev pub IsTableFault : Texts → List KeptUnit → ℕ → MakeError → Type 0
 IsTableFault t units limit LineTooLarge = (r : LineRow) × IsFoundRow units r × (2 ^ 32 ≤ r.line)
-IsTableFault t units limit ColumnTooLarge = (r : LineRow) × IsFoundRow units r × (2 ^ 31 ≤ r.column)
+IsTableFault t units limit ColumnTooLarge = (r : LineRow) × IsFoundRow units r × (2 ^ 30 ≤ r.column)
 IsTableFault t units limit TooManySources = HasManyFiles units
 IsTableFault t units limit PathsTooLarge = HasLongPaths t units limit
 IsTableFault t units limit OutOfMemory = Unit {0}
 IsTableFault t units limit TooManyEntries = ⊥
+IsTableFault t units limit TooManyStatements = ⊥
 IsTableFault t units limit IdentityTooLarge = ⊥
 IsTableFault t units limit NotAscending = ⊥
 
@@ -87,7 +89,7 @@ with_table table = record {
   base = 0;
   sources = table.sources;
   entries = [];
-  order = [];
+  statements = [];
   paths = table.paths.bytes;
   identity = [];
 }
@@ -115,6 +117,7 @@ SayTheSame sources (Some a) None = ⊥
 SayTheSame sources (Some a) (Some b) =
     (slice_get sources a.source ≡ slice_get sources b.source)
     × (a.line ≡ b.line) × (a.column ≡ b.column) × (a.is_stmt ≡ b.is_stmt)
+    × (a.prologue_end ≡ b.prologue_end)
 
 -- an entry was appended, or the last one says the same
 abbrev pub IsPushed : List Source → List Entry → List Entry → Entry → Type 0

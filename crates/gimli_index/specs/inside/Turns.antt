@@ -5,7 +5,6 @@ use Rattle.std.specs.Option.{option_map_or}
 use Rattle.std.specs.List.Sorted.{IsPermutation}
 use Rattle.gimli_index.specs.Contents.{HasColumn}
 use Rattle.gimli_index.specs.Found.{Texts, row_place}
-use Rattle.gimli_index.specs.Lines.{addresses_of}
 use Rattle.gimli_index.specs.Made.{EntriesAscend}
 use Rattle.gimli_index.specs.Meaning.{Start, place_at}
 use Rattle.gimli_index.specs.Short.{IsShort}
@@ -84,10 +83,8 @@ abbrev pub starts_of_turn : Texts → UnitRows → List Start
 starts_of_turn t s = starts_of_rows t s.unit s.rows
 
 -- starts that say what others say, of which those are left out that say nothing more
-pub record Agree (starts said : List Start) : Type 0 where
-  pub places : (a : ℕ) → place_at a starts ≡ place_at a said
-  pub lines : (path : List ℕ) (line : ℕ) (more : List Start)
-      → addresses_of path (starts ++ more) line ≡ addresses_of path (said ++ more) line
+abbrev pub Agree : List Start → List Start → Type 0
+Agree starts said = (a : ℕ) → place_at a starts ≡ place_at a said
 
 -- entries say what some starts say, up to an address
 pub record Walked (t : Texts) (units : List KeptUnit) (limit : ℕ) (table : Table)

@@ -1,14 +1,14 @@
 -- What is found in one unit of a section at some addresses.
-use Rattle.std.specs.Prelude.{◌≡◌, ◌⊎◌, ℕ, List, [], ◌++◌, Option, None, Result, All}
+use Rattle.std.specs.Prelude.{◌≡◌, ℕ, List, ◌++◌, Option, None, Result, All}
 use Rattle.std.specs.Option.{option_or}
 use Rattle.gimli_core.specs.declared.error.Error.{Error}
 use Rattle.gimli_line.specs.declared.run.row.LineRow.{LineRow}
 use Rattle.gimli_line.specs.header.Header.{SeenHeader}
 use Rattle.gimli_lookup.specs.Section.{ListedUnit}
-use Rattle.gimli_lookup.specs.SectionSearch.{IsListedBare}
+use Rattle.gimli_lookup.specs.SectionSearch.{listed_if}
 use Rattle.gimli_lookup.specs.declared.section_lookup.CoveringRows.{CoveringRows}
 use Rattle.gimli_lookup.specs.inside.Section.{IsOutcome}
-use Rattle.gimli_lookup.specs.inside.UnitSearch.{first_covering, IsFoundOf}
+use Rattle.gimli_lookup.specs.inside.UnitSearch.{first_covering, finds_more, IsFoundOf}
 
 -- a unit that is listed without its header, and of which no sequences are kept
 abbrev pub bare_unit : ℕ → Option Error → ListedUnit
@@ -22,7 +22,7 @@ IsFoundBehind index parts before a found =
     (here : Option CoveringRows) × IsFoundOf index parts a here × (found ≡ option_or before here)
 
 -- the program of a unit, or its refusal, was searched at some addresses: pairs were put behind
--- others. The unit is listed with its header, but where there are none, and the run had no fault
+-- others. The unit is listed with its header if something more is found, or the run had a fault
 pub record IsSearched {R Offset Endian : Type 0} (lowest index : ℕ) (addresses : List ℕ)
     (program : Result (SeenHeader R Offset Endian) Error) (listed : ListedUnit)
     (old new : List CoveringRows) : Type 0 where
@@ -33,4 +33,4 @@ pub record IsSearched {R Offset Endian : Type 0} (lowest index : ℕ) (addresses
   pub added : new ≡ old ++ more
   pub found : All (λ a. IsFoundBehind index parts (first_covering a old) a (first_covering a new))
       addresses
-  pub is_listed : (listed ≡ unit) ⊎ ((more ≡ []) × IsListedBare unit listed)
+  pub is_listed : listed ≡ listed_if (finds_more addresses old new) unit

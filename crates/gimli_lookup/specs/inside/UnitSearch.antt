@@ -1,6 +1,8 @@
 -- The first rows round some addresses, looked for in a unit while its rows come.
-use Rattle.std.specs.Prelude.{◌≡◌, ◌⊎◌, ◌≤◌, ℕ, Bool, nat_le, nat_lt, ◌&&◌, if◌then◌else◌, List, []}
-use Rattle.std.specs.Prelude.{◌∷◌, ◌++◌, length, take, Option, Some, None, All, IfSome, MatchOption}
+use Rattle.std.specs.Prelude.{◌≡◌, ◌⊎◌, ◌≤◌, ℕ, Bool, true, nat_le, nat_lt, ◌&&◌, if◌then◌else◌}
+use Rattle.std.specs.Prelude.{List, [], ◌∷◌, ◌++◌, length, take, Option, Some, None, All, IfSome}
+use Rattle.std.specs.Prelude.{MatchOption, is_none, is_some}
+use Rattle.std.specs.List.{list_any}
 use Rattle.std.specs.Option.{option_or}
 use Rattle.gimli_line.specs.declared.run.row.LineRow.{LineRow}
 use Rattle.gimli_lookup.specs.declared.section_lookup.CoveringRows.{CoveringRows}
@@ -16,12 +18,18 @@ abbrev pub first_covering : ℕ → List CoveringRows → Option CoveringRows
 first_covering a [] = None
 first_covering a (p ∷ pairs) = if is_covered a p then Some p else first_covering a pairs
 
+-- whether nothing is found by some pairs at one of the addresses, and something by others
+abbrev pub finds_more : List ℕ → List CoveringRows → List CoveringRows → Bool
+finds_more addresses old new =
+    list_any (λ a. is_none (first_covering a old) && is_some (first_covering a new)) addresses
+
 -- pairs are kept behind others, as far as one of the addresses needs them
 pub record AreKeptBehind (addresses : List ℕ) (old pairs new : List CoveringRows) : Type 0 where
   pub more : List CoveringRows
   pub parts : new ≡ old ++ more
   pub first : All (λ a. first_covering a new
       ≡ option_or (first_covering a old) (first_covering a pairs)) addresses
+  pub needed : (more ≡ []) ⊎ (finds_more addresses old new ≡ true)
 
 -- what is found at an address in the parts of a unit
 abbrev pub IsFoundOf : ℕ → List (List LineRow) → ℕ → Option CoveringRows → Type 0

@@ -8,7 +8,7 @@ use Rattle.gimli_index.specs.declared.contents.Entry.{Entry}
 use Rattle.gimli_index.specs.declared.turns.Turn.{Turn}
 use Rattle.gimli_index.specs.inside.Turns.{Walked, end_after, rows_of_turns, starts_of_turn, turn_rows}
 use Rattle.gimli_index.proofs.Entered.{none_entered}
-use Rattle.gimli_index.proofs.TurnLines.{all_entered, all_lines, never_down, some_unit}
+use Rattle.gimli_index.proofs.TurnLines.{all_entered, some_unit}
 use Rattle.gimli_index.proofs.WalkedStarts.{none_walked}
 use Rattle.gimli_index.proofs.made.entries_of.Goals as goal
 
@@ -39,35 +39,3 @@ returns-then-are_in_turn-clause-entered g c =
     all_entered t units turns c.in_ok-turns.ensures.turns down c.take_turns.new.table c.take_turns.new.entries.items
     (end_after 0 (rows_of_turns turns))
     (walked down)
-
-pub returns-then-are_in_turn-clause-lines : goal.returns-then-are_in_turn-clause-lines
-returns-then-are_in_turn-clause-lines g c =
-    let t = texts_of g.R.Reader.bytes c.args.origin.now.strings.now c.args.origin.now.compilations.now in
-    let units : List KeptUnit = c.args.origin.now.lookup.now in
-    let limit = c.args.origin.now.limit in
-    let turns : List Turn = c.in_ok-turns.turns.items in
-    let down : never_go_down (rows_of_turns turns) ≡ true =
-    ap (λ (ts : List Turn). never_go_down (rows_of_turns ts)) (sym c.deref-2.ensures.value) ∙ sym c.are_in_turn.ensures
-    ∙ c.if-are_in_turn.true in
-    let start = subst (λ (es : List Entry). Walked t units limit c.args.table.now es [] 0) (sym c.in_ok-entries.ensures)
-    (none_walked t units c.args.table.now c.requires) in
-    let lent = c.deref-then-are_in_turn.ensures.value in
-    let walked =
-    subst (λ (ts : List Turn).
-    never_go_down (rows_of_turns ts) ≡ true
-    → Walked t units limit c.take_turns.new.table c.take_turns.new.entries.items
-    (flat_map (starts_of_turn t) (map (turn_rows units some_unit) ts)) (end_after 0 (rows_of_turns ts))) lent
-    (c.in_ok-take_turns.ensures.walked some_unit start) in
-    all_lines t units turns c.in_ok-turns.ensures.turns c.in_ok-turns.ensures.order c.take_turns.new.table
-    c.take_turns.new.entries.items
-    (end_after 0 (rows_of_turns turns)) (walked down)
-
-pub returns-clause-lines : goal.returns-clause-lines
-returns-clause-lines g c =
-    let t = texts_of g.R.Reader.bytes c.args.origin.now.strings.now c.args.origin.now.compilations.now in
-    let units : List KeptUnit = c.args.origin.now.lookup.now in
-    let turns : List Turn = c.in_ok-turns.turns.items in
-    λ apart path line a.
-    absurd (false≢true (sym c.if-are_in_turn.false ∙ c.are_in_turn.ensures
-    ∙ ap (λ (ts : List Turn). never_go_down (rows_of_turns ts)) c.deref-2.ensures.value
-    ∙ never_down t units turns c.in_ok-turns.ensures.turns c.in_ok-turns.ensures.order apart))

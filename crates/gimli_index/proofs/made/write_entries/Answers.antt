@@ -1,8 +1,10 @@
-use Rattle.std.proofs.Common.{[], refl}
+use Rattle.std.proofs.Common.{List, None, refl, sym, subst, ◌∙◌, ap}
 use Rattle.gimli_index.specs.Found.{Given, texts_of, IsAppended}
-use Rattle.gimli_index.specs.Made.{IsMakeFault, IsWritten, contents_of}
+use Rattle.gimli_index.specs.Made.{IsMakeFault, IsWritten, SayTheSameLines, contents_of}
 use Rattle.gimli_index.specs.Refused.{IsIndexFault}
 use Rattle.gimli_index.specs.declared.contents.Contents.{Contents as Parts}
+use Rattle.gimli_index.specs.declared.contents.Statement.{Statement}
+use Rattle.gimli_index.proofs.Entered.{still_entered}
 use Rattle.gimli_index.proofs.WrittenIndex.{contents_are, contents_fault, on_fault, with_ok, within}
 use Rattle.gimli_index.proofs.made.write_entries.Goals as goal
 
@@ -15,27 +17,37 @@ returns-clause-bytes g c =
       address_size = c.args.address_size;
       sources = c.sources.result;
       entries = c.as_slice.result;
+      statements = c.as_slice-2.result;
       paths = c.paths.result;
       identity = c.args.identity;
     } in
     let old = c.args.out.now.items in
     let new = c.write.new.out.items in
+    let table = c.statements_of.new.table in
+    let statements = c.in_ok-statements.statements.items in
+    let said = c.in_ok-statements.ensures in
+    let entered =
+    still_entered t units c.entries_of.new.table table c.in_ok-entries.entries.items None
+    c.in_ok-entries.ensures.entered said.keeps said.are in
     with_ok c.write.result (IsWritten parts old new) (IsAppended given c.args.origin.now.limit old new)
     c.write.ensures.written
     (λ written.
-    let contents = contents_of parts written.order in
+    let contents = contents_of parts written.statements in
+    let same : SayTheSameLines contents statements contents.statements =
+    λ path line.
+    subst (λ (ss : List Statement). SayTheSameLines contents ss contents.statements) c.as_slice-2.ensures.value
+    written.same path line in
     record {
       contents = contents;
       within =
-          within given c.entries_of.new.table c.in_ok-entries.entries.items contents c.in_ok-entries.ensures.entered
-          c.in_ok-entries.ensures.lines
-          c.sources.ensures c.as_slice.ensures.value c.paths.ensures;
+          within given table c.in_ok-entries.entries.items statements contents entered said.said c.sources.ensures
+          c.as_slice.ensures.value
+          c.paths.ensures;
       bytes = written.bytes;
       are =
-          contents_are given c.entries_of.new.table c.in_ok-entries.entries.items contents
-          c.in_ok-entries.ensures.entered c.in_ok-entries.ensures.lines
+          contents_are given table c.in_ok-entries.entries.items statements contents entered said.said
           c.sources.ensures
-          c.as_slice.ensures.value c.paths.ensures written.fits written.ordered refl refl;
+          c.as_slice.ensures.value c.paths.ensures written.fits written.ordered same refl refl;
     })
 
 pub returns-clause-err : goal.returns-clause-err
@@ -47,12 +59,18 @@ returns-clause-err g c =
       address_size = c.args.address_size;
       sources = c.sources.result;
       entries = c.as_slice.result;
+      statements = c.as_slice-2.result;
       paths = c.paths.result;
       identity = c.args.identity;
     } in
-    let contents = contents_of parts [] in
+    let contents = contents_of parts parts.statements.now in
+    let table = c.statements_of.new.table in
+    let statements = c.in_ok-statements.statements.items in
+    let said = c.in_ok-statements.ensures in
+    let entered =
+    still_entered t units c.entries_of.new.table table c.in_ok-entries.entries.items None
+    c.in_ok-entries.ensures.entered said.keeps said.are in
     on_fault c.write.result (IsMakeFault contents) (IsIndexFault given c.args.origin.now.limit) (λ e fault.
-    contents_fault given c.entries_of.new.table c.in_ok-entries.entries.items contents c.in_ok-entries.ensures.entered
-    c.in_ok-entries.ensures.lines
+    contents_fault given table c.in_ok-entries.entries.items statements contents entered said.said
     c.sources.ensures
-    c.as_slice.ensures.value c.paths.ensures e refl fault) c.write.ensures.err
+    c.as_slice.ensures.value c.paths.ensures e c.as_slice-2.ensures.value refl fault) c.write.ensures.err

@@ -1,4 +1,4 @@
-use Rattle.std.proofs.Common.{◌≡◌, false, ◌&&◌, List, [], ◌∷◌, ◌++◌, sym, subst, rules}
+use Rattle.std.proofs.Common.{◌≡◌, true, false, ◌&&◌, List, [], ◌∷◌, ◌++◌, sym, subst, rules}
 use Rattle.std.specs.Prelude.{is_none}
 use Rattle.std.specs.List.{list_any}
 use Rattle.gimli_lookup.specs.declared.section_lookup.CoveringRows.{CoveringRows}
@@ -17,4 +17,7 @@ pub returns-clause-ok : goal.returns-clause-ok
 returns-clause-ok c =
     let pushed : c.push.new.self.items ≡ c.args.pairs.now.items ++ c.args.pair ∷ [] = search rules in
     subst (AreKeptBehind c.args.addresses.now c.args.pairs.now.items (c.args.pair ∷ [])) (sym pushed)
-    (pair_kept c.args.addresses.now c.args.pairs.now.items c.args.pair)
+    (pair_kept c.args.addresses.now c.args.pairs.now.items c.args.pair
+    (subst (λ (ps : List CoveringRows).
+    list_any (λ a. is_covered a c.args.pair && is_none (first_covering a ps)) c.args.addresses.now ≡ true)
+    c.as_slice.ensures.value (sym c.if-not-is_wanted.ensures)))

@@ -20,12 +20,18 @@ returns-clause-place g c =
     < length units = subst (λ (o : Option CoveringRows). IfSome o (λ f. f.unit < length units)) c.in-Some.is
     c.requires.unit in
     let known = get_inside units rows.unit within in
-    place_known t units c.source_of.new.self c.in_ok-source.source c.in_ok-line.line c.in_ok-column.column
-    c.is_stmt.result
+    place_known t units c.source_of.new.self
+    (record {
+      source = c.in_ok-source.source;
+      line = c.in_ok-line.line;
+      column = c.in_ok-column.column;
+      is_stmt = c.is_stmt.result;
+      prologue_end = c.prologue_end.result;
+    })
     (record { unit = rows.unit; file = rows.row.file })
     known.0 rows.row
     c.in_ok-source.ensures.are c.in_ok-source.ensures.number known.1 refl c.in_ok-line.ensures.ok
-    c.in_ok-column.ensures.ok c.is_stmt.ensures
+    c.in_ok-column.ensures.ok c.is_stmt.ensures c.prologue_end.ensures
     ∙ sym
     (ap (found_place t units) c.in-Some.is ∙ ap (option_map (λ (u : KeptUnit). row_place t u.unit rows.row)) known.1)
 

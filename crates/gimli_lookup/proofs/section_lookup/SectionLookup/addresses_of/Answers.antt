@@ -3,7 +3,7 @@ use Rattle.std.specs.Prelude.{slice_index_or}
 use Rattle.std.proofs.lemmas.List.{length-map, take_all}
 use Rattle.gimli_lookup.specs.Section.{KeptUnit}
 use Rattle.gimli_lookup.specs.SectionAddresses.{unit_addresses, addresses_of_path}
-use Rattle.gimli_lookup.specs.Statements.{AreAddressesFrom}
+use Rattle.gimli_lookup.specs.inside.Statements.{AreCollectedFrom}
 use Rattle.gimli_lookup.specs.Strings.{strings}
 use Rattle.gimli_lookup.proofs.SectionAddressSteps.{some_unit, one_more_unit}
 use Rattle.gimli_lookup.proofs.section_lookup.SectionLookup.addresses_of.Goals as goal
@@ -24,7 +24,7 @@ loop-unit-preserved g c =
     ∙ length-map units (λ (u : KeptUnit). u.unit) in
     let inside : i < length units = omega (arith, count) in
     let d = some_unit units i inside in
-    subst (λ (addresses : ℕ → List ℕ). AreAddressesFrom addresses c.args.line c.in_ok-found.found)
+    subst (λ (addresses : ℕ → List ℕ). AreCollectedFrom addresses c.args.line c.in_ok-found.found)
     (one_more_unit sections path units i d inside)
     (c.in_ok-found.ensures.ok (addresses_of_path sections path (take i units))
     (unit_addresses sections path (slice_index_or units i d)) c.args.line
@@ -37,6 +37,7 @@ returns-clause-ok g c =
     let count : length c.units-unit-end.result.now ≡ length units = ap length c.units-unit-end.ensures
     ∙ length-map units (λ (u : KeptUnit). u.unit) in
     let past : length units ≤ c.loop-unit.unit = omega (arith, count, c.loop-unit-test.false) in
-    subst (λ (us : List KeptUnit).
-    AreAddressesFrom (addresses_of_path sections c.args.path.now us) c.args.line c.loop-unit.found)
-    (take_all c.loop-unit.unit units past) c.loop-unit.invariant
+    c.in_order.ensures (addresses_of_path sections c.args.path.now units) c.args.line
+    (subst (λ (us : List KeptUnit).
+    AreCollectedFrom (addresses_of_path sections c.args.path.now us) c.args.line c.loop-unit.found)
+    (take_all c.loop-unit.unit units past) c.loop-unit.invariant)

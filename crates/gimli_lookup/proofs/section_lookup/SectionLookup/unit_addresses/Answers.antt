@@ -3,8 +3,8 @@ use Rattle.std.specs.Prelude.{slice_index_or}
 use Rattle.std.proofs.Math.Path.{fun_ext}
 use Rattle.gimli_line.specs.declared.run.row.LineRow.{LineRow}
 use Rattle.gimli_lookup.specs.SectionAddresses.{unit_has_path}
-use Rattle.gimli_lookup.specs.Statements.{addresses_of, AreAddressesFrom}
-use Rattle.gimli_lookup.specs.inside.Statements.{is_among}
+use Rattle.gimli_lookup.specs.Statements.{addresses_of}
+use Rattle.gimli_lookup.specs.inside.Statements.{is_among, AreCollectedFrom}
 use Rattle.gimli_lookup.specs.Strings.{strings}
 use Rattle.gimli_lookup.proofs.section_lookup.SectionLookup.unit_addresses.Goals as goal
 
@@ -21,11 +21,11 @@ returns-clause-ok g c =
     i) c.deref.ensures.value ∙ c.in_ok-files.ensures.ok i ∙ ap (λ u.
     unit_has_path sections path u i) (c.unit_at.ensures d)) in
     subst (λ (sequences : List (List LineRow)).
-    IfOk c.addresses_from.result
-    (AreAddressesFrom (addresses_of (unit_has_path sections path unit.unit) sequences) c.args.line))
+    IfOk c.collect_from.result
+    (AreCollectedFrom (addresses_of (unit_has_path sections path unit.unit) sequences) c.args.line))
     (c.sequences_of.ensures d)
     (subst
-    (λ (is_file : ℕ → Bool). IfOk c.addresses_from.result
-    (AreAddressesFrom (addresses_of is_file c.sequences_of.result.now) c.args.line))
+    (λ (is_file : ℕ → Bool). IfOk c.collect_from.result
+    (AreCollectedFrom (addresses_of is_file c.sequences_of.result.now) c.args.line))
     same
-    c.addresses_from.ensures.ok)
+    c.collect_from.ensures.ok)

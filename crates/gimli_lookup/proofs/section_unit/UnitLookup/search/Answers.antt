@@ -1,9 +1,13 @@
-use Rattle.std.proofs.Common.{◌≡◌, not, List, length, refl, sym, ap, subst, ◌∙◌, inl, inr, rules, arith}
+use Rattle.std.proofs.Common.{◌≡◌, ◌≢◌, ◌⊎◌, true, not, is_some, List, length, refl, sym, ap, subst, ◌∙◌, inl, inr, rules, arith}
 use Rattle.gimli_lookup.specs.declared.section_lookup.CoveringRows.{CoveringRows}
 use Rattle.gimli_lookup.specs.inside.SectionSearch.{bare_unit}
 use Rattle.gimli_lookup.specs.inside.UnitSearch.{AreKeptBehind}
 use Rattle.gimli_lookup.proofs.SectionSearches.{none_is, refused, searched}
 use Rattle.gimli_line.proofs.Sources.{still_one}
+use Rattle.gimli_lookup.proofs.section_unit.UnitLookup.search.Goals.{
+  else-len-before-via-then-len-before+else-is_none,
+  else-len-before-via-else-len-before,
+}
 use Rattle.gimli_lookup.proofs.section_unit.UnitLookup.search.Goals as goal
 
 pub returns-in-Err-clause-searched : goal.returns-in-Err-clause-searched
@@ -50,8 +54,16 @@ returns-clause-searched g c =
     let kept =
     subst (λ (ps : List CoveringRows). AreKeptBehind c.args.addresses.now old ps new) c.deref.ensures.value
     c.in_ok-keep_pairs.ensures.ok in
+    let before : c.len-before.result ≡ length old = search rules in
+    let after : c.len.result ≡ length new = search rules in
+    let needed : (length new ≢ length old) ⊎ (is_some found.fault ≡ true) = elim c.else-len-before.branch [
+      | else-len-before-via-then-len-before+else-is_none w ↦
+          inr (w.is_none.ensures ∙ ap (λ b. not b) w.if-is_none.false)
+      | else-len-before-via-else-len-before w ↦
+          inl (λ same. omega (arith, before, after, same, w.if-len-before.false))
+    ] in
     rw (c.in-Ok.is, c.in_ok-boxed.ensures.ok)
     (searched c.args.lowest c.args.index c.args.addresses.now c.in-Ok.program found.run
     (g.R.Offset.ReaderOffset.number c.args.offset.0) found.fault _ old
     found.pairs.items new
-    parts.0 parts.1 c.in_ok-found-in-Ok.ensures.run.source.layout parts.2 kept (inl refl))
+    parts.0 parts.1 c.in_ok-found-in-Ok.ensures.run.source.layout parts.2 kept (inl (needed, refl)))
