@@ -41,7 +41,7 @@ pub fn print_addresses<R: Reader>(
     Ok(())
 }
 
-/// The files of one path in one unit, which count as one file there.
+/// The files of one spelling of a path in one unit, which count as one file there.
 #[derive(Drop)]
 struct UnitFiles {
     /// The index of the unit.
@@ -54,22 +54,8 @@ struct UnitFiles {
 #[derive(Drop)]
 struct PathFiles {
     path: Vec<u8>,
-    /// Those of each unit that has any.
+    /// Those of each spelling and unit that has any.
     units: Vec<UnitFiles>,
-}
-
-impl PathFiles {
-    /// Adds a file of a unit, after those of the units before.
-    fn add(&mut self, alloc: Global, unit: usize, number: u64) -> Result<()> {
-        match self.units.last_mut() {
-            Some(last) if last.unit == unit => last.numbers.push(number)?,
-            _ => {
-                let numbers = Vec::from_slice(alloc, &[number])?;
-                self.units.push(UnitFiles { unit, numbers })?;
-            }
-        }
-        Ok(())
-    }
 }
 
 /// The files that are meant, by their paths.
@@ -77,25 +63,44 @@ impl PathFiles {
 struct MeantFiles {
     /// The files of each path, in the order in which the paths are found.
     paths: Vec<PathFiles>,
-    /// The number of a path among these, by its components.
+    /// Where a path is among these, by its components.
     numbers: BTreeMap<Vec<u8>, usize>,
+    /// Where a spelling is: its path among these, and its last unit among those of the path.
+    spellings: BTreeMap<Vec<u8>, (usize, usize)>,
 }
 
 impl MeantFiles {
-    /// Adds a file of a unit to those of its path, by whatever spelling.
-    fn add(&mut self, alloc: Global, path: Vec<u8>, unit: usize, number: u64) -> Result<()> {
-        let components = resolved_path(alloc, &path)?;
-        let known = self.numbers.get(&components).copied();
-        if let Some(of) = known.and_then(|at| self.paths.get_mut(at)) {
-            return of.add(alloc, unit, number);
+    /// Where the path of a spelling is, which is appended where it is new.
+    fn number_of(&mut self, alloc: Global, path: &[u8]) -> Result<usize> {
+        let components = resolved_path(alloc, path)?;
+        if let Some(number) = self.numbers.get(&components).copied() {
+            return Ok(number);
         }
-        let mut of = PathFiles {
-            path,
-            units: Vec::new(alloc),
+        let number = self.paths.len();
+        self.numbers.insert(components, number)?;
+        let path = Vec::from_slice(alloc, path)?;
+        let units = Vec::new(alloc);
+        self.paths.push(PathFiles { path, units })?;
+        Ok(number)
+    }
+
+    /// Adds a file of a unit to those of its path, after those of the units before.
+    fn add(&mut self, alloc: Global, path: Vec<u8>, unit: usize, number: u64) -> Result<()> {
+        let (of, last) = match self.spellings.get(&path).copied() {
+            Some(known) => known,
+            None => (self.number_of(alloc, &path)?, usize::MAX),
         };
-        of.add(alloc, unit, number)?;
-        self.numbers.insert(components, self.paths.len())?;
-        self.paths.push(of)?;
+        let Some(files) = self.paths.get_mut(of) else {
+            return Ok(());
+        };
+        match files.units.get_mut(last) {
+            Some(last) if last.unit == unit => last.numbers.push(number)?,
+            _ => {
+                self.spellings.insert(path, (of, files.units.len()))?;
+                let numbers = Vec::from_slice(alloc, &[number])?;
+                files.units.push(UnitFiles { unit, numbers })?;
+            }
+        }
         Ok(())
     }
 }
@@ -218,6 +223,7 @@ impl<R: Reader> Search<'_, R> {
         let mut files = MeantFiles {
             paths: Vec::new(self.alloc),
             numbers: BTreeMap::new(self.alloc),
+            spellings: BTreeMap::new(self.alloc),
         };
         for (unit, kept) in self.lookup.units().iter().enumerate() {
             let Some(header) = kept.header() else {
