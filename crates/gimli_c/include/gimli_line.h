@@ -116,7 +116,8 @@ uint32_t gimli_line_version(void);
     X(NO_ELF, 44, "the bytes are no ELF file that can be read") \
     X(NO_SECTION, 45, "the ELF file has no section of this name") \
     X(BAD_SECTION, 46, "a section is cut, or its compression or relocations are unknown") \
-    X(INDEX_TOO_LARGE, 47, "an index would have more ranges, statements, files or bytes than 32 bits count, or longer paths than its limit") \
+    X(INDEX_TOO_LARGE, 47, \
+      "an index would have more ranges, statements, files or bytes than 32 bits count, or paths longer than its limit") \
     X(PLACE_TOO_LARGE, 48, "a line or a column is more than 32 bits hold")
 
 typedef enum gimli_line_status {
@@ -327,17 +328,17 @@ typedef enum gimli_line_no_path {
 
 /* Where code comes from, by an index. */
 typedef struct gimli_line_place {
-    uint64_t address; /* the address that is asked for */
-    uint64_t unit;    /* the offset in .debug_line of the unit that says so: the DW_AT_stmt_list of its compilation */
-    uint64_t first;   /* the first address of those around it of which all this holds: who asks for them needn't ask again */
-    uint64_t end;     /* the address after the last one of them; 0 where they go on up to the greatest address */
-    size_t path;      /* where the whole path begins, from the index's first byte on; 0 where there is none */
-    size_t path_size; /* in bytes, without the zero byte that follows */
-    uint32_t line;    /* from 1 on; 0 where none is known */
-    uint32_t column;  /* from 1 on; 0 for the left edge of the line */
-    uint32_t no_path; /* 0 where the path is there, else why not: a gimli_line_no_path, or GIMLI_LINE_NO_PATH_OUTSIDE */
-    bool known;       /* the index says something of the address */
-    bool is_stmt;     /* a good place for a breakpoint */
+    uint64_t address;  /* the address that is asked for */
+    uint64_t unit;     /* the offset in .debug_line of the unit that says so: the DW_AT_stmt_list of its compilation */
+    uint64_t first;    /* the first address of those around it of which all this holds: who asks for them needn't ask again */
+    uint64_t end;      /* the address after the last one of them; 0 where they go on up to the greatest address */
+    size_t path;       /* where the whole path begins, from the index's first byte on; 0 where there is none */
+    size_t path_size;  /* in bytes, without the zero byte that follows */
+    uint32_t line;     /* from 1 on; 0 where none is known */
+    uint32_t column;   /* from 1 on; 0 for the left edge of the line */
+    uint32_t no_path;  /* 0 where the path is there, else why not: a gimli_line_no_path, or GIMLI_LINE_NO_PATH_OUTSIDE */
+    bool known;        /* the index says something of the address */
+    bool is_stmt;      /* a good place for a breakpoint */
     bool prologue_end; /* the prologue of a function ends here: a good place for a breakpoint at the function */
 } gimli_line_place;
 
@@ -381,7 +382,7 @@ static inline const char *gimli_line_place_path(const void *index, const gimli_l
  * of the compilation; of a path that can't be told it has the reason. A unit that can't be read has no rows; of one whose run has a fault
  * the sequences that end before that count. Rows that no end row follows are in no sequence, and that is no fault. So it is
  * GIMLI_LINE_OK for any bytes of these sections but for GIMLI_LINE_UNSUPPORTED_ADDRESS_SIZE, GIMLI_LINE_OUT_OF_MEMORY,
- * GIMLI_LINE_INDEX_TOO_LARGE and GIMLI_LINE_PLACE_TOO_LARGE. Beside its identity and its paths it has at most 48 bytes, and 24 for each
+ * GIMLI_LINE_INDEX_TOO_LARGE and GIMLI_LINE_PLACE_TOO_LARGE. Beside its identity and its paths it has at most 48 bytes, and 36 for each
  * byte of .debug_line. A directory stands in the path of each of its files, so a few sections may have long paths:
  * GIMLI_LINE_INDEX_TOO_LARGE where all of them, each once with its zero byte, have more bytes than 256 times those of the sections and
  * 64 MiB. Where another number than 0 is answered, *index is null and *size is 0. */

@@ -232,7 +232,7 @@ static void limit_of_paths(void) {
 
 /* 8,000 files, each with a row: all in one directory of so many bytes, or each in one of its own that goes on from there. With 60,000 bytes
  * the paths have 480 MB and the sections at most 200 KB: no index. One that is made has at most 256 times their bytes and 64 MiB of paths,
- * and 48 bytes and 24 for each byte of the lines. */
+ * and 48 bytes and 36 for each byte of the lines. */
 static void long_paths(size_t length, bool own, uint32_t wanted) {
     enum { FILES = 8000, SIZE = 300000 };
     static const uint8_t head[] = {4, 0, 0, 0, 0, 0, 1, 1, 1, 0xfb, 14, 13, 0, 1, 1, 1, 1, 0, 0, 0, 1, 0, 0, 1},
