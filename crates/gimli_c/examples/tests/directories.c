@@ -278,7 +278,7 @@ static void long_paths(size_t length, bool own, uint32_t wanted) {
        "many files");
     is(gimli_line_index_of_sections(&in, NULL, 0, &index, &size) == wanted, "long paths");
     is(wanted == GIMLI_LINE_OK
-           ? size > FILES * length && size <= 280 * in.line_size + 256 * (in.info_size + sizeof declaration) + (64 << 20) + 48
+           ? size > FILES * length && size <= 292 * in.line_size + 256 * (in.info_size + sizeof declaration) + (64 << 20) + 48
            : index == NULL && size == 0,
        "the size of an index");
     free(lines);
