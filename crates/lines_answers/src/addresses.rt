@@ -3,7 +3,7 @@
 use gimli_core::Reader;
 use gimli_index::PathEnd;
 use gimli_line::LineRow;
-use gimli_lookup::{Addresses, CoveringRows, SectionLookup, SequenceRows};
+use gimli_lookup::{Addresses, SectionLookup, SequenceRows};
 use lines_inputs::{Functions, Input, PathSources, column_of, line_of, look_up, resolved_path};
 use lines_pieces::{Piece, Result, add, note, path_or_fault};
 use lines_words::{Json, Output, Request, SourcePlace, bytes_of_word};
@@ -117,13 +117,6 @@ fn first_of(first: Option<Addresses>, second: Option<Addresses>) -> Result<Optio
     }
 }
 
-/// Whether two rows say the same of their code.
-fn is_same_place(first: &CoveringRows, second: &CoveringRows) -> bool {
-    let (a, b) = (&first.row, &second.row);
-    let is_same_file = first.unit == second.unit && a.file_index() == b.file_index();
-    is_same_file && a.line() == b.line() && a.column() == b.column() && a.is_stmt() == b.is_stmt()
-}
-
 /// A search for addresses.
 #[derive(Clone, Copy)]
 struct Search<'s, R: Reader> {
@@ -166,7 +159,7 @@ impl<R: Reader> Search<'_, R> {
 
     /// An address, or that after the prologue where it is the beginning of a function, if that is
     /// asked for: the first one whose row is marked as the end of the prologue (DWARF 5, section
-    /// 6.2.2), and where none is, the first one of another place, as debuggers have it.
+    /// 6.2.2), and where none is, that of the second row, as debuggers have it.
     fn breakpoint(&self, address: u64) -> u64 {
         let Some(end) = self.functions.end_from(address) else {
             return address;
@@ -182,26 +175,8 @@ impl<R: Reader> Search<'_, R> {
                 _ => break,
             }
         }
-        self.second_place(address, end)
-    }
-
-    /// The first address from one on, and below an end, whose place is another than that of the
-    /// first; the first itself if there is none.
-    fn second_place(&self, address: u64, end: u64) -> u64 {
-        let first = self.lookup.find(address);
-        let mut next = address;
-        for _ in 0..u64::MAX {
-            match (first, self.lookup.find(next)) {
-                (Some(first), Some(found)) if next < end => {
-                    if !is_same_place(&first, &found) {
-                        return next;
-                    }
-                    next = found.next.address();
-                }
-                _ => break,
-            }
-        }
-        address
+        let second = self.end_of_row(address);
+        if second < end { second } else { address }
     }
 
     /// Prints an address by the row that covers it; false where none does.
