@@ -317,7 +317,9 @@ impl<R: Reader> Search<'_, R> {
         let mut first = None;
         for files in of.units.iter() {
             if files.unit < self.lookup.units().len() {
-                let in_unit = self.lookup.addresses_of_files(files.unit, &files.numbers, line);
+                let in_unit = self
+                    .lookup
+                    .addresses_of_files(files.unit, &files.numbers, line);
                 first = first_of(first, in_unit.map_err(|_| AllocError)?)?;
             }
         }
