@@ -11,7 +11,10 @@ use Rattle.gimli_lookup.specs.Section.{KeptUnit}
 use Rattle.gimli_lookup.specs.SectionUnits.{IsUnitOf}
 use Rattle.gimli_index.specs.declared.error.MakeError.{MakeError}
 use Rattle.gimli_index.specs.declared.error.MakeError.TheVariants.{NotAscending, TooManyEntries}
-use Rattle.gimli_index.specs.declared.error.MakeError.TheVariants.{TooManyStatements, TooManySources}
+use Rattle.gimli_index.specs.declared.error.MakeError.TheVariants.{
+  TooManyStatements,
+  TooManySources,
+}
 use Rattle.gimli_index.specs.declared.error.MakeError.TheVariants.{PathsTooLarge, IdentityTooLarge}
 use Rattle.gimli_index.specs.declared.error.MakeError.TheVariants.{LineTooLarge, ColumnTooLarge}
 use Rattle.gimli_index.specs.declared.error.MakeError.TheVariants.{OutOfMemory}
