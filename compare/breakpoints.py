@@ -5,8 +5,8 @@
     breakpoints.py check PROGRAM ASKED ANSWERS       compares the answers to these, each the line that has code and its addresses, or 'none'
     breakpoints.py gdb PROGRAM LINES ANSWERED FILE:COUNT..
                                                      each address at which gdb sets a breakpoint for the lines 1 to COUNT of a file is among
-                                                     the answers that the command ANSWERED gives, or among those of LINES, the program
-                                                     `lines`, after the prologue
+                                                     the answers that the command ANSWERED gives for this line, or for the one that gdb
+                                                     moved to; or among those of LINES, the program `lines`, past the prologue
 
 The last line says how many lines agree, how many addresses were lost and how many invented; the status is 1 where one was.
 """
@@ -179,28 +179,42 @@ def check(program, asked, answers):
     sys.exit(int(agree != count))
 
 
+def answers_of(answered, asked):
+    """The addresses that a command gives for lines of files."""
+    given = "".join(f"{line} {name}\n" for name, line in asked)
+    told = subprocess.run(answered.split(), input=given, capture_output=True, text=True, check=True).stdout
+    return {it: {int(word, 16) for word in line.split()[1:]} for it, line in zip(asked, told.splitlines(), strict=True)}
+
+
 def hold_gdb(program, lines, answered, files):
-    """The breakpoints of gdb are among the answers."""
+    """The breakpoints of gdb are among the answers. gdb leaves out a row that another file's row of its address follows, and so moves on
+    to a later line: what it sets there is held to the answers for the line that it names."""
     asked = [(name, at) for name, count in (it.rsplit(":", 1) for it in files) for at in range(1, int(count) + 1)]
     words = ["gdb", "-nx", "-batch", "-ex", "set breakpoint pending off", "-ex", "set width 0"]
     for name, at in asked:
         words += ["-ex", f"echo asked {name}:{at}\\n", "-ex", f"break {name}:{at}", "-ex", "info breakpoints", "-ex", "delete"]
     told = subprocess.run([*words, program], capture_output=True, text=True).stdout
-    ours = subprocess.run(answered.split(), input="".join(f"{at} {name}\n" for name, at in asked), capture_output=True, text=True).stdout
-    answers = [{int(it, 16) for it in line.split()[1:]} for line in ours.splitlines()]
     parts = re.split(r"^asked .*\n", told, flags=re.M)[1:]
-    held = missed = 0
-    for (name, at), part, known in zip(asked, parts, answers, strict=True):
-        own = {int(it, 16) for it in re.findall(r"\b0x[0-9a-f]{16}\b", part)}
-        if not own <= known:
-            after = subprocess.run([lines, "at", program, f"{name}:{at}", "--after-prologue"], capture_output=True, text=True).stdout
-            known = known | {int(line.split()[0], 16) for line in after.splitlines() if line[:1].isalnum()}
-        held += len(own & known)
-        missed += len(own - known)
-        for address in sorted(own - known):
-            print(f"{program}: gdb breaks at {address:#x} for {name}:{at}; known: {[hex(it) for it in sorted(known)]}")
-    print(f"{program}: {held} breakpoints of gdb for {len(asked)} lines are among the answers, {missed} aren't")
-    sys.exit(int(missed != 0 or held == 0))
+    places = [re.findall(r"\b(0x[0-9a-f]{16})\b.* at ([^ ]+):(\d+)$", part, re.M) for part in parts]
+    moved = sorted({(name, int(line)) for part in places for _, name, line in part})
+    known = answers_of(answered, asked + [it for it in moved if it not in asked])
+    own_line = other_line = after = missed = 0
+    for one, part in zip(asked, places, strict=True):
+        for address, name, line in part:
+            address = int(address, 16)
+            if address in known[one]:
+                own_line += 1
+            elif address in known[name, int(line)]:
+                other_line += 1
+            else:
+                past = printed(lines, "at", program, f"{one[0]}:{one[1]}", "--after-prologue")
+                is_past = any(int(it.split()[0], 16) == address for it in past.splitlines() if it[:1].isalnum())
+                after, missed = after + is_past, missed + (not is_past)
+                if not is_past:
+                    print(f"{program}: gdb breaks at {address:#x} of {name}:{line} for {one[0]}:{one[1]}: {[hex(it) for it in sorted(known[one])]}")
+    print(f"{program}: gdb's breakpoints for {len(asked)} lines: {own_line} are answers for the line, {other_line} for the line that gdb")
+    print(f"{program}: moved to, {after} are past a prologue, and {missed} are none of these")
+    sys.exit(int(missed != 0 or own_line == 0))
 
 
 command, *given = sys.argv[1:]
