@@ -186,6 +186,12 @@ def answers_of(answered, asked):
     return {it: {int(word, 16) for word in line.split()[1:]} for it, line in zip(asked, told.splitlines(), strict=True)}
 
 
+def past_prologue(program, lines, name, line):
+    """The addresses that `lines` prints for a line, past prologues where these begin functions."""
+    told = subprocess.run([lines, "at", program, f"{name}:{line}", "--after-prologue"], capture_output=True, text=True).stdout
+    return {int(it.split()[0], 16) for it in told.splitlines()}
+
+
 def hold_gdb(program, lines, answered, files):
     """The breakpoints of gdb are among the answers. gdb leaves out a row that another file's row of its address follows, and so moves on
     to a later line: what it sets there is held to the answers for the line that it names."""
@@ -207,8 +213,7 @@ def hold_gdb(program, lines, answered, files):
             elif address in known[name, int(line)]:
                 other_line += 1
             else:
-                past = printed(lines, "at", program, f"{one[0]}:{one[1]}", "--after-prologue")
-                is_past = any(int(it.split()[0], 16) == address for it in past.splitlines() if it[:1].isalnum())
+                is_past = address in past_prologue(program, lines, *one) | past_prologue(program, lines, name, line)
                 after, missed = after + is_past, missed + (not is_past)
                 if not is_past:
                     print(f"{program}: gdb breaks at {address:#x} of {name}:{line} for {one[0]}:{one[1]}: {[hex(it) for it in sorted(known[one])]}")
