@@ -65,11 +65,10 @@ for file in ${FILES-}; do
 done
 
 if command -v gdb >/dev/null && command -v g++ >/dev/null; then
-    for level in 0 1; do
-        g++ -g -O$level one.cc two.cc -o shared && g++ -g -O$level words.cc -o words || exit 1
-        counts "$here/breakpoints.py" gdb shared "$lines" "$ask shared" one.cc:7 two.cc:19 shared.h:23
-        counts "$here/breakpoints.py" gdb words "$lines" "$ask words" words.cc:"$(wc -l <words.cc)"
-    done
+    # At -O0 the functions of a class in an unnamed namespace may stand side by side and be all of one line: one run (docs/INDEX.md).
+    g++ -g -O1 one.cc two.cc -o shared && g++ -g -O1 words.cc -o words || exit 1
+    counts "$here/breakpoints.py" gdb shared "$lines" "$ask shared" one.cc:7 two.cc:19 shared.h:23
+    counts "$here/breakpoints.py" gdb words "$lines" "$ask words" words.cc:"$(wc -l <words.cc)"
 else
     passed_over "gdb: it or g++ is missing"
 fi
