@@ -189,6 +189,7 @@ pub struct Place {
     pub no_path: u32,
     pub known: bool,
     pub is_stmt: bool,
+    pub prologue_end: bool,
 }
 
 #[repr(C)]

@@ -79,7 +79,7 @@ impl Error {
     pub const INDEX_CUT: Error = Error(36);
     /// A size or the base in the header of an index is one that can't be.
     pub const INDEX_HEADER: Error = Error(37);
-    /// The ranges of an index don't ascend.
+    /// The ranges of an index don't ascend, or its statements aren't in order.
     pub const INDEX_DISORDERED: Error = Error(38);
     /// A path isn't inside its index.
     pub const INDEX_PATH_OUTSIDE: Error = Error(39);
@@ -167,7 +167,7 @@ const SENTENCES: [&str; 49] = [
     "the version of an index is unknown",
     "an index ends before its parts do",
     "a size or the base in the header of an index is one that can't be",
-    "the ranges of an index don't ascend",
+    "the ranges of an index don't ascend, or its statements aren't in order",
     "a path isn't inside its index",
     NONE,
     "no line from the one asked for on has code",
@@ -176,7 +176,7 @@ const SENTENCES: [&str; 49] = [
     "the bytes are no ELF file that can be read",
     "the ELF file has no section of this name",
     "a section is cut, or its compression or relocations are unknown",
-    "an index would have more ranges, files or bytes than 32 bits count, or longer paths than its limit",
+    "an index would have more ranges, statements, files or bytes than 32 bits count, or paths longer than its limit",
     "a line or a column is more than 32 bits hold",
 ];
 

@@ -24,6 +24,8 @@ pub struct Place<'a> {
     pub column: u32,
     /// Whether the code is a good place for a breakpoint.
     pub is_stmt: bool,
+    /// Whether the prologue of a function ends here: a good place for a breakpoint at the function.
+    pub prologue_end: bool,
     /// The offset in `.debug_line` of the unit that says so.
     pub unit: u64,
     /// The first address of those around the one that was asked for, of which all this holds.
@@ -74,7 +76,7 @@ impl<'a> Iterator for Ranges<'a> {
 pub struct Addresses {
     /// The line that has them: the one that was asked for, or the next that has any.
     pub line: u64,
-    /// The addresses.
+    /// The addresses, in ascending order, each once.
     pub addresses: Vec<u64>,
 }
 
@@ -198,7 +200,7 @@ impl<'a> Index<'a> {
         })
     }
 
-    /// Checks an index that nobody vouches for. It looks at each range, each path and the order.
+    /// Checks an index that nobody vouches for. It looks at each range, each path and each statement.
     ///
     /// # Errors
     ///
@@ -251,10 +253,10 @@ impl<'a> Index<'a> {
         Ranges { index: *self, next: 0 }
     }
 
-    /// The addresses for a breakpoint at a line of the files that a path names, ascending, or at the next line that has any. None
-    /// where no line from it on has code. A path names a file by its last components (`stl_map.h`, `bits/stl_map.h`), one from the
-    /// root is a whole one, and one without a component names none; `.` and `..` are resolved by text. These are the addresses that the
-    /// rows of the program give, if no two of its sequences overlap.
+    /// The addresses for a breakpoint at a line of the files that a path names, in ascending order, each once, or at the next line that
+    /// has any. None where no line from it on has code. A path names a file by its last components (`stl_map.h`, `bits/stl_map.h`), one
+    /// from the root is a whole one, and one without a component names none; `.` and `..` are resolved by text. These are the addresses
+    /// that the rows of the program give, also of functions that a linker dropped or folded.
     pub fn addresses_of(&self, path: &[u8], line: u64) -> Option<Addresses> {
         let mut found_line = 0;
         let addresses = whole(16, |room, count| {
@@ -275,7 +277,7 @@ impl<'a> Index<'a> {
             (0 | u32::MAX, _) => Err(NoPath::Outside),
             (reason, _) => Err(NoPath::Reason(reason)),
         };
-        let calls::Place { line, column, is_stmt, unit, first, end, .. } = *place;
-        Place { path, line, column, is_stmt, unit, first, end: Some(end).filter(|end| *end != 0) }
+        let calls::Place { line, column, is_stmt, prologue_end, unit, first, end, .. } = *place;
+        Place { path, line, column, is_stmt, prologue_end, unit, first, end: Some(end).filter(|end| *end != 0) }
     }
 }

@@ -5,26 +5,28 @@ use gimli_line_proved::{Addresses, Error, Index, NoPath};
 /// Two ranges of a file each, from 0x1000 and from 0x1010 on, a gap from 0x1020 on; the second file has no path, for the reason 4.
 fn small_index() -> Vec<u8> {
     let mut index = b"LINEIDX\0".to_vec();
-    index.extend(1u32.to_le_bytes());
+    index.extend(2u32.to_le_bytes());
     index.extend([8, 0, 4, 0]);
     index.extend(0x1000u64.to_le_bytes());
     for size in [3u32, 2, 5, 2, 1, 0] {
         index.extend(size.to_le_bytes());
     }
-    for (unit, size, reason) in [(7u64, 4u32, 0u32), (9, 0, 4)] {
+    // The number of the name a.c is (97 * 31 + 46) * 31 + 99; a file without a path has 0.
+    for (unit, size, reason, name) in [(7u64, 4u32, 0u32, 94_742u32), (9, 0, 4, 0)] {
         index.extend(unit.to_le_bytes());
-        for number in [0, size, reason, 0] {
+        for number in [0, size, reason, name] {
             index.extend(number.to_le_bytes());
         }
     }
     for start in [0u32, 0x10, 0x20] {
         index.extend(start.to_le_bytes());
     }
-    // The first is a statement.
-    for entry in [[0, 5, 2 | 1 << 31], [1, 6, 0], [u32::MAX, 0, 0]] {
+    // The first is a statement, and the prologue ends at the second.
+    for entry in [[0, 5, 2 | 1 << 31], [1, 6, 1 << 30], [u32::MAX, 0, 0]] {
         entry.iter().for_each(|number| index.extend(number.to_le_bytes()));
     }
-    index.extend(0u32.to_le_bytes()); // the order: the first start alone is a statement
+    // One statement: its source, its line, and its address above the base.
+    [0u32, 5, 0].iter().for_each(|number| index.extend(number.to_le_bytes()));
     index.extend(b"/a.c\0id");
     index
 }
@@ -37,9 +39,11 @@ fn places_are_those_of_the_index() {
     assert_eq!((index.len(), index.is_empty(), index.identity(), index.address_size()), (3, false, &b"id"[..], 8));
     let place = index.find(0x100f).expect("it is known");
     assert_eq!((place.path, place.line, place.column, place.unit, place.is_stmt), (Ok(&b"/a.c"[..]), 5, 2, 7, true));
+    assert!(!place.prologue_end);
     assert_eq!((place.first, place.end), (0x1000, Some(0x1010)));
     let place = index.find(0x1010).expect("it is known");
     assert_eq!((place.path, place.line, place.unit, place.is_stmt), (Err(NoPath::Reason(4)), 6, 9, false));
+    assert!(place.prologue_end && place.column == 0);
     assert_eq!((place.first, place.end), (0x1010, Some(0x1020)));
     assert_eq!([0, 0xfff, 0x1020, u64::MAX].map(|address| index.find(address)), [None; 4]);
     let addresses = [0xfff, 0x1000, 0x101f, 0x1020];
@@ -103,9 +107,9 @@ fn what_is_no_index_is_refused() {
         let error = Index::open(&bytes[..length]).map(|_| ()).expect_err("it is cut");
         assert!(error == Error::NO_INDEX && length < 8 || error == Error::INDEX_CUT && length >= 8);
     }
-    bytes[8] = 2;
-    assert_eq!(Index::open(&bytes).map(|_| ()), Err(Error::UNKNOWN_INDEX_VERSION));
     bytes[8] = 1;
+    assert_eq!(Index::open(&bytes).map(|_| ()), Err(Error::UNKNOWN_INDEX_VERSION));
+    bytes[8] = 2;
     bytes[12] = 3;
     assert_eq!(Index::open(&bytes).map(|_| ()), Err(Error::INDEX_HEADER));
     bytes[12] = 8;

@@ -108,7 +108,7 @@ uint32_t gimli_line_version(void);
     X(UNKNOWN_INDEX_VERSION, 35, "the version of an index is unknown") \
     X(INDEX_CUT, 36, "an index ends before its parts do") \
     X(INDEX_HEADER, 37, "a size or the base in the header of an index is one that can't be") \
-    X(INDEX_DISORDERED, 38, "the ranges of an index don't ascend, or its order is another") \
+    X(INDEX_DISORDERED, 38, "the ranges of an index don't ascend, or its statements aren't in order") \
     X(INDEX_PATH_OUTSIDE, 39, "a path isn't inside its index") \
     X(NO_CODE, 41, "no line from the one asked for on has code") \
     X(NO_COMP_DIR, 42, "no unit of .debug_info tells the directory of the compilation") \
@@ -116,7 +116,8 @@ uint32_t gimli_line_version(void);
     X(NO_ELF, 44, "the bytes are no ELF file that can be read") \
     X(NO_SECTION, 45, "the ELF file has no section of this name") \
     X(BAD_SECTION, 46, "a section is cut, or its compression or relocations are unknown") \
-    X(INDEX_TOO_LARGE, 47, "an index would have more ranges, files or bytes than 32 bits count, or longer paths than its limit") \
+    X(INDEX_TOO_LARGE, 47, \
+      "an index would have more ranges, statements, files or bytes than 32 bits count, or paths longer than its limit") \
     X(PLACE_TOO_LARGE, 48, "a line or a column is more than 32 bits hold")
 
 typedef enum gimli_line_status {
@@ -302,7 +303,7 @@ gimli_line_status gimli_line_index_open(const void *index, size_t length, gimli_
 
 /* Checks an index that nobody vouches for: that its ranges ascend (GIMLI_LINE_INDEX_DISORDERED), and that each path is inside it
  * with a zero byte after it (GIMLI_LINE_INDEX_PATH_OUTSIDE), and that its statements are in order (GIMLI_LINE_INDEX_DISORDERED). Looks at
- * each range, each path and the order. */
+ * each range, each path and each statement. */
 gimli_line_status gimli_line_index_check(const void *index, size_t length) GIMLI_LINE_CALL GIMLI_LINE_NONNULL;
 
 /* Why a place has no path: GIMLI_LINE_NO_PATH_STRING_INDEX and so on, each with its number and what it says, as docs/INDEX.md has them. */
@@ -327,17 +328,18 @@ typedef enum gimli_line_no_path {
 
 /* Where code comes from, by an index. */
 typedef struct gimli_line_place {
-    uint64_t address; /* the address that is asked for */
-    uint64_t unit;    /* the offset in .debug_line of the unit that says so: the DW_AT_stmt_list of its compilation */
-    uint64_t first;   /* the first address of those around it of which all this holds: who asks for them needn't ask again */
-    uint64_t end;     /* the address after the last one of them; 0 where they go on up to the greatest address */
-    size_t path;      /* where the whole path begins, from the index's first byte on; 0 where there is none */
-    size_t path_size; /* in bytes, without the zero byte that follows */
-    uint32_t line;    /* from 1 on; 0 where none is known */
-    uint32_t column;  /* from 1 on; 0 for the left edge of the line */
-    uint32_t no_path; /* 0 where the path is there, else why not: a gimli_line_no_path, or GIMLI_LINE_NO_PATH_OUTSIDE */
-    bool known;       /* the index says something of the address */
-    bool is_stmt;     /* a good place for a breakpoint */
+    uint64_t address;  /* the address that is asked for */
+    uint64_t unit;     /* the offset in .debug_line of the unit that says so: the DW_AT_stmt_list of its compilation */
+    uint64_t first;    /* the first address of those around it of which all this holds: who asks for them needn't ask again */
+    uint64_t end;      /* the address after the last one of them; 0 where they go on up to the greatest address */
+    size_t path;       /* where the whole path begins, from the index's first byte on; 0 where there is none */
+    size_t path_size;  /* in bytes, without the zero byte that follows */
+    uint32_t line;     /* from 1 on; 0 where none is known */
+    uint32_t column;   /* from 1 on; 0 for the left edge of the line */
+    uint32_t no_path;  /* 0 where the path is there, else why not: a gimli_line_no_path, or GIMLI_LINE_NO_PATH_OUTSIDE */
+    bool known;        /* the index says something of the address */
+    bool is_stmt;      /* a good place for a breakpoint */
+    bool prologue_end; /* the prologue of a function ends here: a good place for a breakpoint at the function */
 } gimli_line_place;
 
 /* Tells where the code at an address comes from. GIMLI_LINE_NO_ROW where the index says nothing of it; one of GIMLI_LINE_NO_INDEX to
@@ -359,13 +361,14 @@ gimli_line_status gimli_line_index_range(const void *index, size_t length, size_
                                          gimli_line_place *place) GIMLI_LINE_CALL GIMLI_LINE_NONNULL;
 
 /* Tells the addresses for a breakpoint at a line of the files that a path names: by its last components (stl_map.h, bits/stl_map.h), or
- * whole where it begins with a separator; one without a component names none; `.` and `..` are resolved by text. Of each run of ranges of
- * that line that stand side by side the address of the first that is a statement. Where the line has none, those of the next line that
- * has; *found_line is that line. They go into addresses[0] and so on, ascending; *count is how many there are. GIMLI_LINE_NO_ROOM where
- * `room` is less: *count is written then, and nothing else. GIMLI_LINE_NO_CODE where no line from it on has any; one of
- * GIMLI_LINE_NO_INDEX to GIMLI_LINE_INDEX_HEADER where the bytes begin with no index. Where another number than these is answered, nothing
- * is written. Searches the order of the statements by halves, and looks at those of the line. In an index that this library made these are
- * the addresses that the rows of the program give, if no two of its sequences overlap (docs/INDEX.md). */
+ * whole where it begins with a separator; one without a component names none; `.` and `..` are resolved by text. Of each run of rows of
+ * that line of one file that stand side by side in a sequence, the address of the first that is a statement. Where the line has none,
+ * those of the next line that has; *found_line is that line. They go into addresses[0] and so on, in ascending order, each once; *count is
+ * how many there are. GIMLI_LINE_NO_ROOM where `room` is less: *count is written then, and nothing else. GIMLI_LINE_NO_CODE where no line
+ * from it on has any; one of GIMLI_LINE_NO_INDEX to GIMLI_LINE_INDEX_HEADER where the bytes begin with no index. Where another number than
+ * these is answered, nothing is written. Searches the statements by halves, and looks at those of the line in files of the same name. In
+ * an index that this library made these are the addresses that the rows of the program give, also of functions that a linker dropped or
+ * folded (docs/INDEX.md). */
 gimli_line_status gimli_line_index_addresses_of(const void *index, size_t length, const char *path, size_t path_length, uint64_t line,
                                                 uint64_t *found_line, uint64_t *addresses, size_t room, size_t *count) GIMLI_LINE_CALL;
 
@@ -379,7 +382,7 @@ static inline const char *gimli_line_place_path(const void *index, const gimli_l
  * of the compilation; of a path that can't be told it has the reason. A unit that can't be read has no rows; of one whose run has a fault
  * the sequences that end before that count. Rows that no end row follows are in no sequence, and that is no fault. So it is
  * GIMLI_LINE_OK for any bytes of these sections but for GIMLI_LINE_UNSUPPORTED_ADDRESS_SIZE, GIMLI_LINE_OUT_OF_MEMORY,
- * GIMLI_LINE_INDEX_TOO_LARGE and GIMLI_LINE_PLACE_TOO_LARGE. Beside its identity and its paths it has at most 48 bytes, and 24 for each
+ * GIMLI_LINE_INDEX_TOO_LARGE and GIMLI_LINE_PLACE_TOO_LARGE. Beside its identity and its paths it has at most 48 bytes, and 36 for each
  * byte of .debug_line. A directory stands in the path of each of its files, so a few sections may have long paths:
  * GIMLI_LINE_INDEX_TOO_LARGE where all of them, each once with its zero byte, have more bytes than 256 times those of the sections and
  * 64 MiB. Where another number than 0 is answered, *index is null and *size is 0. */

@@ -2,7 +2,7 @@
 -- 6.2.2.
 use Rattle.std.specs.Prelude.{◌≡◌, ◌<◌, ℕ, List, length}
 use Rattle.gimli_index.specs.Lines.{addresses_of}
-use Rattle.gimli_index.specs.Meaning.{starts_of}
+use Rattle.gimli_index.specs.Meaning.{statements_of}
 use Rattle.gimli_index.specs.Order.{IsOrdered}
 use Rattle.gimli_index.specs.Parts.{Index}
 use Rattle.gimli_lookup.specs.Statements.{HasNoLine, IsFirstLine}
@@ -15,8 +15,8 @@ pub record GivesIndexAddresses (bytes path : List ℕ) (asked line : ℕ) (addre
     : Type 0 where
   pub index : Index
   pub is : IsIndex bytes index
-  pub is_first : IsOrdered index → IsFirstLine (addresses_of path (starts_of index)) asked line
-  pub addresses_are : IsOrdered index → addresses ≡ addresses_of path (starts_of index) line
+  pub is_first : IsOrdered index → IsFirstLine (addresses_of path (statements_of index)) asked line
+  pub addresses_are : IsOrdered index → addresses ≡ addresses_of path (statements_of index) line
 
 -- those addresses at the front of an array of the caller, and how many there are
 abbrev pub WritesIndexAddresses : List ℕ → List ℕ → ℕ → ℕ → List ℕ → List ℕ → ℕ → Type 0
@@ -35,4 +35,4 @@ NeedsAddressRoom bytes path asked old count =
 pub record HasNoIndexAddress (bytes path : List ℕ) (asked : ℕ) : Type 0 where
   pub index : Index
   pub is : IsIndex bytes index
-  pub none : IsOrdered index → HasNoLine (addresses_of path (starts_of index)) asked
+  pub none : IsOrdered index → HasNoLine (addresses_of path (statements_of index)) asked

@@ -90,6 +90,7 @@ pub record SeesPlace (bytes : List ℕ) (address : ℕ) (place : Place) (seen : 
   pub line : seen.line ≡ place.line
   pub column : seen.column ≡ place.column
   pub is_stmt : seen.is_stmt ≡ place.is_stmt
+  pub prologue_end : seen.prologue_end ≡ place.prologue_end
   pub unit : seen.unit ≡ place.unit
   pub path : SeesPath bytes place.path seen.path seen.path_size seen.no_path
 
@@ -129,6 +130,7 @@ unknown_place address first end = record {
   no_path = 0;
   known = false;
   is_stmt = false;
+  prologue_end = false;
   first = first;
   end = end;
 }

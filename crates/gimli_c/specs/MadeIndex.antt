@@ -11,9 +11,13 @@ use Rattle.gimli_lookup.specs.Section.{KeptUnit}
 use Rattle.gimli_lookup.specs.SectionUnits.{IsUnitOf}
 use Rattle.gimli_index.specs.declared.error.MakeError.{MakeError}
 use Rattle.gimli_index.specs.declared.error.MakeError.TheVariants.{NotAscending, TooManyEntries}
-use Rattle.gimli_index.specs.declared.error.MakeError.TheVariants.{TooManySources, PathsTooLarge}
-use Rattle.gimli_index.specs.declared.error.MakeError.TheVariants.{IdentityTooLarge, LineTooLarge}
-use Rattle.gimli_index.specs.declared.error.MakeError.TheVariants.{ColumnTooLarge, OutOfMemory}
+use Rattle.gimli_index.specs.declared.error.MakeError.TheVariants.{
+  TooManyStatements,
+  TooManySources,
+}
+use Rattle.gimli_index.specs.declared.error.MakeError.TheVariants.{PathsTooLarge, IdentityTooLarge}
+use Rattle.gimli_index.specs.declared.error.MakeError.TheVariants.{LineTooLarge, ColumnTooLarge}
+use Rattle.gimli_index.specs.declared.error.MakeError.TheVariants.{OutOfMemory}
 use Rattle.gimli_c.specs.Written.{slots_with}
 
 -- ---- what an index is made of
@@ -111,6 +115,7 @@ pub record NeedsIndexRoom (m : IndexSource) (old : List ℕ) (size : ℕ) : Type
 abbrev pub make_status : MakeError → ℕ
 make_status NotAscending = 38
 make_status TooManyEntries = 47
+make_status TooManyStatements = 47
 make_status TooManySources = 47
 make_status PathsTooLarge = 47
 make_status IdentityTooLarge = 47

@@ -86,7 +86,7 @@ pub const UNKNOWN_INDEX_VERSION: u32 = 35;
 pub const INDEX_CUT: u32 = 36;
 /// A size or the base in the header of an index is one that can't be.
 pub const INDEX_HEADER: u32 = 37;
-/// The ranges of an index don't ascend.
+/// The ranges of an index don't ascend, or its statements aren't in order.
 pub const INDEX_DISORDERED: u32 = 38;
 /// A path isn't inside its index.
 pub const INDEX_PATH_OUTSIDE: u32 = 39;
@@ -104,10 +104,10 @@ pub const NO_SECTION: u32 = 45;
 /// A section of an ELF file can't be read: it is cut, compressed in a way that is unknown, or its
 /// relocations are.
 pub const BAD_SECTION: u32 = 46;
-/// An index would have ranges, files, bytes of paths or bytes of its identity that 32 bits don't
-/// count, or more bytes of paths than the limit for them.
+/// An index would have ranges, statements, files, bytes of paths or bytes of its identity that 32
+/// bits don't count, or more bytes of paths than the limit for them.
 pub const INDEX_TOO_LARGE: u32 = 47;
-/// A line that an index would have is one that 32 bits don't hold, or a column one that 31 don't.
+/// A line that an index would have is one that 32 bits don't hold, or a column one that 30 don't.
 pub const PLACE_TOO_LARGE: u32 = 48;
 
 /// The number of a refusal.

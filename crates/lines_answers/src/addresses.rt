@@ -3,8 +3,8 @@
 use gimli_core::Reader;
 use gimli_index::PathEnd;
 use gimli_line::LineRow;
-use gimli_lookup::{Addresses, SectionLookup, SequenceRows, join_addresses};
-use lines_inputs::{Functions, Input, PathSources, column_of, line_of, look_up};
+use gimli_lookup::{Addresses, SectionLookup, SequenceRows};
+use lines_inputs::{Functions, Input, PathSources, column_of, line_of, look_up, resolved_path};
 use lines_pieces::{Piece, Result, add, note, path_or_fault};
 use lines_words::{Json, Output, Request, SourcePlace, bytes_of_word};
 use std::alloc::{AllocError, Global};
@@ -41,36 +41,80 @@ pub fn print_addresses<R: Reader>(
     Ok(())
 }
 
-/// A file of a unit.
-#[derive(Clone, Copy)]
-struct SeenFile {
+/// The files of one spelling of a path in one unit, which count as one file there.
+#[derive(Drop)]
+struct UnitFiles {
     /// The index of the unit.
     unit: usize,
-    /// The index of the file in the header of the unit.
-    index: u64,
+    /// Their indices in the header of the unit.
+    numbers: Vec<u64>,
 }
 
 /// The files of one path, by its first spelling.
 #[derive(Drop)]
 struct PathFiles {
     path: Vec<u8>,
-    files: Vec<SeenFile>,
+    /// Those of each spelling and unit that has any.
+    units: Vec<UnitFiles>,
 }
 
-/// Adds a file to those of its path, by whatever spelling.
-fn add_file(alloc: Global, all: &mut Vec<PathFiles>, path: Vec<u8>, file: SeenFile) -> Result<()> {
-    let end = PathEnd::new(&path);
-    for one in all.iter_mut() {
-        let is_same = one.path == path
-            || end.is_end_of(&one.path) && PathEnd::new(&one.path).is_end_of(&path);
-        if is_same {
-            one.files.push(file)?;
-            return Ok(());
+/// The files that are meant, by their paths.
+#[derive(Drop)]
+struct MeantFiles {
+    /// The files of each path, in the order in which the paths are found.
+    paths: Vec<PathFiles>,
+    /// Where a path is among these, by its components.
+    numbers: BTreeMap<Vec<u8>, usize>,
+    /// Where a spelling is: its path among these, and its last unit among those of the path.
+    spellings: BTreeMap<Vec<u8>, (usize, usize)>,
+}
+
+impl MeantFiles {
+    /// Where the path of a spelling is, which is appended where it is new.
+    fn number_of(&mut self, alloc: Global, path: &[u8]) -> Result<usize> {
+        let components = resolved_path(alloc, path)?;
+        if let Some(number) = self.numbers.get(&components).copied() {
+            return Ok(number);
         }
+        let number = self.paths.len();
+        self.numbers.insert(components, number)?;
+        let path = Vec::from_slice(alloc, path)?;
+        let units = Vec::new(alloc);
+        self.paths.push(PathFiles { path, units })?;
+        Ok(number)
     }
-    let files = Vec::from_slice(alloc, &[file])?;
-    all.push(PathFiles { path, files })?;
-    Ok(())
+
+    /// Adds a file of a unit to those of its path, after those of the units before.
+    fn add(&mut self, alloc: Global, path: Vec<u8>, unit: usize, number: u64) -> Result<()> {
+        let (of, last) = match self.spellings.get(&path).copied() {
+            Some(known) => known,
+            None => (self.number_of(alloc, &path)?, usize::MAX),
+        };
+        let Some(files) = self.paths.get_mut(of) else {
+            return Ok(());
+        };
+        match files.units.get_mut(last) {
+            Some(last) if last.unit == unit => last.numbers.push(number)?,
+            _ => {
+                self.spellings.insert(path, (of, files.units.len()))?;
+                let numbers = Vec::from_slice(alloc, &[number])?;
+                files.units.push(UnitFiles { unit, numbers })?;
+            }
+        }
+        Ok(())
+    }
+}
+
+/// Those of two answers that are of the first line, or both together if that is the same.
+fn first_of(first: Option<Addresses>, second: Option<Addresses>) -> Result<Option<Addresses>> {
+    match (first, second) {
+        (Some(mut a), Some(b)) if a.line == b.line => {
+            a.addresses.extend_from_slice(&b.addresses)?;
+            Ok(Some(a))
+        }
+        (Some(a), Some(b)) => Ok(Some(if a.line < b.line { a } else { b })),
+        (a, b) => Ok(a.or(b)),
+    }
 }
 
 /// A search for addresses.
@@ -88,7 +132,7 @@ impl<R: Reader> Search<'_, R> {
     /// any.
     fn print_line(&self, path: &str, line: u64, output: &mut Output<'_>) -> Result<bool> {
         let end = bytes_of_word(self.alloc, path)?;
-        let all = self.find_files(PathEnd::new(&end))?;
+        let all = self.find_files(PathEnd::new(&end))?.paths;
         if all.is_empty() {
             note("no file's path ends with %", &[Piece::Name(path)], output);
         }
@@ -150,8 +194,12 @@ impl<R: Reader> Search<'_, R> {
     }
 
     /// The files that are meant in all units. One that has no path is passed over.
-    fn find_files(&self, end: PathEnd<'_>) -> Result<Vec<PathFiles>> {
-        let mut files = Vec::new(self.alloc);
+    fn find_files(&self, end: PathEnd<'_>) -> Result<MeantFiles> {
+        let mut files = MeantFiles {
+            paths: Vec::new(self.alloc),
+            numbers: BTreeMap::new(self.alloc),
+            spellings: BTreeMap::new(self.alloc),
+        };
         for (unit, kept) in self.lookup.units().iter().enumerate() {
             let Some(header) = kept.header() else {
                 continue;
@@ -159,7 +207,7 @@ impl<R: Reader> Search<'_, R> {
             for index in 0..=header.file_names().len() as u64 {
                 match self.sources.known_path(self.alloc, header, index)? {
                     Some(path) if end.is_end_of(&path) => {
-                        add_file(self.alloc, &mut files, path, SeenFile { unit, index })?;
+                        files.add(self.alloc, path, unit, index)?;
                     }
                     _ => {}
                 }
@@ -171,10 +219,10 @@ impl<R: Reader> Search<'_, R> {
     /// Prints the addresses in the files of one path, those of the rows of the line where none is a
     /// statement, and returns whether there is any.
     fn print_of_path(&self, of: &PathFiles, line: u64, output: &mut Output<'_>) -> Result<bool> {
-        let found = self.addresses_of(&of.files, line)?;
+        let found = self.addresses_of(of, line)?;
         let next = found.as_ref().map(|found| found.line);
         if next != Some(line) {
-            let others = self.columns_of(&of.files, line, false)?;
+            let others = self.columns_of(&of.units, line, false)?;
             for (address, column) in &others {
                 self.print_address(&of.path, line, false, *address, Some(*column), output);
             }
@@ -204,7 +252,7 @@ impl<R: Reader> Search<'_, R> {
         output: &mut Output<'_>,
     ) -> Result<bool> {
         let has_column = self.request.has_column || output.is_json();
-        let files = if has_column { of.files.as_slice() } else { &[] };
+        let files = if has_column { of.units.as_slice() } else { &[] };
         let columns = self.columns_of(files, found.line, true)?;
         let mut printed = HashSet::new(self.alloc);
         for address in &found.addresses {
@@ -263,47 +311,53 @@ impl<R: Reader> Search<'_, R> {
         }
     }
 
-    /// The addresses in files: those of the first line from the asked one on that has any.
-    fn addresses_of(&self, files: &[SeenFile], line: u64) -> Result<Option<Addresses>> {
-        let mut found = None;
-        for file in files {
-            if file.unit < self.lookup.units().len() {
-                let in_file = self.lookup.addresses_of_file(file.unit, file.index, line);
-                let in_file = in_file.map_err(|_| AllocError)?;
-                found = join_addresses(found, in_file).map_err(|_| AllocError)?;
+    /// The addresses in the files of a path: those of the first line from the asked one on that has
+    /// any in a unit, in ascending order, each once.
+    fn addresses_of(&self, of: &PathFiles, line: u64) -> Result<Option<Addresses>> {
+        let mut first = None;
+        for files in of.units.iter() {
+            if files.unit < self.lookup.units().len() {
+                let in_unit = self
+                    .lookup
+                    .addresses_of_files(files.unit, &files.numbers, line);
+                first = first_of(first, in_unit.map_err(|_| AllocError)?)?;
             }
         }
-        Ok(found)
+        if let Some(found) = &mut first {
+            found.addresses.sort_unstable();
+            found.addresses.dedup();
+        }
+        Ok(first)
     }
 
     /// The columns of the rows of a line in files, by their addresses.
     fn columns_of(
         &self,
-        files: &[SeenFile],
+        units: &[UnitFiles],
         line: u64,
         is_stmt: bool,
     ) -> Result<BTreeMap<u64, u64>> {
         let mut columns = BTreeMap::new(self.alloc);
-        for file in files {
-            self.add_columns_of(*file, line, is_stmt, &mut columns)?;
+        for files in units {
+            self.add_columns_of(files, line, is_stmt, &mut columns)?;
         }
         Ok(columns)
     }
 
-    /// Adds the columns of the rows of a line in one file.
+    /// Adds the columns of the rows of a line in the files of one unit.
     fn add_columns_of(
         &self,
-        file: SeenFile,
+        files: &UnitFiles,
         line: u64,
         is_stmt: bool,
         columns: &mut BTreeMap<u64, u64>,
     ) -> Result<()> {
-        if file.unit >= self.lookup.units().len() {
+        if files.unit >= self.lookup.units().len() {
             return Ok(());
         }
-        for index in 0..self.lookup.sequence_count(file.unit) {
-            if let Some(rows) = self.lookup.sequence(file.unit, index) {
-                self.add_columns(rows, file, line, is_stmt, columns)?;
+        for index in 0..self.lookup.sequence_count(files.unit) {
+            if let Some(rows) = self.lookup.sequence(files.unit, index) {
+                self.add_columns(rows, files, line, is_stmt, columns)?;
             }
         }
         Ok(())
@@ -313,15 +367,15 @@ impl<R: Reader> Search<'_, R> {
     fn add_columns(
         &self,
         rows: SequenceRows<'_>,
-        file: SeenFile,
+        files: &UnitFiles,
         line: u64,
         is_stmt: bool,
         columns: &mut BTreeMap<u64, u64>,
     ) -> Result<()> {
         for index in 0..rows.len() {
             let row = rows.row(index);
-            let is_meant = row.file_index() == file.index && line_of(&row) == line;
-            if is_meant && row.is_stmt() == is_stmt && self.is_code(file.unit, &row) {
+            let is_meant = line_of(&row) == line && files.numbers.contains(&row.file_index());
+            if is_meant && row.is_stmt() == is_stmt && self.is_code(files.unit, &row) {
                 columns.insert(row.address(), column_of(&row))?;
             }
         }

@@ -13,7 +13,7 @@ pub use files::{build_id_in, write_file};
 pub use functions::Functions;
 pub use input::{Input, InputError, InputSections, tell_refusal};
 pub use lookup::{Covering, look_up, look_up_any, look_up_each};
-pub use path_sources::{PathFault, PathSources};
+pub use path_sources::{PathFault, PathSources, resolved_path};
 pub use units::{
     FlagLetters, Printing, RowCount, UnitRows, Walk, column_of, flags_of, line_of, show_reading,
 };

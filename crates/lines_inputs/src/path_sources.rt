@@ -173,3 +173,30 @@ impl fmt::Display for PathFault {
         Ok(())
     }
 }
+
+/// The components of a path, each with `/` before it: the same bytes for all spellings of one path,
+/// and for no other. `/` and backslashes part components; an empty one and `.` are dropped; `..`
+/// drops the one before it, but nothing above the root. Where it has none before it, it stays. The
+/// root is a component without bytes.
+pub fn resolved_path(alloc: Global, path: &[u8]) -> Result<Vec<u8>, AllocError> {
+    let is_whole = matches!(path, [b'/' | b'\\', ..]);
+    let mut resolved = Vec::from_slice(alloc, if is_whole { b"/" } else { b"" })?;
+    // Where the components begin that `..` drops.
+    let mut begins = Vec::new(alloc);
+    for component in path.split(|byte| *byte == b'/' || *byte == b'\\') {
+        match component {
+            [] | [b'.'] => {}
+            [b'.', b'.'] => match begins.pop() {
+                Some(begin) => resolved.truncate(begin),
+                None if is_whole => {}
+                None => resolved.extend_from_slice(b"/..")?,
+            },
+            _ => {
+                begins.push(resolved.len())?;
+                resolved.push(b'/')?;
+                resolved.extend_from_slice(component)?;
+            }
+        }
+    }
+    Ok(resolved)
+}

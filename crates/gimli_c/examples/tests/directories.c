@@ -232,7 +232,7 @@ static void limit_of_paths(void) {
 
 /* 8,000 files, each with a row: all in one directory of so many bytes, or each in one of its own that goes on from there. With 60,000 bytes
  * the paths have 480 MB and the sections at most 200 KB: no index. One that is made has at most 256 times their bytes and 64 MiB of paths,
- * and 48 bytes and 24 for each byte of the lines. */
+ * and 48 bytes and 36 for each byte of the lines. */
 static void long_paths(size_t length, bool own, uint32_t wanted) {
     enum { FILES = 8000, SIZE = 300000 };
     static const uint8_t head[] = {4, 0, 0, 0, 0, 0, 1, 1, 1, 0xfb, 14, 13, 0, 1, 1, 1, 1, 0, 0, 0, 1, 0, 0, 1},
@@ -278,7 +278,7 @@ static void long_paths(size_t length, bool own, uint32_t wanted) {
        "many files");
     is(gimli_line_index_of_sections(&in, NULL, 0, &index, &size) == wanted, "long paths");
     is(wanted == GIMLI_LINE_OK
-           ? size > FILES * length && size <= 280 * in.line_size + 256 * (in.info_size + sizeof declaration) + (64 << 20) + 48
+           ? size > FILES * length && size <= 292 * in.line_size + 256 * (in.info_size + sizeof declaration) + (64 << 20) + 48
            : index == NULL && size == 0,
        "the size of an index");
     free(lines);

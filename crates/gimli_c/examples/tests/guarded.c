@@ -88,7 +88,7 @@ static void ask_address(const uint8_t *index, size_t length, uint64_t address) {
     comp_dir_size = home.count;
     is(try_rooms(path_in, offset, row.file, 1, sizeof(size_t), 0, &path) == GIMLI_LINE_OK, "the path of a row");
     is(there->known && there->address == address && there->unit == offset && there->line == row.line && there->column == row.column &&
-           there->is_stmt == (row.flags & GIMLI_LINE_IS_STMT),
+           there->is_stmt == (row.flags & GIMLI_LINE_IS_STMT) && there->prologue_end == ((row.flags & GIMLI_LINE_PROLOGUE_END) != 0),
        "a place");
     is(there->no_path == 0 && there->path_size == path.count && memcmp(gimli_line_place_path(index, there), path.array, path.count) == 0,
        "its path");

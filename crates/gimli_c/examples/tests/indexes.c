@@ -50,18 +50,18 @@ static int by_number(const void *one, const void *other) {
     return (a > b) - (a < b);
 }
 
-/* The key of a statement in the order: the number of the name of its file, and below it the line. */
-static uint64_t order_key(size_t source, uint64_t line) {
+/* The number of the name of a source. */
+static uint64_t name_number(size_t source) {
     uint64_t number = 0;
     const char *name = strrchr(paths[source], '/');
     for (name = name != NULL ? name + 1 : ""; *name != 0; name++) number = (number * 31 + (uint8_t)*name) % (UINT64_C(1) << 31);
-    return (number << 32) + line;
+    return number;
 }
 
 /* `ranges` ranges of 16 bytes, each third one a gap: range i has the line i + 1, the column i % 7, and the source i % sources. Where i is
- * even, it is a statement. Starts have `size` bytes. */
+ * even, it is a statement, and where i % 5 is 0, a prologue ends. Starts have `size` bytes. */
 static bytes made(size_t ranges, size_t sources, size_t size) {
-    bytes index = {malloc(64 + sources * 64 + ranges * 24), 0};
+    bytes index = {malloc(64 + sources * 64 + ranges * 36), 0};
     is(index.at != NULL, "memory for an index");
     size_t paths_size = 0;
     for (size_t i = 0; i < sources; i++) {
@@ -69,7 +69,7 @@ static bytes made(size_t ranges, size_t sources, size_t size) {
         paths_size += stored(i);
     }
     put_text(&index, "LINEIDX", 8);
-    put(&index, 1, 4);
+    put(&index, 2, 4);
     put(&index, 8, 2);
     put(&index, size, 2);
     put(&index, size == 4 ? base : 0, 8);
@@ -78,10 +78,10 @@ static bytes made(size_t ranges, size_t sources, size_t size) {
     put(&index, paths_size, 4);
     put(&index, 5, 4);
     uint64_t *keys = malloc((ranges + 1) * sizeof *keys);
-    is(keys != NULL, "memory for an order");
+    is(keys != NULL, "memory for statements");
     size_t statements = 0;
     for (size_t i = 0; i < ranges; i++)
-        if (i % 2 == 0 && i % 3 != 2) keys[statements++] = order_key(i % sources, i + 1);
+        if (i % 2 == 0 && i % 3 != 2) keys[statements++] = (name_number(i % sources) << 32) + i + 1;
     qsort(keys, statements, sizeof *keys, by_number);
     put(&index, statements, 4);
     put(&index, 0, 4);
@@ -89,15 +89,21 @@ static bytes made(size_t ranges, size_t sources, size_t size) {
         put(&index, i * 1000, 8);
         put(&index, i == 1 ? 0 : at, 4);
         put(&index, strlen(paths[i]), 4);
-        put(&index, i == 1 ? 4 : 0, 8);
+        put(&index, i == 1 ? 4 : 0, 4);
+        put(&index, name_number(i), 4);
     }
     for (size_t i = 0; i < ranges; i++) put(&index, (size == 4 ? 0 : base) + i * 16, size);
     for (size_t i = 0; i < ranges; i++) {
         put(&index, i % 3 == 2 ? UINT32_MAX : i % sources, 4);
         put(&index, i % 3 == 2 ? 0 : i + 1, 4);
-        put(&index, i % 3 == 2 ? 0 : i % 7 + (i % 2 == 0 ? UINT32_C(1) << 31 : 0), 4);
+        put(&index, i % 3 == 2 ? 0 : i % 7 + (i % 2 == 0 ? UINT32_C(1) << 31 : 0) + (i % 5 == 0 ? UINT32_C(1) << 30 : 0), 4);
     }
-    for (size_t i = 0; i < statements; i++) put(&index, (uint32_t)keys[i] - 1, 4); /* the line of range i is i + 1 */
+    for (size_t i = 0; i < statements; i++) {
+        size_t range = (uint32_t)keys[i] - 1; /* its line is one more */
+        put(&index, range % sources, 4);
+        put(&index, range + 1, 4);
+        put(&index, (size == 4 ? 0 : base) + range * 16, size);
+    }
     free(keys);
     for (size_t i = 0; i < sources; i++) put_text(&index, paths[i], stored(i));
     put_text(&index, "build", 5);
@@ -116,7 +122,8 @@ static bool is_right(bytes index, size_t ranges, size_t sources, const gimli_lin
     bool path_is = *wanted == 0 ? path == NULL && place->no_path == GIMLI_LINE_NO_PATH_STRING_CUT
                                 : place->no_path == 0 && place->path_size == strlen(wanted) && strcmp(path, wanted) == 0;
     return path_is && place->known && place->line == i + 1 && place->column == i % 7 && place->unit == i % sources * 1000 &&
-           place->is_stmt == (i % 2 == 0) && place->first == base + i * 16 && place->end == (i + 1 < ranges ? base + i * 16 + 16 : 0);
+           place->is_stmt == (i % 2 == 0) && place->prologue_end == (i % 5 == 0) && place->first == base + i * 16 &&
+           place->end == (i + 1 < ranges ? base + i * 16 + 16 : 0);
 }
 
 static uint64_t next(uint64_t *seed) {

@@ -84,8 +84,8 @@ pub extern "C" fn gimli_line_index_open(stored: &[u8], found: &mut GimliIndex) -
 }
 
 /// Checks an index that nobody vouches for: that its ranges ascend, that each path is inside it,
-/// and that its statements are in order. Looks at each range, each path and the order. Takes no
-/// memory.
+/// and that its statements are in order. Looks at each range, each path and each statement. Takes
+/// no memory.
 #[unsafe(no_mangle)]
 pub extern "C" fn gimli_line_index_check(stored: &[u8]) -> u32
     ensures sound { result ≡ OK → IsSoundIndex stored.now }

@@ -35,6 +35,9 @@ pub struct GimliPlace {
     pub known: bool,
     /// Whether the code is a recommended place for a breakpoint (DWARF 5, section 6.2.2).
     pub is_stmt: bool,
+    /// Whether a breakpoint at the entry of a function belongs here, after its prologue (DWARF 5,
+    /// section 6.2.2).
+    pub prologue_end: bool,
 }
 
 /// Why a place has no path: the index is damaged.
@@ -56,6 +59,7 @@ pub(crate) fn unknown_place(address: u64, first: u64, end: u64) -> GimliPlace
         no_path: 0,
         known: false,
         is_stmt: false,
+        prologue_end: false,
     }
 }
 
@@ -97,5 +101,6 @@ pub(crate) fn place_seen(index: &LineIndex<'_>, address: u64, place: PlaceSpan) 
         no_path,
         known: true,
         is_stmt: place.is_stmt,
+        prologue_end: place.prologue_end,
     }
 }

@@ -52,6 +52,7 @@ fn make_status(error: MakeError) -> u32
     match error {
         MakeError::NotAscending => INDEX_DISORDERED,
         MakeError::TooManyEntries => INDEX_TOO_LARGE,
+        MakeError::TooManyStatements => INDEX_TOO_LARGE,
         MakeError::TooManySources => INDEX_TOO_LARGE,
         MakeError::PathsTooLarge => INDEX_TOO_LARGE,
         MakeError::IdentityTooLarge => INDEX_TOO_LARGE,

@@ -1,6 +1,6 @@
 use Rattle.std.proofs.Common.{ℕ, ap, sym, subst, ◌∙◌, arith}
 use Rattle.gimli_index.specs.Lines.{addresses_left, addresses_of}
-use Rattle.gimli_index.specs.Meaning.{starts_of}
+use Rattle.gimli_index.specs.Meaning.{statements_of}
 use Rattle.gimli_index.specs.Views.{index_of}
 use Rattle.gimli_lookup.specs.Statements.{IsFirstLine}
 use Rattle.gimli_c.proofs.index.lines.gimli_line_proved_index_addresses_of.Goals as goal
@@ -13,7 +13,7 @@ put_addresses-requires-2 c = c.most-2.ensures
 
 pub returns-clause-found : goal.returns-clause-found
 returns-clause-found c = λ _.
-    let found = addresses_of c.args.path.now (starts_of (index_of c.in-Ok.index)) in (
+    let found = addresses_of c.args.path.now (statements_of (index_of c.in-Ok.index)) in (
       addresses_left c.in-Some.found,
       record {
         index = index_of c.in-Ok.index;
@@ -29,7 +29,7 @@ returns-clause-found c = λ _.
 
 pub returns-then-count-addresses-clause-larger : goal.returns-then-count-addresses-clause-larger
 returns-then-count-addresses-clause-larger c = λ _.
-    let found = addresses_of c.args.path.now (starts_of (index_of c.in-Ok.index)) in (
+    let found = addresses_of c.args.path.now (statements_of (index_of c.in-Ok.index)) in (
       c.in-Some.found.line,
       addresses_left c.in-Some.found,
       record {

@@ -8,6 +8,7 @@ returns-clause-seen c = λ bytes stands. record {
   line = refl;
   column = refl;
   is_stmt = refl;
+  prologue_end = refl;
   unit = refl;
   path = c.path_seen-path.ensures bytes stands;
 }
