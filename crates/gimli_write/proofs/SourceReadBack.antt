@@ -2,15 +2,17 @@
 use Rattle.std.specs.Prelude.{◌≡◌, if◌then◌else◌}
 use Rattle.gimli_write.proofs
 use proofs.Common
-use Common.{ℕ, Bool, true, false, List, [], refl, sym, ap, ◌∙◌, subst, inl, inr, Option, Ok, File, StringTables, texts_in}
-use Common.{KeepsTexts, with_text, with_text-KeepsTexts, bytes_in, Built, Address, Encoding, OneByOne, ReadRow, map}
-use Common.{Answers, FileAnswer, built_file, Outcome, ToConvert, IsConverted, defined_files, past_at_end, Sections}
+use Common.{ℕ, Bool, true, false, List, [], refl, sym, ap, subst, inl, inr, Option, Ok, StringTables, texts_in}
+use Common.{KeepsTexts, with_text, with_text-KeepsTexts, bytes_in, Built, Address, Encoding, OneByOne, map}
+use Common.{Answers, FileAnswer, built_file, Outcome, ToConvert, IsConverted, defined_files, past_at_end}
 use Rattle.gimli_build.specs.Version5Tables.{texts_after}
 use Rattle.gimli_build.specs.WrittenTables.{KeepTables}
 use Rattle.gimli_write.specs
-use specs.RoundTrip.{AreBuiltRows}
+use specs.Prelude.{Vec, Global, ConvertError}
+use specs.RoundTrip.{AreBuiltRows, IsRoundTripRefusal}
+use specs.convert.Conversion.{ConvertsTo}
 use specs.convert.Mapped.{CanBeFaithful, IsReadAs, AreFilesReadAs, IsFaithful}
-use specs.convert.SourceReadBack.{AreSourceRows, AreSourceFiles, version_after}
+use specs.convert.SourceReadBack.{AreSourceRows, AreSourceFiles, IsSourceRefusal, version_after}
 use proofs.ConvertSteps.{kept_self}
 use proofs.MappedLaws.{
   WasConverted,
@@ -49,6 +51,24 @@ module _ (p : Built) (unit : Encoding) (old new : StringTables) (kept : KeepTabl
     | inl same ↦ subst (KeepsTexts old.line_strings) (sym same) (kept_self _)
     | inr more ↦ subst (KeepsTexts old.line_strings) (sym more) (lines_after p old)
   ]
+
+-- ---- refusals
+
+-- the program of a source that was converted is refused, by the encoding of that program and with these tables
+pub refused_after : (map : ℕ → Option Address → Type 0) (s : ToConvert) (is_big : Bool) (texts : StringTables)
+    (old new : List ℕ) (e : ConvertError) (answer : Built × Vec ℕ Global) (strings lines : List (List ℕ))
+    (encoding : Encoding) → ConvertsTo map s texts.line_strings answer lines → strings ≡ texts.strings
+    → encoding ≡ answer.0.encoding → IsRoundTripRefusal is_big encoding answer.0 (texts_in strings lines) old new e
+    → IsSourceRefusal map s is_big texts old new e
+refused_after map s is_big texts old new e answer strings lines encoding converted same own refused = inr (record {
+  answer = answer;
+  line_strings = lines;
+  converted = converted;
+  refused =
+      subst (λ (o : Encoding). IsRoundTripRefusal is_big o answer.0 (texts_in texts.strings lines) old new e) own
+      (subst (λ (t : List (List ℕ)). IsRoundTripRefusal is_big encoding answer.0 (texts_in t lines) old new e) same
+      refused);
+})
 
 -- ---- what is read back
 

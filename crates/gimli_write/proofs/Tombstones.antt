@@ -1,14 +1,13 @@
 -- Whether a sequence ends under a tombstone: what the registers say is what looking back says.
-use Rattle.std.specs.Prelude.{◌≡◌, ◌≢◌, ◌<◌, ◌&&◌, ◌||◌, ◌∷◌, ◌++◌, if◌then◌else◌}
+use Rattle.std.specs.Prelude.{◌≡◌, ◌≢◌, ◌&&◌, ◌∷◌, ◌++◌, if◌then◌else◌}
 use Rattle.gimli_write.proofs
 use proofs.Common
-use Common.{ℕ, Bool, true, false, List, [], length, refl, sym, ap, ◌∙◌, subst, Some}
+use Common.{ℕ, Bool, true, false, List, [], refl, sym, ap, ◌∙◌, subst, Some}
 use Common.{OrderAndLimit, Error, Header, Parameters, Ins, is_end, decoded_at, is_decoded}
 use Common.{one_decoding, registers_after, Unread, SpellsInstruction, instruction_production}
 use Rattle.gimli_write.specs
 use specs.convert.Mapped.{gave_row, NoneEndsUnderTombstone, NoSequenceEndsUnderTombstone}
 use specs.inside.convert.Tombstones.{Watched, first_watched, gave_after, hides, none_hides, none_left_hides, WatchSays}
-use Rattle.gimli_line.specs.declared.run.row.LineRow.{LineRow}
 use Rattle.gimli_line.specs.run.Machine.{next_registers}
 use Rattle.gimli_line.proofs.Backwards.{tombstone_after}
 use proofs.SourceSteps.{decoded_none, decoded_fault, decoded_some, is_shorter}

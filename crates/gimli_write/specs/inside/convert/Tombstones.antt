@@ -2,7 +2,7 @@
 use Rattle.std.specs.Prelude.{◌≡◌, ◌<◌, ◌&&◌, ◌||◌, if◌then◌else◌, ◌∷◌}
 use Rattle.gimli_write.specs
 use specs.Prelude
-use Prelude.{ℕ, Bool, true, false, not, List, [], length, Option, Some, None, Header, Parameters}
+use Prelude.{Bool, true, false, not, List, [], length, Option, Some, None, Header, Parameters}
 use Prelude.{Ins, is_end, makes_row, decoded_at}
 use Rattle.gimli_line.specs.declared.run.row.LineRow.{LineRow}
 use Rattle.gimli_line.specs.run.Machine.{initial, next_registers}

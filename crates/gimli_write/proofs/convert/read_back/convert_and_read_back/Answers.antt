@@ -1,10 +1,8 @@
-use Rattle.std.specs.Prelude.{◌≡◌}
 use Rattle.gimli_write.proofs
 use proofs.Common
-use Common.{KeepsTexts, sym, subst, inr, texts_in, outcome_with, answers, ToConvert, to_convert, err_from_is_err_and}
-use Rattle.gimli_write.specs.convert.SourceReadBack.{IsRefusedAfter}
+use Common.{KeepsTexts, sym, subst, outcome_with, answers, ToConvert, to_convert, err_from_is_err_and}
 use proofs.ConvertSteps.{kept_self, kept_then}
-use proofs.SourceReadBack.{strings_kept, lines_kept, rows_read, files_read}
+use proofs.SourceReadBack.{strings_kept, lines_kept, refused_after, rows_read, files_read}
 use proofs.convert.read_back.convert_and_read_back.Goals as goal
 
 pub returns-in_err-program-clause-strings : goal.returns-in_err-program-clause-strings
@@ -17,12 +15,10 @@ round_trip-requires g c = c.in_ok-program.ensures.writable.can _
 pub returns-in_err-back-clause-refusal : goal.returns-in_err-back-clause-refusal
 returns-in_err-back-clause-refusal g c =
     let p = err_from_is_err_and c.from_residual-in_err-back.result c.from_residual-in_err-back.ensures.1 in
-    rw (p.1, p.2) (inr (record {
-      answer = (c.in_ok-program.program, c.in_ok-program.files);
-      line_strings = c.convert_program.new.line_strings;
-      converted = c.in_ok-program.ensures.outcome.converts;
-      refused = rw (c.in_ok-program.ensures.strings, c.encoding.ensures) at c.in_err-back.ensures.refusal;
-    }))
+    rw (p.1, p.2) (refused_after _ _ _ _ _ _ _ (c.in_ok-program.program, c.in_ok-program.files)
+    c.convert_program.new.strings c.convert_program.new.line_strings c.encoding.result
+    c.in_ok-program.ensures.outcome.converts c.in_ok-program.ensures.strings c.encoding.ensures.encoding
+    c.in_err-back.ensures.refusal)
 
 pub returns-in_err-back-clause-stays : goal.returns-in_err-back-clause-stays
 returns-in_err-back-clause-stays g c =

@@ -22,7 +22,7 @@ returns-in-Some-true g c =
     let layout = c.args.program.now.layout in
     let lent : c.header-header.result.now.meaning ≡ h = rw c.header-header.ensures refl in
     let order : c.header-header.result.now.layout ≡ layout = rw c.header-header.ensures refl in
-    let says = rw c.in-Some-true.field-0-is at (rw c.in-Some-true.is at c.step.ensures) in (
+    let says = rw c.in-Some-true.field-0-test at (rw c.in-Some-true.is at c.step.ensures) in (
       λ is. absurd cc,
       λ none.
           let never =

@@ -1,4 +1,4 @@
-use Rattle.std.specs.Prelude.{◌≡◌, ◌++◌}
+use Rattle.std.specs.Prelude.{◌++◌}
 use Rattle.gimli_write.proofs
 use proofs.Common.{sym, ap, ◌∙◌, ins_seen, Unread}
 use Rattle.gimli_write.specs.inside.convert.Tombstones.{watched}
