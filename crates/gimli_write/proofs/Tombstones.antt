@@ -40,7 +40,7 @@ module _ (p : Parameters) where
       let parts = one_seen (is_end i) (registers_after p past).tombstone (gave_row p past) is in (
         λ ends hidden. parts.0 ends (tombstone_after p past ∙ hidden),
         seen_then (i ∷ past) list
-        (subst (λ gave. none_hides p (registers_after p (i ∷ past)) gave list ≡ true) (gave_is past i) parts.1),
+            (subst (λ gave. none_hides p (registers_after p (i ∷ past)) gave list ≡ true) (gave_is past i) parts.1),
       )
 
   then_seen : (past list : List Ins) → NoneEndsUnderTombstone p past list

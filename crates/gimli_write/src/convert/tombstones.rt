@@ -141,7 +141,8 @@ fn execute_on<R: Reader>(
     ensures row { row.new ≡ step_of header.now.meaning.parameters
         (ins_seen R.bytes R.Offset.number instruction) row.old }
 {
-    row.execute(instruction, &mut LentHeader { header }).is_err()
+    row.execute(instruction, &mut LentHeader { header })
+        .is_err()
 }
 
 /// Whether no sequence of a program that gave a row ends under a tombstone: a conversion drops what

@@ -12,7 +12,7 @@ returns-in-None g c =
     let order : c.header-header.result.now.layout ≡ layout = rw c.header-header.ensures refl in
     let says = rw c.in-None.is at c.step.ensures in (
       λ _. all_seen layout h h.program
-      (from_start layout h _ _ _ lent order c.start-watch.ensures true (c.points.invariant ∙ says)),
+          (from_start layout h _ _ _ lent order c.start-watch.ensures true (c.points.invariant ∙ says)),
       λ _. refl,
     )
 
