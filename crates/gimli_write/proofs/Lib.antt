@@ -18,5 +18,7 @@ mod Writable
 pub mod Outcomes
 pub mod MappedLaws
 mod WorkedConversions
+mod Tombstones
+mod SourceReadBack
 pub mod Gathers
 mod ReadLemmas

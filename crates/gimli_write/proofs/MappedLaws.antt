@@ -17,7 +17,12 @@ use Common.{LineText, Inline, InStrings, InLineStrings, IsWithin, bytes_in, File
 use Rattle.gimli_write.specs
 use specs.convert.Mapped
 use Mapped.{AreFilesMapped, CanBeFaithful, NoneEndsUnderTombstone, RowsMapped, AreRowsMapped, IsReadAs, SetsConstant}
-use Mapped.{HasConstantAddresses, IsFaithful, HasPaths, AreFilesReadAs}
+use Mapped.{HasConstantAddresses, IsFaithful, HasPaths, IsLastWithPaths, AreFilesReadAs, IsDirectoryPath}
+use Mapped.{IsSourceKept, HasDetails}
+use Common.{nat_le, BuiltFile, ReadFile, Handed, Header, IsOptionalText, IfSome, option_map_or, file_parts, with_parts}
+use Rattle.gimli_write.specs.Prelude.{has_content}
+use specs.convert.Preparation.{has_before_5}
+use Rattle.gimli_line.specs.LineNumbers.{DW_LNCT_timestamp, DW_LNCT_size, DW_LNCT_MD5, DW_LNCT_LLVM_source}
 use proofs.Outcomes.{definition_passed}
 use proofs.MappedFiles.{
   AreDirectories,
@@ -49,6 +54,10 @@ use proofs.ConvertSteps.{kept_self}
 use Rattle.gimli_build.specs.declared.built.items.BuiltItem.TheVariants as item
 use specs.declared.convert.rows.ConvertLineRow.TheVariants as offer
 
+-- which contents of files a program keeps
+abbrev pub flags_of : Built → Bool × Bool × Bool × Bool
+flags_of p = (p.file_has_timestamp, p.file_has_size, p.file_has_md5, p.file_has_source)
+
 -- a conversion answers the tables at the end, and keeps the kind of the program that it was begun with
 pub record EndsAs (sections : Sections) (first : TablesAndTexts) (past : List Ins) (p : Built) (c : Outcome)
     : Type 0 where
@@ -57,6 +66,7 @@ pub record EndsAs (sections : Sections) (first : TablesAndTexts) (past : List In
   pub same : finished tables c.program ≡ c
   pub is_none : c.program.is_none ≡ p.is_none
   pub encoding : c.program.encoding ≡ p.encoding
+  pub flags : flags_of c.program ≡ flags_of p
 
 module _ (convert_address : ℕ → Option Address) (c : Outcome) where
   -- it is what comes of a reading
@@ -69,14 +79,15 @@ module _ (convert_address : ℕ → Option Address) (c : Outcome) where
     is : Comes rest next
     is_none : next.is_none ≡ p.is_none
     encoding : next.encoding ≡ p.encoding
+    flags : flags_of next ≡ flags_of p
 
   -- an item that was built within the builder's conditions
   built_goes : (b : Bool) (next p : Built) (rest : Reading)
       → ((if b then Ok next else Err UnsupportedLineInstruction) >>= λ n. outcome_of convert_address rest n) ≡ Ok c
-      → next.is_none ≡ p.is_none → next.encoding ≡ p.encoding → GoesOn rest p
-  built_goes true next p rest is is_none encoding =
-      record { next = next; is = is; is_none = is_none; encoding = encoding }
-  built_goes false next p rest is is_none encoding = absurd cc
+      → next.is_none ≡ p.is_none → next.encoding ≡ p.encoding → flags_of next ≡ flags_of p → GoesOn rest p
+  built_goes true next p rest is is_none encoding flags =
+      record { next = next; is = is; is_none = is_none; encoding = encoding; flags = flags }
+  built_goes false next p rest is is_none encoding flags = absurd cc
 
   item_goes : (o : ConvertLineRow) (tables : TablesAndTexts) (rest : Reading) (p : Built)
       → Comes (offers o tables rest) p → GoesOn rest p
@@ -86,9 +97,9 @@ module _ (convert_address : ℕ → Option Address) (c : Outcome) where
           → ((ok_or o InvalidAddress >>= λ m. Ok (after_address m (with_tables tables p))) >>= λ n.
           outcome_of convert_address rest n) ≡ Ok c → GoesOn rest p
       by None so = absurd cc
-      by (Some m) so = built_goes true _ p _ so refl refl
-  item_goes (offer.Row r) tables rest p is = built_goes _ _ p _ is refl refl
-  item_goes (offer.EndSequence offset) tables rest p is = built_goes _ _ p _ is refl refl
+      by (Some m) so = built_goes true _ p _ so refl refl refl
+  item_goes (offer.Row r) tables rest p is = built_goes _ _ p _ is refl refl refl
+  item_goes (offer.EndSequence offset) tables rest p is = built_goes _ _ p _ is refl refl refl
 
   point_goes : (version : ℕ) (tables : TablesAndTexts) (r : SourceRow) (rest : Reading) (p : Built)
       → Comes (row_or_end_offered version tables r rest) p → GoesOn rest p
@@ -118,6 +129,7 @@ module _ (convert_address : ℕ → Option Address) (c : Outcome) where
             is = second.is;
             is_none = second.is_none ∙ first.is_none;
             encoding = second.encoding ∙ first.encoding;
+            flags = second.flags ∙ first.flags;
           }
 
   at_goes : (parameters : Parameters) (tables : TablesAndTexts) (past : List Ins) (i : Ins) (rest : Reading) (p : Built)
@@ -129,7 +141,7 @@ module _ (convert_address : ℕ → Option Address) (c : Outcome) where
           else rest)) p → GoesOn rest p
       by true m so = absurd cc
       by false true so = offered_goes _ _ (source_row parameters past i) _ p so
-      by false false so = built_goes true p p _ so refl refl
+      by false false so = built_goes true p p _ so refl refl refl
 
   nothing_goes : (sections : Sections) (first : TablesAndTexts) (past : List Ins) (end : Option Error)
       (there : Result TablesAndTexts ConvertError) (p : Built) → tables_at sections first past ≡ there
@@ -149,6 +161,7 @@ module _ (convert_address : ℕ → Option Address) (c : Outcome) where
             same = refl;
             is_none = refl;
             encoding = refl;
+            flags = refl;
           })
 
   pub outcome : (sections : Sections) (parameters : Parameters) (first : TablesAndTexts) (past list : List Ins)
@@ -178,6 +191,7 @@ module _ (convert_address : ℕ → Option Address) (c : Outcome) where
             same = after.same;
             is_none = after.is_none ∙ on.is_none;
             encoding = after.encoding ∙ on.encoding;
+            flags = after.flags ∙ on.flags;
           }
 
 -- ---- directories have no files
@@ -187,6 +201,74 @@ no_file : (sections : Sections) (tables next : TablesAndTexts) (v : Value) → d
 no_file sections tables next v is =
     let t = took (source_path (version_of tables) sections v) (λ path. Ok (with_path tables path)) is in
     sym (ap (λ (l : TablesAndTexts). l.file_ids) (same_ok (with_path tables t.0) t.2))
+
+-- ---- what is kept of files
+
+-- a program that is converted of a source with this header keeps these
+abbrev pub flags_for : Header → Bool × Bool × Bool × Bool
+flags_for h = (
+  has_before_5 DW_LNCT_timestamp h,
+  has_before_5 DW_LNCT_size h,
+  has_content DW_LNCT_MD5 h.file_formats,
+  has_content DW_LNCT_LLVM_source h.file_formats,
+)
+
+abbrev HasFlags : Header → TablesAndTexts → Type 0
+HasFlags h tables = flags_of tables.program ≡ flags_for h
+
+module _ (sections : Sections) (h : Header) (tables next : TablesAndTexts) where
+  directory_flags : (v : Value) → directory_added sections tables v ≡ Ok next → HasFlags h tables → HasFlags h next
+  directory_flags v is so =
+      let t = took (source_path (version_of tables) sections v) (λ path. Ok (with_path tables path)) is in
+      subst (HasFlags h) (same_ok (with_path tables t.0) t.2) so
+
+  file_flags : (f : ReadFile) → file_added sections tables f ≡ Ok next → HasFlags h tables → HasFlags h next
+  file_flags f is so =
+      let t = took (file_parts (version_of tables) sections tables.directory_ids f)
+      (λ parts. Ok (with_parts tables f parts)) is in
+      subst (HasFlags h) (same_ok (with_parts tables f t.0) t.2) so
+
+first_flags : (sections : Sections) (h : Header) (given : Handed) (line_strings : List (List ℕ))
+    {tables : TablesAndTexts} → tables_of_header sections h given line_strings ≡ Ok tables → HasFlags h tables
+first_flags sections h given line_strings is =
+    let p = is_prepared sections h given line_strings is in
+    all_added_keeps (HasFlags h) (file_added sections) (λ l n f a so. file_flags sections h l n f a so) h.files
+    p.with_directories p.files (all_added_keeps (HasFlags h) (directory_added sections)
+    (λ l n v a so. directory_flags sections h l n v a so) h.directories _ p.directories refl)
+
+-- what is stored of a file is kept of the one of the source that it stands for
+details_kept : (sections : Sections) (h : Header) (p : Built) (texts : StringTables) (f : BuiltFile) (last : ReadFile)
+    → flags_of p ≡ flags_for h → f.1.timestamp ≡ last.timestamp → f.1.size ≡ last.size → f.1.md5 ≡ last.md5
+    → IsOptionalText sections last.source (option_map (bytes_in texts) f.1.source)
+    → HasDetails sections h p.encoding.version last (built_file p texts f)
+details_kept sections h p texts f last flags timestamp size md5 source = by _ refl
+  where
+    sources : (v : Option Value) (o : Option LineText) → IsOptionalText sections v (option_map (bytes_in texts) o)
+        → IsDirectoryPath sections v (option_map_or (bytes_in texts) o [])
+    sources (Some v) (Some t) is = is
+    sources None None is = refl
+    sources (Some v) None is = absurd is
+    sources None (Some t) is = absurd is
+
+    kept : (b : Bool) → IsSourceKept b sections last.source
+        (if b then Some (option_map_or (bytes_in texts) f.1.source []) else None)
+    kept true = sources last.source f.1.source source
+    kept false = refl
+
+    by : (old : Bool) → nat_le p.encoding.version 4 ≡ old
+        → HasDetails sections h p.encoding.version last (built_file p texts f)
+    by true at = record {
+      timestamp = rw (at) timestamp;
+      size = rw (at) size;
+      md5 = rw (at) refl;
+      source = rw (at) refl;
+    }
+    by false at = record {
+      timestamp = grind arith;
+      size = grind arith;
+      md5 = grind arith;
+      source = rw (at, ap (λ (q : Bool × Bool × Bool × Bool). q.3) flags) (kept _);
+    }
 
 -- ---- a conversion that was done
 
@@ -229,6 +311,9 @@ module _ {convert_address : ℕ → Option Address} {s : ToConvert} {line_string
 
   pub encoding_kept : c.program.encoding ≡ encoding_of s.header s.given
   encoding_kept = comes.encoding ∙ (first_ready []).encoding_is
+
+  pub flags_kept : flags_of c.program ≡ flags_for s.header
+  flags_kept = comes.flags ∙ first_flags s.sections s.header s.given line_strings w.ready
 
   -- the program can be written
   pub can_write : (strings : List (List ℕ)) → CanWrite c.program (texts_in strings c.line_strings)
@@ -352,6 +437,13 @@ bytes_longer strings (Inline bytes) keeps within = refl
 bytes_longer strings (InStrings i) keeps within = refl
 bytes_longer strings (InLineStrings i) keeps within = ap (λ o. unwrap_or o []) (keeps.text i within)
 
+-- so has a source that may be there
+sources_longer : (strings : List (List ℕ)) {old new : List (List ℕ)} (o : Option LineText) → KeepsTexts old new
+    → IfSome o (IsWithin (texts_in strings old))
+    → option_map (bytes_in (texts_in strings old)) o ≡ option_map (bytes_in (texts_in strings new)) o
+sources_longer strings (Some t) keeps within = ap Some (sym (bytes_longer strings t keeps within))
+sources_longer strings None keeps within = refl
+
 keeps_after : (p : Built) (texts : StringTables) → KeepsTexts texts.line_strings (texts_after p texts).line_strings
 keeps_after p texts = by _
   where
@@ -414,7 +506,7 @@ module _ (convert_address : ℕ → Option Address) (s : ToConvert) (line_string
   pub files_back : (strings : List (List ℕ)) {files : List File}
       → FilesAtEnd s.layout true s.header s.header.program files
       → (let texts = texts_in strings (texts_after c.program (texts_in strings c.line_strings)).line_strings in
-      AreFilesReadAs s.sections s.header files c.file_ids (map (bytes_in texts) c.program.directories)
+      AreFilesReadAs s.sections s.header files c.program.encoding.version c.file_ids (map (bytes_in texts) c.program.directories)
       (map (built_file c.program texts) c.program.files))
   files_back strings {files} at_end =
       let reads = done.reads in
@@ -462,6 +554,20 @@ module _ (convert_address : ℕ → Option Address) (s : ToConvert) (line_string
                       (bytes_in (texts_in strings after) m.directory) f) (sym path) (subst
                       (λ (d : List ℕ). HasPaths s.sections s.header
                       (bytes_in (texts_in strings c.line_strings) m.built.0.0) d f) (sym directory) m.has);
+                  last = m.last;
+                  is_last =
+                      subst (λ (path : List ℕ). IsLastWithPaths s.sections s.header path
+                      (bytes_in (texts_in strings after) m.directory) files m.last) (sym path) (subst
+                      (λ (d : List ℕ). IsLastWithPaths s.sections s.header
+                      (bytes_in (texts_in strings c.line_strings) m.built.0.0) d files m.last) (sym directory)
+                      m.is_last);
+                  details =
+                      details_kept s.sections s.header c.program (texts_in strings after) m.built m.last
+                      (flags_kept done) m.timestamp m.size m.md5 (subst
+                      (λ (o : Option (List ℕ)). IsOptionalText s.sections m.last.source o)
+                      (sources_longer strings m.built.1.source keeps
+                      (element (λ (f : BuiltFile). IfSome f.1.source (IsWithin (texts_in strings c.line_strings)))
+                      c.program.files found.0 can.sources m.there)) m.source);
                 },
               ),
             );

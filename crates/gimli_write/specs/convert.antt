@@ -15,4 +15,5 @@ pub mod LentTables
 pub mod Reads
 pub mod Converter
 pub mod DoneConversions
+pub mod SourceReadBack
 pub mod Sequences

@@ -64,8 +64,8 @@ pub fn converted_rows_are_read_back()
         → SourceGives d rows → (unit : UnitReadBack d.outcome.program) → GivesBack d rows unit }
 {}
 
-/// And the files that it returns have the paths of those of the source: each file number of the
-/// source has an id, which is the index of its file.
+/// And the files that it returns have the paths of those of the source, and what is known of them:
+/// each file number of the source has an id, which is the index of its file.
 pub fn converted_files_are_read_back()
     ensures { (d : DoneConversion) (strings : List (List ℕ)) (files : List File)
         → SourceFilesAre d files → AreFilesReadBack d strings files }

@@ -12,7 +12,9 @@ mod text;
 
 pub use convert::numbers::{keeps_numbers, written_number};
 pub use convert::program::{ConvertLineHeader, ConvertLineProgram, convert_program};
+pub use convert::read_back::convert_and_read_back;
 pub use convert::rows::{ConvertLineRow, ConvertLineSequence, ConvertLineSequenceEnd};
+pub use convert::tombstones::no_sequence_ends_under_tombstone;
 pub use convert_error::{ConvertError, ConvertResult};
 pub use gimli_build::{
     BuiltItem, BuiltItems, DirectoryId, FileId, FileInfo, Files, LineProgram, LineRow, LineString,

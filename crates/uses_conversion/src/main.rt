@@ -1,12 +1,15 @@
-//! A unit up to version 4, written in version 5; or a section whose rows are written anew. After
-//! the word `then` another command may follow; it is run where one is refused too.
+//! A unit up to version 4, written in version 5; a section whose rows are written anew; or a unit
+//! that is converted by its own encodings. After the word `then` another command may follow; it is
+//! run where one is refused too.
 #![tactic(auto)]
 
 mod rewrite;
+mod same_rows;
 
+use crate::same_rows::same_rows;
 use anyhow::{Result, bail};
 use gimli_core::{DebugLineOffset, Encoding, EndianSlice, LittleEndian, Reader};
-use gimli_line::{DebugLine, IncompleteLineProgram};
+use gimli_line::{DebugLine, IncompleteLineProgram, LineRow};
 use gimli_write::{
     Address, ConvertError, ConvertResult, EndianVec, Error, FileId, LineProgram, LineStringTable,
     RoundTrip, StringTable, convert_program, keeps_numbers, round_trip, written_number,
@@ -34,6 +37,13 @@ fn start(rt: &HostRuntime, words: &[String]) -> Result<()> {
 
 /// Adds what a command prints.
 fn run(rt: &HostRuntime, words: &[String], text: &mut String) -> Result<()> {
+    if let [word, lines, offset] = words {
+        if word.as_str() == "same" {
+            let section = fs::read(rt, lines.as_str())?;
+            let offset = offset.parse::<usize>()?;
+            return Ok(print_same(rt.alloc(), &section, offset, text)?);
+        }
+    }
     let [word, lines] = words else {
         return print_unit(rt, words, text);
     };
@@ -75,7 +85,37 @@ fn print_converted<'i>(
     let source = section.program(alloc, DebugLineOffset(offset), 8, directory, None)?;
     let empty = EndianSlice::new(b"", LittleEndian);
     let converted = convert(alloc, source, name, empty, text)?;
-    for row in &converted.rows {
+    print_rows(&converted.rows, text)
+}
+
+/// Adds a line for each row that is read of the unit at an offset after it was converted by its own
+/// encodings. It is of version 4 at most, so that all of its texts stand in its header.
+fn print_same(
+    alloc: Global,
+    section: &[u8],
+    offset: usize,
+    text: &mut String,
+) -> ConvertResult<()> {
+    let section = DebugLine::new(section, LittleEndian);
+    let source = section.program(alloc, DebugLineOffset(offset), 8, None, None)?;
+    let empty = EndianSlice::new(b"", LittleEndian);
+    let mut strings = StringTable::default(alloc);
+    let mut line_strings = LineStringTable::default(alloc);
+    let mut lines = gimli_write::DebugLine::from(EndianVec::new(alloc, LittleEndian));
+    let (back, _files) = same_rows(
+        empty,
+        empty,
+        source,
+        &mut lines,
+        &mut line_strings,
+        &mut strings,
+    )?;
+    print_rows(&back.rows, text)
+}
+
+/// Adds a line for each row.
+fn print_rows(rows: &[LineRow], text: &mut String) -> ConvertResult<()> {
+    for row in rows {
         let line = row.line().map_or(0, |line| line.get());
         let end = if row.end_sequence() { " end" } else { "" };
         writeln!(text, "{:#x} line {line}{end}", row.address())?;

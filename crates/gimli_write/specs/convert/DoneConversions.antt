@@ -60,11 +60,11 @@ SourceFilesAre d files =
     FilesAtEnd d.source.layout true d.source.header d.source.header.program files
 
 -- each of these files has an id, which is the index of the file that is read back in its place,
--- with the same paths
+-- with the same paths, and with what is known of it
 abbrev pub AreFilesReadBack : DoneConversion → List (List ℕ) → List File → Type 0
 AreFilesReadBack d strings files =
     let p = d.outcome.program in
     let texts =
     texts_in strings (texts_after p (texts_in strings d.outcome.line_strings)).line_strings in
-    AreFilesReadAs d.source.sections d.source.header files d.outcome.file_ids
+    AreFilesReadAs d.source.sections d.source.header files p.encoding.version d.outcome.file_ids
     (map (bytes_in texts) p.directories) (map (built_file p texts) p.files)

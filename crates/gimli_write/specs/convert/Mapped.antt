@@ -3,7 +3,15 @@
 use Rattle.std.specs.Prelude.{◌≡◌, ◌≢◌, ◌+◌, ◌≤◌, ◌&&◌, ◌||◌, if◌then◌else◌, ◌∷◌, ◌++◌}
 use Rattle.gimli_write.specs
 use specs.Prelude
-use Prelude.{ℕ, Bool, true, false, not, List, [], map, slice_get, Option, Some, None, option_map}
+use Prelude.{ℕ, Bool, true, false, not, nat_le, List, [], map, slice_get, Option, Some, None}
+use Prelude.{option_map, has_content}
+use Rattle.std.specs.Prelude.{replicate}
+use Rattle.gimli_line.specs.LineNumbers.{
+  DW_LNCT_timestamp,
+  DW_LNCT_size,
+  DW_LNCT_MD5,
+  DW_LNCT_LLVM_source,
+}
 use Prelude.{All, Ok, Vec, Global, OrderAndLimit, Value, Error, Address, StringTables, texts_in}
 use Prelude.{ReadRow, File, Header, directory_of, entry_of, Parameters, Events, row, FilesAtEnd}
 use Prelude.{Ins, is_end, makes_row, Decodes, is_under_tombstone, Built, address_value, file_number}
@@ -14,7 +22,7 @@ use Rattle.gimli_build.specs.Tables.{File as BuiltFile}
 use Rattle.gimli_build.specs.declared.built.items.BuiltItem.TheVariants.{SetAddress}
 use specs.RoundTrip.{FileAnswer, HasFittingAddresses}
 use specs.convert.Outcome.{Outcome}
-use specs.convert.Preparation.{encoding_of}
+use specs.convert.Preparation.{encoding_of, has_before_5}
 use specs.convert.Sources.{ToConvert}
 use specs.convert.Conversion.{AnswersAs, outcome_with, SourceComesTo, ConvertsTo}
 
@@ -155,21 +163,52 @@ pub record IsReadAs (source_version version : ℕ) (file_ids : List ℕ) (source
       → (id : ℕ) × IsFileId source_version file_ids source.file id
       × (back.file ≡ file_number version id)
 
--- a file that is read back, beside these directories, has the paths of a file of the source
-pub record IsFileReadAs (sections : Sections) (h : Header) (directories : List (List ℕ)) (f : File)
+-- a program of this version, converted from a source with this header, keeps this content of files:
+-- timestamps and sizes stand in each header up to version 4, digests and sources in none of them;
+-- from version 5 on each stands where the source has it
+abbrev pub keeps_before_5 : ℕ → Header → ℕ → Bool
+keeps_before_5 version h content = nat_le version 4 || has_before_5 content h
+
+abbrev pub keeps_from_5 : ℕ → Header → ℕ → Bool
+keeps_from_5 version h content = not (nat_le version 4) && has_content content h.file_formats
+
+-- the source of a file that is read back: where sources are kept, that of the file, and the empty
+-- text where it has none
+abbrev pub IsSourceKept : Bool → Sections → Option Value → Option (List ℕ) → Type 0
+IsSourceKept true sections source (Some text) = IsDirectoryPath sections source text
+IsSourceKept true sections source None = ⊥
+IsSourceKept false sections source answer = answer ≡ None
+
+-- a file that is read back in this version has what is known of a file of the source, where it is
+-- kept
+pub record HasDetails (sections : Sections) (h : Header) (version : ℕ) (f : File)
     (answer : FileAnswer) : Type 0 where
+  pub timestamp : answer.timestamp
+      ≡ (if keeps_before_5 version h DW_LNCT_timestamp then f.timestamp else 0)
+  pub size : answer.size ≡ (if keeps_before_5 version h DW_LNCT_size then f.size else 0)
+  pub md5 : answer.md5 ≡ (if keeps_from_5 version h DW_LNCT_MD5 then f.md5 else replicate 16 0)
+  pub source : IsSourceKept (keeps_from_5 version h DW_LNCT_LLVM_source) sections f.source
+      answer.source
+
+-- a file that is read back in this version, beside these directories, has the paths of a file of
+-- the source, and what is known of the last one that has them
+pub record IsFileReadAs (sections : Sections) (h : Header) (files : List File) (version : ℕ)
+    (directories : List (List ℕ)) (f : File) (answer : FileAnswer) : Type 0 where
   pub directory : List ℕ
   pub directory_there : slice_get directories answer.directory_index ≡ Some directory
   pub has : HasPaths sections h answer.path directory f
+  pub last : File
+  pub is_last : IsLastWithPaths sections h answer.path directory files last
+  pub details : HasDetails sections h version last answer
 
 -- each file number of the source has an id, and the file with this index that is read back is the
 -- one that it stands for
-pub record AreFilesReadAs (sections : Sections) (h : Header) (files : List File) (file_ids : List ℕ)
-    (directories : List (List ℕ)) (answers : List FileAnswer) : Type 0 where
+pub record AreFilesReadAs (sections : Sections) (h : Header) (files : List File) (version : ℕ)
+    (file_ids : List ℕ) (directories : List (List ℕ)) (answers : List FileAnswer) : Type 0 where
   pub each : (n : ℕ) (f : File) → entry_of h.parameters.encoding.version None files n ≡ Some f
       → (id : ℕ) × IsFileId h.parameters.encoding.version file_ids n id
       × ((answer : FileAnswer) × (slice_get answers id ≡ Some answer)
-      × IsFileReadAs sections h directories f answer)
+      × IsFileReadAs sections h files version directories f answer)
 
 -- ---- what a caller knows
 

@@ -1,3 +1,4 @@
 pub mod Conversion
 pub mod SourceRun
 pub mod TablesAtEnd
+pub mod Tombstones

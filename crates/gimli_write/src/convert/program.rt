@@ -335,7 +335,8 @@ impl<'a, 'b, R: Reader> ConvertLineProgram<'a, 'b, R, Conversion<R>> {
 
 /// A conversion that is begun and done in one call: `ConvertLineProgram::new`, and then its
 /// `convert`. Requires encodings that a program may have, where they are handed, and a map that may
-/// always be called. Refused as these are; the tables keep their texts, also then. Where each
+/// always be called. Refused as these are; the tables keep their texts, also then. The program
+/// meets what `write` asks. Where each
 /// address is mapped to itself, addresses are at least as wide as the source's, and no sequence
 /// that gave a row ends under a tombstone, the program says what its source says, and so do the
 /// rows that are read back of it.
@@ -360,6 +361,7 @@ pub fn convert_program<R: Reader, F: Fn(u64) -> Option<Address>>(
     ensures refusal { IfErr result (IsConvertRefusal (F.post convert_address)
         (to_convert R.bytes debug_str debug_line_str
         from_program from_comp_name encoding line_encoding) line_strings.old) }
+    ensures writable { IfOk result (λ answer. IsWritable answer.0 line_strings.new) }
     ensures stays { KeepsTexts line_strings.old line_strings.new }
     ensures strings { strings.new ≡ strings.old }
 {

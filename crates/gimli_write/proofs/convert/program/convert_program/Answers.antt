@@ -48,3 +48,7 @@ returns-clause-refusal g c =
 
 pub returns-clause-stays : goal.returns-clause-stays
 returns-clause-stays g c = kept_then c.in_ok-header.ensures.stays c.convert_all.ensures.stays
+
+pub returns-clause-writable : goal.returns-clause-writable
+returns-clause-writable g c =
+    (rw c.into_conversion.ensures at c.convert_all.ensures.writable) c.in_ok-header.ensures.writable

@@ -1,0 +1,59 @@
+-- What is read back of a source that was converted and written, and why none of it is.
+use Rattle.std.specs.Prelude.{◌⊎◌}
+use Rattle.gimli_write.specs
+use specs.Prelude
+use Prelude.{ℕ, true, Bool, List, map, Option, Vec, Global, Address, ReadRow, File, Events, row}
+use Prelude.{FilesAtEnd, Built, OneByOne, ConvertError, StringTables, texts_in}
+use specs.RoundTrip.{Answers, IsRoundTripRefusal}
+use specs.convert.Conversion.{AnswersAs, ConvertsTo, IsConvertRefusal}
+use specs.convert.Mapped.{CanBeFaithful, IsReadAs, AreFilesReadAs}
+use specs.convert.Preparation.{encoding_of}
+use specs.convert.Sources.{ToConvert}
+
+-- the version that a source is converted to
+abbrev pub version_after : ToConvert → ℕ
+version_after s = (encoding_of s.header s.given).version
+
+-- the source gives rows and no fault, and rows that are read back say what these say, one by one:
+-- an end has its address, and any other row all its registers, with the number that its file has
+-- now
+pub record AreSourceRows (s : ToConvert) (file_ids : List ℕ) (back : List ReadRow) : Type 0 where
+  pub rows : List ReadRow
+  pub events : Events s.layout s.header s.header.program (map row rows)
+  pub same : OneByOne
+      (IsReadAs s.header.parameters.encoding.version (version_after s) file_ids) rows back
+
+-- files that are read back stand for those of the source, the ones that its program defines too
+pub record AreSourceFiles (s : ToConvert) (file_ids : List ℕ) (a : Answers) : Type 0 where
+  pub files : List File
+  pub at_end : FilesAtEnd s.layout true s.header s.header.program files
+  pub same : AreFilesReadAs s.sections s.header files (version_after s) file_ids a.directories
+      a.files
+
+-- what is read back of a source, where this function maps its addresses: its files, and its rows
+-- where the conversion can be faithful
+pub record IsSourceReadBack (convert_address : ℕ → Option Address) (s : ToConvert)
+    (file_ids : List ℕ) (a : Answers) : Type 0 where
+  pub files : AreSourceFiles s file_ids a
+  pub rows : CanBeFaithful convert_address s → AreSourceRows s file_ids a.rows
+
+-- the same by a map of which only a contract is known, where it answers as a function
+abbrev pub ReadsBackSource : (ℕ → Option Address → Type 0) → ToConvert → List ℕ → Answers → Type 0
+ReadsBackSource map s file_ids a =
+    (g : ℕ → Option Address) → AnswersAs map g → IsSourceReadBack g s file_ids a
+
+-- a source was converted, and its program isn't written or not read back; the texts of the tables
+-- are those before the call
+pub record IsRefusedAfter (map : ℕ → Option Address → Type 0) (s : ToConvert) (is_big : Bool)
+    (texts : StringTables) (old new : List ℕ) (e : ConvertError) : Type 0 where
+  pub answer : Built × Vec ℕ Global
+  pub line_strings : List (List ℕ)
+  pub converted : ConvertsTo map s texts.line_strings answer line_strings
+  pub refused : IsRoundTripRefusal is_big answer.0.encoding answer.0
+      (texts_in texts.strings line_strings) old new e
+
+-- why a source isn't read back: it isn't converted, or its program is refused
+abbrev pub IsSourceRefusal : (ℕ → Option Address → Type 0) → ToConvert → Bool → StringTables
+    → List ℕ → List ℕ → ConvertError → Type 0
+IsSourceRefusal map s is_big texts old new e =
+    IsConvertRefusal map s texts.line_strings e ⊎ IsRefusedAfter map s is_big texts old new e
