@@ -1,5 +1,6 @@
 -- The least and the greatest of addresses, and what starts between them need.
-use Rattle.std.proofs.Common.{◌≡◌, ◌∙◌, ◌<◌, ◌≤◌, ◌+◌, ◌-◌, ◌^◌, ℕ, zero, suc, Bool, true, false, cond, List, [], ◌∷◌, ◌++◌}
+use Rattle.std.proofs.Common.{◌≡◌, ◌∙◌, ◌<◌, ◌≤◌, ◌+◌, ◌-◌, ◌^◌, ℕ, zero, suc, Bool, true, false, cond, List, [], ◌∷◌}
+use Rattle.std.proofs.Common.{◌++◌}
 use Rattle.std.proofs.Common.{fold, get_or, length, map, nat_lt, refl, sym, subst, arith, inl, inr}
 use Rattle.std.specs.Prelude.{min, max, All}
 use Rattle.std.specs.List.{Contains}

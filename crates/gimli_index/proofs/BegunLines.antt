@@ -1,6 +1,7 @@
 -- The statements of a lookup give the addresses that the lookup gives.
 use Rattle.std.proofs.Common.{◌≡◌, ◌∙◌, ◌⊎◌, ℕ, Bool, true, false, not, nat_eq, nat_lt, ◌&&◌, ◌||◌, List, [], ◌∷◌}
-use Rattle.std.proofs.Common.{◌++◌, Option, None, Some, Result, Ok, Err, refl, sym, ap, inl, inr, arith, append_assoc, length}
+use Rattle.std.proofs.Common.{◌++◌, Option, None, Some, Result, Ok, Err, refl, sym, ap, inl, inr, arith, append_assoc}
+use Rattle.std.proofs.Common.{length}
 use Rattle.std.proofs.Common.{◌≤◌, if◌then◌else◌, length-append}
 use Rattle.std.specs.Prelude.{flat_map, map, ◌==◌, bytes_eq}
 use Rattle.std.specs.Option.{option_map_or}

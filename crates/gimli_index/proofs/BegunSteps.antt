@@ -1,5 +1,6 @@
 -- One more row among the statements of a lookup.
-use Rattle.std.proofs.Common.{◌≡◌, ◌≢◌, ◌∙◌, ℕ, suc, zero, ◌+◌, ◌<◌, Bool, true, false, not, nat_lt, List, [], ◌∷◌, ◌++◌}
+use Rattle.std.proofs.Common.{◌≡◌, ◌≢◌, ◌∙◌, ℕ, suc, zero, ◌+◌, ◌<◌, Bool, true, false, not, nat_lt, List, [], ◌∷◌}
+use Rattle.std.proofs.Common.{◌++◌}
 use Rattle.std.proofs.Common.{length, map, Option, None, Some, refl, sym, ap, subst, arith, append_assoc, inl, inr}
 use Rattle.std.proofs.Common.{if◌then◌else◌}
 use Rattle.std.specs.Prelude.{flat_map, slice_get, take}
@@ -169,8 +170,10 @@ module _ (t : Texts) (units : List KeptUnit) {limit : ℕ} (u : ListedUnit) (old
             ∙ ap (λ p. let z : Statement = record { path = p; line = r.line; address = r.address } in
             (statements_in new statements ++ z ∷ []) ++ begun t u now rest) (sym path)
             ∙ ap (λ p. let g : PathLine = record { path = p; line = r.line } in
-            (statements_in new statements ++ statement_in (with_table new) s ∷ []) ++ begun t u (Some g) rest) (sym path)
-            ∙ ap (λ (ss : List Statement). ss ++ begun t u (given_in new (Some (record { source = source; line = r.line })))
+            (statements_in new statements ++ statement_in (with_table new) s ∷ []) ++ begun t u (Some g) rest)
+            (sym path)
+            ∙ ap (λ (ss : List Statement).
+            ss ++ begun t u (given_in new (Some (record { source = source; line = r.line })))
             rest)
             (sym (map-append (statement_in (with_table new)) statements (s ∷ [])))
 

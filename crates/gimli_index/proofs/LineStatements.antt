@@ -145,7 +145,8 @@ module _ (path : List ℕ) (line : ℕ) (f : ℕ → Statement) where
           subst (λ all. length (without_repeats last all) ≤ suc n) (sym (one_picked first n is))
           (one (option_map_or (nat_eq (f first).address) last false) later)
       by_test false is later =
-          subst (λ all. length (without_repeats last all) ≤ suc n) (sym (none_picked first n is)) (omega (arith, later last))
+          subst (λ all. length (without_repeats last all) ≤ suc n) (sym (none_picked first n is))
+          (omega (arith, later last))
 
 -- ---- an answer, from a statement on
 

@@ -1,6 +1,7 @@
 -- The order of the statements, and the statements of a line in it.
 use Rattle.std.proofs.Common.{◌≡◌, ◌≢◌, ◌∙◌, ◌<◌, ◌≤◌, ◌+◌, ◌-◌, ◌*◌, ◌^◌, ℕ, zero, suc, min, Bool, true, false, cond}
-use Rattle.std.proofs.Common.{nat_eq, nat_lt, ◌&&◌, List, [], ◌∷◌, length, take, drop, Some, None, Ok, Err, Result, refl}
+use Rattle.std.proofs.Common.{nat_eq, nat_lt, ◌&&◌, List, [], ◌∷◌, length, take, drop, Some, None, Ok, Err, Result}
+use Rattle.std.proofs.Common.{refl}
 use Rattle.std.proofs.Common.{sym, ap, subst, arith, inl, inr, get_or, pow-suc}
 use Rattle.std.specs.Prelude.{All}
 use Rattle.std.specs.List.{list_any}
@@ -56,7 +57,8 @@ name_less name other a b differ le c = elim (cases_order name other) [
 
 module _ (index : Index) where
   -- the number of a name is that of the path's
-  name_is : AreNamesRight index index.sources → (k : ℕ) → statement_name index k ≡ path_number (statement_at index k).path
+  name_is : AreNamesRight index index.sources → (k : ℕ)
+      → statement_name index k ≡ path_number (statement_at index k).path
   name_is names k = by_test (nat_lt source index.sources) refl
     where
       source : ℕ
@@ -96,7 +98,9 @@ module _ (index : Index) where
       risen : (i j : ℕ) → i ≤ j → j < index.statements → rank_at index i ≤ rank_at index j
       risen i j le inside = elim (cases_lt i j) [
         | inl less ↦ rise i j less inside
-        | inr same ↦ let here : i ≡ j = omega arith in subst (λ n. rank_at index i ≤ rank_at index n) here (le_refl (rank_at index i))
+        | inr same ↦
+            let here : i ≡ j = omega arith in
+            subst (λ n. rank_at index i ≤ rank_at index n) here (le_refl (rank_at index i))
       ]
 
   pub ranks_rise : IsOrdered index → RanksRise index index.statements
@@ -157,7 +161,8 @@ keys_rise index few ordered j k le inside = elim (cases_lt j k) [
       key_of_rank (key_at index j) (key_at index k) (statement_at index j).address (statement_at index k).address
       (few k)
       (ranks_rise index ordered j k less inside)
-  | inr same ↦ let here : j ≡ k = omega arith in subst (λ n. key_at index j ≤ key_at index n) here (le_refl (key_at index j))
+  | inr same ↦
+      let here : j ≡ k = omega arith in subst (λ n. key_at index j ≤ key_at index n) here (le_refl (key_at index j))
 ]
 
 -- ---- the key of a line
@@ -248,7 +253,8 @@ module _ (path : List ℕ) (index : Index) (ordered : IsOrdered index) where
     no_line_left past = λ l from. none_has l (λ k within. before k l (omega arith) from)
 
     -- no statement of a line is there before a place, nor from it on
-    no_line_there : (line : ℕ) → asked ≤ line → ((k : ℕ) → place ≤ k → k < index.statements → key_at index k ≢ key_of name line)
+    no_line_there : (line : ℕ) → asked ≤ line
+        → ((k : ℕ) → place ≤ k → k < index.statements → key_at index k ≢ key_of name line)
         → has line ≡ false
     no_line_there line from later = none_has line (λ k within. elim (cases_lt k place) [
       | inl less ↦ before k line less from
@@ -262,7 +268,8 @@ module _ (path : List ℕ) (index : Index) (ordered : IsOrdered index) where
       none_of_name differs low = λ l from. no_line_there l from (λ k le lt same.
           let rise : key_at index place ≤ key_at index k = keys_rise index few ordered place k le lt in
           let above : key_of name l < key_at index place =
-          name_less name (statement_name index place) asked (statement_at index place).line (λ e. differs (sym e)) low l in
+          name_less name (statement_name index place) asked (statement_at index place).line (λ e. differs (sym e)) low
+          l in
           omega (arith, above, rise, same))
 
       -- one statement more

@@ -249,12 +249,14 @@ tail_of c rest =
 
 bytes_are : (c : Contents) (rest : List ℕ) → index_bytes c ++ rest ≡ header_bytes c ++ tail_of c rest
 bytes_are c rest =
-    grouped (header_bytes c) (sources_part c) (starts_part c) (entries_part c) (statements_part c) c.paths c.identity rest
+    grouped (header_bytes c) (sources_part c) (starts_part c) (entries_part c) (statements_part c) c.paths c.identity
+    rest
 
 part_lengths : (c : Contents)
     → (length (sources_part c) ≡ 24 * length c.sources)
     × (length (starts_part c) ≡ size_of c.start_size * length c.entries)
-    × (length (entries_part c) ≡ 12 * length c.entries) × (length (statements_part c) ≡ statement_size c.start_size * length c.statements)
+    × (length (entries_part c) ≡ 12 * length c.entries)
+    × (length (statements_part c) ≡ statement_size c.start_size * length c.statements)
 part_lengths c = (
   elements_length (source_bytes c.paths) 24 (source_length c.paths) c.sources,
   elements_length (start_bytes c.start_size c.base) (size_of c.start_size) (start_length c.start_size c.base) c.entries,
@@ -280,7 +282,8 @@ whole_length h s t e o p i r = omega (
 -- the parts of these bytes, where a header of these numbers stands before them
 parts_by : (c : Contents) (h s t e o p i r : List ℕ) → length h ≡ 48 → length s ≡ 24 * length c.sources
     → length t ≡ size_of c.start_size * length c.entries
-    → length e ≡ 12 * length c.entries → length o ≡ statement_size c.start_size * length c.statements → length p ≡ length c.paths
+    → length e ≡ 12 * length c.entries → length o ≡ statement_size c.start_size * length c.statements
+    → length p ≡ length c.paths
     → length i ≡ length c.identity
     → parts_at (h ++ (s ++ (t ++ (e ++ (o ++ (p ++ (i ++ r))))))) (header_of c) ≡ Ok (index_of_parts c s t e o p i)
 parts_by c h s t e o p i r in_header in_sources in_starts in_entries in_statements in_paths in_identity =
@@ -318,7 +321,8 @@ parts_read : (c : Contents) (rest : List ℕ)
     → parts_at (header_bytes c ++ tail_of c rest) (header_of c) ≡ Ok (index_of_contents c)
 parts_read c rest =
     let lengths = part_lengths c in
-    parts_by c (header_bytes c) (sources_part c) (starts_part c) (entries_part c) (statements_part c) c.paths c.identity rest
+    parts_by c (header_bytes c) (sources_part c) (starts_part c) (entries_part c) (statements_part c) c.paths c.identity
+    rest
     (header_length c) lengths.0 lengths.1
     lengths.2 lengths.3 refl refl
 

@@ -1,5 +1,6 @@
 -- The sources of an index in the making: they stay as more are added.
-use Rattle.std.proofs.Common.{◌≡◌, ◌≢◌, ◌⊎◌, ℕ, zero, suc, ◌+◌, ◌<◌, ◌≤◌, Bool, true, false, List, [], ◌∷◌, ◌++◌, length}
+use Rattle.std.proofs.Common.{◌≡◌, ◌≢◌, ◌⊎◌, ℕ, zero, suc, ◌+◌, ◌<◌, ◌≤◌, Bool, true, false, List, [], ◌∷◌, ◌++◌}
+use Rattle.std.proofs.Common.{length}
 use Rattle.std.proofs.Common.{Option, None, ◌&&◌}
 use Rattle.std.proofs.Common.{Some, Result, Ok, Err, refl, sym, ap, subst, ◌∙◌, inl, inr, arith, length-append}
 use Rattle.std.proofs.Common.{if◌then◌else◌}
@@ -390,7 +391,8 @@ one_path t units table m n a b are one other =
 
     untold : (x : Source) → nat_eq x.reason 0 ≡ false
         → source_path table.paths.bytes x ≡ Err (Reason x.reason)
-    untold x some = ap (λ (b : Bool). if b then path_in table.paths.bytes x.first x.size else Err (Reason x.reason)) some
+    untold x some =
+        ap (λ (b : Bool). if b then path_in table.paths.bytes x.first x.size else Err (Reason x.reason)) some
 
     truth : (x y : Bool) → (x ≡ true → y ≡ true) → (y ≡ true → x ≡ true) → x ≡ y
     truth true y there back = sym (there refl)
@@ -421,7 +423,8 @@ one_path t units table m n a b are one other =
         ap (λ (x : Bool). if x then path_in table.paths.bytes a.first a.size else Err (Reason a.reason)) here
         ∙ ap (λ (n : ℕ). path_in table.paths.bytes n a.size) (eqb-true a.first b.first parts.0)
         ∙ ap (λ (n : ℕ). path_in table.paths.bytes b.first n) (eqb-true a.size b.size parts.1)
-        ∙ sym (ap (λ (x : Bool). if x then path_in table.paths.bytes b.first b.size else Err (Reason b.reason)) there) in
+        ∙ sym
+        (ap (λ (x : Bool). if x then path_in table.paths.bytes b.first b.size else Err (Reason b.reason)) there) in
         let same : Ok first.0 ≡ Ok second.0 = sym first.1 ∙ paths ∙ second.1 in
         let equal : first.0 ≡ second.0 = cc in
         (bytes_eq-Decides first.0 second.0).1 equal)

@@ -1,7 +1,8 @@
 -- What a lookup finds at an address, and where it says that the code of a line begins, as an index
 -- says it.
 use Rattle.std.specs.Prelude.{◌≡◌, ◌≤◌, ◌++◌, ℕ, Bool, false, List, [], length, drop, map}
-use Rattle.std.specs.Prelude.{flat_map, slice_get, if◌then◌else◌, Option, None, Some, Result, Ok, Err}
+use Rattle.std.specs.Prelude.{flat_map, slice_get, if◌then◌else◌, Option, None, Some, Result, Ok}
+use Rattle.std.specs.Prelude.{Err}
 use Rattle.std.specs.Prelude.{All}
 use Rattle.std.specs.List.{Contains}
 use Rattle.std.specs.Option.{option_map, option_map_or}

@@ -1,5 +1,6 @@
 -- The header of an index: its first 48 bytes (docs/INDEX.md, "Header").
-use Rattle.std.specs.Prelude.{ℕ, ◌+◌, List, [], ◌∷◌, length, nat_eq, nat_lt, not, if◌then◌else◌, Result}
+use Rattle.std.specs.Prelude.{ℕ, ◌+◌, List, [], ◌∷◌, length, nat_eq, nat_lt, not, if◌then◌else◌}
+use Rattle.std.specs.Prelude.{Result}
 use Rattle.std.specs.Prelude.{Ok, Err}
 use Rattle.std.specs.List.{starts_with}
 use Rattle.gimli_core.specs.Numbers.{is_address_size}

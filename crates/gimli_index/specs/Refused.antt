@@ -1,5 +1,6 @@
 -- Why no index is made of a lookup, memory aside.
-use Rattle.std.specs.Prelude.{◌≡◌, ◌≢◌, ◌≤◌, ◌<◌, ◌^◌, ℕ, List, flat_map, length, min, Some, Ok, All}
+use Rattle.std.specs.Prelude.{◌≡◌, ◌≢◌, ◌≤◌, ◌<◌, ◌^◌, ℕ, List, flat_map, length, min, Some, Ok}
+use Rattle.std.specs.Prelude.{All}
 use Rattle.std.specs.Prelude.{slice_get, AllPairs}
 use Rattle.gimli_line.specs.declared.run.row.LineRow.{LineRow}
 use Rattle.gimli_lookup.specs.Section.{KeptUnit, all_sequences}

@@ -431,8 +431,8 @@ fn put_sizes(
 impl Contents<'_> {
     ghost use Rattle.gimli_index.specs.Made.{contents_of};
 
-    /// Appends the bytes of the index of these contents, as `docs/INDEX.md` has them: the statements
-    /// in order, each address of a line of a path once.
+    /// Appends the bytes of the index of these contents, as `docs/INDEX.md` has them: the
+    /// statements in order, each address of a line of a path once.
     ///
     /// Refuses entries of which one is below the one before it (`NotAscending`), more entries,
     /// statements, sources or bytes of paths or of the identity than 32 bits count

@@ -1,5 +1,6 @@
 -- What is found at some addresses in the units of a section, one after the other.
-use Rattle.std.proofs.Common.{◌≡◌, ◌⊎◌, ℕ, zero, suc, ◌+◌, ◌<◌, List, [], ◌∷◌, ◌++◌, length, map, take, refl, sym, ap, subst}
+use Rattle.std.proofs.Common.{◌≡◌, ◌⊎◌, ℕ, zero, suc, ◌+◌, ◌<◌, List, [], ◌∷◌, ◌++◌, length, map, take, refl, sym, ap}
+use Rattle.std.proofs.Common.{subst}
 use Rattle.std.proofs.Common.{◌∙◌, append_assoc, inl, inr}
 use Rattle.std.proofs.Common.{arith}
 use Rattle.std.specs.Prelude.{Bool, true, false, ◌||◌, ◌&&◌, ◌≢◌, is_none, is_some, Option, Some, None, Result, Ok, Err}
@@ -303,7 +304,8 @@ pub one_searched : {R Offset Endian : Type 0} (section : Unread) (entry : UnitEn
 one_searched section entry lowest addresses offsets listed pairs new walk after o program l are given offset one =
     let units = are.units in
     let u : KeptUnit = record { unit = one.unit; sequences = one.parts } in
-    let at : one.unit.offset ≡ o = sym (same_offset one.unit l (finds_more addresses pairs new) one.is_listed) ∙ offset in
+    let at : one.unit.offset ≡ o = sym (same_offset one.unit l (finds_more addresses pairs new) one.is_listed)
+    ∙ offset in
     let before = map (λ a. first_covering a pairs) addresses in
     let after_it = map (λ a. first_covering a new) addresses in
     let same : length listed ≡ length units = ap (λ (ls : List ListedUnit). length ls) are.listed_are
@@ -329,7 +331,8 @@ one_searched section entry lowest addresses offsets listed pairs new walk after 
     (λ i d inside.
     let a = slice_index_or addresses i d in
     let f = here_of i d inside in
-    of_this_unit a units one.parts (first_covering a pairs) f.0 (first_covering a new) (are.found i d inside) f.1 f.2) in
+    of_this_unit a units one.parts (first_covering a
+    pairs) f.0 (first_covering a new) (are.found i d inside) f.1 f.2) in
     let here : IsUnitOf walk.section walk.entry lowest u =
     is_unit_of walk.section walk.entry lowest program one.unit o one.parts at given.unit given.refusal given.layout
     one.outcome in
@@ -339,7 +342,8 @@ one_searched section entry lowest addresses offsets listed pairs new walk after 
     record {
       units = units ++ u ∷ [];
       each = All-push (IsUnitOf section entry lowest) units u are.each there;
-      listed_are = ap (λ (ls : List ListedUnit). ls ++ l ∷ []) (are.listed_are ∙ listed_same before after_it 0 units earlier)
+      listed_are =
+          ap (λ (ls : List ListedUnit). ls ++ l ∷ []) (are.listed_are ∙ listed_same before after_it 0 units earlier)
           ∙ ap (λ (m : ListedUnit). all_listed after_it 0 units ++ m ∷ [])
           (one.is_listed ∙ ap (λ b. listed_if b one.unit) (sym this))
           ∙ sym (listed_append after_it 0 units u);

@@ -506,7 +506,8 @@ module _ (convert_address : ℕ → Option Address) (s : ToConvert) (line_string
   pub files_back : (strings : List (List ℕ)) {files : List File}
       → FilesAtEnd s.layout true s.header s.header.program files
       → (let texts = texts_in strings (texts_after c.program (texts_in strings c.line_strings)).line_strings in
-      AreFilesReadAs s.sections s.header files c.program.encoding.version c.file_ids (map (bytes_in texts) c.program.directories)
+      AreFilesReadAs s.sections s.header files c.program.encoding.version c.file_ids
+      (map (bytes_in texts) c.program.directories)
       (map (built_file c.program texts) c.program.files))
   files_back strings {files} at_end =
       let reads = done.reads in

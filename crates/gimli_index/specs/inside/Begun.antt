@@ -1,5 +1,6 @@
 -- The statements of a lookup, one row after the other.
-use Rattle.std.specs.Prelude.{◌≡◌, ◌<◌, ℕ, Bool, false, not, ◌&&◌, nat_eq, nat_lt, List, [], ◌∷◌, ◌++◌, map, IfSome}
+use Rattle.std.specs.Prelude.{◌≡◌, ◌<◌, ℕ, Bool, false, not, ◌&&◌, nat_eq, nat_lt, List, [], ◌∷◌}
+use Rattle.std.specs.Prelude.{◌++◌, map, IfSome}
 use Rattle.std.specs.Prelude.{flat_map, length, slice_get}
 use Rattle.std.specs.Prelude.{if◌then◌else◌, Option, None, Some, Result}
 use Rattle.std.specs.Option.{option_map, option_map_or}

@@ -23,10 +23,10 @@ use gimli_line::IncompleteLineProgram;
 /// none has number 0.
 ///
 /// The files that are read have the paths of those of the source, and what is known of them. Where
-/// each address is mapped to itself, addresses are at least as wide as the source's, and no sequence
-/// that gave a row ends under a tombstone, the rows that are read are those of the source, one by
-/// one: an end has its address, and any other row all its registers, with the number that its file
-/// has now.
+/// each address is mapped to itself, addresses are at least as wide as the source's, and no
+/// sequence that gave a row ends under a tombstone, the rows that are read are those of the source,
+/// one by one: an end has its address, and any other row all its registers, with the number that
+/// its file has now.
 ///
 /// Requires encodings that a program may have, where they are handed, and a map that may always be
 /// called. Refused as the two calls are. The tables keep their texts, and the section its bytes,

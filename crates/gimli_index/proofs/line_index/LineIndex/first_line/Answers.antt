@@ -19,7 +19,8 @@ returns-then-statement_name-name-clause-line c =
     let key_is : c.key_of.result ≡ key_of (last_number (components c.args.path.now)) c.args.asked =
     c.key_of.ensures.key ∙ ap (λ n. key_of n c.args.asked) c.requires.name in
     λ ordered.
-    none_of_name c.args.path.now (index_of c.args.self.now) ordered (are_few (index_of c.args.self.now) c.args.self.now.low c.are_bytes.ensures) c.args.asked c.loop-number.number
+    none_of_name c.args.path.now (index_of c.args.self.now) ordered
+    (are_few (index_of c.args.self.now) c.args.self.now.low c.are_bytes.ensures) c.args.asked c.loop-number.number
     (c.loop-number.invariant ordered) c.loop-number-test.true
     (λ same. c.if-statement_name-name.true (c.statement_name.ensures.name ∙ same ∙ sym c.requires.name))
     (omega
@@ -27,23 +28,27 @@ returns-then-statement_name-name-clause-line c =
 
 pub loop-number-preserved : goal.loop-number-preserved
 loop-number-preserved c = λ ordered k m less from.
-    one_more c.args.path.now (index_of c.args.self.now) ordered (are_few (index_of c.args.self.now) c.args.self.now.low c.are_bytes.ensures) c.args.asked c.loop-number.number
+    one_more c.args.path.now (index_of c.args.self.now) ordered
+    (are_few (index_of c.args.self.now) c.args.self.now.low c.are_bytes.ensures) c.args.asked c.loop-number.number
     (c.loop-number.invariant ordered) c.loop-number-test.true
     (λ l le. c.in_default.ensures.line l le) k m less from
 
 pub returns-in-Some-clause-line : goal.returns-in-Some-clause-line
 returns-in-Some-clause-line c = λ ordered.
-    found_line c.args.path.now (index_of c.args.self.now) ordered (are_few (index_of c.args.self.now) c.args.self.now.low c.are_bytes.ensures) c.args.asked c.loop-number.number
+    found_line c.args.path.now (index_of c.args.self.now) ordered
+    (are_few (index_of c.args.self.now) c.args.self.now.low c.are_bytes.ensures) c.args.asked c.loop-number.number
     (c.loop-number.invariant ordered) c.loop-number-test.true c.in-Some.line c.in-Some.ensures.line.0
     (omega (arith, c.in-Some.ensures.few)) c.in-Some.ensures.line.1
 
 pub returns-in-Some-clause-place : goal.returns-in-Some-clause-place
 returns-in-Some-clause-place c = λ ordered.
-    found_place c.args.path.now (index_of c.args.self.now) ordered (are_few (index_of c.args.self.now) c.args.self.now.low c.are_bytes.ensures) c.args.asked c.loop-number.number
+    found_place c.args.path.now (index_of c.args.self.now) ordered
+    (are_few (index_of c.args.self.now) c.args.self.now.low c.are_bytes.ensures) c.args.asked c.loop-number.number
     (c.loop-number.invariant ordered) c.loop-number-test.true c.in-Some.line c.in-Some.ensures.line.0
     (omega (arith, c.in-Some.ensures.few)) c.in-Some.ensures.line.1
 
 pub returns-clause-line : goal.returns-clause-line
 returns-clause-line c = λ ordered.
-    no_line_left c.args.path.now (index_of c.args.self.now) ordered (are_few (index_of c.args.self.now) c.args.self.now.low c.are_bytes.ensures) c.args.asked c.loop-number.number
+    no_line_left c.args.path.now (index_of c.args.self.now) ordered
+    (are_few (index_of c.args.self.now) c.args.self.now.low c.are_bytes.ensures) c.args.asked c.loop-number.number
     (c.loop-number.invariant ordered) (omega arith)

@@ -1,4 +1,5 @@
-use Rattle.std.proofs.Common.{◌≡◌, ◌≢◌, ◌⊎◌, true, not, is_some, List, length, refl, sym, ap, subst, ◌∙◌, inl, inr, rules, arith}
+use Rattle.std.proofs.Common.{◌≡◌, ◌≢◌, ◌⊎◌, true, not, is_some, List, length, refl, sym, ap, subst, ◌∙◌, inl, inr}
+use Rattle.std.proofs.Common.{rules, arith}
 use Rattle.gimli_lookup.specs.declared.section_lookup.CoveringRows.{CoveringRows}
 use Rattle.gimli_lookup.specs.inside.SectionSearch.{bare_unit}
 use Rattle.gimli_lookup.specs.inside.UnitSearch.{AreKeptBehind}
