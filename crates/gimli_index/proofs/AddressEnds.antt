@@ -1,7 +1,7 @@
 -- The least and the greatest of addresses, and what starts between them need.
 use Rattle.std.proofs.Common.{◌≡◌, ◌∙◌, ◌<◌, ◌≤◌, ◌+◌, ◌-◌, ◌^◌, ℕ, zero, suc, Bool, true, false, cond, List, [], ◌∷◌}
 use Rattle.std.proofs.Common.{◌++◌}
-use Rattle.std.proofs.Common.{fold, get_or, length, map, nat_lt, refl, sym, subst, arith, inl, inr}
+use Rattle.std.proofs.Common.{fold, get_or, map, nat_lt, refl, sym, subst, arith, inl, inr}
 use Rattle.std.specs.Prelude.{min, max, All}
 use Rattle.std.specs.List.{Contains}
 use Rattle.std.proofs.Math.Nat.{le-max_left, le-max_right, le-min, min-le_left, min-le_right}
@@ -136,6 +136,3 @@ module _ (entries : List Entry) (statements : List Statement) where
       All-contains (λ (s : Statement). s.address < base_for size (least all) + 2 ^ 32) statements (get_or some k d)
       (statements_all (λ a. a < base_for size (least all) + 2 ^ 32) (all_near size size_is four small))
       (inside k d within)
-
-pub base_fits : (size : StartSize) (first : ℕ) → base_for size first ≤ highest_base size
-base_fits size first = min-le_right first (highest_base size)

@@ -3,7 +3,7 @@ use Rattle.std.proofs.Common.{◌≡◌, ◌∙◌, ◌⊎◌, ℕ, Bool, true, 
 use Rattle.std.proofs.Common.{◌++◌, Option, None, Some, Result, Ok, Err, refl, sym, ap, inl, inr, arith, append_assoc}
 use Rattle.std.proofs.Common.{length}
 use Rattle.std.proofs.Common.{◌≤◌, if◌then◌else◌, length-append}
-use Rattle.std.specs.Prelude.{flat_map, map, ◌==◌, bytes_eq}
+use Rattle.std.specs.Prelude.{flat_map, map, ◌==◌}
 use Rattle.std.specs.Option.{option_map_or}
 use Rattle.std.specs.List.{filter}
 use Rattle.std.proofs.lemmas.Bool.{eqb-true, false≢true}
@@ -13,13 +13,13 @@ use Rattle.std.proofs.lemmas.List.Folds.{list_any-append}
 use Rattle.std.proofs.lemmas.Slice.Eq.{bytes_eq-Decides}
 use Rattle.gimli_line.specs.declared.run.row.LineRow.{LineRow}
 use Rattle.gimli_lookup.specs.Section.{KeptUnit, ListedUnit, all_sequences}
-use Rattle.gimli_lookup.specs.Statements.{is_of_line, ascending_once}
+use Rattle.gimli_lookup.specs.Statements.{is_of_line}
 use Rattle.gimli_lookup.specs.Statements.{addresses_in as addresses_in_rows}
 use Rattle.gimli_lookup.proofs.AscendingOnce.{has, same_ascending_once}
 use Rattle.gimli_lookup.proofs.StatementRuns.{addresses_on, at_end, of_first, of_given, of_no_statement, of_none}
 use Rattle.gimli_index.specs.Found.{Texts, SayWhereLinesBegin, file_path, is_one_file, is_one_path, lookup_addresses}
 use Rattle.gimli_index.specs.Found.{sequence_addresses}
-use Rattle.gimli_index.specs.Lines.{addresses_in, addresses_of, is_named, is_of}
+use Rattle.gimli_index.specs.Lines.{addresses_in, is_named, is_of}
 use Rattle.gimli_index.specs.Meaning.{Statement}
 use Rattle.gimli_index.specs.declared.place.NoPath.{NoPath}
 use Rattle.gimli_index.specs.inside.Begun.{PathLine, begun, begun_in_unit, begun_in_units, goes_on}

@@ -1,10 +1,9 @@
 -- One more row among the statements of a lookup.
 use Rattle.std.proofs.Common.{◌≡◌, ◌≢◌, ◌∙◌, ℕ, suc, zero, ◌+◌, ◌<◌, Bool, true, false, not, nat_lt, List, [], ◌∷◌}
 use Rattle.std.proofs.Common.{◌++◌}
-use Rattle.std.proofs.Common.{length, map, Option, None, Some, refl, sym, ap, subst, arith, append_assoc, inl, inr}
+use Rattle.std.proofs.Common.{length, Option, None, Some, refl, sym, ap, subst, arith, append_assoc, inl, inr}
 use Rattle.std.proofs.Common.{if◌then◌else◌}
 use Rattle.std.specs.Prelude.{flat_map, slice_get, take}
-use Rattle.std.specs.Option.{option_map}
 use Rattle.std.proofs.lemmas.List.{length-append, map-append}
 use Rattle.gimli_line.specs.declared.run.row.LineRow.{LineRow}
 use Rattle.gimli_lookup.specs.Section.{KeptUnit, ListedUnit}
@@ -52,10 +51,6 @@ more_sources old new keeps n inside =
 pub still_inside : (old new : Table) (statements : List Made) → Keeps old new → AreInside old statements
     → AreInside new statements
 still_inside old new statements keeps inside k s there = more_sources old new keeps s.source (inside k s there)
-
-pub still_given : (old new : Table) (given : Option Given) → Keeps old new → IsGiven old given → IsGiven new given
-still_given old new None keeps is = tt
-still_given old new (Some g) keeps is = more_sources old new keeps g.source is
 
 pub same_given : (t : Texts) (units : List KeptUnit) {limit : ℕ} (old new : Table) (given : Option Given)
     → AreSources t units limit old → Keeps old new → IsGiven old given → given_in new given ≡ given_in old given
@@ -112,23 +107,7 @@ module _ (t : Texts) (units : List KeptUnit) {limit : ℕ} (u : ListedUnit) (old
   joined xs ys is =
       ap (λ (ss : List Statement). ss ++ xs) same ∙ ap (λ (ss : List Statement). statements_in new statements ++ ss) is
 
-  -- an end row ends the run
-  pub at_end_row : r.end_sequence ≡ true → GoesOnTo t u old statements given (r ∷ rest) new statements None rest
-  at_end_row end =
-      joined of_row (begun t u None rest)
-      (ap (λ (b : Bool). row_begins b (not (nat_lt 0 r.line))
-      (goes_on (given_in old given) (file_path t u r.file) r.line) (not r.is_stmt)) end)
-
   module _ (code : r.end_sequence ≡ false) where
-    -- so does a row without a line
-    pub at_no_line : nat_lt 0 r.line ≡ false → GoesOnTo t u old statements given (r ∷ rest) new statements None rest
-    at_no_line none =
-        joined of_row (begun t u None rest)
-        (ap (λ (b : Bool). row_begins b (not (nat_lt 0 r.line))
-        (goes_on (given_in old given) (file_path t u r.file) r.line) (not r.is_stmt)) code
-        ∙ ap (λ (b : Bool). row_begins false (not b) (goes_on (given_in old given) (file_path t u r.file) r.line)
-        (not r.is_stmt)) none)
-
     module _ (some : nat_lt 0 r.line ≡ true) where
       to_line : of_row
           ≡ row_begins false false (goes_on (given_in old given) (file_path t u r.file) r.line) (not r.is_stmt)

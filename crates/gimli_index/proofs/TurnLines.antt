@@ -1,19 +1,17 @@
 -- The entries of all sequences of a lookup say what is found at each address.
-use Rattle.std.proofs.Common.{◌≡◌, ◌∙◌, ◌⊎◌, ℕ, zero, suc, ◌^◌, ◌<◌, ◌≤◌, true, nat_eq, List, [], ◌∷◌, ◌++◌, length}
+use Rattle.std.proofs.Common.{◌≡◌, ◌∙◌, ℕ, zero, suc, ◌<◌, true, List, [], ◌∷◌, ◌++◌, length}
 use Rattle.std.proofs.Common.{map, Option, Some, None, refl}
 use Rattle.std.proofs.Common.{sym}
-use Rattle.std.proofs.Common.{ap, subst, inl, inr, arith}
-use Rattle.std.specs.Prelude.{flat_map, slice_get, slice_index_or, All, IfSome}
-use Rattle.std.specs.List.{count_by, Contains}
+use Rattle.std.proofs.Common.{ap, subst, arith}
+use Rattle.std.specs.Prelude.{flat_map, slice_get, slice_index_or, All}
+use Rattle.std.specs.List.{Contains}
 use Rattle.std.specs.Option.{option_map}
-use Rattle.std.specs.List.Sorted.{IsPermutation, IsNonDecreasingBy}
-use Rattle.std.proofs.lemmas.List.{length-map, map-append}
+use Rattle.std.specs.List.Sorted.{IsPermutation}
+use Rattle.std.proofs.lemmas.List.{map-append}
 use Rattle.std.proofs.lemmas.List.Elements.{Contains-append_left, Contains-append_right}
 use Rattle.std.proofs.lemmas.List.Sorted.{All-permutation, Contains-permutation, IsPermutation-map}
-use Rattle.std.proofs.lemmas.List.Sorted.{sum_by-IsPermutation}
 use Rattle.std.proofs.lemmas.Option.{get_or_from_slice_get, slice_get_within, slice_get-map}
 use Rattle.gimli_line.specs.declared.run.row.LineRow.{LineRow}
-use Rattle.gimli_lookup.specs.Covering.{range}
 use Rattle.gimli_lookup.specs.FirstPair.{HasNoPair}
 use Rattle.gimli_lookup.specs.Probes.{never_go_below, never_go_down}
 use Rattle.gimli_lookup.specs.Ranges.{IsFoundAt}
@@ -21,14 +19,14 @@ use Rattle.gimli_lookup.specs.Section.{KeptUnit, all_sequences}
 use Rattle.gimli_lookup.specs.SequenceRows.{rows_of}
 use Rattle.gimli_lookup.specs.declared.section_lookup.CoveringRows.{CoveringRows}
 use Rattle.gimli_index.specs.Found.{Texts, found_place, row_place}
-use Rattle.gimli_index.specs.Meaning.{Start, place_at}
+use Rattle.gimli_index.specs.Meaning.{place_at}
 use Rattle.gimli_index.specs.declared.contents.Entry.{Entry}
 use Rattle.gimli_index.specs.declared.turns.Turn.{Turn}
-use Rattle.gimli_index.specs.inside.Table.{Entered, Table, starts_in}
-use Rattle.gimli_index.specs.inside.Turns.{AreTurns, IsTurn, UnitRows, Walked, end_after, rows_in, rows_of_turns}
+use Rattle.gimli_index.specs.inside.Table.{Entered, Table}
+use Rattle.gimli_index.specs.inside.Turns.{AreTurns, UnitRows, Walked, rows_in, rows_of_turns}
 use Rattle.gimli_index.specs.inside.Turns.{rows_of_units, starts_of_turn}
 use Rattle.gimli_index.specs.inside.Turns.{turn_rows}
-use Rattle.gimli_index.proofs.Lists.{append_none, get_inside, get_seam}
+use Rattle.gimli_index.proofs.Lists.{get_inside, get_seam}
 use Rattle.gimli_index.proofs.TurnPlaces.{none_round, one_round, rows_of_all}
 
 abbrev rows_in_unit : UnitRows → List LineRow

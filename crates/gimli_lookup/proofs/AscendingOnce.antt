@@ -1,11 +1,11 @@
 -- Numbers in ascending order, each once: such a list is told by its members alone.
-use Rattle.std.proofs.Common.{◌≡◌, ◌≢◌, ℕ, zero, suc, ◌+◌, ◌<◌, ◌≤◌, Bool, true, false, nat_eq, nat_lt, ◌||◌, ◌==◌, ◌⊎◌}
+use Rattle.std.proofs.Common.{◌≡◌, ◌≢◌, ℕ, zero, suc, ◌+◌, ◌<◌, ◌≤◌, Bool, true, false, nat_eq, nat_lt, ◌||◌, ◌⊎◌}
 use Rattle.std.proofs.Common.{List, [], ◌∷◌, ◌++◌, length, get_or, cond, refl, sym, ap, ◌∙◌, subst, inl, inr, arith}
 use Rattle.std.proofs.Common.{lt_trans}
-use Rattle.std.proofs.Common.{AllPairs, Contains, IsPermutation, IsSorted, nat_cmp, is_lt, Less, Equal, Greater}
+use Rattle.std.proofs.Common.{AllPairs, Contains, IsPermutation, IsSorted, nat_cmp}
 use Rattle.std.specs.List.{dedup, list_any}
-use Rattle.std.specs.List.Sorted.{IsNonDecreasing, IsStrictlyIncreasing}
-use Rattle.std.proofs.lemmas.Bool.{cases_eq, cases_order, cond_both, eqb-true, eqb-false, eq-eqb, false≢true, le-ltb}
+use Rattle.std.specs.List.Sorted.{IsStrictlyIncreasing}
+use Rattle.std.proofs.lemmas.Bool.{cases_eq, cases_order, cond_both, eqb-true, eqb-false, eq-eqb, false≢true}
 use Rattle.std.proofs.lemmas.Bool.{ltb-false, ltb-true, ne_eqb, or_from, or_left}
 use Rattle.std.proofs.lemmas.List.Folds.{list_any-append, Any-from_list_any, list_any_at}
 use Rattle.std.proofs.lemmas.List.Kept.{AllPairs-from_increasing, Contains-dedup_nat, Contains-from_dedup}
@@ -181,13 +181,6 @@ pub same_ascending_once : (xs ys : List ℕ) → ((a : ℕ) → has a xs ≡ has
 same_ascending_once xs ys same =
     ascending_once_is ys (ascending_once xs) (ascending_once_rises xs) (λ a. ascending_once_has a xs ∙ same a)
 
-pub same_ascending_once_contains : (xs ys : List ℕ) → ((a : ℕ) → Contains xs a → Contains ys a)
-    → ((a : ℕ) → Contains ys a → Contains xs a) → ascending_once xs ≡ ascending_once ys
-same_ascending_once_contains xs ys there back =
-    same_ascending_once xs ys (λ a. same_truth (has a xs) (has a ys)
-    (λ is. has_from_contains ys a (there a (contains_from_has xs a is)))
-    (λ is. has_from_contains xs a (back a (contains_from_has ys a is))))
-
 pub ascending_once_permutation : (xs ys : List ℕ) → IsPermutation xs ys → ascending_once xs ≡ ascending_once ys
 ascending_once_permutation xs ys moved =
     same_ascending_once xs ys (λ a. list_any-IsPermutation (nat_eq a) xs ys moved)
@@ -223,18 +216,6 @@ ascending_once_dedup numbers up =
     (λ is. has_from_contains numbers a
     (Contains-from_dedup nat_eq numbers a (contains_from_has (dedup nat_eq numbers) a is)))
     (λ is. has_from_contains (dedup nat_eq numbers) a (Contains-dedup_nat numbers a (contains_from_has numbers a is))))
-
-not_less : (x y : ℕ) → y ≤ x → is_lt (nat_cmp x y) ≡ false
-not_less x y least =
-    ap (λ b. is_lt (cond b Less (cond (x == y) Equal Greater))) (le-ltb x y least)
-    ∙ cond_both (x == y) Equal Greater (λ o. is_lt o ≡ false) (λ same. refl) (λ more. refl)
-
--- numbers that never go down, without equal neighbours
-pub ascending_once_non_decreasing : (numbers : List ℕ) → IsNonDecreasing numbers
-    → dedup nat_eq numbers ≡ ascending_once numbers
-ascending_once_non_decreasing numbers up =
-    ascending_once_dedup numbers
-    (λ k d from inside. not_less (get_or numbers (k + 1) d) (get_or numbers k d) (up k (k + 1) d (omega arith) inside))
 
 -- ---- no number
 

@@ -1,5 +1,5 @@
 -- The sequences of a lookup, one after the other, and the starts that an index has of them.
-use Rattle.std.specs.Prelude.{◌≡◌, ◌+◌, ◌*◌, ◌^◌, ◌<◌, ◌≤◌, ◌++◌, ℕ, List, [], ◌∷◌, map, IfSome}
+use Rattle.std.specs.Prelude.{◌≡◌, ◌+◌, ◌*◌, ◌^◌, ◌<◌, ◌≤◌, ℕ, List, [], ◌∷◌, map, IfSome}
 use Rattle.std.specs.Prelude.{flat_map, if◌then◌else◌, slice_get, slice_index_or, All, Some, None}
 use Rattle.std.specs.Option.{option_map_or}
 use Rattle.std.specs.List.Sorted.{IsPermutation}
