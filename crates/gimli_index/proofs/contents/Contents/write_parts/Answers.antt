@@ -7,7 +7,7 @@ use Rattle.gimli_index.specs.declared.contents.Entry.{Entry}
 use Rattle.gimli_index.specs.declared.contents.Statement.{Statement}
 use Rattle.gimli_index.specs.declared.header.StartSize.{StartSize}
 use Rattle.gimli_index.specs.declared.header.StartSize.TheVariants.{Four}
-use Rattle.gimli_index.proofs.AddressEnds.{among_low, among_near, base_fits, entries_low, entries_near}
+use Rattle.gimli_index.proofs.AddressEnds.{among_low, among_near, entries_low, entries_near}
 use Rattle.gimli_index.proofs.Puts.{then_put}
 use Rattle.gimli_index.proofs.contents.Contents.write_parts.Goals as goal
 
