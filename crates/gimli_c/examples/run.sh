@@ -166,7 +166,7 @@ head -c 8388608 /dev/zero >"$work/zeros"
 objcopy --update-section ".debug_line=$work/zeros" "$work/built" "$work/grown"
 objcopy --compress-debug-sections=zlib "$work/grown" "$work/large"
 [ "$("$work/where_is" "$work/large" 0 2>&1 || true)" = \
-    "an index would have more ranges, files or bytes than 32 bits count, or longer paths than its limit" ]
+    "an index would have more ranges, statements, files or bytes than 32 bits count, or paths longer than its limit" ]
 # After a unit that is refused the rows of the next ones are still printed.
 printf '\4\0\0\0\11\0\0\0' | cat - "$work/line.bin" >"$work/refused.bin"
 objcopy --update-section ".debug_line=$work/refused.bin" "$work/built" "$work/refused"
