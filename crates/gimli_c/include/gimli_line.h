@@ -365,8 +365,8 @@ gimli_line_status gimli_line_index_range(const void *index, size_t length, size_
  * that line of one file that stand side by side in a sequence, the address of the first that is a statement. Where the line has none,
  * those of the next line that has; *found_line is that line. They go into addresses[0] and so on, in ascending order, each once; *count is
  * how many there are. GIMLI_LINE_NO_ROOM where `room` is less: *count is written then, and nothing else. GIMLI_LINE_NO_CODE where no line
- * from it on has any; one of GIMLI_LINE_NO_INDEX to GIMLI_LINE_INDEX_HEADER where the bytes begin with no index. Where another number than
- * these is answered, nothing is written. Searches the statements by halves, and looks at those of the line in files of the same name. In
+ * from it on has any; one of GIMLI_LINE_NO_INDEX to GIMLI_LINE_INDEX_HEADER where the bytes begin with no index. If the call returns another
+ * number, nothing is written. Searches the statements by halves, and looks at those of the line in files of the same name. In
  * an index that this library made these are the addresses that the rows of the program give, also of functions that a linker dropped or
  * folded (docs/INDEX.md). */
 gimli_line_status gimli_line_index_addresses_of(const void *index, size_t length, const char *path, size_t path_length, uint64_t line,
