@@ -24,7 +24,7 @@ import quotes
 import terms
 
 TOP = os.path.dirname(os.path.dirname(os.path.realpath(__file__)))
-WIDTH, LINES, WORDS = 100, 115, 1000
+WIDTH, LINES, WORDS = 100, 120, 1000
 BLOCK = re.compile(r"<!-- contracts of ([^>]*?) -->\n```text\n(.*?)```\n", re.S)
 
 Function = collections.namedtuple("Function", "name head clauses")

@@ -67,7 +67,7 @@ class Unit:
         if name is None:
             return None
         if self.version >= 5:
-            first = joined(self.directory, self.directories.get(0, ""))
+            first = self.directories.get(0, "") or self.directory
             own = self.directories.get(directory)
             return None if own is None else joined(joined(first, own) if directory else first, name)
         if directory == 0:

@@ -388,12 +388,19 @@ says "a name that isn't UTF-8" "" "a name that isn't UTF-8 can't be opened; writ
 cp whole changed.program
 put $((1 << 60)) changed.program $(($(header_of whole .debug_str) + 32))
 if ask units changed.program >found 2>told && ask units whole >wanted_text && cmp -s found wanted_text; then right; else wrong "units asks for .debug_str"; fi
-refused "texts of 2^60 bytes" changed.program "the file ends before the section does"
-# Units that can't be read are no reason to refuse: the line programs of version 5 have their directories.
-cp whole changed.program
-put $((1 << 60)) changed.program $(($(header_of whole .debug_info) + 32))
-if readelf --debug-dump=rawline whole 2>/dev/null | grep -q 'DWARF Version: *5'; then
+# The line programs of version 5 have their directories, and their texts in .debug_line_str: what isn't needed is no reason to refuse.
+is_version_5=
+if readelf --debug-dump=rawline whole 2>/dev/null | grep -q 'DWARF Version: *5'; then is_version_5=yes; fi
+if [ "$is_version_5" ]; then
+    places "texts of 2^60 bytes" changed.program
+    cp whole changed.program
+    put $((1 << 60)) changed.program $(($(header_of whole .debug_info) + 32))
     places "units of 2^60 bytes" changed.program
+    cp whole changed.program
+    put $((1 << 60)) changed.program $(($(header_of whole .debug_line_str) + 32))
+    refused "texts of line programs of 2^60 bytes" changed.program "the file ends before the section does"
+else
+    refused "texts of 2^60 bytes" changed.program "the file ends before the section does"
 fi
 
 # A gigabyte after the program isn't read.

@@ -39,7 +39,7 @@ ANSWER = re.compile(r"(.*?):(\d+|\?)(?::(\d+))?(?: \(discriminator \d+\))?$")
 NOWHERE = (None, 0, 0)
 NO_LINE = -1
 NO_RULE = "no rule explains it"
-# A row, with the path of its file where directory 0 of version 5 is joined to DW_AT_comp_dir, both paths of file 0 where its unit
+# A row, with the path of its file where directories of version 5 are joined to DW_AT_comp_dir, both paths of file 0 where its unit
 # is of version 5 and its sequence has named no file but 1 so far, and whether the sequence before, in its unit, was dropped and
 # has addresses that go down.
 Row = collections.namedtuple("Row", "path line column joined file_zero follows_dropped")
@@ -170,19 +170,16 @@ class Table:
                     self.at_ends[low].add(self.known[key][:2])
 
     def path(self, unit, number):
-        """The path of a file (DWARF 5, section 6.2.4), and by the rule of older tools. Directory 0 of version 5 is that of the
-        compilation: where it isn't absolute and DW_AT_comp_dir is, it goes on from there; another directory goes on from
-        DW_AT_comp_dir, or where there is none from directory 0."""
+        """The path of a file (DWARF 5, section 6.2.4), and by the rule of tools that join all to DW_AT_comp_dir. Directory 0 of version 5
+        is that of the compilation; up to version 4, or where it is empty, DW_AT_comp_dir is."""
         key = (unit["at"], number)
         if key not in self.paths:
             name, directory = unit["files"].get(number, ("", 0))
             folder, own = self.folders.get(unit["at"], ""), unit["dirs"].get(directory, "")
-            joined = start = folder
-            if unit["version"] == 5 and directory == 0 and not folder.startswith("/"):
-                start = ""
-            elif unit["version"] == 5 and not folder:
-                start = unit["dirs"].get(0, "")
-            self.paths[key] = tuple(os.path.normpath(os.path.join(it, own, name)) for it in (start, joined))
+            parts = (folder, own)
+            if unit["version"] == 5:
+                parts = (unit["dirs"].get(0) or folder, own if directory else "")
+            self.paths[key] = tuple(os.path.normpath(os.path.join(*it, name)) for it in (parts, (folder, own)))
         return self.paths[key]
 
     def says(self, answer, rows):
@@ -194,7 +191,7 @@ class Table:
             return "another of the rows that cover the address" if len(rows) > 1 else None
         lines = {row.line for row in rows}
         if any(answer[:2] == (row.joined, row.line) for row in rows):
-            return "directory 0 of version 5 joined to itself"
+            return "directory of version 5 joined to DW_AT_comp_dir"
         if peer == "addr2line" and answer[1] == NO_LINE and not rows:
             return "a file without a line where no row is"
         if peer == "addr2line" and answer[1] == NO_LINE and 0 in lines:

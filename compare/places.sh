@@ -31,8 +31,8 @@
 #     version 15, and it says `??`.
 #   llvm-symbolizer, no place outside the units' ranges: no unit's ranges in .debug_info have the
 #     address, and it says `??`.
-#   directory 0 of version 5 joined to itself: it is relative, as DW_AT_comp_dir is, and the path begins
-#     with both, as addr2line 2.40, eu-addr2line 0.188 and llvm-symbolizer 14 have it.
+#   directory of version 5 joined to DW_AT_comp_dir: directory 0 is relative, and the path begins with
+#     DW_AT_comp_dir, as addr2line 2.40, eu-addr2line 0.188 and llvm-symbolizer 14 have it.
 #   another of the rows that cover the address: two sequences do, and it says a row of the other
 #     one.
 # Where `lines` does not say what the rows say, the difference is printed with its cause, if that is

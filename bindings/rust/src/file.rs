@@ -107,9 +107,9 @@ impl Sections<'_> {
     }
 
     /// The whole path of the file of a number of the unit at an offset. `comp_dir` is the directory of the compilation
-    /// (`DW_AT_comp_dir`, as [`CompilationSections::comp_dir`](crate::CompilationSections::comp_dir) tells it), from which a relative
-    /// path goes on up to version 4. In version 5 the unit has the directory too, and `comp_dir` counts where that one is relative.
-    /// Where it has no bytes, such a path stays relative.
+    /// (`DW_AT_comp_dir`, as [`CompilationSections::comp_dir`](crate::CompilationSections::comp_dir) gives it), from which a relative
+    /// path goes on up to version 4. In version 5 directory 0 of the unit is that directory, and `comp_dir` counts only if it is empty.
+    /// If the directory is relative or has no bytes, so is the path.
     ///
     /// # Errors
     ///

@@ -9,6 +9,7 @@ mod converted;
 mod errors;
 mod lookups;
 mod many;
+mod own_writer;
 mod readers;
 mod relocations;
 mod units;
@@ -26,7 +27,7 @@ fn first_false(found: &[bool]) -> Option<usize> {
 }
 
 /// Each check, and what it finds.
-fn checks(alloc: Global) -> [(&'static str, Found); 10] {
+fn checks(alloc: Global) -> [(&'static str, Found); 11] {
     [
         ("readers::skipped", readers::skipped()),
         ("lookups::narrow_unit", lookups::narrow_unit(alloc)),
@@ -37,6 +38,7 @@ fn checks(alloc: Global) -> [(&'static str, Found); 10] {
         ("converted::refused", converted::refused(alloc)),
         ("many::writers_and_tables", many::writers_and_tables(alloc)),
         ("many::conversions", many::conversions(alloc)),
+        ("own_writer::refused", own_writer::refused(alloc)),
         ("errors::turned", errors::turned()),
     ]
 }

@@ -1,8 +1,9 @@
-//! Whether whole paths need the units of `.debug_info`, which are most of a file's debug
-//! information.
+//! Which sections whole paths need: of `.debug_info`, which is most of a file's debug information,
+//! and of `.debug_str`, few programs do.
 
-use gimli_core::{AttributeValue, Reader, ReaderOffset, RunTimeEndian};
-use gimli_line::{DebugLine, LineProgramHeader, LineUnit, LineUnits};
+use gimli_core::{DW_FORM_strp, EndianSlice, Reader, RunTimeEndian};
+use gimli_line::{DebugLine, FileEntryFormat, IncompleteLineProgram, LineUnits};
+use gimli_lookup::{StringSections, some_need_directory};
 use std::alloc::Global;
 
 /// The order of bytes, by whether the most significant one comes first.
@@ -14,49 +15,29 @@ fn order(is_big_endian: bool) -> RunTimeEndian {
     }
 }
 
-/// Whether a path begins at the root.
-fn is_from_root<R: Reader>(path: R) -> bool {
-    let mut path = path;
-    match path.read_u8() {
-        Ok(first) => first == b'/',
-        Err(_) => false,
-    }
+/// Whether something of a table is in `.debug_str`.
+fn name_strings(formats: &[FileEntryFormat]) -> bool {
+    formats.iter().any(|format| format.form == DW_FORM_strp)
 }
 
-/// Whether paths of a header may go on from the directory that its unit of `.debug_info` has: up to
-/// version 4 (DWARF 4, section 6.2.4), and where directory 0 isn't seen to begin at the root (DWARF
-/// 5, section 6.2.4).
-fn needs_unit<R: Reader>(header: &LineProgramHeader<R>, line_str: &[u8]) -> bool {
-    if header.version() < 5 {
-        return true;
-    }
-    match header.directory(0) {
-        Some(AttributeValue::String(path)) => !is_from_root(path),
-        Some(AttributeValue::DebugLineStrRef(offset)) => {
-            match line_str.get(offset.0.into_u64() as usize..) {
-                Some(path) => !path.starts_with(b"/"),
-                None => true,
-            }
+/// Whether the tables of a unit name texts of `.debug_str`. One that can't be read names none.
+fn is_named<R: Reader>(program: gimli_core::Result<IncompleteLineProgram<R>>) -> bool {
+    match program {
+        Ok(program) => {
+            let header = program.header();
+            name_strings(header.directory_entry_format())
+                || name_strings(header.file_name_entry_format())
         }
-        _ => true,
-    }
-}
-
-/// Whether paths of a unit's line program, if it has one that can be read, may go on from there.
-fn is_needed<R: Reader>(unit: &LineUnit<R>, line_str: &[u8]) -> bool {
-    match &unit.program {
-        Ok(program) => needs_unit(program.header(), line_str),
         Err(_) => false,
     }
 }
 
-/// Whether paths of some of these line programs may go on from there. Stops at the first that does;
-/// also where memory is missing.
-fn some_is_needed<R: Reader>(mut units: LineUnits<R>, line_str: &[u8]) -> bool {
+/// Whether the tables of some of these units name texts of `.debug_str`, or memory is missing.
+fn some_is_named<R: Reader>(mut units: LineUnits<R>) -> bool {
     for _ in 0..u64::MAX {
         match units.next() {
             Ok(Some(unit)) => {
-                if is_needed(&unit, line_str) {
+                if is_named(unit.program) {
                     return true;
                 }
             }
@@ -67,16 +48,42 @@ fn some_is_needed<R: Reader>(mut units: LineUnits<R>, line_str: &[u8]) -> bool {
     true
 }
 
-/// Whether paths of some line program may go on from the directory that its unit of `.debug_info`
-/// has, or memory is missing.
-pub(crate) fn need_units(
-    alloc: Global,
-    lines: &[u8],
-    line_str: &[u8],
-    is_big_endian: bool,
-    is_64_bit: bool,
-) -> bool {
-    let address_size = if is_64_bit { 8 } else { 4 };
-    let section = DebugLine::new(lines, order(is_big_endian));
-    some_is_needed(section.units(alloc, address_size), line_str)
+/// Line programs, and what they are read with.
+#[derive(Clone, Copy)]
+pub struct LinePrograms<'a> {
+    /// Makes memory for the headers.
+    pub alloc: Global,
+    /// The section `.debug_line`.
+    pub lines: &'a [u8],
+    /// The section `.debug_line_str`.
+    pub line_str: &'a [u8],
+    /// Whether the most significant byte comes first.
+    pub is_big_endian: bool,
+    /// Whether addresses have 8 bytes, and not 4.
+    pub is_64_bit: bool,
+}
+
+impl<'a> LinePrograms<'a> {
+    /// Whether paths need `.debug_str`: a header names texts there. It says so too if memory is
+    /// missing.
+    pub fn need_strings(self) -> bool {
+        some_is_named(self.units())
+    }
+
+    /// Whether paths need the units of `.debug_info`: some header has no directory of its
+    /// compilation, as `Paths::needs_directory` says. It says so too if memory is missing.
+    pub fn need_units(self, strings: &'a [u8]) -> bool {
+        let sections = StringSections {
+            debug_line_str: EndianSlice::new(self.line_str, order(self.is_big_endian)),
+            debug_str: EndianSlice::new(strings, order(self.is_big_endian)),
+        };
+        some_need_directory(self.units(), &sections).unwrap_or(true)
+    }
+
+    /// The units.
+    fn units(self) -> LineUnits<EndianSlice<'a, RunTimeEndian>> {
+        let address_size = if self.is_64_bit { 8 } else { 4 };
+        let section = DebugLine::new(self.lines, order(self.is_big_endian));
+        section.units(self.alloc, address_size)
+    }
 }

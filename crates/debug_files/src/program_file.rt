@@ -3,7 +3,7 @@
 ghost use Rattle.std.specs.Prelude.{◌≡◌, IfOk, MatchOption, Ok, None, codes};
 ghost use Rattle.debug_files.specs.Outlines.{section_in, Holds};
 
-use crate::directories::need_units;
+use crate::directories::LinePrograms;
 use crate::missing::Missing;
 use crate::outline::{Outline, checksum, whole};
 use crate::source::{FoundSections, PathSections, Wanted};
@@ -97,8 +97,8 @@ impl<F: Read + Seek> ProgramFile<F> {
         }))
     }
 
-    /// The texts of line programs, and where whole paths are wanted and need them, the sections of
-    /// units.
+    /// The texts that line programs name, and where whole paths are wanted and need them, the
+    /// sections of units.
     fn path_sections(
         &mut self,
         alloc: Global,
@@ -106,13 +106,24 @@ impl<F: Read + Seek> ProgramFile<F> {
         wanted: Wanted,
     ) -> Result<PathSections, Missing> {
         let line_str = self.texts(alloc, b".debug_line_str")?;
-        let strings = self.texts(alloc, b".debug_str")?;
         let sections = self.outline.sections()?;
-        let is_big_endian = sections.is_big_endian();
-        let is_64_bit = sections.address_size() == 8;
-        let are_named = wanted == Wanted::Names;
-        if are_named || !need_units(alloc, lines, &line_str, is_big_endian, is_64_bit) {
+        let programs = LinePrograms {
+            alloc,
+            lines,
+            line_str: &line_str,
+            is_big_endian: sections.is_big_endian(),
+            is_64_bit: sections.address_size() == 8,
+        };
+        let mut strings = Vec::new(alloc);
+        let has_strings = programs.need_strings();
+        if has_strings {
+            strings = self.texts(alloc, b".debug_str")?;
+        }
+        if wanted == Wanted::Names || !programs.need_units(&strings) {
             return Ok(PathSections::of_texts(alloc, line_str, strings));
+        }
+        if !has_strings {
+            strings = self.texts(alloc, b".debug_str")?;
         }
         Ok(PathSections {
             line_str,

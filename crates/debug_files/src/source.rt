@@ -79,8 +79,8 @@ pub struct FoundSections {
 }
 
 /// The sections that whole paths need; no bytes where there is none. Those of units aren't read
-/// where each line program is of version 5 or later and has the directory of its compilation itself
-/// (directory 0, from the root): whole paths don't go on from theirs then.
+/// where each line program has the directory of its compilation itself, as in version 5, and
+/// `.debug_str` isn't where neither a line program nor a unit needs it ([`LinePrograms`]).
 ///
 /// <!-- part of crates/lines/src/inputs.rt -->
 /// ```rust

@@ -60,7 +60,7 @@ pub(crate) fn names_index_of(header: &Header, first: &SectionHeader) -> u64
 }
 
 /// Whether a text, which a zero byte ends, stands at an offset of the names.
-fn is_name_at(names: &[u8], offset: u32, name: &[u8]) -> bool
+pub(crate) fn is_name_at(names: &[u8], offset: u32, name: &[u8]) -> bool
     ensures { result ≡ is_name_at names.now offset name.now }
 {
     let Some(text) = names.get(offset as usize..) else {

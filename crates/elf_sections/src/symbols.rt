@@ -4,10 +4,12 @@ ghost use Rattle.std.specs.Prelude.{◌≡◌, ◌≤◌, ◌/◌, length, drop,
 ghost use Rattle.std.specs.Option.{option_copied, option_map};
 ghost use Rattle.elf_sections.specs.Entries.{entries, symbol_size};
 ghost use Rattle.elf_sections.specs.Symbols.{layout_of, code_symbol, name_at};
+ghost use Rattle.elf_sections.specs.Table.{is_name_at};
 
 use crate::debug_file::name_end;
 use crate::entries::Entries;
 use crate::layout::{Class, Layout};
+use crate::section_table::is_name_at;
 use crate::symbol::Symbol;
 use gimli_core::RunTimeEndian;
 
@@ -97,6 +99,14 @@ impl<'a> SymbolTable<'a> {
             Some(end) => Some(&text[..end]),
             None => None,
         }
+    }
+
+    /// Whether the name at an offset in the section of names is this one. It looks at no more bytes
+    /// than this one has, whatever the length of the other.
+    pub fn is_name(&self, offset: u32, name: &[u8]) -> bool
+        ensures { result ≡ is_name_at self.now.names.now offset name.now }
+    {
+        is_name_at(self.names, offset, name)
     }
 }
 

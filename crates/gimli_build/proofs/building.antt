@@ -3,3 +3,4 @@ pub mod TableLemmas
 pub mod Equality
 pub mod SourceLemmas
 pub mod FormatLemmas
+pub mod TrapLemmas

@@ -1,3 +1,4 @@
 -- What a program is refused for.
 pub mod Causes
 pub mod FirstCauses
+pub mod FoundCauses

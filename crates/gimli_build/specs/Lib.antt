@@ -30,6 +30,7 @@ pub mod Cause
 pub mod Refused
 pub mod NoFiles
 pub mod Traps
+pub mod TrapPlaces
 pub mod Stored
 pub mod Texts
 pub mod ReadsBack

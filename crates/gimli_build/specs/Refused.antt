@@ -2,14 +2,17 @@
 use Rattle.std.specs.Prelude.{◌≡◌, ◌<◌, ◌&&◌, if◌then◌else◌, ◌∷◌}
 use Rattle.gimli_build.specs
 use specs.Prelude
-use Prelude.{ℕ, nat_eq, nat_le, [], Option, Some, None, slice_get, option_map_or}
-use Prelude.{option_and_then, Error, StringTables}
+use Prelude.{ℕ, not, nat_eq, nat_le, nat_lt, [], Option, Some, None, slice_get, option_map_or}
+use Prelude.{option_map, option_and_then, Encoding, Format, Error, IncompatibleLineProgramEncoding}
+use Prelude.{UnsupportedVersion, NeedVersion, StringTables, with_text}
+use Rattle.gimli_bytes.specs.Texts.{texts_in}
 use Rattle.gimli_core.specs.FormNumbers.{DW_FORM_string}
 use specs.LineText.{LineText}
 use specs.Tables.{File}
 use specs.Built.{Built}
-use specs.Version5Tables.{first_form, path_texts, sources}
-use specs.Cause.{first_of, text_cause, item_cause}
+use specs.Version5Tables.{first_form, path_texts, sources, empty_text}
+use specs.Cause.{cause_if, first_of, offset_cause, text_cause, item_cause}
+use specs.Unit.{is_incompatible}
 
 -- the answer is the first index that has a cause, with its cause
 abbrev pub FindsFirst : (ℕ → Option Error) → Option (ℕ × Error) → Type 0
@@ -22,6 +25,14 @@ FindsFirst cause None = (i : ℕ) → cause i ≡ None
 abbrev pub wanted_form : ℕ → ℕ → ℕ
 wanted_form version form = if nat_le version 4 then DW_FORM_string else form
 
+-- the tables, each with the empty text
+abbrev pub with_empty : StringTables → StringTables
+with_empty texts = texts_in (with_text texts.strings []) (with_text texts.line_strings [])
+
+-- why the empty text is refused, which is in the table of its form once a program is written
+abbrev pub empty_cause : Format → StringTables → ℕ → Option Error
+empty_cause format texts form = offset_cause format (with_empty texts) (empty_text form texts)
+
 module _ (p : Built) (texts : StringTables) where
   -- why a directory is refused; up to version 4 the working directory isn't written
   abbrev pub directory_cause : ℕ → LineText → Option Error
@@ -30,13 +41,17 @@ module _ (p : Built) (texts : StringTables) where
       else text_cause p.encoding.format texts
       (wanted_form p.encoding.version (first_form p.directories), t)
 
-  -- why a file is refused: for its path, else for its source where sources are written
+  -- why a source is refused, or the empty text that stands for none; both only where sources are
+  -- written
   abbrev pub source_cause : Option LineText → Option Error
   source_cause source =
+      let form = first_form (sources p.files) in
       if nat_le 5 p.encoding.version && p.file_has_source
-      then option_map_or (λ t. text_cause p.encoding.format texts (first_form (sources p.files), t))
-      source None
+      then option_map_or (λ t. text_cause p.encoding.format texts (form, t)) source
+      (empty_cause p.encoding.format texts form)
       else None
+
+  -- why a file is refused: for its path, else for its source
 
   abbrev pub file_cause : File → Option Error
   file_cause f =
@@ -53,3 +68,22 @@ module _ (p : Built) (texts : StringTables) where
 
 abbrev pub cause_of_item : Built → ℕ → Option Error
 cause_of_item p i = option_and_then (item_cause p.encoding.address_size) (slice_get p.items i)
+
+-- ---- all of them, in the order of `write`
+
+-- what was found, without where it is
+abbrev pub cause_found : Option (ℕ × Error) → Option Error
+cause_found found = option_map (λ f. f.1) found
+
+-- why a program can't be written for a unit of this encoding, whatever its parts are
+abbrev pub encoding_cause : Encoding → Built → Option Error
+encoding_cause unit p =
+    first_of (
+    cause_if (is_incompatible unit p.encoding) IncompatibleLineProgramEncoding
+    ∷ cause_if (not (nat_le 2 p.encoding.version && nat_le p.encoding.version 5))
+    (UnsupportedVersion p.encoding.version)
+    ∷ cause_if
+    (nat_lt p.encoding.version 4
+    && not (nat_eq p.line_encoding.maximum_operations_per_instruction 1))
+    (NeedVersion 4)
+    ∷ [])

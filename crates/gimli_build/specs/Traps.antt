@@ -1,10 +1,11 @@
 -- What readers drop or misread of a program that `write` takes.
-use Rattle.std.specs.Prelude.{◌≡◌, ◌+◌, ◌*◌, ◌^◌, ◌<◌, ◌≤◌, ◌&&◌, ◌||◌, if◌then◌else◌, ◌∷◌}
+use Rattle.std.specs.Prelude.{◌≡◌, ◌+◌, ◌-◌, ◌*◌, ◌^◌, ◌<◌, ◌≤◌, ◌&&◌, ◌||◌, if◌then◌else◌, ◌∷◌}
 use Rattle.gimli_build.specs
 use specs.Prelude
 use Prelude.{ℕ, nat_eq, nat_le, nat_lt, Bool, true, false, not, List, [], length, take, drop}
 use Prelude.{reverse, Option, Some, None}
-use Rattle.std.specs.List.{list_all}
+use Rattle.std.specs.List.{flat_map, list_all, range_with_len}
+use Rattle.std.specs.Option.{option_map, option_to_list}
 use specs.Built.{Built, base_of}
 use specs.declared.built.row.LineRow.{LineRow}
 use specs.declared.built.items.BuiltItem.{BuiltItem}
@@ -67,3 +68,15 @@ trap_at p i = first_trap p (reverse (take i p.items)) (drop i p.items)
 -- the items from one index up to another have none
 abbrev pub HaveNoTrap : Built → ℕ → ℕ → Type 0
 HaveNoTrap p from to = (i : ℕ) → from ≤ i → i < to → trap_at p i ≡ None
+
+-- the trap of the item at an index, with this index
+abbrev pub indexed_trap : Built → ℕ → List (ℕ × Trap)
+indexed_trap p i = option_to_list (option_map (λ trap. (i, trap)) (trap_at p i))
+
+-- those of the items from an index on
+abbrev pub traps_from : Built → ℕ → List (ℕ × Trap)
+traps_from p from = flat_map (indexed_trap p) (range_with_len from (length p.items - from))
+
+-- those of all items
+abbrev pub traps_of : Built → List (ℕ × Trap)
+traps_of p = traps_from p 0

@@ -12,6 +12,7 @@ pub record WritesOr {W X : Type 0} (sink : Ghosts W) (Own : Error → Type 0) (o
   pub keeps : Begins (sink.contents old) (sink.contents new)
   pub ordered : sink.is_big new ≡ sink.is_big old
   pub stays : IsTrue (sink.completes old) → IsTrue (sink.completes new)
+  pub unrefused : IsTrue (sink.unrefused old) → OnOk result (IsTrue (sink.unrefused new))
   -- of a writer that keeps its bytes: the wanted bytes come after the old ones; or the refusal is
   -- for memory, or is one of the call's own, or is what is wanted
   pub ok : IsTrue sink.keeps_bytes
@@ -26,6 +27,6 @@ pub record WritesOr {W X : Type 0} (sink : Ghosts W) (Own : Error → Type 0) (o
       → IfErr result (λ e. Own e ⊎ (wanted (sink.hand at) ≡ Err e))
 
 -- why the program's own call of `write` is refused, beside what is wanted: tables that can't grow,
--- or what a call of the writer refused
+-- or an error of the writer
 abbrev pub OfMemoryOr : (Error → Type 0) → Error → Type 0
 OfMemoryOr Refuses e = (e ≡ OutOfMemory) ⊎ Refuses e

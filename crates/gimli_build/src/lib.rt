@@ -19,4 +19,4 @@ pub use built::items::{BuiltItem, BuiltItems};
 pub use built::line_program::LineProgram;
 pub use built::line_string::LineString;
 pub use built::row::LineRow;
-pub use built::trap::Trap;
+pub use built::trap::{Trap, Traps};

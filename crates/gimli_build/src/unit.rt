@@ -3,7 +3,7 @@
 ghost use Rattle.std.specs.Prelude.{◌≡◌, ◌<◌, ◌^◌, length, IsTrue, IfOk, OnOk, Err};
 ghost use Rattle.gimli_bytes.specs.Hand.{Placement, plain};
 ghost use Rattle.gimli_bytes.specs.Relocations.{placed};
-ghost use Rattle.gimli_bytes.specs.Written.{AppendsThat};
+ghost use Rattle.gimli_bytes.specs.Written.{AppendsThat, IsOwn};
 ghost use Rattle.gimli_bytes.specs.Texts.{texts_in};
 ghost use Rattle.gimli_build.specs.Conditions.{CanWrite};
 ghost use Rattle.gimli_build.specs.inside.Conditions.{IsBuilt};
@@ -54,7 +54,7 @@ impl LineProgram {
         strings: &mut StringTable,
     ) -> Result<DebugLineOffset>
         requires { CanWrite self.now (texts_in strings.old line_strings.old) }
-        ensures writes { WritesOr W.Sink (OfMemoryOr W.refuses) w.old.0 w.new.0 result
+        ensures writes { WritesOr W.Sink (OfMemoryOr (IsOwn W.Sink w.old.0)) w.old.0 w.new.0 result
             (λ hand. unit_bytes hand (W.is_big w.old.0) encoding self.now
             (texts_in strings.old line_strings.old)) }
         ensures offset { IfOk result (λ offset. offset.0 ≡ length (W.contents w.old.0)) }

@@ -11,6 +11,7 @@ pub mod WrittenAs
 pub mod SectionWords
 pub mod RelocationLemmas
 pub mod Relocating
+pub mod AscendingLemmas
 pub mod CallsRelocated
 pub mod PlacedNumbers
 pub mod Completing

@@ -27,16 +27,24 @@ handed_on (inr is) = absurd cc
 pub refused_after : {W X Y : Type 0} {sink : Ghosts W} {old mid new : W} {e : Error} (part whole : List ℕ)
     → Begins (sink.contents old) (sink.contents mid) → sink.is_big mid ≡ sink.is_big old
     → (IsTrue (sink.completes old) → IsTrue (sink.completes mid))
+    → (IsTrue (sink.unrefused old) → IsTrue (sink.unrefused mid))
     → IsAppend {X = X} sink mid new (Err e) (λ hand. Ok part)
     → IsAppendInParts {X = Y} sink old new (Err e) whole
-refused_after part whole keeps ordered stays refused = record {
+refused_after {mid = mid} part whole keeps ordered stays unrefused refused = record {
   keeps = begins_then _ _ _ keeps refused.keeps;
   ordered = refused.ordered ∙ ordered;
   stays = λ completes. refused.stays (stays completes);
+  unrefused = λ before. tt;
   ok = λ keeps_bytes. tt;
   completed = λ at completes. tt;
   err = refused.err;
-  own = handed_on refused.own;
+  own = record {
+    state = mid;
+    bytes = Ok part;
+    keeps = keeps;
+    unrefused = unrefused;
+    returned = handed_on refused.own;
+  };
 }
 
 -- both are written
@@ -53,6 +61,7 @@ written_after {sink = sink} {old = old} {mid = mid} {new = new} first second bef
   keeps = begins_then _ _ _ before.keeps after.keeps;
   ordered = after.ordered ∙ before.ordered;
   stays = λ completes. after.stays (before.stays completes);
+  unrefused = λ unrefused. after.unrefused (before.unrefused unrefused);
   ok = λ keeps_bytes. both (sink.contents old) first (second (sink.is_big old)) (sink.contents mid) (sink.contents new)
       (before.ok keeps_bytes)
       (after.ok keeps_bytes ∙ ap (λ (b : Bool). sink.contents mid ++ second b) before.ordered);

@@ -1,15 +1,19 @@
 -- The keys of a table, seen as texts.
-use Rattle.std.specs.Prelude.{◌≡◌, ◌≢◌, ◌+◌, ◌||◌, ◌∷◌, ◌++◌, if◌then◌else◌, ◌<◌, ◌≤◌}
+use Rattle.std.specs.Prelude.{◌≡◌, ◌≢◌, ◌+◌, ◌-◌, ◌||◌, ◌∷◌, ◌++◌, if◌then◌else◌, ◌<◌}
 use Rattle.gimli_bytes.proofs.Common
 use Common.{ℕ, zero, suc, Bool, true, false, cond, not, List, [], map, length, take, drop, get_or, Some, refl}
+use Rattle.std.proofs.lemmas.Bool.{ltb-false, ltb-true}
 use Common.{sym, ap, ◌∙◌, arith, true≢false, position, append_assoc, length-append, bytes_eq, All, Contains, slice_get}
-use Common.{list_any, position_or_len, prefix_len, map-append, take_more, take-map, take-append-le, drop-drop, drop_at}
+use Common.{nat_lt, list_any, position_or_len, prefix_len, map-append, take_all, take-append-le, drop-drop, drop_at}
 use Common.{All-push, AreTexts, KeepsTexts, with_text, index_of_text, byte_count, offset_of, table_bytes, texts_of}
+use Rattle.gimli_bytes.specs.inside.TextFields.{IsInside}
 use Rattle.std.specs.declared.vec.Vec.{Vec}
 use Rattle.std.specs.declared.alloc.Global.{Global}
+use Rattle.std.proofs.lemmas.List.{get_or_append_left, get_or-append_right}
+use Rattle.std.proofs.lemmas.Option.{slice_get_within}
 use Rattle.std.proofs.lemmas.List.Folds.{list_any_at}
 use Rattle.std.proofs.lemmas.List.Quantifiers.{all_pairs_push}
-use Rattle.std.proofs.lemmas.List.Sums.{sum_by-append, sum_by-cons, sum_by-take-le}
+use Rattle.std.proofs.lemmas.List.Sums.{sum_by-append, sum_by-cons}
 use Rattle.std.proofs.lemmas.Slice.Eq.{bytes_eq-Decides}
 
 -- ---- from keys to texts
@@ -149,18 +153,65 @@ table_bytes-at (s ∷ ts) (suc i) t h =
     ∙ ap (drop (offset_of ts i)) (drop_at (s ++ 0 ∷ []) (table_bytes ts) (length s + 1) first) ∙ table_bytes-at ts i t h
     ∙ ap (λ (n : ℕ). t ++ 0 ∷ table_bytes (drop n (s ∷ ts))) (sym more)
 
--- ---- a walk over the keys
+-- ---- the offsets of a table
 
-pub byte_count-part : (ks : List (Vec ℕ Global)) (n : ℕ) → byte_count (texts_of (take n ks)) ≤ byte_count (texts_of ks)
-byte_count-part ks n =
-    let e : texts_of (take n ks) ≡ take n (texts_of ks) = sym (take-map (λ (k : Vec ℕ Global). k.items) n ks) in
-    rw e (sum_by-take-le (λ (x : List ℕ). length x + 1) (texts_of ks) n)
+-- the offsets of a table to which a text was added
+pub offsets_new : (ts : List (List ℕ)) (t : List ℕ) (offsets : List ℕ) (len : ℕ) → IsInside ts offsets len
+    → list_any (bytes_eq t) ts ≡ false → All (λ b. b ≢ 0) t
+    → IsInside (with_text ts t) (offsets ++ len ∷ []) (len + length t + 1)
+offsets_new ts t offsets len is absent clean = record {
+  are_texts = with_text-AreTexts ts t is.are_texts clean;
+  listed = omega (arith, is.listed, length-append offsets (len ∷ []), long);
+  begins = begins;
+  counted = omega (arith, is.counted, byte_count-new ts t absent);
+}
+  where
+    last : with_text ts t ≡ ts ++ t ∷ []
+    last = ap (λ b. if b then ts else ts ++ t ∷ []) absent
 
-pub byte_count-more : (ks : List (Vec ℕ Global)) (i : ℕ) (v : Vec ℕ Global) → i < length ks → v ≡ get_or ks i v
-    → byte_count (texts_of (take (i + 1) ks)) ≡ byte_count (texts_of (take i ks)) + (length v.items + 1)
-byte_count-more ks i v h e =
-    let more = ap (λ (l : List (Vec ℕ Global)). byte_count (texts_of l)) (take_more ks i v h)
-    ∙ ap byte_count (map-append (λ (k : Vec ℕ Global). k.items) (take i ks) (get_or ks i v ∷ []))
-    ∙ sum_by-append (λ (x : List ℕ). length x + 1) (texts_of (take i ks)) ((get_or ks i v).items ∷ []) in
-    let same = ap (λ (k : Vec ℕ Global). length k.items) e in
-    omega (arith)
+    long : length (with_text ts t) ≡ length ts + 1
+    long = ap length last ∙ length-append ts (t ∷ [])
+
+    keeps : KeepsTexts ts (with_text ts t)
+    keeps = with_text-KeepsTexts ts t
+
+    at_end : offset_of (with_text ts t) (length ts) ≡ len
+    at_end = ap (λ us. offset_of us (length ts)) last
+        ∙ ap byte_count (take-append-le (length ts) ts (t ∷ []) (omega arith) ∙ take_all (length ts) ts (omega arith))
+        ∙ sym is.counted
+
+    at : (i d : ℕ) (b : Bool) → nat_lt i (length ts) ≡ b → i < length (with_text ts t)
+        → get_or (offsets ++ len ∷ []) i d ≡ offset_of (with_text ts t) i
+    at i d true before short =
+        let early : i < length ts = ltb-true i (length ts) before in
+        get_or_append_left offsets (len ∷ []) d i (omega (arith, early, is.listed))
+        ∙ is.begins i d early ∙ sym (keeps.offset i early)
+    at i d false after short =
+        let end : i ≡ length ts = omega (arith, ltb-false i (length ts) after, short, long) in
+        get_or-append_right offsets (len ∷ []) (length ts) i d is.listed (omega (arith, end))
+        ∙ ap (λ k. get_or (len ∷ []) (k - length ts) d) end ∙ grind (arith, at_end)
+
+    begins : (i d : ℕ) → i < length (with_text ts t)
+        → get_or (offsets ++ len ∷ []) i d ≡ offset_of (with_text ts t) i
+    begins i d short = at i d (nat_lt i (length ts)) refl short
+
+-- where a text is that is there
+pub place_within : (ts : List (List ℕ)) (t : List ℕ) → list_any (bytes_eq t) ts ≡ true
+    → index_of_text ts t < length ts
+place_within ts t there = slice_get_within ts (index_of_text ts t) t (found-there ts t there)
+
+-- where an absent text goes
+absent_last : (ts : List (List ℕ)) (t : List ℕ) → list_any (bytes_eq t) ts ≡ false → index_of_text ts t ≡ length ts
+absent_last [] t absent = refl
+absent_last (s ∷ ts) t absent = at (bytes_eq t s) (absent_last ts t) absent
+  where
+    at : (b : Bool) → (list_any (bytes_eq t) ts ≡ false → index_of_text ts t ≡ length ts)
+        → (b || list_any (bytes_eq t) ts) ≡ false → cond (not b) (1 + index_of_text ts t) 0 ≡ length (s ∷ ts)
+    at true rest h = absurd cc
+    at false rest h = omega (arith, rest h)
+
+pub offset_absent : (ts : List (List ℕ)) (t : List ℕ) → list_any (bytes_eq t) ts ≡ false
+    → byte_count ts ≡ offset_of (with_text ts t) (index_of_text ts t)
+offset_absent ts t absent = sym (ap (offset_of (with_text ts t)) (absent_last ts t absent)
+    ∙ ap (λ b. offset_of (if b then ts else ts ++ t ∷ []) (length ts)) absent
+    ∙ ap byte_count (take-append-le (length ts) ts (t ∷ []) (omega arith) ∙ take_all (length ts) ts (omega arith)))

@@ -5,6 +5,7 @@ pub mod Hand
 pub mod Section
 pub mod Relocatable
 pub mod Relocations
+pub mod Ascending
 pub mod Pieces
 pub mod Texts
 pub mod HashAlike

@@ -55,6 +55,15 @@ RefusesAt at wanted old e = patch wanted old at ≡ Err e
 
 -- ---- whole calls, each with the writer before and after it
 
+-- where an error of the writer itself came from: a call of it that wanted these bytes returned it
+-- at this state, to which no refused call led
+pub record IsOwn {W : Type 0} (sink : Ghosts W) (old : W) (e : Error) : Type 0 where
+  pub state : W
+  pub bytes : Result (List ℕ) Error
+  pub keeps : Begins (sink.contents old) (sink.contents state)
+  pub unrefused : IsTrue (sink.unrefused old) → IsTrue (sink.unrefused state)
+  pub returned : sink.refuses state bytes e
+
 -- a call that appends, and makes at most one `write`; what is wanted may depend on how addresses
 -- and offsets into sections are written
 pub record IsAppend {W X : Type 0} (sink : Ghosts W) (old new : W) (result : Result X Error)
@@ -64,6 +73,7 @@ pub record IsAppend {W X : Type 0} (sink : Ghosts W) (old new : W) (result : Res
   pub keeps : Begins (sink.contents old) (sink.contents new)
   pub ordered : sink.is_big new ≡ sink.is_big old
   pub stays : IsTrue (sink.completes old) → IsTrue (sink.completes new)
+  pub unrefused : IsTrue (sink.unrefused old) → OnOk result (IsTrue (sink.unrefused new))
   -- where it returns Ok, exactly the wanted bytes come after the old ones
   pub ok : IsTrue sink.keeps_bytes
       → OnOk result (Appends (wanted plain) (sink.contents old) (sink.contents new))
@@ -72,11 +82,11 @@ pub record IsAppend {W X : Type 0} (sink : Ghosts W) (old new : W) (result : Res
       (Appends (wanted (sink.hand at)) (sink.completed at old) (sink.completed at new))
   -- where it refuses, it is for memory, or for what is wanted
   pub err : IsTrue sink.fails_for_memory_alone → IfErr result (Refuses (wanted plain))
-  -- whatever the writer, where it refuses, it is for what is wanted, or with what a `write` of its
-  -- own refused
-  pub own : IfErr result (λ e. sink.refuses e ⊎ (wanted plain ≡ Err e))
-  pub completed_own : (at : Placement) → IsTrue (sink.completes old)
-      → IfErr result (λ e. sink.refuses e ⊎ (wanted (sink.hand at) ≡ Err e))
+  -- whatever the writer, where it refuses, it is for what is wanted, or with what the writer
+  -- returns for these bytes at this state
+  pub own : IfErr result (λ e. sink.refuses old (wanted plain) e ⊎ (wanted plain ≡ Err e))
+  pub completed_own : (at : Placement) → IsTrue (sink.completes old) → IfErr result
+      (λ e. sink.refuses old (wanted plain) e ⊎ (wanted (sink.hand at) ≡ Err e))
   -- where the value or the size is refused, the bytes are as they were
   pub untouched : IsTrue sink.keeps_bytes
       → Untouched (wanted plain) (sink.contents old) (sink.contents new)
@@ -90,12 +100,13 @@ pub record IsAppendInParts {W X : Type 0} (sink : Ghosts W) (old new : W) (resul
   pub keeps : Begins (sink.contents old) (sink.contents new)
   pub ordered : sink.is_big new ≡ sink.is_big old
   pub stays : IsTrue (sink.completes old) → IsTrue (sink.completes new)
+  pub unrefused : IsTrue (sink.unrefused old) → OnOk result (IsTrue (sink.unrefused new))
   pub ok : IsTrue sink.keeps_bytes
       → OnOk result (sink.contents new ≡ sink.contents old ++ bytes)
   pub completed : (at : Placement) → IsTrue (sink.completes old)
       → OnOk result (sink.completed at new ≡ sink.completed at old ++ bytes)
   pub err : IsTrue sink.fails_for_memory_alone → IfErr result (λ e. e ≡ OutOfMemory)
-  pub own : IfErr result sink.refuses
+  pub own : IfErr result (IsOwn sink old)
 
 -- a call that writes over bytes that are there, from a place on
 pub record IsOverwrite {W X : Type 0} (sink : Ghosts W) (old new : W) (result : Result X Error)
@@ -106,6 +117,7 @@ pub record IsOverwrite {W X : Type 0} (sink : Ghosts W) (old new : W) (result : 
   pub before : take at (sink.contents new) ≡ take at (sink.contents old)
   pub ordered : sink.is_big new ≡ sink.is_big old
   pub stays : IsTrue (sink.completes old) → IsTrue (sink.completes new)
+  pub unrefused : IsTrue (sink.unrefused old) → OnOk result (IsTrue (sink.unrefused new))
   -- whatever the writer, where it refuses, no byte is changed
   pub refused : OnErr result (sink.contents new ≡ sink.contents old)
   -- where it returns Ok, exactly the wanted bytes stand from the place on
@@ -117,6 +129,8 @@ pub record IsOverwrite {W X : Type 0} (sink : Ghosts W) (old new : W) (result : 
   -- where it refuses, it is for what is wanted, else for the place
   pub err : IsTrue sink.fails_for_memory_alone
       → IfErr result (RefusesAt at (wanted plain) (sink.contents old))
-  pub own : IfErr result (λ e. sink.refuses e ⊎ RefusesAt at (wanted plain) (sink.contents old) e)
-  pub completed_own : (places : Placement) → IsTrue (sink.completes old) → IfErr result
-      (λ e. sink.refuses e ⊎ RefusesAt at (wanted (sink.hand places)) (sink.completed places old) e)
+  pub own : IfErr result (λ e. sink.refuses old (wanted plain) e
+      ⊎ RefusesAt at (wanted plain) (sink.contents old) e)
+  pub completed_own : (places : Placement) → IsTrue (sink.completes old) → IfErr result (λ e.
+      sink.refuses old (wanted plain) e
+      ⊎ RefusesAt at (wanted (sink.hand places)) (sink.completed places old) e)

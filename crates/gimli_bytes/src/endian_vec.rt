@@ -117,7 +117,9 @@ impl<E: Endianity> Sink for EndianVec<E> {
 
     ghost fails_for_memory_alone = { true };
 
-    ghost refuses = { λ e. e ≡ OutOfMemory };
+    ghost refuses = { λ w bytes e. e ≡ OutOfMemory };
+
+    ghost unrefused = { λ w. true };
 
     ghost all_or_none = { true };
 }

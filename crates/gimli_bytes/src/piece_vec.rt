@@ -200,7 +200,9 @@ impl<E: Endianity, const N: usize> Sink for PieceVec<E, N> {
 
     ghost fails_for_memory_alone = { true };
 
-    ghost refuses = { λ e. e ≡ OutOfMemory };
+    ghost refuses = { λ w bytes e. e ≡ OutOfMemory };
+
+    ghost unrefused = { λ w. true };
 
     ghost all_or_none = { true };
 }

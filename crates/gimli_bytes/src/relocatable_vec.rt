@@ -1,13 +1,16 @@
 //! A writer into one vector that takes symbols and references, and lists their relocations.
 
 ghost use Rattle.std.specs.Prelude.{◌≡◌, ◌⊎◌, ◌%◌, ◌^◌, [], Bool, Ok, Err, false, true};
-ghost use Rattle.std.specs.Prelude.{◌+◌, IfErr, OnOk, OnErr, length, take, nat_lt};
+ghost use Rattle.std.specs.Prelude.{◌+◌, ◌≤◌, All, IfErr, IsTrue, OnOk, OnErr, length, take};
+ghost use Rattle.std.specs.Prelude.{nat_lt};
 ghost use Rattle.std.specs.List.{list_any};
 ghost use Rattle.gimli_bytes.specs.Number.{udata};
 ghost use Rattle.gimli_bytes.specs.Relocations.{number_in_place, addend_in_list, with_place};
 ghost use Rattle.gimli_bytes.specs.Relocations.{with_place_at, after_call, IsRefusal, Bytes};
 ghost use Rattle.gimli_bytes.specs.Relocations.{AddressOf, OffsetInto, ReferenceTo};
 ghost use Rattle.gimli_bytes.specs.Relocations.{BytesAt, OffsetAt, touches};
+ghost use Rattle.gimli_bytes.specs.Ascending.{AreAscending};
+ghost use Rattle.gimli_bytes.specs.inside.Ascending.{is_past};
 
 use crate::address::Address;
 use crate::endian_vec::EndianVec;
@@ -25,11 +28,14 @@ use std::marker::Model;
 pub struct RelocatableVec<E: Endianity> {
     section: EndianVec<E>,
     relocations: Vec<Relocation>,
+    ascends: bool,
     addends: Addends,
 }
 
 impl<E: Endianity> Model for RelocatableVec<E> {
+    ghost use Rattle.std.specs.Prelude.{IsTrue};
     ghost use Rattle.gimli_bytes.specs.Relocatable.{Relocatable};
+    ghost use Rattle.gimli_bytes.specs.Ascending.{AreAscending};
 
     ghost Value = { Relocatable };
 
@@ -39,6 +45,8 @@ impl<E: Endianity> Model for RelocatableVec<E> {
       relocations = v.relocations.items;
       addends = v.addends;
     } };
+
+    ghost invariant = { λ v. IsTrue v.ascends → AreAscending v.relocations.items };
 }
 
 impl<E: Endianity> RelocatableVec<E> {
@@ -54,6 +62,7 @@ impl<E: Endianity> RelocatableVec<E> {
         RelocatableVec {
             section: EndianVec::new(alloc, endian),
             relocations: Vec::new(alloc),
+            ascends: true,
             addends,
         }
     }
@@ -98,9 +107,20 @@ impl<E: Endianity> RelocatableVec<E> {
     fn is_touched(&self, offset: usize, size: usize) -> bool
         ensures { result ≡ list_any (touches offset size) self.now.relocations }
     {
+        if self.ascends {
+            return is_one_touched(&self.relocations, offset, size);
+        }
         self.relocations
             .iter()
             .any(|place| touches(offset, size, place))
+    }
+
+    /// Whether the places ascend, and go on to ascend with one at this offset.
+    fn ascends_to(&self, offset: usize) -> bool
+        ensures { IsTrue result → AreAscending self.now.relocations
+            × All (λ r. r.offset + r.size ≤ offset) self.now.relocations }
+    {
+        self.ascends && are_past(&self.relocations, offset)
     }
 
     /// Appends an address of `size` bytes. A symbol's is a place with a relocation.
@@ -163,6 +183,7 @@ impl<E: Endianity> RelocatableVec<E> {
     {
         self.relocations.reserve(1)?;
         let offset = self.section.len();
+        let ascends = self.ascends_to(offset);
         let word = number_in_place(self.addends, addend, size);
         self.section.write_udata(word, size)?;
         self.relocations.push_reserved(Relocation {
@@ -171,6 +192,7 @@ impl<E: Endianity> RelocatableVec<E> {
             target,
             addend: addend_in_list(self.addends, addend),
         });
+        self.ascends = ascends;
         Ok(())
     }
 
@@ -194,6 +216,7 @@ impl<E: Endianity> RelocatableVec<E> {
         if self.is_touched(offset, usize::from(size)) {
             return Err(Error::InvalidRange);
         }
+        let ascends = self.ascends_to(offset);
         let word = number_in_place(self.addends, addend, size);
         self.section.write_udata_at(offset, word, size)?;
         self.relocations.push_reserved(Relocation {
@@ -202,8 +225,39 @@ impl<E: Endianity> RelocatableVec<E> {
             target,
             addend: addend_in_list(self.addends, addend),
         });
+        self.ascends = ascends;
         Ok(())
     }
+}
+
+/// The same of places that ascend, of which one is asked.
+fn is_one_touched(places: &[Relocation], offset: usize, size: usize) -> bool
+    requires { AreAscending places.now }
+    ensures { result ≡ list_any (touches offset size) places.now }
+{
+    let first = places.partition_point(|place| is_past(offset, place));
+    match places.get(first) {
+        Some(place) => touches(offset, size, place),
+        None => false,
+    }
+}
+
+/// Whether all of the places, which ascend, end at an offset or before it.
+fn are_past(places: &[Relocation], offset: usize) -> bool
+    ensures { IsTrue result → AreAscending places.now
+        → All (λ r. r.offset + r.size ≤ offset) places.now }
+{
+    match places.last() {
+        Some(place) => is_past(offset, place),
+        None => true,
+    }
+}
+
+/// Whether the place of a relocation ends at an offset or before it.
+fn is_past(offset: usize, place: &Relocation) -> bool
+    ensures { result ≡ is_past offset place.now }
+{
+    !is_before_end(offset, place.offset, usize::from(place.size))
 }
 
 /// Whether the place of a relocation has one of so many bytes from an offset on.
@@ -273,7 +327,9 @@ impl<E: Endianity> Sink for RelocatableVec<E> {
 
     ghost fails_for_memory_alone = { false };
 
-    ghost refuses = { IsRelocatableRefusal };
+    ghost refuses = { λ w bytes e. IsRelocatableRefusal e };
+
+    ghost unrefused = { λ w. true };
 
     ghost all_or_none = { true };
 }

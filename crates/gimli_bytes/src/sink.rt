@@ -1,6 +1,6 @@
 //! What a writer means, apart from its calls.
 
-ghost use Rattle.std.specs.Prelude.{ℕ, Bool, List};
+ghost use Rattle.std.specs.Prelude.{ℕ, Bool, List, Result};
 ghost use Rattle.gimli_bytes.specs.Hand.{Hand, Placement};
 ghost use Rattle.gimli_bytes.specs.declared.error.Error.{Error};
 
@@ -32,9 +32,15 @@ pub trait Sink {
     /// `write_at` under it.
     ghost fails_for_memory_alone: { Bool };
 
-    /// What calls of this type may refuse with, beside what is wanted and the bounds of a
-    /// `write_at`. A call with a body in `Writer` hands such a refusal on as it is.
-    ghost refuses: { Error → Type 0 };
+    /// Which errors a call may return at a state, where these bytes are wanted (or the refusal of
+    /// the value or the size), beside what is wanted and the bounds of a `write_at`. A call with a
+    /// body in `Writer` passes such an error on as it is.
+    ghost refuses: { Self → Result (List ℕ) Error → Error → Type 0 };
+
+    /// Whether no call was refused on the way to a state. A call that returns `Ok` keeps this, and
+    /// nothing is known of it after one that is refused. A type that doesn't distinguish its states
+    /// says `true`.
+    ghost unrefused: { Self → Bool };
 
     /// Whether a writer of this type appends either all bytes of a `write` or none. Then each call
     /// that makes at most one `write` does so too: all that append but `write_initial_length`.

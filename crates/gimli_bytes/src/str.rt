@@ -18,6 +18,7 @@ use std::marker::Model;
 #[derive(Debug, Drop)]
 struct Texts {
     strings: IndexSet<Vec<u8>>,
+    offsets: Vec<usize>,
     len: usize,
 }
 
@@ -30,7 +31,7 @@ impl Model for Texts {
 
     ghost view = { λ t. texts_of t.strings.keys };
 
-    ghost invariant = { λ t. IsInside (texts_of t.strings.keys) t.len };
+    ghost invariant = { λ t. IsInside (texts_of t.strings.keys) t.offsets.items t.len };
 }
 
 impl Texts {
@@ -39,6 +40,7 @@ impl Texts {
     {
         Texts {
             strings: IndexSet::new(alloc),
+            offsets: Vec::new(alloc),
             len: 0,
         }
     }
@@ -79,7 +81,9 @@ impl Texts {
         }
         let alloc = *self.strings.allocator();
         let copy = text.to_vec(alloc)?;
+        self.offsets.reserve(1)?;
         let (index, _) = self.strings.insert_full(copy)?;
+        self.offsets.push_reserved(self.len);
         self.len = self.len + text.len() + 1;
         Ok(index)
     }
@@ -89,13 +93,17 @@ impl Texts {
         ensures offset { result ≡ offset_of self.now index }
         ensures texts { AreTexts self.now }
     {
-        // The sum is at most this.
-        let _len = self.len;
-        let mut offset = 0;
-        for text in &self.strings.as_slice()[..index] {
-            offset += text.len() + 1;
+        self.offsets[index]
+    }
+
+    fn offset_of(&self, text: &[u8]) -> usize
+        ensures { result
+            ≡ offset_of (with_text self.now text.now) (index_of_text self.now text.now) }
+    {
+        match self.strings.get_index_of(text) {
+            Some(index) => self.offsets[index],
+            None => self.len,
         }
-        offset
     }
 
     fn write<W: Writer>(&self, w: &mut W) -> Result<()>
@@ -180,6 +188,15 @@ impl StringTable {
         ensures texts { AreTexts self.now }
     {
         DebugStrOffset(self.texts.offset(id.0))
+    }
+
+    /// Where a text begins in the section, once it is added: where it is now, or after the texts
+    /// that are there.
+    pub fn offset_of(&self, text: &[u8]) -> DebugStrOffset
+        ensures { result.0
+            ≡ offset_of (with_text self.now text.now) (index_of_text self.now text.now) }
+    {
+        DebugStrOffset(self.texts.offset_of(text))
     }
 
     /// Appends each text and a zero byte. Refused as the section's `write`.
@@ -268,6 +285,15 @@ impl LineStringTable {
         ensures texts { AreTexts self.now }
     {
         DebugLineStrOffset(self.texts.offset(id.0))
+    }
+
+    /// Where a text begins in the section, once it is added: where it is now, or after the texts
+    /// that are there.
+    pub fn offset_of(&self, text: &[u8]) -> DebugLineStrOffset
+        ensures { result.0
+            ≡ offset_of (with_text self.now text.now) (index_of_text self.now text.now) }
+    {
+        DebugLineStrOffset(self.texts.offset_of(text))
     }
 
     /// Appends each text and a zero byte. Refused as the section's `write`.

@@ -262,10 +262,9 @@ gimli_line_status gimli_line_read_directory(const gimli_line_sections *sections,
                                             char *bytes, size_t room) GIMLI_LINE_CALL;
 
 /* Tells the whole path of the file of a number: a relative one goes on from its directory, and that one from the directory of the
- * compilation, `comp_dir`, which gimli_line_comp_dir tells. In version 5 the unit has that one too, as its directory 0: where that is
- * absolute, `comp_dir` isn't looked at; where it is relative, each other relative directory goes on from `comp_dir`, and directory 0
- * too if `comp_dir` is absolute. Where `comp_dir` has no bytes, such a path stays relative. The bytes go into path[0] and so on; *size is
- * how many there are. No zero byte is added. GIMLI_LINE_NO_ROOM where `room` is less: *size is written then, and nothing else.
+ * compilation. In version 5 that is directory 0 of the unit. Up to version 4, or if directory 0 is empty, it is `comp_dir`, which
+ * gimli_line_comp_dir gives; otherwise `comp_dir` isn't looked at. If the directory is relative or has no bytes, so is the path. The
+ * bytes go into path[0] and so on; *size is how many there are. No zero byte is added. GIMLI_LINE_NO_ROOM where `room` is less: *size is written then, and nothing else.
  * GIMLI_LINE_NO_SUCH_FILE where there is no such file, as gimli_line_read_file has it; GIMLI_LINE_UNKNOWN_PATH where a string of the path
  * can't be told. Where another number than these is answered, nothing is written. */
 gimli_line_status gimli_line_read_path(const gimli_line_sections *sections, size_t offset, uint64_t number, const char *comp_dir,
@@ -406,7 +405,8 @@ gimli_line_status gimli_line_build_id(const void *file, size_t length, uint8_t *
  * how many there are. GIMLI_LINE_NO_ROOM where `room` is less: *size is written then, and nothing else. A unit that can't be read has no
  * directory, and the next one counts; what comes after a unit whose length can't be read, or passes the end of the section, isn't read.
  * GIMLI_LINE_NO_COMP_DIR where no unit has one. Where another number than these is answered, that or GIMLI_LINE_OUT_OF_MEMORY, nothing is
- * written. The first entry of each unit is read for each call: ask once for each unit. */
+ * written. The first entry of each unit is read for each call: ask once for each unit. Only units up to version 4, and those of version 5
+ * with an empty directory 0, need it for their paths. */
 gimli_line_status gimli_line_comp_dir(const gimli_line_sections *sections, uint64_t offset, char *directory, size_t room,
                                       size_t *size) GIMLI_LINE_CALL;
 

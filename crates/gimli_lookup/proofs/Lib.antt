@@ -4,6 +4,7 @@ pub mod KeptRows
 pub mod OnePair
 pub mod StringLaws
 pub mod WholePaths
+pub mod DirectoryNeeds
 pub mod OneAnswer
 pub mod KeptCut
 pub mod PairSearches

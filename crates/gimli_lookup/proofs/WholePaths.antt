@@ -1,17 +1,15 @@
 -- What can be said of whole paths.
 use Rattle.std.proofs.Common.{◌≡◌, ℕ, Bool, true, false, ◌&&◌, ◌||◌, if◌then◌else◌, nat_eq, List, [], ◌∷◌, ◌++◌, length}
-use Rattle.std.proofs.Common.{Ok, Err, refl, sym, ap, subst, ◌∙◌}
-use Rattle.std.proofs.Common.{inl, inr, append_assoc}
-use Rattle.std.proofs.lemmas.Bool.{cases_eq, ne_eqb}
-use Rattle.std.specs.Prelude.{Result}
+use Rattle.std.proofs.Common.{Ok, Err, refl, sym, ap, ◌∙◌, append_assoc, arith}
+use Rattle.std.proofs.lemmas.Bool.{ne_eqb}
+use Rattle.std.specs.Prelude.{Result, Option, unwrap_or}
 use Rattle.std.specs.Char.{is_ascii_alphabetic}
 use Rattle.gimli_core.specs.Reading.{result_map}
 use Rattle.gimli_line.specs.header.File.{File}
 use Rattle.gimli_lookup.specs.Strings.{Strings, string_of}
 use Rattle.gimli_lookup.specs.Paths.{Paths, is_separator, is_absolute, separator_after, path_in, path_from, ◌>>=◌}
-use Rattle.gimli_lookup.specs.Paths.{directory_string, known_directory}
-use Rattle.gimli_lookup.specs.Paths.{root_directory}
-use Rattle.gimli_lookup.specs.Paths.{base_directory, directory_path, file_path, EndsWithOwnPath, HasAbsoluteRoot}
+use Rattle.gimli_lookup.specs.Paths.{directory_string, written_or, compilation_directory, directory_path, file_path}
+use Rattle.gimli_lookup.specs.Paths.{has_no_bytes, needs_directory, with_directory, EndsWithOwnPath, HasAbsoluteRoot}
 use Rattle.gimli_lookup.specs.declared.path_error.PathError.{PathError}
 
 -- ---- absolute paths
@@ -62,37 +60,14 @@ absolute_next : (r : Result (List ℕ) PathError) (directory : Result (List ℕ)
 absolute_next (Ok own) directory absolute path is = absolute_from directory own absolute path is
 absolute_next (Err e) directory absolute path is = absurd cc
 
--- directory 0 goes on from the known directory if that is absolute, and it is the base where
--- directory 0 is relative and it isn't empty
-absolute_zero : (zero : Result (List ℕ) PathError) (known : List ℕ)
-    → IsAbsolute (result_map (λ own. if is_absolute own || nat_eq (length known) 0 then own else known) zero)
-    → IsAbsolute (zero >>= path_from (Ok (if is_absolute known then known else [])))
-absolute_zero (Ok own) known absolute path is =
-    at_test (is_absolute own) (nat_eq (length known) 0) (is_absolute known) refl refl absolute path is
+absolute_directory : (p : Paths) (i : ℕ) → IsAbsolute (compilation_directory p) → IsAbsolute (directory_path p i)
+absolute_directory p i absolute = at_test (nat_eq i 0)
   where
-    at_test : (b e k : Bool) → is_absolute own ≡ b → is_absolute known ≡ k
-        → IsAbsolute (Ok (if b || e then own else known))
-        → IsAbsolute (if b then Ok own else Ok (path_in (if k then known else []) own))
-    at_test true e k test _ all path is = let same : own ≡ path = cc in ap is_absolute (sym same) ∙ test
-    at_test false true k test _ all path is = let whole = all own refl in absurd cc
-    at_test false false true test _ all path is =
-        let same : path_in known own ≡ path = cc in
-        ap is_absolute (sym same ∙ append_assoc known (separator_after known) own)
-        ∙ absolute_more known (separator_after known ++ own) (all known refl)
-    at_test false false false test relative all path is = let whole = all known refl in absurd cc
-absolute_zero (Err e) known absolute path is = absurd cc
-
-absolute_directory : (p : Paths) (i : ℕ) → IsAbsolute (base_directory p) → IsAbsolute (directory_path p i)
-absolute_directory p i absolute = elim (cases_eq i 0) [
-  | inl same ↦
-      subst (λ j. IsAbsolute (directory_path p j)) (sym same)
-      (absolute_zero (directory_string p 0) (known_directory p) absolute)
-  | inr other ↦
-      subst
-      (λ b. IsAbsolute (directory_string p i >>= path_from (if b then Ok (root_directory p) else base_directory p)))
-      (sym (ne_eqb i 0 other))
-      (absolute_next (directory_string p i) (base_directory p) absolute)
-]
+    at_test : (b : Bool)
+        → IsAbsolute
+        (if b then compilation_directory p else directory_string p i >>= path_from (compilation_directory p))
+    at_test true = absolute
+    at_test false = absolute_next (directory_string p i) (compilation_directory p) absolute
 
 root_absolute : (r : Result (List ℕ) PathError) (root : List ℕ) → r ≡ Ok root → is_absolute root ≡ true → IsAbsolute r
 root_absolute r root is absolute path also = let same : root ≡ path = cc in ap is_absolute (sym same) ∙ absolute
@@ -101,21 +76,58 @@ pub absolute_path : (p : Paths) (f : File) (path : List ℕ) → HasAbsoluteRoot
     → is_absolute path ≡ true
 absolute_path p f path root is =
     absolute_next (string_of p.sections f.path_name) (directory_path p f.directory_index)
-    (absolute_directory p f.directory_index (root_absolute (base_directory p) root.0 root.1 root.2)) path is
+    (absolute_directory p f.directory_index (root_absolute (compilation_directory p) root.0 root.1 root.2)) path is
 
--- an absolute directory 0 is the base
-absolute_base : (zero : Result (List ℕ) PathError) (own known : List ℕ) → zero ≡ Ok own → is_absolute own ≡ true
-    → result_map (λ own. if is_absolute own || nat_eq (length known) 0 then own else known) zero ≡ Ok own
-absolute_base (Ok zero) own known is absolute =
-    let same : zero ≡ own = cc in
-    ap (λ b. Ok (if b || nat_eq (length known) 0 then zero else known)) (ap is_absolute same ∙ absolute)
-    ∙ ap (λ d. Ok d) same
-absolute_base (Err e) own known is absolute = absurd cc
+-- an absolute directory has bytes
+written : (comp_dir : Option (List ℕ)) (own : List ℕ) → is_absolute own ≡ true → written_or comp_dir own ≡ own
+written comp_dir [] absolute = absurd cc
+written comp_dir (a ∷ own) absolute =
+    ap (λ b. if b then unwrap_or comp_dir [] else a ∷ own) (ne_eqb (length (a ∷ own)) 0 (λ same. omega (arith, same)))
+
+-- so an absolute directory 0 is that of the compilation
+absolute_zero : (zero : Result (List ℕ) PathError) (own : List ℕ) (comp_dir : Option (List ℕ)) → zero ≡ Ok own
+    → is_absolute own ≡ true → result_map (written_or comp_dir) zero ≡ Ok own
+absolute_zero zero own comp_dir is absolute =
+    ap (result_map (written_or comp_dir)) is ∙ ap (λ d. Ok d) (written comp_dir own absolute)
 
 pub absolute_root : (p : Paths) (zero : List ℕ) → directory_string p 0 ≡ Ok zero → is_absolute zero ≡ true
     → HasAbsoluteRoot p
-absolute_root p zero is absolute =
-    (zero, absolute_base (directory_string p 0) zero (known_directory p) is absolute, absolute)
+absolute_root p zero is absolute = (zero, absolute_zero (directory_string p 0) zero p.comp_dir is absolute, absolute)
+
+-- ---- the caller's directory
+
+own_zero : (zero : Result (List ℕ) PathError) (comp_dir other : Option (List ℕ)) → has_no_bytes zero ≡ false
+    → result_map (written_or other) zero ≡ result_map (written_or comp_dir) zero
+own_zero (Ok own) comp_dir other has = ap (λ d. Ok d) (at_test (nat_eq (length own) 0) has)
+  where
+    at_test : (b : Bool) → b ≡ false
+        → (if b then unwrap_or other [] else own) ≡ (if b then unwrap_or comp_dir [] else own)
+    at_test true has = absurd cc
+    at_test false has = refl
+own_zero (Err e) comp_dir other has = refl
+
+pub same_anyway : (p : Paths) (f : File) (other : Option (List ℕ)) → needs_directory p ≡ false
+    → file_path (with_directory other p) f ≡ file_path p f
+same_anyway p f other has =
+    ap
+    (λ (base : Result (List ℕ) PathError).
+    string_of p.sections f.path_name
+    >>= path_from
+    (if nat_eq f.directory_index 0 then base else directory_string p f.directory_index >>= path_from base))
+    (own_zero (directory_string p 0) p.comp_dir other has)
+
+callers_zero : (zero : Result (List ℕ) PathError) (comp_dir : Option (List ℕ)) → has_no_bytes zero ≡ true
+    → result_map (written_or comp_dir) zero ≡ Ok (unwrap_or comp_dir [])
+callers_zero (Ok own) comp_dir has = ap (λ d. Ok d) (at_test (nat_eq (length own) 0) has)
+  where
+    at_test : (b : Bool) → b ≡ true → (if b then unwrap_or comp_dir [] else own) ≡ unwrap_or comp_dir []
+    at_test true has = refl
+    at_test false has = absurd cc
+callers_zero (Err e) comp_dir has = absurd cc
+
+pub callers_counts : (p : Paths) → needs_directory p ≡ true
+    → compilation_directory p ≡ Ok (unwrap_or p.comp_dir [])
+callers_counts p has = callers_zero (directory_string p 0) p.comp_dir has
 
 -- ---- the end of a path
 

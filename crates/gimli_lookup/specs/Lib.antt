@@ -10,6 +10,7 @@ pub mod Run
 pub mod Components
 pub mod Statements
 pub mod PathFiles
+pub mod Directories
 pub mod UnitRun
 pub mod RowsTaken
 pub mod Section

@@ -68,43 +68,32 @@ pub record Paths : Type 0 where
   pub header : Header
   pub comp_dir : Option (List ℕ)
 
--- the directory of an index that the header doesn't have. Up to version 4 that of index 0 is the
--- directory of the compilation, as the caller has it, and is empty where nobody knows it
-abbrev pub handed_directory : Paths → ℕ → Result (List ℕ) PathError
-handed_directory p i =
-    if nat_le p.header.parameters.encoding.version 4 && nat_eq i 0 then Ok (unwrap_or p.comp_dir [])
+-- the directory of an index that the header doesn't have. Up to version 4 that of index 0 isn't
+-- written, so it has no bytes
+abbrev pub unwritten_directory : Header → ℕ → Result (List ℕ) PathError
+unwritten_directory h i =
+    if nat_le h.parameters.encoding.version 4 && nat_eq i 0 then Ok []
     else Err (InvalidDirectoryIndex i)
 
 -- the directory of an index, as it is written
 abbrev pub directory_string : Paths → ℕ → Result (List ℕ) PathError
 directory_string p i =
-    option_map_or (string_of p.sections) (directory_of p.header i) (handed_directory p i)
+    option_map_or (string_of p.sections) (directory_of p.header i) (unwritten_directory p.header i)
 
--- the directory of the compilation of version 5, as the caller has it (section 3.1.1), which is
--- empty where nobody knows it. Up to version 4 nothing: there directory 0 is that directory itself
-abbrev pub known_directory : Paths → List ℕ
-known_directory p =
-    if nat_le p.header.parameters.encoding.version 4 then [] else unwrap_or p.comp_dir []
+-- directory 0, or if that has no bytes, the caller's directory
+abbrev pub written_or : Option (List ℕ) → List ℕ → List ℕ
+written_or comp_dir zero = if nat_eq (length zero) 0 then unwrap_or comp_dir [] else zero
 
--- what the other relative directories go on from: directory 0, which is that of the compilation
--- (section 6.2.4). But where that is relative, and the caller knows the directory, the caller's
-abbrev pub base_directory : Paths → Result (List ℕ) PathError
-base_directory p =
-    result_map
-    (λ zero. if is_absolute zero || nat_eq (length (known_directory p)) 0 then zero
-    else known_directory p)
-    (directory_string p 0)
+-- the directory of the compilation: directory 0 (section 6.2.4), or if that has no bytes, the
+-- caller's (section 3.1.1). It is empty where nobody knows it
+abbrev pub compilation_directory : Paths → Result (List ℕ) PathError
+compilation_directory p = result_map (written_or p.comp_dir) (directory_string p 0)
 
--- what a relative directory 0 goes on from: the caller's, if that is absolute. Else nothing: both
--- are the directory of the compilation (section 6.2.4), which isn't joined to itself
-abbrev pub root_directory : Paths → List ℕ
-root_directory p = if is_absolute (known_directory p) then known_directory p else []
-
--- the whole path of a directory
+-- the whole path of a directory. Directory 0 goes on from nothing
 abbrev pub directory_path : Paths → ℕ → Result (List ℕ) PathError
 directory_path p i =
-    directory_string p i
-    >>= path_from (if nat_eq i 0 then Ok (root_directory p) else base_directory p)
+    if nat_eq i 0 then compilation_directory p
+    else directory_string p i >>= path_from (compilation_directory p)
 
 -- the whole path of a file
 abbrev pub file_path : Paths → File → Result (List ℕ) PathError
@@ -116,9 +105,24 @@ row_path p r = option_map_or (file_path p) (file_of p.header r.file) (Err (Inval
 
 -- ---- what can be said of a whole path
 
--- relative directories go on from an absolute one, as they do where directory 0 is absolute
+-- whether a string can be read and has no bytes
+abbrev pub has_no_bytes : Result (List ℕ) PathError → Bool
+has_no_bytes (Ok string) = nat_eq (length string) 0
+has_no_bytes (Err e) = false
+
+-- whether the caller's directory counts: directory 0 has no bytes
+abbrev pub needs_directory : Paths → Bool
+needs_directory p = has_no_bytes (directory_string p 0)
+
+-- the same with another directory of the caller
+abbrev pub with_directory : Option (List ℕ) → Paths → Paths
+with_directory comp_dir p =
+    record { sections = p.sections; header = p.header; comp_dir = comp_dir }
+
+-- the directory of the compilation is absolute, as it is where directory 0 is absolute
 abbrev pub HasAbsoluteRoot : Paths → Type 0
-HasAbsoluteRoot p = (root : List ℕ) × (base_directory p ≡ Ok root) × IsTrue (is_absolute root)
+HasAbsoluteRoot p =
+    (root : List ℕ) × (compilation_directory p ≡ Ok root) × IsTrue (is_absolute root)
 
 -- the last bytes of a whole path are the path that the table of files has
 pub record EndsWithOwnPath (sections : Strings) (f : File) (path : List ℕ) : Type 0 where

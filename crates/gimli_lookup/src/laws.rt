@@ -1,6 +1,8 @@
 //! Laws of what a lookup returns, of strings and of paths.
 
-ghost use Rattle.std.specs.Prelude.{◌≡◌, ◌≤◌, ◌↔◌, ℕ, List, length, Ok, Err, Option, IsTrue};
+ghost use Rattle.std.specs.Prelude.{◌≡◌, ◌≤◌, ◌↔◌, ℕ, List, length, Ok, Err, Option, IsTrue, false};
+ghost use Rattle.std.specs.Prelude.{true};
+ghost use Rattle.std.specs.Prelude.{[], unwrap_or};
 ghost use Rattle.gimli_core.specs.Equality.{ClonesGiveSame, GivesSame, IsExact};
 ghost use Rattle.gimli_core.specs.Layout.{OrderAndLimit};
 ghost use Rattle.gimli_line.specs.declared.run.row.LineRow.{LineRow};
@@ -9,7 +11,8 @@ ghost use Rattle.gimli_line.specs.header.Header.{Header, UnitEntry};
 ghost use Rattle.gimli_line.specs.run.Unread.{Unread};
 ghost use Rattle.gimli_lookup.specs.FirstPair.{IsFirstPair};
 ghost use Rattle.gimli_lookup.specs.Paths.{Paths, is_absolute, directory_string};
-ghost use Rattle.gimli_lookup.specs.Paths.{file_path, EndsWithOwnPath, HasAbsoluteRoot};
+ghost use Rattle.gimli_lookup.specs.Paths.{file_path, compilation_directory, needs_directory};
+ghost use Rattle.gimli_lookup.specs.Paths.{with_directory, EndsWithOwnPath, HasAbsoluteRoot};
 ghost use Rattle.gimli_lookup.specs.Run.{AreRowsOfSequences, IsFirstFound, IsFoundInRun};
 ghost use Rattle.gimli_lookup.specs.Ranges.{IsFoundAt};
 ghost use Rattle.gimli_lookup.specs.Section.{KeptUnit};
@@ -47,8 +50,18 @@ pub fn strings_are_spelled()
     laws::texts();
 }
 
-/// Whole paths are absolute where relative directories go on from an absolute one, as they do where
-/// directory 0 is absolute.
+/// The caller's directory counts exactly where `needs_directory` holds: else each path is the same
+/// with any other. Where it holds, it is the directory of the compilation.
+pub fn directories_are_needed()
+    ensures unneeded { (paths : Paths) (f : File) (other : Option (List ℕ)) →
+        needs_directory paths ≡ false
+        → file_path (with_directory other paths) f ≡ file_path paths f }
+    ensures needed { (paths : Paths) → needs_directory paths ≡ true
+        → compilation_directory paths ≡ Ok (unwrap_or paths.comp_dir []) }
+{}
+
+/// Whole paths are absolute where the directory of the compilation is, as it is where directory 0
+/// is absolute.
 pub fn whole_paths_are_absolute()
     ensures whole { (paths : Paths) (f : File) (path : List ℕ) → HasAbsoluteRoot paths
         → file_path paths f ≡ Ok path → IsTrue (is_absolute path) }

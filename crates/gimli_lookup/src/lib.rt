@@ -8,6 +8,7 @@
 #![tactic(auto)]
 
 mod covering_pairs;
+mod directories;
 mod ends;
 mod kept_rows;
 pub mod laws;
@@ -34,6 +35,7 @@ mod unit_run;
 mod unit_search;
 mod walk;
 
+pub use directories::some_need_directory;
 pub use lookup::Lookup;
 pub use path_error::PathError;
 pub use paths::Paths;

@@ -95,10 +95,9 @@ fn string_bytes<R: Reader>(
 ///
 /// A path is absolute that begins with `/`, with a backslash, or with a drive and one of both, as
 /// `C:\`. One that isn't goes on from the directory of its file. A directory that isn't absolute
-/// goes on from the directory of the compilation, which is directory 0. In version 5 that one may
-/// be relative itself: then the others go on from the directory that the caller knows, and so does
-/// directory 0 where that one is absolute. Where nobody knows an absolute one, the path stays
-/// relative.
+/// goes on from the directory of the compilation: directory 0 of the header, or if the header has
+/// none, as up to version 4, or an empty one, the directory that the caller knows. If that
+/// directory is relative or unknown, the path stays relative.
 ///
 /// <!-- part of crates/uses/src/where_is.rt -->
 /// ```rust
@@ -130,14 +129,13 @@ impl<'a, R: Reader> Model for Paths<'a, R> {
 }
 
 impl<'a, R: Reader> Paths<'a, R> {
-    ghost use Rattle.gimli_lookup.specs.Paths.{directory_string, known_directory, base_directory};
-    ghost use Rattle.gimli_lookup.specs.Paths.{root_directory};
+    ghost use Rattle.gimli_lookup.specs.Paths.{directory_string, compilation_directory};
     ghost use Rattle.gimli_lookup.specs.Paths.{directory_path, file_path, row_path};
+    ghost use Rattle.gimli_lookup.specs.Paths.{needs_directory};
 
     /// The paths of this header. `comp_dir` is the directory of the compilation (`DW_AT_comp_dir`,
-    /// DWARF 5, section 3.1.1); an empty one counts as none. Up to version 4 it is directory 0,
-    /// where none was handed over when the header was read. In version 5 the header has directory
-    /// 0, and `comp_dir` counts where that is relative.
+    /// DWARF 5, section 3.1.1). It counts where `needs_directory` holds: up to version 4, if none
+    /// was handed over when the header was read, and in version 5, if directory 0 is empty.
     pub fn new(
         header: &'a LineProgramHeader<R>,
         sections: StringSections<R>,
@@ -153,6 +151,21 @@ impl<'a, R: Reader> Paths<'a, R> {
             header,
             sections,
             comp_dir,
+        }
+    }
+
+    /// Whether the directory that the caller has is the directory of the compilation, because the
+    /// header has none, or an empty one. If not, every path is the same whatever `comp_dir` is. A
+    /// directory 0 that can't be read needs no other. Takes no memory.
+    pub fn needs_directory(&self) -> bool
+        ensures { result ≡ needs_directory self.now }
+    {
+        match self.header.directory(0) {
+            Some(value) => match self.sections.attr_line_string(value) {
+                Ok(string) => string.is_empty(),
+                Err(_) => false,
+            },
+            None => self.header.version() <= 4,
         }
     }
 
@@ -189,52 +202,31 @@ impl<'a, R: Reader> Paths<'a, R> {
         ensures ok { IfOk result (λ path. directory_path self.now index ≡ Ok path.items) }
         ensures err { IfErr result (λ e. e ≢ OutOfMemory → directory_path self.now index ≡ Err e) }
     {
+        if index == 0 {
+            return self.compilation_directory(alloc);
+        }
         let directory = self.directory_string(alloc, index)?;
         if is_absolute(&directory) {
             return Ok(directory);
         }
-        if index == 0 {
-            let root = Vec::from_slice(alloc, self.root_directory())?;
-            return path_in(root, &directory);
-        }
-        let base = self.base_directory(alloc)?;
+        let base = self.compilation_directory(alloc)?;
         path_in(base, &directory)
     }
 
-    /// What the other relative directories than directory 0 go on from.
-    fn base_directory(&self, alloc: Global) -> Result<Vec<u8>, PathError>
-        ensures ok { IfOk result (λ base. base_directory self.now ≡ Ok base.items) }
-        ensures err { IfErr result (λ e. e ≢ OutOfMemory → base_directory self.now ≡ Err e) }
+    /// The directory of the compilation; no bytes where nobody knows it.
+    fn compilation_directory(&self, alloc: Global) -> Result<Vec<u8>, PathError>
+        ensures ok { IfOk result (λ path. compilation_directory self.now ≡ Ok path.items) }
+        ensures err { IfErr result (λ e. e ≢ OutOfMemory → compilation_directory self.now ≡ Err e) }
     {
         let zero = self.directory_string(alloc, 0)?;
-        let known = self.known_directory();
-        if is_absolute(&zero) || known.is_empty() {
-            return Ok(zero);
+        if zero.is_empty() {
+            return Ok(Vec::from_slice(alloc, self.comp_dir.unwrap_or(&[]))?);
         }
-        Ok(Vec::from_slice(alloc, known)?)
+        Ok(zero)
     }
 
-    /// What a relative directory 0 goes on from: the caller's directory if that is absolute, and
-    /// else nothing, since both are the same one.
-    fn root_directory(&self) -> &'a [u8]
-        ensures { result.now ≡ root_directory self.now }
-    {
-        let known = self.known_directory();
-        if is_absolute(known) { known } else { &[] }
-    }
-
-    /// The directory of the compilation of version 5, as the caller has it; none up to version 4.
-    fn known_directory(&self) -> &'a [u8]
-        ensures { result.now ≡ known_directory self.now }
-    {
-        if self.header.version() <= 4 {
-            return &[];
-        }
-        self.comp_dir.unwrap_or(&[])
-    }
-
-    /// The directory of an index, as it is written. Up to version 4 that of index 0 may be the
-    /// caller's.
+    /// The directory of an index, as it is written. Up to version 4 that of index 0 has no bytes,
+    /// if none was handed over when the header was read.
     fn directory_string(&self, alloc: Global, index: u64) -> Result<Vec<u8>, PathError>
         ensures ok { IfOk result (λ path. directory_string self.now index ≡ Ok path.items) }
         ensures err { IfErr result (λ e. e ≢ OutOfMemory
@@ -242,9 +234,7 @@ impl<'a, R: Reader> Paths<'a, R> {
     {
         match self.header.directory(index) {
             Some(value) => string_bytes(alloc, value, &self.sections),
-            None if self.header.version() <= 4 && index == 0 => {
-                Ok(Vec::from_slice(alloc, self.comp_dir.unwrap_or(&[]))?)
-            }
+            None if self.header.version() <= 4 && index == 0 => Ok(Vec::new(alloc)),
             None => Err(PathError::InvalidDirectoryIndex(index)),
         }
     }

@@ -10,6 +10,7 @@ pub mod SourceReadings
 pub mod SourceSteps
 pub mod SourceFromBytes
 pub mod MappedRows
+pub mod MovedRows
 pub mod MappedFiles
 pub mod Conversions
 mod TablesAtEnd
@@ -17,6 +18,7 @@ mod KeptFiles
 mod Writable
 pub mod Outcomes
 pub mod MappedLaws
+pub mod MovedLaws
 mod WorkedConversions
 mod Tombstones
 mod SourceReadBack

@@ -51,7 +51,6 @@ use Rattle.gimli_build.specs.Version5Tables.{texts_after}
 use specs.convert.DoneConversions.{UnitReadBack, UnitGives}
 use proofs.BuiltAnswers.{events_same, rows_same}
 use proofs.ConvertSteps.{kept_self}
-use Rattle.gimli_build.specs.declared.built.items.BuiltItem.TheVariants as item
 use specs.declared.convert.rows.ConvertLineRow.TheVariants as offer
 
 -- which contents of files a program keeps

@@ -146,7 +146,7 @@ ids_stay sections tables i is n id there = grind arith
 
 -- ---- one point
 
-file_id-is : (version : ℕ) (tables : TablesAndTexts) (n : ℕ) {id : ℕ} → file_id version tables n ≡ Ok id
+pub file_id-is : (version : ℕ) (tables : TablesAndTexts) (n : ℕ) {id : ℕ} → file_id version tables n ≡ Ok id
     → IsFileId version tables.file_ids n id
 file_id-is version tables n is = grind arith
 

@@ -12,8 +12,10 @@ use specs.Prelude.{Vec, Global, ConvertError}
 use specs.RoundTrip.{AreBuiltRows, IsRoundTripRefusal}
 use specs.convert.Conversion.{ConvertsTo}
 use specs.convert.Mapped.{CanBeFaithful, IsReadAs, AreFilesReadAs, IsFaithful}
+use specs.convert.Moved.{CanBeMoved, AreMovedRows}
 use specs.convert.SourceReadBack.{AreSourceRows, AreSourceFiles, IsSourceRefusal, version_after}
 use proofs.ConvertSteps.{kept_self}
+use proofs.MovedLaws.{rows_moved}
 use proofs.MappedLaws.{
   WasConverted,
   was_converted,
@@ -90,6 +92,11 @@ module _ (convert_address : ℕ → Option Address) (s : ToConvert) (old : List 
             mapped.rows back.rows) version_is
             (faithful.read_back mapped.rows back.rows mapped.events (built faithful.addresses));
       }
+
+  pub moved_read : AreBuiltRows c.program back.rows → CanBeMoved convert_address s
+      → AreMovedRows convert_address s (version_after s) c.file_ids back.rows
+  moved_read built can =
+      rows_moved (was_converted convert_address s old c so) can (version_after s) version_is back.rows built
 
   -- with the strings and the line strings after it was written
   pub files_read : (strings lines : List (List ℕ))

@@ -9,6 +9,7 @@ pub mod SourceRun
 pub mod TablesAtEnd
 pub mod Outcome
 pub mod Mapped
+pub mod Moved
 pub mod Conversion
 pub mod KeptTables
 pub mod LentTables

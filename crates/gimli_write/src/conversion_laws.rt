@@ -1,7 +1,7 @@
 //! Laws of conversions: a converted program meets what `write` asks; it says what its source says;
 //! and so do the rows that are read back of it. And laws of equality and of clones.
 
-ghost use Rattle.std.specs.Prelude.{◌≡◌, ℕ, List, Some};
+ghost use Rattle.std.specs.Prelude.{◌≡◌, ℕ, List, map, Some};
 ghost use Rattle.std.specs.Bool.{Decides};
 ghost use Rattle.gimli_core.specs.Equality.{ClonesGiveSame, IsExact};
 ghost use Rattle.gimli_core.specs.declared.common.LineEncoding.{LineEncoding};
@@ -21,6 +21,9 @@ ghost use Rattle.gimli_write.specs.convert.DoneConversions.{DoneConversion, IsTo
 ghost use Rattle.gimli_write.specs.convert.DoneConversions.{SourceGives, AreReadAs, UnitReadBack};
 ghost use Rattle.gimli_write.specs.convert.DoneConversions.{GivesBack, SourceFilesAre};
 ghost use Rattle.gimli_write.specs.convert.DoneConversions.{AreFilesReadBack};
+ghost use Rattle.gimli_write.specs.convert.DoneConversions.{IsToBeMoved, AreMoved, GivesMoved};
+ghost use Rattle.gimli_write.specs.convert.DoneConversions.{IsToBeShifted};
+ghost use Rattle.gimli_write.specs.convert.Moved.{shifted};
 
 use crate::convert::rows::{ConvertLineRow, ConvertLineSequence, ConvertLineSequenceEnd};
 use crate::convert_error::ConvertError;
@@ -62,6 +65,29 @@ pub fn converted_rows_are_read_back()
         → SourceGives d rows → AreBuiltRows d.outcome.program back → AreReadAs d rows back }
     ensures written { (d : DoneConversion) (rows : List ReadRow) → IsToBeFaithful d
         → SourceGives d rows → (unit : UnitReadBack d.outcome.program) → GivesBack d rows unit }
+{}
+
+/// A map may move addresses, as linkers and rewriters do. Where it keeps their order inside each
+/// sequence, what it gives fits the address size, and no sequence of the source that gave a row
+/// ends under a tombstone, the rows that are read back are those of the source, one by one, each as
+/// far after the new set address as it was after the old one.
+pub fn moved_rows_are_read_back()
+    ensures answered { (d : DoneConversion) (back : List ReadRow) → IsToBeMoved d
+        → AreBuiltRows d.outcome.program back → AreMoved d back }
+    ensures written { (d : DoneConversion) → IsToBeMoved d
+        → (unit : UnitReadBack d.outcome.program) → GivesMoved d unit }
+{}
+
+/// So a map that adds a number to each address adds it to the address of each row, where each row
+/// stands after a set address in its sequence and has space for the sum below the two greatest
+/// addresses.
+pub fn shifted_rows_are_read_back()
+    ensures answered { (n : ℕ) (d : DoneConversion) (rows back : List ReadRow) → IsToBeShifted n d
+        → SourceGives d rows → AreBuiltRows d.outcome.program back
+        → AreReadAs d (map (shifted n) rows) back }
+    ensures written { (n : ℕ) (d : DoneConversion) (rows : List ReadRow) → IsToBeShifted n d
+        → SourceGives d rows → (unit : UnitReadBack d.outcome.program)
+        → GivesBack d (map (shifted n) rows) unit }
 {}
 
 /// And the files that it returns have the paths of those of the source, and what is known of them:

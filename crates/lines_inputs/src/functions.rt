@@ -74,16 +74,25 @@ impl<'n> Functions<'n> {
         self.table.name(range.name)
     }
 
-    /// Where the function ends that begins at an address.
+    /// Where the function that begins at an address ends, or where the next one begins, if that
+    /// comes first.
     pub fn end_from(&self, address: u64) -> Option<u64> {
         let range = self.last_to(address)?;
-        (range.start == address).then_some(self.end_of(range))
+        if range.start != address {
+            return None;
+        }
+        let after = self.ranges.partition_point(|range| range.start <= address);
+        let end = self.end_of(range);
+        Some(match self.ranges.get(after) {
+            Some(next) => end.min(next.start),
+            None => end,
+        })
     }
 
     /// The addresses of the first function of a name: where it begins, and where it ends.
     pub fn range_of(&self, name: &[u8]) -> Option<(u64, u64)> {
         let mut ranges = self.ranges.iter();
-        let range = ranges.find(|range| self.table.name(range.name) == Some(name))?;
+        let range = ranges.find(|range| self.table.is_name(range.name, name))?;
         Some((range.start, self.end_of(range)))
     }
 

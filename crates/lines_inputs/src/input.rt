@@ -10,13 +10,14 @@ ghost use Rattle.elf_sections.specs.Fault.{is_for_memory};
 ghost use Rattle.lines_inputs.specs.Lines.{HasLines, lines_name};
 
 use crate::functions::Functions;
+use debug_files::LinePrograms;
 use elf_sections::{Elf, ElfError, SectionBytes, SectionPlace, SymbolTable};
 use gimli_compilation::CompilationSections;
 use gimli_core::{EndianSlice, Endianity, Reader, ReaderOffset, Section};
 use gimli_line::DebugLine;
 use gimli_lookup::StringSections;
 use line_text::Slice;
-use lines_words::{Files, InputKind, Notation, Output};
+use lines_words::{Files, InputKind, Notation, Output, UnitFiles};
 use std::alloc::{AllocError, Global};
 use std::fmt;
 
@@ -74,14 +75,86 @@ pub struct InputSections<'i> {
     place: SectionPlace,
 }
 
-/// The sections of texts, of units and of symbols, as `Files` has them.
+/// The sections of units; no bytes where none is needed.
 #[derive(Drop)]
-struct OtherSections<'i> {
-    line_str: SectionBytes<'i>,
-    strings: SectionBytes<'i>,
+struct UnitSections<'i> {
     info: SectionBytes<'i>,
     abbreviations: SectionBytes<'i>,
     string_offsets: SectionBytes<'i>,
+}
+
+impl<'i> UnitSections<'i> {
+    /// Sections by themselves.
+    fn lent(files: UnitFiles<'i>) -> UnitSections<'i> {
+        UnitSections {
+            info: SectionBytes::Lent(files.info),
+            abbreviations: SectionBytes::Lent(files.abbreviations),
+            string_offsets: SectionBytes::Lent(files.string_offsets),
+        }
+    }
+
+    /// The sections of an ELF file. One that is missing or can't be read counts as empty: paths
+    /// stay as the line programs have them.
+    fn of_elf(source: SectionSource<'i>) -> Result<UnitSections<'i>, ElfError> {
+        Ok(UnitSections {
+            info: source.readable(b".debug_info")?,
+            abbreviations: source.readable(b".debug_abbrev")?,
+            string_offsets: source.readable(b".debug_str_offsets")?,
+        })
+    }
+}
+
+/// The sections that paths are made of.
+#[derive(Drop)]
+struct PathInputs<'i> {
+    line_str: SectionBytes<'i>,
+    strings: SectionBytes<'i>,
+    units: UnitSections<'i>,
+}
+
+impl<'i> PathInputs<'i> {
+    /// Sections by themselves.
+    fn lent(files: Files<'i>) -> PathInputs<'i> {
+        PathInputs {
+            line_str: SectionBytes::Lent(files.line_str),
+            strings: SectionBytes::Lent(files.strings),
+            units: UnitSections::lent(files.units),
+        }
+    }
+
+    /// The sections of an ELF file with these line programs. A section of texts that is named apart
+    /// from it takes the place of its own. The units are read, and so is `.debug_str`, only if some
+    /// line program needs them.
+    fn of_elf(source: SectionSource<'i>, lines: &[u8]) -> Result<PathInputs<'i>, ElfError> {
+        let line_str = source.texts(b".debug_line_str", source.files.line_str)?;
+        let programs = LinePrograms {
+            alloc: source.alloc,
+            lines,
+            line_str: line_str.as_slice(),
+            is_big_endian: source.elf.is_big_endian(),
+            is_64_bit: source.elf.address_size() == 8,
+        };
+        let mut strings = SectionBytes::Lent(source.files.strings);
+        if programs.need_strings() {
+            strings = source.texts(b".debug_str", source.files.strings)?;
+        }
+        let mut units = UnitSections::lent(UnitFiles::default());
+        if programs.need_units(strings.as_slice()) {
+            strings = source.texts(b".debug_str", source.files.strings)?;
+            units = UnitSections::of_elf(source)?;
+        }
+        Ok(PathInputs {
+            line_str,
+            strings,
+            units,
+        })
+    }
+}
+
+/// The sections beside the line programs, as `Files` has them.
+#[derive(Drop)]
+struct OtherSections<'i> {
+    paths: PathInputs<'i>,
     symbols: SectionBytes<'i>,
     symbol_names: SectionBytes<'i>,
     code_ends: Vec<u64>,
@@ -91,22 +164,16 @@ impl<'i> OtherSections<'i> {
     /// Sections by themselves.
     fn lent(alloc: Global, files: Files<'i>) -> Result<OtherSections<'i>, ElfError> {
         Ok(OtherSections {
-            line_str: SectionBytes::Lent(files.line_str),
-            strings: SectionBytes::Lent(files.strings),
-            info: SectionBytes::Lent(files.units.info),
-            abbreviations: SectionBytes::Lent(files.units.abbreviations),
-            string_offsets: SectionBytes::Lent(files.units.string_offsets),
+            paths: PathInputs::lent(files),
             symbols: SectionBytes::Lent(files.symbols),
             symbol_names: SectionBytes::Lent(files.symbol_names),
             code_ends: Vec::from_slice(alloc, files.code_ends)?,
         })
     }
 
-    /// The sections of an ELF file, of symbols all, or else those for linking when it runs. A
-    /// section of texts that is named apart from it takes the place of its own. One of units or of
-    /// symbols that is missing or can't be read counts as empty: paths stay as the line programs
-    /// have them, and code has no names. One above the limit is refused.
-    fn of_elf(source: SectionSource<'i>) -> Result<OtherSections<'i>, ElfError> {
+    /// The sections of an ELF file, of symbols all, or else those for linking when it runs. If they
+    /// are missing or can't be read, code has no names. A section above the limit is refused.
+    fn of_elf(source: SectionSource<'i>, lines: &[u8]) -> Result<OtherSections<'i>, ElfError> {
         let mut symbols = source.readable(b".symtab")?;
         let has_all = !symbols.as_slice().is_empty();
         if !has_all {
@@ -115,11 +182,7 @@ impl<'i> OtherSections<'i> {
         Ok(OtherSections {
             symbols,
             symbol_names: source.readable(if has_all { b".strtab" } else { b".dynstr" })?,
-            line_str: source.texts(b".debug_line_str", source.files.line_str)?,
-            strings: source.texts(b".debug_str", source.files.strings)?,
-            info: source.readable(b".debug_info")?,
-            abbreviations: source.readable(b".debug_abbrev")?,
-            string_offsets: source.readable(b".debug_str_offsets")?,
+            paths: PathInputs::of_elf(source, lines)?,
             code_ends: source.elf.code_ends(source.alloc)?,
         })
     }
@@ -191,10 +254,11 @@ impl<'i> InputSections<'i> {
         let lowest = lowest.unwrap_or(0);
         let code_end = elf.code_end().filter(|_| is_linked);
         let code_end = code_end.unwrap_or(u64::MAX);
+        let others = OtherSections::of_elf(source, lines.as_slice())?;
         Ok(InputSections {
             notation: Notation::new(elf.is_big_endian(), elf.address_size(), lowest, code_end),
             lines,
-            others: OtherSections::of_elf(source)?,
+            others,
             is_linked,
             is_split,
             place,
@@ -230,9 +294,9 @@ impl<'i> InputSections<'i> {
     /// The sections as commands read them.
     pub fn input(&self) -> Input<Slice<'_>> {
         let order = self.notation.order;
-        let others = &self.others;
-        let debug_line_str = EndianSlice::new(others.line_str.as_slice(), order);
-        let debug_str = EndianSlice::new(others.strings.as_slice(), order);
+        let paths = &self.others.paths;
+        let debug_line_str = EndianSlice::new(paths.line_str.as_slice(), order);
+        let debug_str = EndianSlice::new(paths.strings.as_slice(), order);
         Input {
             lines: DebugLine::new(self.lines.as_slice(), order),
             strings: StringSections {
@@ -240,11 +304,11 @@ impl<'i> InputSections<'i> {
                 debug_str,
             },
             compilations: CompilationSections {
-                debug_info: EndianSlice::new(others.info.as_slice(), order),
-                debug_abbrev: EndianSlice::new(others.abbreviations.as_slice(), order),
+                debug_info: EndianSlice::new(paths.units.info.as_slice(), order),
+                debug_abbrev: EndianSlice::new(paths.units.abbreviations.as_slice(), order),
                 debug_str,
                 debug_line_str,
-                debug_str_offsets: EndianSlice::new(others.string_offsets.as_slice(), order),
+                debug_str_offsets: EndianSlice::new(paths.units.string_offsets.as_slice(), order),
             },
             notation: self.notation,
             is_linked: self.is_linked,

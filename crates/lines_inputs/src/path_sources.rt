@@ -1,8 +1,8 @@
 //! The whole paths of files: what a relative one goes on from.
 //!
 //! Up to version 4 the directory of a compilation stands in `.debug_info` alone (DWARF 4, sections
-//! 3.1.1 and 6.2.4). In version 5 a header has it too, and where it is relative there, the paths go
-//! on from that of `.debug_info` (DWARF 5, the same sections).
+//! 3.1.1 and 6.2.4). In version 5 a header has it as directory 0, and that of `.debug_info` counts
+//! only if this one is empty (DWARF 5, the same sections).
 
 ghost use Rattle.std.specs.Prelude.{◌≡◌, ◌≢◌, Err, IfErr, IfOk, Ok, option_map};
 ghost use Rattle.gimli_compilation.specs.Directories.{TellsDirectories, directory_for};

@@ -109,7 +109,11 @@ impl<'r, 'n, R: Reader> Places<'r, 'n, R> {
     fn print_place(&self, address: u64, output: &mut Output<'_>) -> Result<Answered> {
         let request = self.printer.request;
         let own = address.checked_sub(request.bias);
-        let function = own.and_then(|own| self.functions.name_at(own));
+        // The search for the end of a name takes as long as the name.
+        let function = match own {
+            Some(own) if request.has_function => self.functions.name_at(own),
+            _ => None,
+        };
         let Some(found) = own.and_then(|own| self.lookup.find(own)) else {
             self.printer.print(Some(address), function, None, output);
             return Ok(Answered::Whole);

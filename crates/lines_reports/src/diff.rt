@@ -9,15 +9,28 @@ use lines_inputs::{Input, Printing, UnitRows, line_of};
 use lines_pieces::{Piece, Result, add, print, print_fields};
 use lines_words::{Json, Output, UnitChoice};
 use std::alloc::Global;
+use std::collections::BTreeMap;
 
 /// The code of each line of two programs.
 #[derive(Drop)]
 pub struct Diff<R: Reader> {
     old: Side<R>,
     new: Side<R>,
-    /// Whether the new program is read.
-    is_new: bool,
+    stage: Stage,
     paths: PathNumbers,
+    /// The lines that differ and weren't printed, once both programs were read.
+    differences: BTreeMap<LinePlace, Change>,
+}
+
+/// What comes next.
+#[derive(Clone, Copy)]
+enum Stage {
+    /// A unit of the old program.
+    Old,
+    /// A unit of the new program.
+    New,
+    /// The differences, of which there are so many.
+    Differences(usize),
 }
 
 impl<R: Reader> Diff<R> {
@@ -33,35 +46,55 @@ impl<R: Reader> Diff<R> {
         Ok(Diff {
             old,
             new,
-            is_new: false,
+            stage: Stage::Old,
             paths: PathNumbers::new(alloc),
+            differences: BTreeMap::new(alloc),
         })
     }
 
     /// Goes on to the new program.
     pub fn begin_new(&mut self) {
-        self.is_new = true;
+        self.stage = Stage::New;
     }
 
-    /// Prints each line that has another number of bytes of code in the new program than in the old
-    /// one, and how many lines there are. The command ends as refused where there is a difference.
-    fn print_differences(&self, output: &mut Output<'_>) -> Result<()> {
+    /// Finds each line that has another number of bytes of code in the new program than in the old
+    /// one. The command ends as refused where there is any.
+    fn compare(&mut self, output: &mut Output<'_>) -> Result<()> {
         let Side { reading, coverage } = &self.old;
-        let differences = coverage.differences(reading.alloc, &self.new.coverage)?;
-        for (place, change) in &differences {
-            self.print_change(*place, *change, output);
-        }
-        if !differences.is_empty() {
+        self.differences = coverage.differences(reading.alloc, &self.new.coverage)?;
+        self.stage = Stage::Differences(self.differences.len());
+        if !self.differences.is_empty() {
             output.refuse();
         }
+        Ok(())
+    }
+
+    /// Prints lines that differ until the output is full, and after the last one how many lines
+    /// there are. False after these.
+    fn print_differences(&mut self, count: usize, output: &mut Output<'_>) -> bool {
+        for _ in 0..u64::MAX {
+            if output.is_full() {
+                break;
+            }
+            let Some((place, change)) = self.differences.pop_first() else {
+                self.print_counts(count, output);
+                return false;
+            };
+            self.print_change(place, change, output);
+        }
+        true
+    }
+
+    /// Prints how many lines there are.
+    fn print_counts(&self, differences: usize, output: &mut Output<'_>) {
+        let (old, new) = (self.old.coverage.count(), self.new.coverage.count());
         let fields = [
-            ("old_lines", Piece::Number(coverage.count() as u64)),
-            ("new_lines", Piece::Number(self.new.coverage.count() as u64)),
-            ("differences", Piece::Number(differences.len() as u64)),
+            ("old_lines", Piece::Number(old as u64)),
+            ("new_lines", Piece::Number(new as u64)),
+            ("differences", Piece::Number(differences as u64)),
         ];
         let text = "lines with code: % in the old program, % in the new one; differences: %";
         print_fields(text, &fields, output);
-        Ok(())
     }
 
     /// Prints a line that differs.
@@ -92,14 +125,16 @@ impl<R: Reader> Diff<R> {
     /// Adds the code of the next unit. After the last one of the new program follow the lines that
     /// differ.
     pub fn print_next(&mut self, output: &mut Output<'_>) -> Result<bool> {
-        if !self.is_new {
-            return self.old.add_next(&mut self.paths, output);
+        match self.stage {
+            Stage::Old => self.old.add_next(&mut self.paths, output),
+            Stage::New => {
+                if !self.new.add_next(&mut self.paths, output)? {
+                    self.compare(output)?;
+                }
+                Ok(true)
+            }
+            Stage::Differences(count) => Ok(self.print_differences(count, output)),
         }
-        let has_more = self.new.add_next(&mut self.paths, output)?;
-        if !has_more {
-            self.print_differences(output)?;
-        }
-        Ok(has_more)
     }
 }
 

@@ -46,6 +46,9 @@ impl RowList {
         output: &mut Output<'_>,
     ) -> Result<bool> {
         for _ in 0..SOME {
+            if output.is_full() {
+                break;
+            }
             let Some(row) = unit.next_row()? else {
                 unit.tell_fault(output);
                 return Ok(false);

@@ -39,6 +39,9 @@ pub enum Json<'v> {
     Written(&'v str),
 }
 
+/// From how many bytes on an output is full: a megabyte.
+const FULL: usize = 1 << 20;
+
 /// What the outputs are shown on.
 #[derive(Clone, Copy)]
 pub struct Screen {
@@ -111,6 +114,11 @@ impl<'o> Output<'o> {
     /// Goes on with the file of another name.
     pub fn turn_to(&mut self, name: &'o str) {
         self.name = name;
+    }
+
+    /// Whether so much was printed that it should be handed on before more is.
+    pub fn is_full(&self) -> bool {
+        self.out.len() >= FULL
     }
 
     /// Whether a JSON object a line is printed.

@@ -40,7 +40,7 @@ pub fn print_demo_pieces<O: Write>(alloc: Global, out: &mut O) -> Result<(), Ref
 fn write_demo<W: Writer>(alloc: Global, section: &mut DebugLine<W>) -> Result<(), Refusal> {
     match demo_program(alloc) {
         Ok(program) => write_program(alloc, &program, section),
-        Err(_) => Err(Refusal::Memory),
+        Err(e) => Err(Refusal::of_writing(e)),
     }
 }
 
@@ -60,8 +60,7 @@ fn write_program<W: Writer>(
     };
     match outcome {
         Ok(_) => Ok(()),
-        Err(Error::OutOfMemory) => Err(Refusal::Memory),
-        Err(_) => Err(Refusal::Header),
+        Err(e) => Err(Refusal::of_writing(e)),
     }
 }
 

@@ -4,6 +4,7 @@ ghost use Rattle.std.specs.Prelude.{◌≡◌, ◌≢◌};
 ghost use Rattle.std.specs.IoError.{error_kind};
 
 use gimli_core::Error;
+use gimli_write::Error as WriteError;
 use std::io;
 use std::io::{ErrorKind, Write};
 
@@ -19,6 +20,8 @@ pub enum Refusal {
     Header,
     /// A fault in the rows of the unit.
     Rows,
+    /// The unit can't be built or written, for this reason.
+    Writing(WriteError),
     /// Memory was refused.
     Memory,
     /// Standard output takes no more.
@@ -48,24 +51,31 @@ impl Refusal {
         }
     }
 
+    /// The refusal of building or writing a unit.
+    pub fn of_writing(error: WriteError) -> Refusal
+        ensures memory { error ≡ WriteError.OutOfMemory → result ≡ Refusal.Memory }
+        ensures writing { error ≢ WriteError.OutOfMemory → result ≡ Refusal.Writing error }
+    {
+        match error {
+            WriteError::OutOfMemory => Refusal::Memory,
+            _ => Refusal::Writing(error),
+        }
+    }
+
     /// Says on standard error why the command ends, and returns the status of the program. Nothing
     /// is said where standard output takes no more.
     pub fn report<E: Write>(self, err: &mut E) -> u8
         ensures { result ≡ 1 }
     {
         // Where standard error can't be written to, the status still says it.
-        let _ = err.write_all(self.text().as_bytes());
+        let _ = match self {
+            Refusal::File => err.write_all(b"refused: file\n"),
+            Refusal::Header => err.write_all(b"refused: header\n"),
+            Refusal::Rows => err.write_all(b"refused: rows\n"),
+            Refusal::Writing(error) => writeln!(err, "refused: {error:?}"),
+            Refusal::Memory => err.write_all(b"refused: memory\n"),
+            Refusal::Output => Ok(()),
+        };
         REFUSED
-    }
-
-    /// The line on standard error.
-    fn text(self) -> &'static str {
-        match self {
-            Refusal::File => "refused: file\n",
-            Refusal::Header => "refused: header\n",
-            Refusal::Rows => "refused: rows\n",
-            Refusal::Memory => "refused: memory\n",
-            Refusal::Output => "",
-        }
     }
 }

@@ -55,7 +55,7 @@ impl Section for ArraySection {
 }
 
 impl Sink for ArraySection {
-    ghost use Rattle.std.specs.Prelude.{[]};
+    ghost use Rattle.std.specs.Prelude.{[], true};
     ghost use Rattle.gimli_bytes.specs.Hand.{plain};
 
     ghost contents = { λ w. take w.len w.bytes.items };
@@ -72,7 +72,9 @@ impl Sink for ArraySection {
 
     ghost fails_for_memory_alone = { false };
 
-    ghost refuses = { λ e. Unit {0} };
+    ghost refuses = { λ w bytes e. Unit {0} };
+
+    ghost unrefused = { λ w. true };
 
     ghost all_or_none = { false };
 }

@@ -216,14 +216,9 @@ impl Script {
         if self.program.is_none() {
             return;
         }
-        let mut from = 0;
-        for _ in 0..u64::MAX {
-            let Some((index, trap)) = self.program.next_trap(from) else {
-                break;
-            };
+        for (index, trap) in self.program.traps() {
             lines.print("% ", &[Number(index as u64)]);
             lines.put_error("", trap);
-            from = index.wrapping_add(1);
         }
     }
 

@@ -7,6 +7,7 @@ mod make_object;
 mod make_unit;
 mod own;
 mod rows;
+mod sequences;
 mod where_is;
 
 use anyhow::{Result, bail};
@@ -35,6 +36,7 @@ fn run(rt: &HostRuntime, command: &[String], text: &mut String) -> Result<()> {
     };
     match program.as_str() {
         "rows" => rows::start(rt, words, text),
+        "sequences" => sequences::start(rt, words, text),
         "where_is" => where_is::start(rt, words, text),
         "line_index" => line_index::start(rt, words, text),
         "make_unit" => Ok(make_unit::start(rt.alloc(), text)?),

@@ -55,7 +55,7 @@ fn print_rows<R: Reader>(rows: OneShotLineRows<R>, text: &mut String) -> Result<
 }
 
 /// Adds the line of a row.
-fn print_row(row: &LineRow, text: &mut String) -> std::result::Result<(), AllocError> {
+pub fn print_row(row: &LineRow, text: &mut String) -> std::result::Result<(), AllocError> {
     let address = row.address();
     let file = row.file_index();
     let line = row.line().map_or(0, |line| line.get());
@@ -64,7 +64,7 @@ fn print_row(row: &LineRow, text: &mut String) -> std::result::Result<(), AllocE
 }
 
 /// What became of a text that was added.
-fn told(outcome: std::result::Result<(), AllocError>) -> Result<()> {
+pub fn told(outcome: std::result::Result<(), AllocError>) -> Result<()> {
     match outcome {
         Ok(()) => Ok(()),
         Err(_) => Err(Error::OutOfMemory),

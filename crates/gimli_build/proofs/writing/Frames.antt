@@ -7,10 +7,11 @@ use Common.{Err, OnOk, IfErr, IsTrue, inr, le-ltb, lt-ltb, take_at, drop_at, Res
 use Common.{Dwarf32, Dwarf64, Hand, Placement, plain, Begins, Appends, IsOverwrite, overwrite_of, patch, Ghosts}
 use Common.{OutOfMemory, Writes, udata, open_length, escape_size, length_word, Error, format_word, result_append}
 use Common.{after_length, escape_bytes}
-use proofs.writing.Joined.{on_ok, if_err, or_wanted, begins_before}
+use Rattle.gimli_bytes.specs.Written.{IsOwn}
+use proofs.writing.Joined.{on_ok, if_err, or_wanted, or_both, begins_before}
 use Rattle.gimli_bytes.proofs.Parts.{begins_then}
 use Rattle.std.proofs.lemmas.List.{length-take}
-use proofs.writing.Writes.{Leaves, writes_in}
+use proofs.writing.Writes.{Leaves, writes_in, own_at_once, own_before}
 
 -- other bytes in the middle, as long as those that stand there
 patched_middle : (a b other c : List ℕ) (at : ℕ) → length other ≡ length b → length a ≡ at
@@ -94,6 +95,7 @@ pub record Counts {W : Type 0} (sink : Ghosts W) (escape blank : List ℕ) (posi
   pub keeps : Begins (sink.contents old) (sink.contents opened)
   pub ordered : sink.is_big opened ≡ sink.is_big old
   pub stays : IsTrue (sink.completes old) → IsTrue (sink.completes opened)
+  pub unrefused : IsTrue (sink.unrefused old) → IsTrue (sink.unrefused opened)
   pub after : length (sink.contents old) ≤ position
   pub held : IsTrue sink.keeps_bytes → Blank escape blank (sink.contents old) (sink.contents opened) position
   pub linked : (at : Placement) → IsTrue (sink.completes old)
@@ -110,30 +112,33 @@ pub counted_written : {W X Y : Type 0} {sink : Ghosts W} {old opened filled clos
     → Counts sink escape blank position n old opened filled → Writes sink opened filled (Ok x) body
     → IsOverwrite sink filled closed r position (λ hand. length_of n)
     → Writes sink old closed r (λ hand. after_length full (body hand))
-counted_written {sink = sink} {r = r} {escape = escape} {blank = blank} {position = position} {n = n} {body = body} full
-    length_of is_full
-    as_long so inside call =
+counted_written {sink = sink} {old = old} {filled = filled} {r = r} {escape = escape} {blank = blank}
+    {position = position} {n = n} {body = body} full length_of is_full as_long so inside call =
     let leaves =
     λ (own : Error → Type 0) (hand : Hand) (old c1 c2 new : List ℕ) (at : Blank escape blank old c1 position)
     (written : Appends (body hand) c1 c2) (counted : n ≡ length c2 - length c1).
     framed_leaves full length_of escape blank old c1 c2 new position n (body hand) is_full at.opened at.at written
     counted as_long
     {Own = own} {r = r} in
+    let keeps = begins_then _ _ _ so.keeps inside.keeps in
+    let earlier = λ (e : Error) (is : sink.refuses filled (length_of n) e).
+    own_before keeps (λ unrefused. inside.unrefused (so.unrefused unrefused)) e (own_at_once filled _ e is) in
     writes_in (record {
-      keeps = begins_before _ _ _ _ (begins_then _ _ _ so.keeps inside.keeps) so.after call.before;
+      keeps = begins_before _ _ _ _ keeps so.after call.before;
       ordered = call.ordered ∙ inside.ordered ∙ so.ordered;
       stays = λ completes. call.stays (inside.stays (so.stays completes));
+      unrefused = λ unrefused. call.unrefused (inside.unrefused (so.unrefused unrefused));
       held = λ keeps_bytes.
-          leaves sink.refuses plain _ _ _ _ (so.held keeps_bytes) (inside.ok keeps_bytes) so.count
-          (call.ok keeps_bytes) call.own;
+          leaves (IsOwn sink old) plain _ _ _ _ (so.held keeps_bytes) (inside.ok keeps_bytes) so.count
+          (call.ok keeps_bytes) (if_err r (λ e. or_both (earlier e) (λ is. is)) call.own);
       memory = λ keeps_bytes memory_alone.
           leaves (λ e. e ≡ OutOfMemory) plain _ _ _ _ (so.held keeps_bytes) (inside.ok keeps_bytes) so.count
           (call.ok keeps_bytes) (if_err r (λ e. inr) (call.err memory_alone));
       linked = λ at completes.
           let opened = so.stays completes in
-          leaves sink.refuses (sink.hand at) _ _ _ _ (so.linked at completes) (inside.completed at opened)
+          leaves (IsOwn sink old) (sink.hand at) _ _ _ _ (so.linked at completes) (inside.completed at opened)
           (so.count_linked at completes) (call.completed at (inside.stays opened))
-          (call.completed_own at (inside.stays opened));
+          (if_err r (λ e. or_both (earlier e) (λ is. is)) (call.completed_own at (inside.stays opened)));
     })
 
 -- ---- words

@@ -71,6 +71,7 @@ pub record Written {W : Type 0} (sink : Ghosts W) (is_big : Bool) (encoding : En
   pub keeps : Begins (sink.contents old) (sink.contents new)
   pub ordered : sink.is_big new ≡ sink.is_big old
   pub stays : IsTrue (sink.completes old) → IsTrue (sink.completes new)
+  pub unrefused : IsTrue (sink.unrefused old) → IsTrue (sink.unrefused new)
   pub held : IsTrue sink.keeps_bytes
       → Standing plain is_big encoding e (whole plain) (sink.contents old) (sink.contents new) previous left
   pub linked : (at : Placement) → IsTrue (sink.completes old)
@@ -88,6 +89,7 @@ written_more {sink = sink} {is_big = is_big} {encoding = encoding} {e = e} {whol
       keeps = begins_then _ _ _ so.keeps more.keeps;
       ordered = more.ordered ∙ so.ordered;
       stays = λ completes. more.stays (so.stays completes);
+      unrefused = λ unrefused. more.unrefused (so.unrefused unrefused);
       held = λ keeps_bytes. standing_more _ _ _ e _ _ _ _ _ _ _ (so.held keeps_bytes) (more.ok keeps_bytes);
       linked =
           λ at completes.
@@ -103,7 +105,7 @@ pub items_unwritten : {W X Y : Type 0} {sink : Ghosts W} {old mid new : W} {d : 
     → Writes {X = X} sink mid new (Err d) (λ hand. item_bytes hand is_big encoding e previous item)
     → Writes {X = Y} sink old new (Err d) whole
 items_unwritten {sink = sink} {d = d} {e = e} so refused =
-    later_unwritten _ _ so.keeps so.ordered so.stays
+    later_unwritten _ _ so.keeps so.ordered so.stays so.unrefused
     (λ keeps_bytes. standing_refused _ _ _ e _ _ _ _ _ _ d (so.held keeps_bytes))
     (λ at completes. standing_refused _ _ _ e _ _ _ _ _ _ d (so.linked at completes)) refused
 
@@ -114,6 +116,7 @@ none_standing sink is_big encoding e old previous items = record {
   keeps = begins_self _;
   ordered = refl;
   stays = λ completes. completes;
+  unrefused = λ unrefused. unrefused;
   held = λ keeps_bytes. standing_start _ _ _ e _ _ _;
   linked = λ at completes. standing_start _ _ _ e _ _ _;
 }

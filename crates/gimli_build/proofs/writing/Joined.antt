@@ -20,6 +20,10 @@ pub or_wanted : {A B C : Type 0} → (B → C) → A ⊎ B → A ⊎ C
 or_wanted f (inl own) = inl own
 or_wanted f (inr wanted) = inr (f wanted)
 
+pub or_both : {A B C D : Type 0} → (A → B) → (C → D) → A ⊎ C → B ⊎ D
+or_both f g (inl own) = inl (f own)
+or_both f g (inr wanted) = inr (g wanted)
+
 -- ---- two parts
 
 pub appends_joined : (a b : Result (List ℕ) Error) (old new newer : List ℕ) → Appends a old new → Appends b new newer

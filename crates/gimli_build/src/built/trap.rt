@@ -1,11 +1,13 @@
 //! What readers drop or misread of a program that `write` takes.
 
 ghost use Rattle.std.specs.Prelude.{◌≡◌, ◌+◌, ◌≤◌, false, List, ◌∷◌, length, nat_lt};
-ghost use Rattle.std.specs.Prelude.{IfSome, IfNone, Some, None};
+ghost use Rattle.std.specs.Prelude.{[], IfSome, IfNone, MatchOption, Some, None};
 ghost use Rattle.std.specs.List.{list_all};
 ghost use Rattle.gimli_build.specs.Built.{base_of};
 ghost use Rattle.gimli_build.specs.Traps.{is_set_address, begins_unset, is_past_greatest};
 ghost use Rattle.gimli_build.specs.Traps.{has_later_opcode, item_trap, trap_at, HaveNoTrap};
+ghost use Rattle.gimli_build.specs.Traps.{traps_from, traps_of};
+ghost use Rattle.gimli_build.specs.TrapPlaces.{IsTrapPlace};
 ghost use Rattle.gimli_build.specs.declared.built.items.BuiltItem.{BuiltItem};
 
 use crate::built::items::BuiltItem;
@@ -13,6 +15,7 @@ use crate::built::line_program::LineProgram;
 use crate::built::row::LineRow;
 use gimli_bytes::Address;
 use gimli_core::ReaderAddress;
+use std::marker::Model;
 
 /// What readers drop or misread of a program that `write` takes. Where an item has several, the
 /// first of these counts.
@@ -36,10 +39,72 @@ pub enum Trap {
     UnsetAddress,
 }
 
+/// Where a walk over the items is: the index of the next one, the address that offsets count from
+/// there, and whether a row there begins a sequence whose address wasn't set.
+#[derive(Clone, Copy)]
+struct TrapPlace {
+    next: usize,
+    base: u64,
+    begins: bool,
+}
+
+/// The traps of a program that are left, in order, each with the index of its item.
+#[derive(Drop)]
+pub struct Traps<'a> {
+    program: &'a LineProgram,
+    place: TrapPlace,
+}
+
+impl<'a> Model for Traps<'a> {
+    ghost use Rattle.std.specs.Prelude.{List, ℕ};
+    ghost use Rattle.gimli_build.specs.Traps.{traps_from};
+    ghost use Rattle.gimli_build.specs.TrapPlaces.{IsTrapPlace};
+    ghost use Rattle.gimli_build.specs.declared.built.trap.Trap.{Trap};
+
+    ghost Value = { List (ℕ × Trap) };
+
+    ghost view = { λ t. traps_from t.program.now t.place.next };
+
+    ghost invariant = { λ t. IsTrapPlace t.program.now t.place.next t.place.base t.place.begins };
+}
+
+impl<'a> Iterator for Traps<'a> {
+    ghost use Rattle.std.specs.Iterator.{YieldsFirst, item_count};
+
+    type Item = (usize, Trap);
+
+    ghost next_gives = { YieldsFirst (λ traps. traps) };
+
+    ghost remaining = { item_count (λ traps. traps) };
+
+    fn next(&mut self) -> Option<(usize, Trap)> {
+        let (found, place) = first_trap(self.program, self.place);
+        self.place = place;
+        found
+    }
+}
+
 impl LineProgram {
+    /// The traps of all items, in order, each with the index of its item: one for an item, its
+    /// first. All of them are one walk over the items. Requires a program that isn't a placeholder.
+    pub fn traps(&self) -> Traps<'_>
+        requires { self.now.is_none ≡ false }
+        ensures { result ≡ traps_of self.now }
+    {
+        let place = TrapPlace {
+            next: 0,
+            base: 0,
+            begins: true,
+        };
+        Traps {
+            program: self,
+            place,
+        }
+    }
+
     /// The first item at or after an index that has a trap, by its own index in `items`, with its
     /// first trap. Requires a program that isn't a placeholder. It reads the items from the first
-    /// one on.
+    /// one on; [`traps`](LineProgram::traps) yields the traps of all items in one walk.
     pub fn next_trap(&self, from: usize) -> Option<(usize, Trap)>
         requires { self.now.is_none ≡ false }
         ensures trap { IfSome result (λ found. trap_at self.now found.0 ≡ Some found.1) }
@@ -62,6 +127,32 @@ impl LineProgram {
         }
         None
     }
+}
+
+/// The first trap from a place on, and the place after it.
+fn first_trap(program: &LineProgram, place: TrapPlace) -> (Option<(usize, Trap)>, TrapPlace)
+    requires { IsTrapPlace program.now place.next place.base place.begins }
+    ensures place { IsTrapPlace program.now result.1.next result.1.base result.1.begins }
+    ensures traps { MatchOption result.0
+        ((traps_from program.now place.next ≡ []) × (traps_from program.now result.1.next ≡ []))
+        (λ found. traps_from program.now place.next
+        ≡ found ∷ traps_from program.now result.1.next) }
+{
+    let items = program.built_items();
+    let mut base = place.base;
+    let mut begins = place.begins;
+    for index in place.next..items.len() {
+        let item = &items[index];
+        let trap = trap_of(program, base, begins, item, &items[index + 1..]);
+        base = base_after(base, item);
+        begins = begins_after(item);
+        let next = index + 1;
+        if let Some(trap) = trap {
+            return (Some((index, trap)), TrapPlace { next, base, begins });
+        }
+    }
+    let next = items.len();
+    (None, TrapPlace { next, base, begins })
 }
 
 /// The address that offsets count from after an item.

@@ -1,4 +1,5 @@
-//! Where `write` refuses a program.
+//! Where `write` refuses a program. What these calls find is what `write` is refused for, beside
+//! the encoding and two lengths: `laws::refused_parts_are_first_cause`.
 
 ghost use Rattle.std.specs.Prelude.{◌≡◌, ◌<◌, ◌+◌, ◌^◌, false, IsTrue, IfSome, length, option_map};
 ghost use Rattle.std.specs.Prelude.{◌&&◌, nat_eq, nat_le};
@@ -8,7 +9,7 @@ ghost use Rattle.gimli_build.specs.LineText.{line_text, IsWithin};
 ghost use Rattle.gimli_build.specs.Conditions.{CanWrite};
 ghost use Rattle.gimli_build.specs.Cause.{item_cause, text_cause, word_cause};
 ghost use Rattle.gimli_build.specs.Refused.{FindsFirst, cause_of_directory, cause_of_file};
-ghost use Rattle.gimli_build.specs.Refused.{cause_of_item, source_cause, wanted_form};
+ghost use Rattle.gimli_build.specs.Refused.{cause_of_item, empty_cause, source_cause, wanted_form};
 ghost use Rattle.gimli_build.specs.Version5Tables.{first_form, sources as sources_of};
 
 use crate::built::items::BuiltItem;
@@ -67,8 +68,8 @@ impl LineProgram {
     }
 
     /// The first file that `write` refuses, by its index, and why: its path is refused as a
-    /// directory is, or its source. The empty text that stands for no source is none of them.
-    /// Requires a program that can be written with these tables.
+    /// directory is, or its source, or the empty text that stands for no source, whose offset may
+    /// be too large. Requires a program that can be written with these tables.
     pub fn refused_file(
         &self,
         line_strings: &LineStringTable,
@@ -109,7 +110,7 @@ impl LineProgram {
         }
     }
 
-    /// Why a source is refused, if there is one and it is written.
+    /// Why a source is refused, or the empty text that stands for none, if sources are written.
     fn source_cause(
         &self,
         source: &Option<LineString>,
@@ -128,7 +129,7 @@ impl LineProgram {
         }
         match source {
             Some(text) => text_cause(self.format(), sources, text, line_strings, strings),
-            None => None,
+            None => empty_cause(self.format(), sources, line_strings, strings),
         }
     }
 
@@ -195,6 +196,22 @@ fn text_cause(
         LineString::String(_) => None,
         LineString::StringRef(id) => word_cause(format, strings.offset(*id).0),
         LineString::LineStringRef(id) => word_cause(format, line_strings.offset(*id).0),
+    }
+}
+
+/// Why the empty text is refused, which `write` adds to the table of this form.
+fn empty_cause(
+    format: Format,
+    form: DwForm,
+    line_strings: &LineStringTable,
+    strings: &StringTable,
+) -> Option<Error>
+    ensures { result ≡ empty_cause format (texts_in strings.now line_strings.now) form.0 }
+{
+    match form {
+        constants::DW_FORM_strp => word_cause(format, strings.offset_of(&[]).0),
+        constants::DW_FORM_line_strp => word_cause(format, line_strings.offset_of(&[]).0),
+        _ => None,
     }
 }
 

@@ -8,6 +8,7 @@ use specs.RoundTrip.{built_file}
 use specs.convert.Conversion.{IsConverted}
 use specs.convert.Outcome.{Outcome}
 use specs.convert.Mapped.{CanBeFaithful, IsReadAs, AreFilesReadAs}
+use specs.convert.Moved.{CanBeMoved, AreMovedRows, CanBeShifted}
 use specs.convert.Sources.{ToConvert}
 
 -- a conversion that was done: the map of addresses, the source, the line strings before it, and
@@ -51,6 +52,25 @@ UnitGives unit rows = Events unit.layout unit.back.header unit.back.header.progr
 -- it gives rows that say what these rows of the source of a conversion say
 abbrev pub GivesBack : (d : DoneConversion) → List ReadRow → UnitReadBack d.outcome.program → Type 0
 GivesBack d rows unit = (found : List ReadRow) × UnitGives unit found × AreReadAs d rows found
+
+-- ---- rows that are moved
+
+-- what was asked holds, so that it moves the rows of its source
+abbrev pub IsToBeMoved : DoneConversion → Type 0
+IsToBeMoved d = CanBeMoved d.convert_address d.source
+
+-- rows that are read back of it are those of its source, each at its new address
+abbrev pub AreMoved : DoneConversion → List ReadRow → Type 0
+AreMoved d =
+    AreMovedRows d.convert_address d.source d.outcome.program.encoding.version d.outcome.file_ids
+
+-- a unit gives such rows
+abbrev pub GivesMoved : (d : DoneConversion) → UnitReadBack d.outcome.program → Type 0
+GivesMoved d unit = (found : List ReadRow) × UnitGives unit found × AreMoved d found
+
+-- what was asked holds, so that it moves all rows of its source by so many bytes
+abbrev pub IsToBeShifted : ℕ → DoneConversion → Type 0
+IsToBeShifted n d = CanBeShifted n d.convert_address d.source
 
 -- ---- files
 

@@ -7,6 +7,7 @@ use Prelude.{FilesAtEnd, Built, OneByOne, ConvertError, StringTables, texts_in}
 use specs.RoundTrip.{Answers, IsRoundTripRefusal}
 use specs.convert.Conversion.{AnswersAs, ConvertsTo, IsConvertRefusal}
 use specs.convert.Mapped.{CanBeFaithful, IsReadAs, AreFilesReadAs}
+use specs.convert.Moved.{CanBeMoved, AreMovedRows}
 use specs.convert.Preparation.{encoding_of}
 use specs.convert.Sources.{ToConvert}
 
@@ -30,12 +31,15 @@ pub record AreSourceFiles (s : ToConvert) (file_ids : List ℕ) (a : Answers) : 
   pub same : AreFilesReadAs s.sections s.header files (version_after s) file_ids a.directories
       a.files
 
--- what is read back of a source, where this function maps its addresses: its files, and its rows
--- where the conversion can be faithful
+-- what is read back of a source, where this function maps its addresses: its files; its rows, where
+-- the conversion can be faithful; and where the function keeps the order of addresses in each
+-- sequence, its rows at their new addresses
 pub record IsSourceReadBack (convert_address : ℕ → Option Address) (s : ToConvert)
     (file_ids : List ℕ) (a : Answers) : Type 0 where
   pub files : AreSourceFiles s file_ids a
   pub rows : CanBeFaithful convert_address s → AreSourceRows s file_ids a.rows
+  pub moved : CanBeMoved convert_address s
+      → AreMovedRows convert_address s (version_after s) file_ids a.rows
 
 -- the same by a map of which only a contract is known, where it answers as a function
 abbrev pub ReadsBackSource : (ℕ → Option Address → Type 0) → ToConvert → List ℕ → Answers → Type 0

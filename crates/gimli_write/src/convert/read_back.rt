@@ -26,7 +26,10 @@ use gimli_line::IncompleteLineProgram;
 /// each address is mapped to itself, addresses are at least as wide as the source's, and no
 /// sequence that gave a row ends under a tombstone, the rows that are read are those of the source,
 /// one by one: an end has its address, and any other row all its registers, with the number that
-/// its file has now.
+/// its file has now. Where the map moves addresses and keeps their order inside each sequence, the
+/// new ones fit, and no sequence that gave a row ends under a tombstone, the rows that are read are
+/// these too, but each has its new address: as far after the new set address as it was after the
+/// old one.
 ///
 /// Requires encodings that a program may have, where they are handed, and a map that may always be
 /// called. Refused as the two calls are. The tables keep their texts, and the section its bytes,

@@ -26,6 +26,7 @@ returns-clause-writes g c =
       keeps = opening.appends.keeps;
       ordered = opening.appends.ordered;
       stays = opening.appends.stays;
+      unrefused = opening.appends.unrefused;
       after = opening.after;
       held = λ keeps_bytes. record {
         opened = blank _ _ (opening.appends.ok keeps_bytes);
@@ -66,7 +67,7 @@ returns-in_err-write_inside-clause-writes g c =
     result_append (Ok (escape_bytes is_big format)) (length_word is_big format k) in
     let refused = rw opening.ordered at c.in_err-write_inside.ensures.writes in
     passed_on c.from_residual-in_err-write_inside.ensures.1
-    (counted_unwritten whole opening.keeps opening.ordered opening.stays refused)
+    (counted_unwritten whole opening.keeps opening.ordered opening.stays opening.unrefused refused)
 
 pub returns-in_err-length-clause-writes : goal.returns-in_err-length-clause-writes
 returns-in_err-length-clause-writes g c =
@@ -75,6 +76,7 @@ returns-in_err-length-clause-writes g c =
       keeps = so.keeps;
       ordered = so.ordered;
       stays = so.stays;
+      unrefused = λ unrefused. tt;
       ok = λ keeps_bytes. tt;
       err = λ keeps_bytes memory_alone. inl (so.err memory_alone);
       own = λ keeps_bytes. inl so.own;

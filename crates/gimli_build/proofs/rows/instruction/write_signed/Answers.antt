@@ -1,12 +1,16 @@
-use Rattle.std.specs.Prelude.{◌≡◌}
+use Rattle.std.specs.Prelude.{◌≡◌, ◌∷◌}
 use Rattle.gimli_build.proofs
-use proofs.Common.{arith, to_z, of_z, w64, ints, sleb_one}
-use proofs.writing.Writes.{bytes_unwritten, joins, writes, passed_on}
+use proofs.Common.{arith, ap, sym, ◌∙◌, [], ℕ, List, to_z, of_z, w64, ints, sleb, sleb_one}
+use proofs.writing.Writes.{bytes_unwritten, joins, writes, same_bytes, passed_on}
 use proofs.rows.instruction.write_signed.Goals as goal
 
 pub returns-then-has_seven_bits : goal.returns-then-has_seven_bits
 returns-then-has_seven_bits g c =
-    grind (arith, to_z, w64, of_z, ints, sleb_one, writes)
+    let back : to_z w64 (of_z w64 c.args.operand) ≡ c.args.operand = omega (arith, ints) in
+    let one = sleb_one _ (sym c.has_seven_bits.ensures ∙ c.if-has_seven_bits.true) in
+    let operand : c.low_bits.result ∷ [] ≡ sleb c.args.operand =
+    ap (λ (b : ℕ). b ∷ []) c.low_bits.ensures ∙ sym one ∙ ap sleb back in
+    same_bytes (ap (λ (l : List ℕ). c.args.opcode.0 ∷ l) operand) (writes _ c.write.ensures)
 
 pub returns : goal.returns
 returns g c =

@@ -29,6 +29,7 @@ returns-clause-writes g c =
       keeps = zero.keeps;
       ordered = zero.ordered;
       stays = zero.stays;
+      unrefused = zero.unrefused;
       after = le_of_eq (sym c.len-length.ensures.contents);
       held = λ keeps_bytes. record {
         opened = blank _ _ (zero.ok keeps_bytes);
@@ -51,7 +52,7 @@ returns-in_err-write_fields-clause-writes g c =
     format_word (g.W.Sink.is_big c.args.w.now) c.args.input.now.program.encoding.format k in
     let refused = rw zero.ordered at c.in_err-write_fields.ensures.writes in
     passed_on c.from_residual-in_err-write_fields.ensures.1
-    (counted_unwritten word zero.keeps zero.ordered zero.stays refused)
+    (counted_unwritten word zero.keeps zero.ordered zero.stays zero.unrefused refused)
 
 pub returns-in_err-write_udata-clause-writes : goal.returns-in_err-write_udata-clause-writes
 returns-in_err-write_udata-clause-writes g c =

@@ -23,6 +23,7 @@ returns g c =
       before = grind (arith, take-before);
       ordered = refl;
       stays = λ completes. completes;
+      unrefused = λ unrefused. unrefused;
       refused = tt;
       completed = grind (arith);
       ok = grind (arith);

@@ -16,6 +16,7 @@ returns g c =
       keeps = either r e.ok e.err (λ is. (grows_bytes v w _ is).begins) (λ same. rw same (begins_self v.bytes));
       ordered = either r e.ok e.err (λ is. (grows_bytes v w _ is).big_is) (λ same. rw same refl);
       stays = λ inside. either r e.ok e.err (λ is. (grows_bytes v w _ is).stays inside) (λ same. rw same inside);
+      unrefused = λ unrefused. on_ok r (λ is. refl) e.ok;
       ok = λ keeps. absurd (no_truth keeps);
       completed = λ at inside. on_ok r (λ is. completed_bytes at v w c.args.bytes.now inside is) e.ok;
       err = λ memory. absurd (no_truth memory);

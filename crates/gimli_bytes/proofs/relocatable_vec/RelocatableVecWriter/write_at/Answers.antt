@@ -18,6 +18,7 @@ returns g c =
       before = either r e.ok e.err (λ is. (over_stays v w x at is).before) (λ same. rw same refl);
       ordered = either r e.ok e.err (λ is. (over_stays v w x at is).big_is) (λ same. rw same refl);
       stays = λ inside. either r e.ok e.err (λ is. stays_inside v w x at is inside) (λ same. rw same inside);
+      unrefused = λ unrefused. on_ok r (λ is. refl) e.ok;
       refused = on_err r (λ same. rw same refl) e.err;
       ok = λ keeps. absurd (no_truth keeps);
       completed = λ places inside. on_ok r (λ is. completed_over places v w x at inside is) e.ok;

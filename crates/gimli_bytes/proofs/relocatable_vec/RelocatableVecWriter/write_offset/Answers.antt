@@ -1,8 +1,8 @@
 use Rattle.std.specs.Prelude.{◌<◌, ◌^◌}
 use Rattle.gimli_bytes.proofs
-use proofs.Common.{inl, arith, w64, cast_signed, OfSection}
+use proofs.Common.{refl, inl, arith, w64, cast_signed, OfSection}
 use proofs.Parts.{begins_self}
-use proofs.Completing.{either, grows_offset, completed_offset}
+use proofs.Completing.{on_ok, either, grows_offset, completed_offset}
 use proofs.RelocatableRefusals.{if_err, place_refused}
 use proofs.relocatable_vec.RelocatableVecWriter.write_offset.Goals as goal
 
@@ -19,6 +19,7 @@ returns g c =
       stays = λ inside.
           either r e.ok e.err (λ is. (grows_offset v w c.args.section c.args.val c.args.size is).stays inside) (λ same.
           rw same inside);
+      unrefused = λ unrefused. on_ok r (λ is. refl) e.ok;
       ok = grind (arith);
       completed = grind (arith, completed_offset);
       err = grind (arith);

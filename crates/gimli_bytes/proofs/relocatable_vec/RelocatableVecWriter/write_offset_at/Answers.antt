@@ -1,7 +1,7 @@
 use Rattle.std.specs.Prelude.{◌≡◌, ◌<◌, ◌^◌}
 use Rattle.gimli_bytes.proofs
-use proofs.Common.{◌∙◌, ap, sym, inl, arith, to_z, of_z, w64, cast_signed, of_z-to_z}
-use proofs.Completing.{stays_inside_at, completed_offset_at}
+use proofs.Common.{refl, ◌∙◌, ap, sym, inl, arith, to_z, of_z, w64, cast_signed, of_z-to_z}
+use proofs.Completing.{on_ok, stays_inside_at, completed_offset_at}
 use proofs.RelocatableRefusals.{if_err, place_at_refused}
 use proofs.relocatable_vec.RelocatableVecWriter.write_offset_at.Goals as goal
 
@@ -24,6 +24,7 @@ returns g c =
       before = e.before;
       ordered = e.ordered;
       stays = grind (arith, stays_inside_at);
+      unrefused = λ unrefused. on_ok r (λ is. refl) e.ok;
       refused = grind (arith);
       ok = grind (arith);
       completed = grind (arith, completed_offset_at);

@@ -20,6 +20,7 @@ returns g c =
       stays = λ inside.
           either r e.ok e.err (λ is. (grows_reference v w c.args.symbol c.args.size is).stays inside) (λ same.
           rw same inside);
+      unrefused = λ unrefused. on_ok r (λ is. refl) e.ok;
       ok = λ keeps. absurd (no_truth keeps);
       completed = λ at inside. on_ok r (λ is. completed_reference at v w c.args.symbol c.args.size inside is) e.ok;
       err = λ memory. absurd (no_truth memory);

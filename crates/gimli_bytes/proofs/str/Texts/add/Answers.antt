@@ -1,9 +1,9 @@
-use Rattle.std.specs.Prelude.{◌≡◌}
+use Rattle.std.specs.Prelude.{◌≡◌, ◌∷◌, ◌++◌}
 use Rattle.gimli_bytes.proofs
 use proofs.Common
-use Common.{rules, sym, ap, ◌∙◌, false, true, arith, slice_get, with_text, index_of_text, texts_of}
-use proofs.TextLemmas.{is_there, not_there, index_there, place_new, texts_new, with_text-there, byte_count-new}
-use proofs.TextLemmas.{with_text-AreTexts, with_text-found, with_text-KeepsTexts}
+use Common.{rules, sym, ap, ◌∙◌, [], false, true, arith, slice_get, with_text, index_of_text, texts_of}
+use proofs.TextLemmas.{is_there, not_there, index_there, place_new, texts_new, with_text-there, offsets_new}
+use proofs.TextLemmas.{with_text-found, with_text-KeepsTexts}
 use proofs.str.Texts.add.Goals as goal
 
 pub returns-in-Some-clause-ok : goal.returns-in-Some-clause-ok
@@ -18,14 +18,15 @@ added : (c : goal.After-self-1)
 added c = ap texts_of c.in_ok-index.ensures.keys
     ∙ texts_new _ _ c.in_ok-copy.copy (search rules) c.in_default.ensures.found
 
+listed : (c : goal.After-self-1)
+    → c.push_reserved.new.self.items ≡ c.self.inside.offsets.items ++ c.self.inside.len ∷ []
+listed c = grind (arith)
+
 pub invariant_of-self-2 : goal.invariant_of-self-2
 invariant_of-self-2 c =
     let absent = is_there c.self.inside.strings.keys c.args.text.now false c.in_default.ensures.found in
-    rw (added c) (record {
-      are_texts = with_text-AreTexts (texts_of c.self.inside.strings.keys) c.args.text.now c.self.invariant.are_texts
-          c.requires;
-      counted = grind (arith, byte_count-new);
-    })
+    rw (added c, listed c) (offsets_new (texts_of c.self.inside.strings.keys) c.args.text.now
+    c.self.inside.offsets.items c.self.inside.len c.self.invariant absent c.requires)
 
 pub returns-clause-ok : goal.returns-clause-ok
 returns-clause-ok c = grind (arith, added)
@@ -66,4 +67,8 @@ returns-in_err-copy-clause-there c =
 
 pub returns-in_err-index-clause-there : goal.returns-in_err-index-clause-there
 returns-in_err-index-clause-there c =
+    rw (← c.self.view_is) (λ there. absurd (not_there _ _ c.in_default.ensures.found there))
+
+pub returns-in_err-reserve-clause-there : goal.returns-in_err-reserve-clause-there
+returns-in_err-reserve-clause-there c =
     rw (← c.self.view_is) (λ there. absurd (not_there _ _ c.in_default.ensures.found there))

@@ -10,7 +10,7 @@ returns-in_err-write-clause-appends g c =
     let p = err_from_is_err_and c.from_residual.result c.from_residual.ensures.1 in
     rw (p.1, p.2)
     (refused_after c.as_slice.result.now (table_bytes c.args.self.now) c.loop-text.invariant.keeps
-    c.loop-text.invariant.ordered c.loop-text.invariant.stays
+    c.loop-text.invariant.ordered c.loop-text.invariant.stays c.loop-text.invariant.unrefused
     c.in_err-write.ensures)
 
 pub returns-in_err-write_u8-clause-appends : goal.returns-in_err-write_u8-clause-appends
@@ -24,6 +24,7 @@ returns-in_err-write_u8-clause-appends g c =
     (refused_after (number_bytes (g.W.Sink.is_big c.write.new.self) 1 0) (table_bytes c.args.self.now) keeps
     (c.in_ok-write.ensures.ordered ∙ c.loop-text.invariant.ordered) (λ completes.
     c.in_ok-write.ensures.stays (c.loop-text.invariant.stays completes))
+    (λ unrefused. c.in_ok-write.ensures.unrefused (c.loop-text.invariant.unrefused unrefused))
     c.in_err-write_u8.ensures)
 
 pub loop-text-preserved : goal.loop-text-preserved
@@ -37,6 +38,10 @@ loop-text-preserved g c =
       stays =
           λ completes.
           c.in_ok-write_u8.ensures.stays (c.in_ok-write.ensures.stays (c.loop-text.invariant.stays completes));
+      unrefused =
+          λ unrefused.
+          c.in_ok-write_u8.ensures.unrefused
+          (c.in_ok-write.ensures.unrefused (c.loop-text.invariant.unrefused unrefused));
       put = λ keeps. text_put _ _ _ _ _
           _ _ _ _
           c.loop-text-test.true c.text-item.is c.as_slice.ensures.value (c.loop-text.invariant.put keeps)
@@ -58,6 +63,7 @@ returns-clause-appends g c =
       keeps = c.loop-text.invariant.keeps;
       ordered = c.loop-text.invariant.ordered;
       stays = c.loop-text.invariant.stays;
+      unrefused = c.loop-text.invariant.unrefused;
       ok = λ keeps. all_put _ _ _ _
           _ _ c.loop-text-test.false c.as_slice-text-items.ensures.keys c.self.view_is
           (c.loop-text.invariant.put keeps);

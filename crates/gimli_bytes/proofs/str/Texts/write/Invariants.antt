@@ -9,6 +9,7 @@ invariant-loop-text g l =
       keeps : Begins (contents l.fn.w) (contents l.w);
       ordered : g.W.Sink.is_big l.w ≡ g.W.Sink.is_big l.fn.w;
       stays : IsTrue (g.W.Sink.completes l.fn.w) → IsTrue (g.W.Sink.completes l.w);
+      unrefused : IsTrue (g.W.Sink.unrefused l.fn.w) → IsTrue (g.W.Sink.unrefused l.w);
       completed : (at : Placement) → IsTrue (g.W.Sink.completes l.fn.w)
           → g.W.Sink.completed at l.w
           ≡ g.W.Sink.completed at l.fn.w ++ table_bytes (texts_of (take l.text-index l.text-items));

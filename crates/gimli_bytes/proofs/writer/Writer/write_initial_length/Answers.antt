@@ -8,6 +8,7 @@ pub returns-in_err-write_u32-in-Dwarf32-clause-appends : goal.returns-in_err-wri
 returns-in_err-write_u32-in-Dwarf32-clause-appends g c =
     let p = err_from_is_err_and c.from_residual.result c.from_residual.ensures.1 in
     rw (p.1, p.2) (refused_after _ _ (begins_self _) refl (λ completes. completes)
+    (λ unrefused. unrefused)
     c.in_err-write_u32-in-Dwarf32.ensures)
 
 pub returns-in_err-write_u32-in-Dwarf64-clause-appends : goal.returns-in_err-write_u32-in-Dwarf64-clause-appends
@@ -15,6 +16,7 @@ returns-in_err-write_u32-in-Dwarf64-clause-appends g c =
     let p = err_from_is_err_and c.from_residual-in_err-write_u32-in-Dwarf64.result
     c.from_residual-in_err-write_u32-in-Dwarf64.ensures.1 in
     rw (p.1, p.2) (refused_after _ _ (begins_self _) refl (λ completes. completes)
+    (λ unrefused. unrefused)
     c.in_err-write_u32-in-Dwarf64.ensures)
 
 pub returns-in_err-write_u64-in-Dwarf64-clause-appends : goal.returns-in_err-write_u64-in-Dwarf64-clause-appends
@@ -22,7 +24,7 @@ returns-in_err-write_u64-in-Dwarf64-clause-appends g c =
     let p = err_from_is_err_and c.from_residual-in_err-write_u64-in-Dwarf64.result
     c.from_residual-in_err-write_u64-in-Dwarf64.ensures.1 in
     let escape = c.in_ok-write_u32-in-Dwarf64.ensures in
-    rw (p.1, p.2) (refused_after _ _ escape.keeps escape.ordered escape.stays
+    rw (p.1, p.2) (refused_after _ _ escape.keeps escape.ordered escape.stays escape.unrefused
     c.in_err-write_u64-in-Dwarf64.ensures)
 
 pub returns-in_ok-write_u64-in-Dwarf64-clause-appends : goal.returns-in_ok-write_u64-in-Dwarf64-clause-appends

@@ -2,7 +2,7 @@ use Rattle.gimli_write.proofs
 use proofs.Common
 use Common.{KeepsTexts, sym, subst, outcome_with, answers, ToConvert, to_convert, err_from_is_err_and}
 use proofs.ConvertSteps.{kept_self, kept_then}
-use proofs.SourceReadBack.{strings_kept, lines_kept, refused_after, rows_read, files_read}
+use proofs.SourceReadBack.{strings_kept, lines_kept, refused_after, rows_read, moved_read, files_read}
 use proofs.convert.read_back.convert_and_read_back.Goals as goal
 
 pub returns-in_err-program-clause-strings : goal.returns-in_err-program-clause-strings
@@ -43,6 +43,7 @@ returns-clause-faithful g c =
           c.round_trip.new.line_strings c.in_ok-back.ensures.tables.line_strings c.in_ok-back.ensures.directories
           c.in_ok-back.ensures.files;
       rows = λ can. rows_read m source c.args.line_strings.now made so back c.in_ok-back.ensures.built can;
+      moved = λ can. moved_read m source c.args.line_strings.now made so back c.in_ok-back.ensures.built can;
     }
 
 pub returns-clause-stays : goal.returns-clause-stays

@@ -1,0 +1,6 @@
+-- There are fewer units to come after each.
+use Rattle.std.proofs.Common.{length}
+use Rattle.uses.proofs.sequences.print_units.Given as goal
+
+abbrev pub decreases-units : goal.decreases-units
+decreases-units g l = length l.units.offsets
