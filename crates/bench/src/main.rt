@@ -3,6 +3,9 @@
 //! - `read FILE TIMES [sequences]` runs the rows of all units of a section, or cuts these units
 //!   into their sequences.
 //! - `write SEQUENCES` builds a program of so many sequences and writes it, seven times.
+//! - `build KIND VERSION COUNT` builds a program with so many files, directories or rows, and writes
+//!   it; `build traps VERSION COUNT`, `build refused_file COUNT` and `build units VERSION COUNT` are
+//!   told of in the module.
 //! - `convert FILE OFFSET TIMES` reads a unit, converts it and writes it.
 //! - `lookup FILE OFFSET WORK TIMES` does one work of a lookup on a unit, or on a section.
 //! - `index FILE WORK TIMES` does one work of an index that is bytes on a section.
@@ -13,6 +16,7 @@
 //! more times less those of fewer: the rest drops out.
 #![tactic(auto)]
 
+mod build;
 mod convert;
 mod index;
 mod lookup;
@@ -45,6 +49,12 @@ fn start(rt: &HostRuntime) -> io::Result<()> {
     }
     perform(rt, &["read", "two_units.section", "2"])?;
     perform(rt, &["write", "2"])?;
+    perform(rt, &["build", "files_in_line_str", "5", "3"])?;
+    perform(rt, &["build", "directories", "4", "3"])?;
+    perform(rt, &["build", "rows", "2", "3"])?;
+    perform(rt, &["build", "traps", "5", "3"])?;
+    perform(rt, &["build", "refused_file", "3"])?;
+    perform(rt, &["build", "units", "4", "2"])?;
     perform(rt, &["convert", "unit.section", "0", "2"])?;
     perform(rt, &["lookup", "demo.section", "0", "find", "1"])?;
     perform(rt, &["index", "demo.section", "find", "1"])
@@ -56,6 +66,10 @@ fn perform(rt: &HostRuntime, words: &[&str]) -> io::Result<()> {
         ["read", path, times] => read::run(rt, path, times, read::What::Rows),
         ["read", path, times, "sequences"] => read::run(rt, path, times, read::What::Sequences),
         ["write", sequences] => write::run(rt, sequences),
+        ["build", "traps", version, count] => build::ask_traps(rt, version, count),
+        ["build", "refused_file", count] => build::ask_refused_file(rt, count),
+        ["build", "units", version, count] => build::write_units(rt, version, count),
+        ["build", kind, version, count] => build::run(rt, kind, version, count),
         ["convert", path, offset, times] => convert::run(rt, path, offset, times),
         ["index", path, work, times] => index::run(rt, path, work, times),
         ["lookup", path, offset, work, times] => lookup::run(rt, path, offset, work, times),

@@ -1,0 +1,283 @@
+//! The cost of many files, directories or rows: `build KIND VERSION COUNT` builds a program of this
+//! version with so many of a kind, and writes it into an `EndianVec`.
+//!
+//! A kind is `rows`, or `files` or `directories`, whose names stand in the unit, or in
+//! `.debug_line_str` or `.debug_str` if `_in_line_str` or `_in_str` follows. Standard output has the
+//! length of the section and a sum of its bytes.
+
+use crate::{parse, print_sum};
+use gimli_build::{LineProgram, LineString};
+use gimli_bytes::{
+    Addends, Address, DebugLine, EndianVec, Error, LineStringTable, RelocatableVec, Result,
+    StringTable, Writer,
+};
+use gimli_core::{Encoding, Format, LineEncoding, LittleEndian};
+use linetool_commands::{begin_at, end_at, put_row};
+use std::alloc::Global;
+use std::io;
+use std::io::ErrorKind;
+
+/// What a program has many of.
+#[derive(Clone, Copy)]
+enum Kind {
+    Files,
+    Directories,
+    Rows,
+}
+
+/// Where names stand.
+#[derive(Clone, Copy)]
+enum Place {
+    Unit,
+    LineStr,
+    Str,
+}
+
+/// The names of files and directories.
+#[derive(Drop)]
+struct Names {
+    place: Place,
+    line_strings: LineStringTable,
+    strings: StringTable,
+}
+
+impl Names {
+    /// No names yet.
+    fn new(alloc: Global, place: Place) -> Names {
+        Names {
+            place,
+            line_strings: LineStringTable::default(alloc),
+            strings: StringTable::default(alloc),
+        }
+    }
+
+    /// A letter and eight digits.
+    fn name(&mut self, alloc: Global, letter: char, number: u64) -> Result<LineString> {
+        let text = format!(in alloc; "{letter}{number:08}")?;
+        if text.as_bytes().contains(&0) {
+            return Err(Error::InvalidRange);
+        }
+        Ok(match self.place {
+            Place::Unit => LineString::String(text.into_bytes()),
+            Place::LineStr => LineString::LineStringRef(self.line_strings.add(text.as_bytes())?),
+            Place::Str => LineString::StringRef(self.strings.add(text.as_bytes())?),
+        })
+    }
+}
+
+/// The kind of a word, and where its names stand.
+fn kind_of(word: &str) -> io::Result<(Kind, Place)> {
+    match word {
+        "files" => Ok((Kind::Files, Place::Unit)),
+        "files_in_line_str" => Ok((Kind::Files, Place::LineStr)),
+        "files_in_str" => Ok((Kind::Files, Place::Str)),
+        "directories" => Ok((Kind::Directories, Place::Unit)),
+        "directories_in_line_str" => Ok((Kind::Directories, Place::LineStr)),
+        "directories_in_str" => Ok((Kind::Directories, Place::Str)),
+        "rows" => Ok((Kind::Rows, Place::Unit)),
+        _ => Err(io::Error::from(ErrorKind::InvalidInput)),
+    }
+}
+
+/// Builds and writes a program, and prints what it was.
+pub fn run(rt: &HostRuntime, kind: &str, version: &str, count: &str) -> io::Result<()> {
+    let version = parse(version)? as u16;
+    let count = parse(count)?;
+    let (kind, place) = kind_of(kind)?;
+    let mut names = Names::new(rt.alloc(), place);
+    match build_and_write(rt.alloc(), kind, version, count, &mut names) {
+        Ok(section) => print_sum(rt, &section),
+        Err(_) => Err(io::Error::from(ErrorKind::InvalidData)),
+    }
+}
+
+/// Builds a program of so many rows, none of a file that it has, and prints how many traps it has.
+pub fn ask_traps(rt: &HostRuntime, version: &str, count: &str) -> io::Result<()> {
+    let version = parse(version)? as u16;
+    let count = parse(count)?;
+    match count_of_traps(rt.alloc(), version, count) {
+        Ok(traps) => println!(rt; "traps {traps}"),
+        Err(_) => Err(io::Error::from(ErrorKind::InvalidData)),
+    }
+}
+
+/// How many traps a program of so many rows has.
+fn count_of_traps(alloc: Global, version: u16, count: u64) -> Result<usize> {
+    let mut names = Names::new(alloc, Place::Unit);
+    let mut program = program_of(alloc, version, &mut names)?;
+    add_rows(&mut program, count)?;
+    if program.is_none() {
+        return Err(Error::InvalidRange);
+    }
+    Ok(program.traps().count())
+}
+
+/// Builds a program of version 5 with so many files, whose names stand in `.debug_line_str`, and
+/// prints the first one that `write` refuses.
+pub fn ask_refused_file(rt: &HostRuntime, count: &str) -> io::Result<()> {
+    let count = parse(count)?;
+    match refused_file(rt.alloc(), count) {
+        Ok(None) => println!(rt; "no file is refused"),
+        Ok(Some((index, _))) => println!(rt; "file {index} is refused"),
+        Err(_) => Err(io::Error::from(ErrorKind::InvalidData)),
+    }
+}
+
+/// The first file that is refused, of so many.
+fn refused_file(alloc: Global, count: u64) -> Result<Option<(usize, Error)>> {
+    let mut names = Names::new(alloc, Place::LineStr);
+    let mut program = program_of(alloc, 5, &mut names)?;
+    add_files(alloc, &mut program, count, &mut names)?;
+    if !program.can_write(&names.line_strings, &names.strings) {
+        return Err(Error::InvalidRange);
+    }
+    Ok(program.refused_file(&names.line_strings, &names.strings))
+}
+
+/// Writes so many units of a row, whose address is a symbol, into a `RelocatableVec`, and prints how
+/// many relocations these have.
+pub fn write_units(rt: &HostRuntime, version: &str, count: &str) -> io::Result<()> {
+    let version = parse(version)? as u16;
+    let count = parse(count)?;
+    match relocated_units(rt.alloc(), version, count) {
+        Ok(section) => {
+            let (bytes, relocations) = (section.0.slice(), section.0.relocations());
+            println!(rt; "relocations {}", relocations.len())?;
+            print_sum(rt, bytes)
+        }
+        Err(_) => Err(io::Error::from(ErrorKind::InvalidData)),
+    }
+}
+
+/// A section of so many units.
+fn relocated_units(
+    alloc: Global,
+    version: u16,
+    count: u64,
+) -> Result<DebugLine<RelocatableVec<LittleEndian>>> {
+    let mut names = Names::new(alloc, Place::Unit);
+    let mut program = program_of(alloc, version, &mut names)?;
+    let symbol = Address::Symbol {
+        symbol: 1,
+        addend: 0,
+    };
+    if program.is_none() {
+        return Err(Error::InvalidRange);
+    }
+    program.set_address(symbol)?;
+    put_row(&mut program)?;
+    end_at(&mut program, 1)?;
+    let section = RelocatableVec::new(alloc, LittleEndian, Addends::Listed);
+    let mut section = DebugLine::from(section);
+    for _ in 0..count {
+        write_into(&program, &mut names, &mut section)?;
+    }
+    Ok(section)
+}
+
+/// The section of a program with so many of a kind.
+fn build_and_write(
+    alloc: Global,
+    kind: Kind,
+    version: u16,
+    count: u64,
+    names: &mut Names,
+) -> Result<Vec<u8>> {
+    let mut program = program_of(alloc, version, names)?;
+    match kind {
+        Kind::Files => add_files(alloc, &mut program, count, names)?,
+        Kind::Directories => add_directories(alloc, &mut program, count, names)?,
+        Kind::Rows => add_rows(&mut program, count)?,
+    }
+    write(alloc, &program, names)
+}
+
+/// A program of one directory and, in version 5, one file.
+fn program_of(alloc: Global, version: u16, names: &mut Names) -> Result<LineProgram> {
+    let encoding = Encoding {
+        address_size: 8,
+        format: Format::Dwarf32,
+        version,
+    };
+    let lines = LineEncoding::default();
+    let directory = names.name(alloc, 'w', 0)?;
+    let file = names.name(alloc, 'a', 0)?;
+    if !LineProgram::accepts(encoding, lines) || !directory.has_no_zero() || !file.has_no_zero() {
+        return Err(Error::InvalidRange);
+    }
+    LineProgram::new(alloc, encoding, lines, directory, None, file, None)
+}
+
+/// Adds so many files in directory 0.
+fn add_files(
+    alloc: Global,
+    program: &mut LineProgram,
+    count: u64,
+    names: &mut Names,
+) -> Result<()> {
+    for number in 0..count {
+        let name = names.name(alloc, 'f', number)?;
+        if program.is_none() || !name.has_no_zero() || is_empty(&name) {
+            return Err(Error::InvalidRange);
+        }
+        let directory = program.default_directory();
+        program.add_file(name, directory, None)?;
+    }
+    Ok(())
+}
+
+/// Adds so many directories.
+fn add_directories(
+    alloc: Global,
+    program: &mut LineProgram,
+    count: u64,
+    names: &mut Names,
+) -> Result<()> {
+    for number in 0..count {
+        let name = names.name(alloc, 'd', number)?;
+        if program.is_none() || !name.has_no_zero() || is_empty(&name) {
+            return Err(Error::InvalidRange);
+        }
+        program.add_directory(name)?;
+    }
+    Ok(())
+}
+
+/// Whether a name that stands in the unit has no bytes.
+fn is_empty(name: &LineString) -> bool {
+    matches!(name, LineString::String(text) if text.is_empty())
+}
+
+/// Adds a sequence of so many rows, each an address and a line further on.
+fn add_rows(program: &mut LineProgram, count: u64) -> Result<()> {
+    begin_at(program, 0x1000)?;
+    for number in 0..count {
+        let row = program.row();
+        row.address_offset = number;
+        row.line = 1 + number;
+        put_row(program)?;
+    }
+    end_at(program, count)
+}
+
+/// The section of a program.
+fn write(alloc: Global, program: &LineProgram, names: &mut Names) -> Result<Vec<u8>> {
+    let mut section = DebugLine::from(EndianVec::new(alloc, LittleEndian));
+    write_into(program, names, &mut section)?;
+    Ok(section.0.into_vec())
+}
+
+/// Appends the unit of a program.
+fn write_into<W: Writer>(
+    program: &LineProgram,
+    names: &mut Names,
+    section: &mut DebugLine<W>,
+) -> Result<()> {
+    if !program.can_write(&names.line_strings, &names.strings) {
+        return Err(Error::InvalidRange);
+    }
+    let encoding = program.encoding();
+    let line_strings = &mut names.line_strings;
+    program.write(section, encoding, line_strings, &mut names.strings)?;
+    Ok(())
+}
