@@ -2,8 +2,8 @@
 //! version with so many of a kind, and writes it into an `EndianVec`.
 //!
 //! A kind is `rows`, or `files` or `directories`, whose names stand in the unit, or in
-//! `.debug_line_str` or `.debug_str` if `_in_line_str` or `_in_str` follows. Standard output has the
-//! length of the section and a sum of its bytes.
+//! `.debug_line_str` or `.debug_str` if `_in_line_str` or `_in_str` follows. Standard output has
+//! the length of the section and a sum of its bytes.
 
 use crate::{parse, print_sum};
 use gimli_build::{LineProgram, LineString};
@@ -134,8 +134,8 @@ fn refused_file(alloc: Global, count: u64) -> Result<Option<(usize, Error)>> {
     Ok(program.refused_file(&names.line_strings, &names.strings))
 }
 
-/// Writes so many units of a row, whose address is a symbol, into a `RelocatableVec`, and prints how
-/// many relocations these have.
+/// Writes so many units of a row, whose address is a symbol, into a `RelocatableVec`, and prints
+/// how many relocations these have.
 pub fn write_units(rt: &HostRuntime, version: &str, count: &str) -> io::Result<()> {
     let version = parse(version)? as u16;
     let count = parse(count)?;
