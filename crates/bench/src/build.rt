@@ -1,9 +1,14 @@
-//! The cost of many files, directories or rows: `build KIND VERSION COUNT` builds a program of this
-//! version with so many of a kind, and writes it into an `EndianVec`.
+//! The cost of many files, directories, rows or units: `build KIND VERSION COUNT` builds a program
+//! of this version with COUNT of a kind, and writes it into an `EndianVec`.
 //!
-//! A kind is `rows`, or `files` or `directories`, whose names stand in the unit, or in
-//! `.debug_line_str` or `.debug_str` if `_in_line_str` or `_in_str` follows. Standard output has
-//! the length of the section and a sum of its bytes.
+//! The kinds are `rows`, and `files` and `directories` with names in the unit. With `_in_line_str`
+//! or `_in_str` after these two, the names stand in `.debug_line_str` or `.debug_str`. Standard
+//! output has the length of the section and a sum of its bytes. Three more words do other work:
+//!
+//! - `build units VERSION COUNT` writes COUNT units of one row into a `RelocatableVec`. The address
+//!   of each is a symbol.
+//! - `build traps VERSION COUNT` builds COUNT rows and counts their traps.
+//! - `build refused_file COUNT` asks for the first refused one of COUNT files of version 5.
 
 use crate::{parse, print_sum};
 use gimli_build::{LineProgram, LineString};

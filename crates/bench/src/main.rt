@@ -3,9 +3,8 @@
 //! - `read FILE TIMES [sequences]` runs the rows of all units of a section, or cuts these units
 //!   into their sequences.
 //! - `write SEQUENCES` builds a program of so many sequences and writes it, seven times.
-//! - `build KIND VERSION COUNT` builds a program with so many files, directories or rows, and
-//!   writes it; `build traps VERSION COUNT`, `build refused_file COUNT` and
-//!   `build units VERSION COUNT` are told of in the module.
+//! - `build KIND VERSION COUNT` builds a program with COUNT files, directories or rows, and writes
+//!   it.
 //! - `convert FILE OFFSET TIMES` reads a unit, converts it and writes it.
 //! - `lookup FILE OFFSET WORK TIMES` does one work of a lookup on a unit, or on a section.
 //! - `index FILE WORK TIMES` does one work of an index that is bytes on a section.
