@@ -23,6 +23,7 @@ mod Distinct
 mod Sources
 mod TurnPlaces
 mod WalkedStarts
+mod CodeRows
 mod BegunLines
 mod BegunSteps
 mod TurnLines

@@ -10,7 +10,7 @@ use Rattle.gimli_index.specs.Contents.{Contents, Fits, HasColumn, entry_start, i
 use Rattle.gimli_index.specs.Contents.{statement_in}
 use Rattle.gimli_index.specs.Files.{File, source_file}
 use Rattle.gimli_index.specs.Found.{Given, AreContentsOf, IsAppended, IsIndexAppended, IsIndexOf, SayWhatIsFound}
-use Rattle.gimli_index.specs.Found.{IsFileOfRow, SayWhereLinesBegin, unit_path}
+use Rattle.gimli_index.specs.Found.{IsFileOfRow, SayWhereLinesBegin, code_of, unit_path}
 use Rattle.gimli_index.specs.Lines.{addresses_of}
 use Rattle.gimli_index.specs.Made.{EntriesAscend, HasOrder, IsMakeFault, SayTheSameLines}
 use Rattle.gimli_index.specs.Meaning.{Start, place_at}
@@ -151,7 +151,7 @@ module _ (given : Given) {limit : ℕ} (table : Table) (entries : List Entry) (s
         at.rows,
         contains_at at.unit.sequences at.sequence at.rows at.is_sequence,
         f.row,
-        contains_at at.rows at.index f.row at.stands,
+        contains_at (code_of at.rows) at.index f.row at.stands,
         ap (λ (n : ℕ). let x : File = record { unit = n; path = source_path table.paths.bytes s } in x)
             (of.offset ∙ ap (λ (u : KeptUnit). u.unit.offset) same)
             ∙ ap (λ (p : Result (List ℕ) NoPath). let x : File = record { unit = at.unit.unit.offset; path = p } in x)

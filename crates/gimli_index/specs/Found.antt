@@ -1,6 +1,6 @@
 -- What a lookup finds at an address, and where it says that the code of a line begins, as an index
 -- says it.
-use Rattle.std.specs.Prelude.{◌≡◌, ◌≤◌, ◌++◌, ℕ, Bool, false, List, [], length, drop, map}
+use Rattle.std.specs.Prelude.{◌≡◌, ◌≤◌, ◌++◌, ℕ, Bool, false, List, [], ◌∷◌, length, drop, map}
 use Rattle.std.specs.Prelude.{flat_map, slice_get, if◌then◌else◌, Option, None, Some, Result, Ok}
 use Rattle.std.specs.Prelude.{Err}
 use Rattle.std.specs.Prelude.{All}
@@ -163,11 +163,17 @@ SayWhereLinesBegin t units statements =
 
 -- ---- files
 
--- a file is that of a row of a unit
+-- rows without an end row at their end
+abbrev pub code_of : List LineRow → List LineRow
+code_of [] = []
+code_of (r ∷ []) = if r.end_sequence then [] else r ∷ []
+code_of (r ∷ next ∷ rows) = r ∷ code_of (next ∷ rows)
+
+-- a file is that of a row of a sequence, but of its end row
 abbrev pub IsFileOfRow : Texts → List KeptUnit → File → Type 0
 IsFileOfRow t units file =
     (u : KeptUnit) × Contains units u × (rows : List LineRow) × Contains u.sequences rows
-    × (r : LineRow) × Contains rows r
+    × (r : LineRow) × Contains (code_of rows) r
     × (file ≡ record { unit = u.unit.offset; path = unit_path t u.unit r })
 
 -- ---- the index of a lookup

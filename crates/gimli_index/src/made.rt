@@ -4,13 +4,13 @@ ghost use Rattle.std.specs.Prelude.{◌≡◌, ◌≢◌, ◌≤◌, ◌++◌, �
 ghost use Rattle.std.specs.Prelude.{flat_map, map};
 ghost use Rattle.std.specs.Prelude.{slice_get, take, All, IfErr, IfOk, IsTrue, None, OnOk};
 ghost use Rattle.gimli_core.specs.Numbers.{is_address_size};
-ghost use Rattle.gimli_index.specs.Found.{texts_of, IsAppended, IsIndexAppended};
+ghost use Rattle.gimli_index.specs.Found.{code_of, texts_of, IsAppended, IsIndexAppended};
 ghost use Rattle.gimli_index.specs.Meaning.{Start};
 ghost use Rattle.gimli_index.specs.Refused.{IsIndexFault};
 ghost use Rattle.gimli_index.specs.declared.error.MakeError.TheVariants.{OutOfMemory};
 ghost use Rattle.gimli_index.specs.inside.Table.{AreSources, Entered, IsPushed, IsTableFault};
 ghost use Rattle.gimli_index.specs.inside.Table.{SayTheSame};
-ghost use Rattle.gimli_index.specs.inside.Turns.{code_of, end_after, row_start, rows_of_turns};
+ghost use Rattle.gimli_index.specs.inside.Turns.{end_after, row_start, rows_of_turns};
 ghost use Rattle.gimli_index.specs.inside.Turns.{starts_of_turn, turn_rows, IsTurn, Walked};
 ghost use Rattle.gimli_lookup.specs.Probes.{never_go_below, never_go_down};
 ghost use Rattle.gimli_lookup.specs.Section.{KeptUnit};
