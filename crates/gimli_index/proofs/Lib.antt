@@ -28,5 +28,6 @@ mod BegunLines
 mod BegunSteps
 mod TurnLines
 mod TurnSteps
+mod KeptSources
 mod KeptStatements
 mod AddressEnds

@@ -14,6 +14,7 @@ use Rattle.gimli_index.specs.Lines.{addresses_of, is_named}
 use Rattle.gimli_index.specs.Made.{EntriesAscend, HasOrder}
 use Rattle.gimli_index.specs.Meaning.{Place, Start, Statement, AreAscending, place_at, starts_of}
 use Rattle.gimli_index.specs.Meaning.{statements_of}
+use Rattle.gimli_index.specs.Named.{AreNamed, HasNamed}
 use Rattle.gimli_index.specs.Order.{IsOrdered}
 use Rattle.gimli_index.specs.Parts.{Index, index_at}
 use Rattle.gimli_index.specs.Short.{HasPathsOnce, IsShort}
@@ -186,7 +187,7 @@ pub record Given : Type 0 where
   pub name : List ℕ
 
 -- contents that say of each address what is found there, and nothing twice, and of each line where
--- its code begins, with no other sources than files of rows
+-- its code begins; their sources are files of rows, and an entry or a statement names each
 pub record AreContentsOf (given : Given) (c : Contents) : Type 0 where
   pub fits : Fits c
   pub ascending : EntriesAscend c.entries
@@ -194,6 +195,7 @@ pub record AreContentsOf (given : Given) (c : Contents) : Type 0 where
   pub says : SayWhatIsFound given.texts given.units (map (entry_start c) c.entries)
   pub lines : SayWhereLinesBegin given.texts given.units (map (statement_in c) c.statements)
   pub files : All (IsFileOfRow given.texts given.units) (map (source_file c) c.sources)
+  pub named : HasNamed c
   pub short : IsShort (map (entry_start c) c.entries)
   pub paths_once : HasPathsOnce c
   pub address_size : c.address_size ≡ given.size
@@ -207,7 +209,8 @@ pub record IsAppended (given : Given) (limit : ℕ) (old new : List ℕ) : Type 
   pub are : AreContentsOf given contents
 
 -- bytes begin with an index that says of each address what is found there, and nothing twice, and
--- of each line where its code begins, with no other sources than files of rows
+-- of each line where its code begins; its sources are files of rows, and an entry or a statement
+-- names each
 pub record IsIndexOf (given : Given) (bytes : List ℕ) : Type 0 where
   pub index : Index
   pub is_read : index_at bytes ≡ Ok index
@@ -216,6 +219,7 @@ pub record IsIndexOf (given : Given) (bytes : List ℕ) : Type 0 where
   pub says : SayWhatIsFound given.texts given.units (starts_of index)
   pub lines : SayWhereLinesBegin given.texts given.units (statements_of index)
   pub files : All (IsFileOfRow given.texts given.units) (files_of index)
+  pub named : AreNamed index
   pub short : IsShort (starts_of index)
   pub address_size : index.address_size ≡ given.size
   pub identity : index.identity ≡ given.name

@@ -310,7 +310,7 @@ fn write_entries<R: Reader>(
         paths: table.paths(),
         identity,
     }
-    .write(origin.alloc, out)
+    .write_named(origin.alloc, out)
 }
 
 /// Appends the bytes of the index of a lookup: what [`SectionLookup::find`] says of each address,
@@ -319,7 +319,8 @@ fn write_entries<R: Reader>(
 /// index is made of: a build id or a checksum.
 ///
 /// [`LineIndex::addresses_of`](crate::LineIndex::addresses_of) gives the addresses of a line that
-/// the lookup gives, whichever of its sequences overlap. The sources are files of rows.
+/// the lookup gives, whichever of its sequences overlap. The sources are those that an entry or a
+/// statement names, each the file of a row of code.
 ///
 /// Adjacent starts of one place are one. A path that can't be told is a source with the number of
 /// its reason (`docs/INDEX.md`, "Sources"). Refuses lines, columns, and more entries, statements,

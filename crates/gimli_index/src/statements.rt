@@ -211,6 +211,7 @@ pub(crate) fn statements_of<R: Reader>(
         (texts_of R.bytes origin.now.strings.now origin.now.compilations.now)
         origin.now.lookup.now origin.now.limit table.new) }
     ensures keeps { OnOk result (Keeps table.old table.new) }
+    ensures inside { IfOk result (λ statements. AreInside table.new statements.items) }
     ensures said { IfOk result (λ statements. statements_in table.new statements.items
         ≡ begun_in_units (texts_of R.bytes origin.now.strings.now origin.now.compilations.now)
         origin.now.lookup.now) }
