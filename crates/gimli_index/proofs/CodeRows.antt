@@ -1,6 +1,6 @@
 -- The rows of a sequence without its end row.
 use Rattle.std.proofs.Common.{◌≡◌, ◌∙◌, ℕ, zero, suc, ◌+◌, ◌<◌, Bool, false, List, [], ◌∷◌, Some, take}
-use Rattle.std.proofs.Common.{ap, arith, if◌then◌else◌, subst, sym}
+use Rattle.std.proofs.Common.{ap, arith, if◌then◌else◌, subst}
 use Rattle.std.specs.Prelude.{slice_get}
 use Rattle.std.proofs.lemmas.Option.{same_Some}
 use Rattle.gimli_line.specs.declared.run.row.LineRow.{LineRow}

@@ -1,7 +1,8 @@
 -- The sources that are kept, and what entries and statements say by their new numbers.
 use Rattle.std.proofs.Common.{◌≡◌, ◌⊎◌, ◌∙◌, ℕ, zero, suc, ◌+◌, ◌<◌, ◌≤◌, ◌^◌, Bool, true, false, ◌||◌, List, []}
-use Rattle.std.proofs.Common.{◌∷◌, ◌++◌, length, map, drop, replicate, Option, None, Some, Result, Ok, Err, refl, sym, ap}
-use Rattle.std.proofs.Common.{subst, arith, inl, inr, if◌then◌else◌, append_assoc, nat_eq}
+use Rattle.std.proofs.Common.{◌∷◌, ◌++◌, length, map, drop, replicate, Option, None, Some, Result, Ok, Err, refl, sym}
+use Rattle.std.proofs.Common.{ap}
+use Rattle.std.proofs.Common.{subst, arith, inl, inr, if◌then◌else◌, append_assoc}
 use Rattle.std.specs.Prelude.{◌==◌, All, IfSome, OnOk, slice_get, slice_index_or}
 use Rattle.std.specs.List.{list_any, Contains}
 use Rattle.std.specs.Option.{option_map, option_map_or, option_and_then}
@@ -10,20 +11,20 @@ use Rattle.std.proofs.lemmas.List.{drop_more, length-map, length-replicate, get_
 use Rattle.std.proofs.lemmas.List.Folds.{list_any_at}
 use Rattle.std.proofs.lemmas.Option.{get_or_from_slice_get, same_Some, slice_get_within, slice_get-map}
 use Rattle.gimli_lookup.specs.RowFiles.{AreMarked}
-use Rattle.gimli_index.specs.Contents.{Contents, HasColumn, entry_start, index_bytes, line_in, source_path, statement_in}
+use Rattle.gimli_index.specs.Contents.{HasColumn, entry_start, index_bytes, line_in, source_path}
+use Rattle.gimli_index.specs.Contents.{statement_in}
 use Rattle.gimli_index.specs.Contents.{Fits, FitsCounts}
 use Rattle.gimli_index.specs.Lines.{addresses_of}
 use Rattle.gimli_index.specs.Made.{EntriesAscend, HasOrder, SayTheSameLines, contents_of}
 use Rattle.gimli_index.specs.Meaning.{Place, Start}
 use Rattle.gimli_index.specs.Meaning.{Statement as StatementMeaning}
-use Rattle.gimli_index.specs.Named.{HasNamed, IsNamedBy, number_in}
+use Rattle.gimli_index.specs.Named.{IsNamedBy, number_in}
 use Rattle.gimli_index.specs.Order.{AreOrdered}
 use Rattle.gimli_index.specs.declared.contents.Contents.{Contents as Made}
 use Rattle.gimli_index.specs.declared.contents.Entry.{Entry}
 use Rattle.gimli_index.specs.declared.contents.Source.{Source}
 use Rattle.gimli_index.specs.declared.contents.SourceLine.{SourceLine}
 use Rattle.gimli_index.specs.declared.contents.Statement.{Statement}
-use Rattle.gimli_index.specs.declared.place.NoPath.{NoPath}
 use Rattle.gimli_index.specs.declared.place.NoPath.TheVariants.{Outside}
 use Rattle.gimli_index.specs.inside.Kept.{are_named, entries_name, entry_by, kept, line_by, number_by, numbers_from}
 use Rattle.gimli_index.specs.inside.Kept.{statement_by, statements_name, IsKeptWritten, IsNamedWritten}
@@ -394,7 +395,8 @@ module _ (c : Made) (statements : List Statement) (named : List Bool) (old new :
     names j within =
         let of = kept_of named c.sources.now 0 j within in
         let there : of.0 < count = omega (arith, slice_get_within named of.0 true of.1, marks) in
-        renamed of.0 j there (of.2 ∙ ap (λ (n : ℕ). Some n) (from_none j)) (named_if c.entries.now statements count named marked of.0 there of.1)
+        renamed of.0 j there (of.2 ∙ ap (λ (n : ℕ). Some n) (from_none j))
+        (named_if c.entries.now statements count named marked of.0 there of.1)
 
     pub some_written : IsNamedWritten c old new
     some_written = record {

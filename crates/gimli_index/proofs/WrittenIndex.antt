@@ -257,7 +257,8 @@ pub named_contents : (given : Given) {limit : ℕ} (table : Table) (entries : Li
     → parts.address_size ≡ given.size → parts.identity.now ≡ given.name
     → IsNamedWritten parts old new
     → IsAppended given limit old new
-named_contents given table entries statements parts old new h said sources entries_are statements_are paths size name w =
+named_contents given table entries statements parts old new h said sources entries_are statements_are paths size name
+    w =
     let c = contents_of parts [] in
     record {
       contents = w.contents;

@@ -1,4 +1,4 @@
-use Rattle.std.proofs.Common.{◌≡◌, ◌∙◌, ◌<◌, ℕ, List, [], None, Some, refl, sym, subst, ap, length}
+use Rattle.std.proofs.Common.{◌∙◌, ◌<◌, List, None, refl, sym, subst, ap, length}
 use Rattle.std.specs.Prelude.{IfSome, slice_get}
 use Rattle.gimli_index.specs.Found.{Given, texts_of, IsAppended}
 use Rattle.gimli_index.specs.Made.{IsMakeFault, contents_of}
@@ -8,8 +8,6 @@ use Rattle.gimli_index.specs.declared.contents.Entry.{Entry}
 use Rattle.gimli_index.specs.declared.contents.Source.{Source}
 use Rattle.gimli_index.specs.declared.contents.Statement.{Statement}
 use Rattle.gimli_index.specs.inside.Kept.{IsNamedWritten}
-use Rattle.gimli_index.specs.inside.Table.{IsInside}
-use Rattle.gimli_index.specs.inside.Begun.{AreInside}
 use Rattle.gimli_index.proofs.Entered.{still_entered}
 use Rattle.gimli_index.proofs.WrittenIndex.{contents_fault, named_contents, on_fault, with_ok}
 use Rattle.gimli_index.proofs.made.write_entries.Goals as goal

@@ -1,4 +1,4 @@
-use Rattle.std.proofs.Common.{◌≡◌, ◌∙◌, ◌<◌, ◌≤◌, ◌+◌, ◌++◌, [], false, Bool, List, length, drop, ap, sym, arith}
+use Rattle.std.proofs.Common.{◌∙◌, ◌<◌, ◌≤◌, ◌+◌, ◌++◌, false, Bool, List, length, drop, ap, sym, arith}
 use Rattle.std.proofs.lemmas.List.{drop_all}
 use Rattle.gimli_index.specs.declared.contents.Source.{Source}
 use Rattle.gimli_index.specs.inside.Kept.{kept}

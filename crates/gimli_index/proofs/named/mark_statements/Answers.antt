@@ -1,4 +1,4 @@
-use Rattle.std.proofs.Common.{◌<◌, ◌+◌, ◌||◌, get_or, length, take, sym, arith}
+use Rattle.std.proofs.Common.{◌<◌, ◌+◌, get_or, length, take, sym, arith}
 use Rattle.std.specs.Prelude.{◌==◌}
 use Rattle.std.proofs.lemmas.List.Folds.{list_any_more}
 use Rattle.gimli_lookup.proofs.FileMarks.{none_marked, marked_too}

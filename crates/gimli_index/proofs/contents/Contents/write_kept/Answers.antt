@@ -4,8 +4,7 @@ use Rattle.gimli_index.specs.Contents.{Fits, HasColumn, index_bytes}
 use Rattle.gimli_index.specs.Made.{contents_of}
 use Rattle.gimli_index.specs.declared.contents.Contents.{Contents as Parts}
 use Rattle.gimli_index.specs.declared.contents.Entry.{Entry}
-use Rattle.gimli_index.specs.declared.contents.Statement.{Statement}
-use Rattle.gimli_index.specs.inside.Kept.{entry_by, kept, numbers_from, statement_by, IsKeptWritten}
+use Rattle.gimli_index.specs.inside.Kept.{entry_by, numbers_from, statement_by, IsKeptWritten}
 use Rattle.gimli_index.proofs.KeptSources.{both_ok, still_columns, still_few}
 use Rattle.gimli_index.proofs.contents.Contents.write_kept.Goals as goal
 
