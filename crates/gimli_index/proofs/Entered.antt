@@ -23,6 +23,7 @@ use Rattle.gimli_index.specs.declared.contents.SourceLine.{SourceLine}
 use Rattle.gimli_index.specs.Short.{IsShort}
 use Rattle.gimli_index.specs.inside.Table.{Table, AreSources, Entered, IsInside, IsPushed, Keeps, SayTheSame, last_said}
 use Rattle.gimli_index.specs.inside.Table.{place_in, starts_in, with_table}
+use Rattle.gimli_index.proofs.CodeRows.{code_before}
 use Rattle.gimli_index.proofs.OneFound.{one_found}
 use Rattle.gimli_index.proofs.Lists.{get_pushed, get_seam}
 use Rattle.gimli_index.proofs.Sources.{inside_stays, place_stays, same_places, say_the_same}
@@ -279,7 +280,8 @@ rows_found units range above found =
       is_sequence = ap (λ (ss : List (List LineRow)). slice_get ss (length first.is_first.earlier)) first.is_first.parts
           ∙ get_seam first.is_first.earlier first.is_first.rows first.is_first.later;
       index = first.is_first.is_first.index;
-      stands = first.is_first.is_first.is_pair.first;
+      stands = code_before first.is_first.rows first.is_first.is_first.index f.row f.next
+          first.is_first.is_first.is_pair.first first.is_first.is_first.is_pair.second;
     }
 
 pub unit_within : (units : List KeptUnit) (range : CoveredRange) → IfSome range.end (λ e. range.start < e)

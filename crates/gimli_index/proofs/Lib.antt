@@ -23,9 +23,11 @@ mod Distinct
 mod Sources
 mod TurnPlaces
 mod WalkedStarts
+mod CodeRows
 mod BegunLines
 mod BegunSteps
 mod TurnLines
 mod TurnSteps
+mod KeptSources
 mod KeptStatements
 mod AddressEnds

@@ -8,7 +8,7 @@ use Rattle.std.specs.Prelude.{All, flat_map, slice_range}
 use Rattle.std.specs.Option.{option_map, option_map_or, option_and_then}
 use Rattle.std.proofs.lemmas.Bool.{le-leb, lt-leb}
 use Rattle.std.proofs.lemmas.Bool.Decides.{nat_tests}
-use Rattle.std.proofs.lemmas.Option.{slice_get_cases}
+use Rattle.std.proofs.lemmas.Option.{slice_get_cases, slice_get_within}
 use Rattle.std.proofs.lemmas.List.Elements.{All-get_or}
 use Rattle.gimli_core.specs.Numbers.{is_address_size, le_value}
 use Rattle.gimli_index.specs.Numbers.{number_at}
@@ -23,7 +23,7 @@ use Rattle.gimli_index.specs.declared.place.NoPath.{NoPath}
 use Rattle.gimli_index.specs.declared.place.NoPath.TheVariants.{Outside, Reason}
 use Rattle.gimli_index.specs.Files.{File, file_at, files_of, source_file}
 use Rattle.gimli_index.specs.Meaning.{column_in, ends_prologue_in, is_statement_in, source_at, source_path_at}
-use Rattle.gimli_index.specs.Meaning.{statement_at, statements_of}
+use Rattle.gimli_index.specs.Meaning.{statement_at, statement_from, statements_of}
 use Rattle.gimli_index.specs.Meaning.{Statement as StatementMeaning}
 use Rattle.gimli_index.specs.Meaning.{AreAscending, Place, Start, path_in, entry_place, place_from, start_at}
 use Rattle.gimli_index.specs.Meaning.{start_number, starts_of, path_of}
@@ -33,6 +33,7 @@ use Rattle.gimli_index.specs.Contents.{statement_in, FitsStatement}
 use Rattle.gimli_index.specs.Contents.{column_word, start_bytes, line_bytes, place_bytes, entry_bytes, index_bytes}
 use Rattle.gimli_index.specs.Contents.{le_bytes}
 use Rattle.gimli_index.specs.Made.{EntriesAscend, HasOrder, SaysWhat}
+use Rattle.gimli_index.specs.Named.{AreNamed, HasNamed, number_in}
 use Rattle.gimli_index.specs.Order.{last_number, name_at, name_number, path_number, AreOrdered, IsOrdered}
 use Rattle.gimli_index.specs.declared.contents.Entry.{Entry}
 use Rattle.gimli_index.specs.declared.contents.Source.{Source}
@@ -691,6 +692,39 @@ ordered_as c fits order = record {
   statements = subst AreOrdered (sym (statements_are c fits)) order;
 }
 
+-- ---- the sources that are named
+
+entry_number_read : (place : Option SourceLine) (rest : List ℕ) → FitsPlace place
+    → number_at 4 0 (place_bytes place ++ rest) ≡ number_in place
+entry_number_read None rest fits = number_read 4 0xffff_ffff (omega arith)
+entry_number_read (Some l) rest fits = number_read 4 l.source (omega (arith, fits.0))
+
+entry_names : (c : Contents) → Fits c → (i : ℕ) (e : Entry) → slice_get c.entries i ≡ Some e
+    → number_at 4 0 (drop (12 * i) (entries_part c)) ≡ number_in e.place
+entry_names c fits i e there =
+    let own = at_index (λ (x : Entry). FitsPlace x.place) c.entries i e there fits.places in
+    let here = element_at entry_bytes 12 entry_length c.entries i e there in
+    ap (number_at 4 0) here.1 ∙ entry_number_read e.place here.0 own
+
+statement_names : (c : Contents) → Fits c → (i : ℕ) (s : Statement) → slice_get c.statements i ≡ Some s
+    → number_at 4 0 (statement_from (index_of_contents c) i) ≡ s.source
+statement_names c fits i s there =
+    let size = c.start_size in
+    let own = at_index (FitsStatement size c.base) c.statements i s there fits.statements in
+    let here =
+    element_at (statement_bytes size c.base) (statement_size size) (statement_length size c.base) c.statements i s
+    there in
+    ap (number_at 4 0) here.1
+    ∙ source_number_read size c.base s here.0 (omega (arith, source_fits size c.base s own))
+
+named_as : (c : Contents) → Fits c → HasNamed c → AreNamed (index_of_contents c)
+named_as c fits named k within = elim (named k within) [
+  | inl by ↦
+      inl (by.0, slice_get_within c.entries by.0 by.1 by.2, entry_names c fits by.0 by.1 by.2 ∙ by.3)
+  | inr by ↦
+      inr (by.0, slice_get_within c.statements by.0 by.1 by.2, statement_names c fits by.0 by.1 by.2 ∙ by.3)
+]
+
 pub read_back : (c : Contents) (rest : List ℕ) → Fits c → SaysWhat c (index_at (index_bytes c ++ rest))
 read_back c rest fits = record {
   index = index_of_contents c;
@@ -698,6 +732,7 @@ read_back c rest fits = record {
   starts = starts_are c fits;
   statements = statements_are c fits;
   files = files_are c fits;
+  named = named_as c fits;
   ascending =
       λ ascend. subst (λ (starts : List Start). AreAscending starts) (sym (starts_are c fits)) (starts_ascend c ascend);
   ordered = ordered_as c fits;

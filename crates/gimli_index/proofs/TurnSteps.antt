@@ -14,13 +14,13 @@ use Rattle.gimli_lookup.specs.Probes.{never_go_below, never_go_down}
 use Rattle.gimli_lookup.specs.Section.{KeptUnit, ListedUnit}
 use Rattle.gimli_lookup.specs.SequenceRows.{rows_of}
 use Rattle.gimli_index.specs.Contents.{HasColumn, entry_start}
-use Rattle.gimli_index.specs.Found.{Texts, found_place, row_place}
+use Rattle.gimli_index.specs.Found.{Texts, code_of, found_place, row_place}
 use Rattle.gimli_index.specs.Meaning.{Place, Start}
 use Rattle.gimli_index.specs.declared.contents.Entry.{Entry}
 use Rattle.gimli_index.specs.declared.contents.SourceLine.{SourceLine}
 use Rattle.gimli_index.specs.declared.turns.Turn.{Turn}
 use Rattle.gimli_index.specs.inside.Table.{Table, AreSources, IsInside, IsPushed, Keeps, place_in, with_table}
-use Rattle.gimli_index.specs.inside.Turns.{IsTurn, UnitRows, Walked, code_of, end_after, end_start, key_of, row_start}
+use Rattle.gimli_index.specs.inside.Turns.{IsTurn, UnitRows, Walked, end_after, end_start, key_of, row_start}
 use Rattle.gimli_index.specs.inside.Turns.{rows_in, rows_of_turns, rows_of_units}
 use Rattle.gimli_index.specs.inside.Turns.{starts_of_rows, starts_of_turn, turn_rows}
 use Rattle.gimli_index.proofs.Lists.{get_inside}

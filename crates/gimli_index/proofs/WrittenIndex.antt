@@ -10,13 +10,15 @@ use Rattle.gimli_index.specs.Contents.{Contents, Fits, HasColumn, entry_start, i
 use Rattle.gimli_index.specs.Contents.{statement_in}
 use Rattle.gimli_index.specs.Files.{File, source_file}
 use Rattle.gimli_index.specs.Found.{Given, AreContentsOf, IsAppended, IsIndexAppended, IsIndexOf, SayWhatIsFound}
-use Rattle.gimli_index.specs.Found.{IsFileOfRow, SayWhereLinesBegin, unit_path}
+use Rattle.gimli_index.specs.Found.{IsFileOfRow, SayWhereLinesBegin, code_of, unit_path}
 use Rattle.gimli_index.specs.Lines.{addresses_of}
-use Rattle.gimli_index.specs.Made.{EntriesAscend, HasOrder, IsMakeFault, SayTheSameLines}
+use Rattle.gimli_index.specs.Made.{EntriesAscend, HasOrder, IsMakeFault, contents_of}
 use Rattle.gimli_index.specs.Meaning.{Start, place_at}
 use Rattle.gimli_index.specs.Meaning.{Statement as StatementMeaning}
+use Rattle.gimli_index.specs.Named.{HasNamed}
 use Rattle.gimli_index.specs.Refused.{IsFoundFile, IsIndexFault}
 use Rattle.gimli_index.specs.Short.{HasPathsOnce, IsShort}
+use Rattle.gimli_index.specs.declared.contents.Contents.{Contents as Parts}
 use Rattle.gimli_index.specs.declared.contents.Entry.{Entry}
 use Rattle.gimli_index.specs.declared.contents.Source.{Source}
 use Rattle.gimli_index.specs.declared.contents.SourceLine.{SourceLine}
@@ -30,6 +32,7 @@ use Rattle.gimli_index.specs.declared.place.NoPath.{NoPath}
 use Rattle.gimli_index.specs.declared.place.NoPath.TheVariants.{Outside}
 use Rattle.gimli_index.specs.declared.source_keys.SourceKey.{SourceKey}
 use Rattle.gimli_index.specs.inside.Begun.{begun_in_units, statements_in}
+use Rattle.gimli_index.specs.inside.Kept.{IsNamedWritten}
 use Rattle.gimli_index.specs.inside.Table.{Entered, Table, starts_in, with_table}
 use Rattle.gimli_index.proofs.BegunLines.{few_begun, say_where_lines_begin}
 use Rattle.gimli_lookup.specs.Section.{KeptUnit}
@@ -57,6 +60,7 @@ index_of given c rest are =
       says = λ a found is. ap (place_at a) read.starts ∙ are.says a found is;
       lines = subst (SayWhereLinesBegin given.texts given.units) (sym read.statements) are.lines;
       files = subst (All (IsFileOfRow given.texts given.units)) (sym read.files) are.files;
+      named = read.named are.named;
       short = subst IsShort (sym read.starts) are.short;
       address_size = read.address_size ∙ are.address_size;
       identity = read.identity ∙ are.identity;
@@ -123,22 +127,13 @@ module _ (given : Given) {limit : ℕ} (table : Table) (entries : List Entry) (s
       ∙ ap (λ (ps : List ℕ). map (statement_by table.sources ps) statements) paths
       ∙ said
 
-  say_lines : SayTheSameLines c statements c.statements
-      → SayWhereLinesBegin given.texts given.units (map (statement_in c) c.statements)
-  say_lines same path line =
-      sym (same path line)
-      ∙ ap (λ (ss : List StatementMeaning). addresses_of path ss line) same_meanings
-      ∙ say_where_lines_begin given.texts given.units path line
-
   abbrev file_by : List ℕ → Source → File
   file_by ps s = record { unit = s.unit; path = source_path ps s }
 
-  files_are : All (IsFileOfRow given.texts given.units) (map (source_file c) c.sources)
-  files_are =
-      subst (All (IsFileOfRow given.texts given.units))
-      (ap (λ (ps : List ℕ). map (file_by ps) table.sources) (sym paths)
-      ∙ ap (λ (ss : List Source). map (file_by c.paths) ss) (sym sources))
-      (all_made (IsFileOfRow given.texts given.units) (file_by table.paths.bytes) table.sources (λ k s there.
+  -- each source of the table is a file of a row
+  file_of : (k : ℕ) (s : Source) → slice_get table.sources k ≡ Some s
+      → IsFileOfRow given.texts given.units (file_by table.paths.bytes s)
+  file_of k s there =
       let key = get_inside table.keys k (omega (arith, slice_get_within table.sources k s there, h.are.count)) in
       let of = h.are.each k key.0 s key.1 there in
       let found = each_key k key.0 key.1 in
@@ -151,50 +146,75 @@ module _ (given : Given) {limit : ℕ} (table : Table) (entries : List Entry) (s
         at.rows,
         contains_at at.unit.sequences at.sequence at.rows at.is_sequence,
         f.row,
-        contains_at at.rows at.index f.row at.stands,
+        contains_at (code_of at.rows) at.index f.row at.stands,
         ap (λ (n : ℕ). let x : File = record { unit = n; path = source_path table.paths.bytes s } in x)
             (of.offset ∙ ap (λ (u : KeptUnit). u.unit.offset) same)
             ∙ ap (λ (p : Result (List ℕ) NoPath). let x : File = record { unit = at.unit.unit.offset; path = p } in x)
             (of.path f.row found.3 ∙ ap (λ (u : KeptUnit). unit_path given.texts u.unit f.row) same),
-      )))
+      )
     where
       each_key : (k : ℕ) (key : SourceKey) → slice_get table.keys k ≡ Some key → IsFoundFile given.units key
       each_key k key there =
           subst (IsFoundFile given.units) (get_or_from_slice_get table.keys k key key there)
           (h.are.files k key (slice_get_within table.keys k key there))
 
+  -- where a source of the contents stands in the table
+  from_table : (s : Source) → ((k : ℕ) × (slice_get c.sources k ≡ Some s))
+      → (k : ℕ) × (slice_get table.sources k ≡ Some s)
+  from_table s known = (known.0, ap (λ (ss : List Source). slice_get ss known.0) (sym sources) ∙ known.1)
+
   short : IsShort (map (entry_start c) c.entries)
   short = subst IsShort (sym same_starts) h.short
 
-  paths_once : HasPathsOnce c
-  paths_once = record {
-    paths = table.paths.known;
-    bytes = paths ∙ h.are.paths.bytes;
-    distinct = h.are.paths.distinct;
-    spans = λ k s there zero_is.
-        let at : slice_get table.sources k ≡ Some s = ap (λ (ss : List Source). slice_get ss k) (sym sources) ∙ there in
-        let key = get_inside table.keys k (omega (arith, slice_get_within table.sources k s at, h.are.count)) in
-        (h.are.each k key.0 s key.1 at).span zero_is;
-  }
+  module _ (d : Contents)
+      (kept : (j : ℕ) (s : Source) → slice_get d.sources j ≡ Some s → (k : ℕ) × (slice_get c.sources k ≡ Some s))
+      (same_paths : d.paths ≡ c.paths) where
+    own_files : All (IsFileOfRow given.texts given.units) (map (source_file d) d.sources)
+    own_files =
+        subst (λ (ps : List ℕ). All (IsFileOfRow given.texts given.units) (map (file_by ps) d.sources))
+        (sym (same_paths ∙ paths))
+        (all_made (IsFileOfRow given.texts given.units) (file_by table.paths.bytes) d.sources (λ j s there.
+        let at = from_table s (kept j s there) in
+        file_of at.0 s at.1))
 
-  pub contents_are : Fits c → HasOrder c → SayTheSameLines c statements c.statements → c.address_size ≡ given.size
-      → c.identity ≡ given.name
-      → AreContentsOf given c
-  contents_are fits ordered same size name = record {
-    fits = fits;
-    ascending = ascends;
-    ordered = ordered;
-    says = says;
-    lines = say_lines same;
-    files = files_are;
-    short = short;
-    paths_once = paths_once;
-    address_size = size;
-    identity = name;
-  }
+    own_paths : HasPathsOnce d
+    own_paths = record {
+      paths = table.paths.known;
+      bytes = same_paths ∙ paths ∙ h.are.paths.bytes;
+      distinct = h.are.paths.distinct;
+      spans = λ j s there zero_is.
+          let at = from_table s (kept j s there) in
+          let key =
+          get_inside table.keys at.0 (omega (arith, slice_get_within table.sources at.0 s at.1, h.are.count)) in
+          (h.are.each at.0 key.0 s key.1 at.1).span zero_is;
+    }
 
-  pub within : length c.paths ≤ limit
-  within = omega (arith, ap (λ (ps : List ℕ). length ps) paths, h.are.paths.within)
+    pub within : length d.paths ≤ limit
+    within = omega (arith, ap (λ (ps : List ℕ). length ps) (same_paths ∙ paths), h.are.paths.within)
+
+    pub contents_are : Fits d → EntriesAscend d.entries → HasOrder d → HasNamed d
+        → map (entry_start d) d.entries ≡ map (entry_start c) c.entries
+        → ((path : List ℕ) (line : ℕ) → addresses_of path (map (statement_in d) d.statements) line
+        ≡ addresses_of path (map (statement_in c) statements) line)
+        → d.address_size ≡ given.size
+        → d.identity ≡ given.name
+        → AreContentsOf given d
+    contents_are fits ascending ordered named starts lines size name = record {
+      fits = fits;
+      ascending = ascending;
+      ordered = ordered;
+      says = λ a found is. ap (place_at a) starts ∙ says a found is;
+      lines = λ path line.
+          lines path line
+          ∙ ap (λ (ms : List StatementMeaning). addresses_of path ms line) same_meanings
+          ∙ say_where_lines_begin given.texts given.units path line;
+      files = own_files;
+      named = named;
+      short = subst IsShort (sym starts) short;
+      paths_once = own_paths;
+      address_size = size;
+      identity = name;
+    }
 
   -- why the contents aren't written
   pub contents_fault : (e : MakeError) → c.statements ≡ statements → c.identity ≡ given.name → IsMakeFault c e
@@ -226,6 +246,33 @@ module _ (given : Given) {limit : ℕ} (table : Table) (entries : List Entry) (s
       absurd
       (fault (subst (λ (es : List Entry). All (λ (e : Entry). HasColumn e.place) es) (sym entries_are) h.columns))
   contents_fault OutOfMemory all name fault = tt
+
+-- the contents that were written are those of the lookup
+pub named_contents : (given : Given) {limit : ℕ} (table : Table) (entries : List Entry) (statements : List Statement)
+    (parts : Parts) (old new : List ℕ)
+    → Entered given.texts given.units limit table entries None
+    → statements_in table statements ≡ begun_in_units given.texts given.units
+    → parts.sources.now ≡ table.sources → parts.entries.now ≡ entries → parts.statements.now ≡ statements
+    → parts.paths.now ≡ table.paths.bytes
+    → parts.address_size ≡ given.size → parts.identity.now ≡ given.name
+    → IsNamedWritten parts old new
+    → IsAppended given limit old new
+named_contents given table entries statements parts old new h said sources entries_are statements_are paths size name
+    w =
+    let c = contents_of parts [] in
+    record {
+      contents = w.contents;
+      within =
+          within given table entries statements c h said sources entries_are paths w.contents w.sources w.paths;
+      bytes = w.bytes;
+      are =
+          contents_are given table entries statements c h said sources entries_are paths w.contents w.sources w.paths
+          w.fits w.ascending w.ordered w.named w.starts
+          (λ path line.
+          w.lines path line
+          ∙ ap (λ (ss : List Statement). addresses_of path (map (statement_in c) ss) line) statements_are)
+          (w.address_size ∙ size) (w.identity ∙ name);
+    }
 
 pub on_fault : {T : Type 0} (r : Result T MakeError) (P Q : MakeError → Type 0) → ((e : MakeError) → P e → Q e)
     → IfErr r P → IfErr r Q

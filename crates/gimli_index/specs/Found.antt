@@ -1,6 +1,6 @@
 -- What a lookup finds at an address, and where it says that the code of a line begins, as an index
 -- says it.
-use Rattle.std.specs.Prelude.{◌≡◌, ◌≤◌, ◌++◌, ℕ, Bool, false, List, [], length, drop, map}
+use Rattle.std.specs.Prelude.{◌≡◌, ◌≤◌, ◌++◌, ℕ, Bool, false, List, [], ◌∷◌, length, drop, map}
 use Rattle.std.specs.Prelude.{flat_map, slice_get, if◌then◌else◌, Option, None, Some, Result, Ok}
 use Rattle.std.specs.Prelude.{Err}
 use Rattle.std.specs.Prelude.{All}
@@ -14,6 +14,7 @@ use Rattle.gimli_index.specs.Lines.{addresses_of, is_named}
 use Rattle.gimli_index.specs.Made.{EntriesAscend, HasOrder}
 use Rattle.gimli_index.specs.Meaning.{Place, Start, Statement, AreAscending, place_at, starts_of}
 use Rattle.gimli_index.specs.Meaning.{statements_of}
+use Rattle.gimli_index.specs.Named.{AreNamed, HasNamed}
 use Rattle.gimli_index.specs.Order.{IsOrdered}
 use Rattle.gimli_index.specs.Parts.{Index, index_at}
 use Rattle.gimli_index.specs.Short.{HasPathsOnce, IsShort}
@@ -163,11 +164,17 @@ SayWhereLinesBegin t units statements =
 
 -- ---- files
 
--- a file is that of a row of a unit
+-- rows without an end row at their end
+abbrev pub code_of : List LineRow → List LineRow
+code_of [] = []
+code_of (r ∷ []) = if r.end_sequence then [] else r ∷ []
+code_of (r ∷ next ∷ rows) = r ∷ code_of (next ∷ rows)
+
+-- a file is that of a row of a sequence, but of its end row
 abbrev pub IsFileOfRow : Texts → List KeptUnit → File → Type 0
 IsFileOfRow t units file =
     (u : KeptUnit) × Contains units u × (rows : List LineRow) × Contains u.sequences rows
-    × (r : LineRow) × Contains rows r
+    × (r : LineRow) × Contains (code_of rows) r
     × (file ≡ record { unit = u.unit.offset; path = unit_path t u.unit r })
 
 -- ---- the index of a lookup
@@ -180,7 +187,7 @@ pub record Given : Type 0 where
   pub name : List ℕ
 
 -- contents that say of each address what is found there, and nothing twice, and of each line where
--- its code begins, with no other sources than files of rows
+-- its code begins; their sources are files of rows, and an entry or a statement names each
 pub record AreContentsOf (given : Given) (c : Contents) : Type 0 where
   pub fits : Fits c
   pub ascending : EntriesAscend c.entries
@@ -188,6 +195,7 @@ pub record AreContentsOf (given : Given) (c : Contents) : Type 0 where
   pub says : SayWhatIsFound given.texts given.units (map (entry_start c) c.entries)
   pub lines : SayWhereLinesBegin given.texts given.units (map (statement_in c) c.statements)
   pub files : All (IsFileOfRow given.texts given.units) (map (source_file c) c.sources)
+  pub named : HasNamed c
   pub short : IsShort (map (entry_start c) c.entries)
   pub paths_once : HasPathsOnce c
   pub address_size : c.address_size ≡ given.size
@@ -201,7 +209,8 @@ pub record IsAppended (given : Given) (limit : ℕ) (old new : List ℕ) : Type 
   pub are : AreContentsOf given contents
 
 -- bytes begin with an index that says of each address what is found there, and nothing twice, and
--- of each line where its code begins, with no other sources than files of rows
+-- of each line where its code begins; its sources are files of rows, and an entry or a statement
+-- names each
 pub record IsIndexOf (given : Given) (bytes : List ℕ) : Type 0 where
   pub index : Index
   pub is_read : index_at bytes ≡ Ok index
@@ -210,6 +219,7 @@ pub record IsIndexOf (given : Given) (bytes : List ℕ) : Type 0 where
   pub says : SayWhatIsFound given.texts given.units (starts_of index)
   pub lines : SayWhereLinesBegin given.texts given.units (statements_of index)
   pub files : All (IsFileOfRow given.texts given.units) (files_of index)
+  pub named : AreNamed index
   pub short : IsShort (starts_of index)
   pub address_size : index.address_size ≡ given.size
   pub identity : index.identity ≡ given.name

@@ -13,6 +13,7 @@ pub mod Contents
 pub mod Files
 pub mod inside
 pub mod Short
+pub mod Named
 pub mod Made
 pub mod Found
 pub mod Refused

@@ -8,6 +8,7 @@ use Rattle.gimli_index.specs.Meaning.{AreAscending, starts_of, statements_of}
 use Rattle.gimli_index.specs.Contents.{Contents, Fits, HasColumn, entry_start, index_bytes}
 use Rattle.gimli_index.specs.Contents.{statement_in}
 use Rattle.gimli_index.specs.Lines.{addresses_of}
+use Rattle.gimli_index.specs.Named.{AreNamed, HasNamed}
 use Rattle.gimli_index.specs.Order.{AreOrdered, IsOrdered}
 use Rattle.gimli_index.specs.declared.contents.Contents.{Contents as Made}
 use Rattle.gimli_index.specs.declared.contents.Entry.{Entry}
@@ -101,6 +102,7 @@ pub record SaysWhat (c : Contents) (read : Result Index IndexError) : Type 0 whe
   pub starts : starts_of index ≡ map (entry_start c) c.entries
   pub statements : statements_of index ≡ map (statement_in c) c.statements
   pub files : files_of index ≡ map (source_file c) c.sources
+  pub named : HasNamed c → AreNamed index
   pub ascending : EntriesAscend c.entries → AreAscending (starts_of index)
   pub ordered : HasOrder c → IsOrdered index
   pub address_size : index.address_size ≡ c.address_size

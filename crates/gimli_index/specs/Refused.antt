@@ -5,7 +5,7 @@ use Rattle.std.specs.Prelude.{slice_get, AllPairs}
 use Rattle.gimli_line.specs.declared.run.row.LineRow.{LineRow}
 use Rattle.gimli_lookup.specs.Section.{KeptUnit, all_sequences}
 use Rattle.gimli_lookup.specs.declared.section_lookup.CoveringRows.{CoveringRows}
-use Rattle.gimli_index.specs.Found.{Given, Texts, found_place, SayWhatIsFound}
+use Rattle.gimli_index.specs.Found.{Given, Texts, code_of, found_place, SayWhatIsFound}
 use Rattle.gimli_index.specs.Meaning.{AreAscending, Place, Start}
 use Rattle.gimli_index.specs.Short.{IsShort, joined}
 use Rattle.gimli_index.specs.declared.error.MakeError.{MakeError}
@@ -16,7 +16,7 @@ use Rattle.gimli_index.specs.declared.error.MakeError.TheVariants.{IdentityTooLa
 use Rattle.gimli_index.specs.declared.error.MakeError.TheVariants.{ColumnTooLarge, OutOfMemory}
 use Rattle.gimli_index.specs.declared.source_keys.SourceKey.{SourceKey}
 
--- a row stands in a sequence of its unit
+-- a row stands in a sequence of its unit, and isn't its end row
 pub record AreFound (units : List KeptUnit) (f : CoveringRows) : Type 0 where
   pub unit : KeptUnit
   pub there : slice_get units f.unit ≡ Some unit
@@ -24,7 +24,7 @@ pub record AreFound (units : List KeptUnit) (f : CoveringRows) : Type 0 where
   pub sequence : ℕ
   pub is_sequence : slice_get unit.sequences sequence ≡ Some rows
   pub index : ℕ
-  pub stands : slice_get rows index ≡ Some f.row
+  pub stands : slice_get (code_of rows) index ≡ Some f.row
 
 -- a row of some sequence
 abbrev pub IsFoundRow : List KeptUnit → LineRow → Type 0

@@ -8,3 +8,4 @@ pub mod Ranks
 pub mod Table
 pub mod Turns
 pub mod Begun
+pub mod Kept

@@ -447,13 +447,7 @@ impl Contents<'_> {
         ensures err { IfErr result (IsMakeFault (contents_of self.now self.now.statements.now)) }
         ensures kept { IfErr result (λ e. e ≢ OutOfMemory → out.new.items ≡ out.old.items) }
     {
-        self.check_sizes()?;
-        if !entries_ascend(self.entries) {
-            return Err(MakeError::NotAscending);
-        }
-        if !have_columns(self.entries) {
-            return Err(MakeError::ColumnTooLarge);
-        }
+        self.check()?;
         let names = self.names(alloc)?;
         let statements = self.ordered(alloc, &names)?;
         self.write_parts(&names, &statements, out)?;
@@ -461,7 +455,7 @@ impl Contents<'_> {
     }
 
     /// Appends the bytes, by the numbers of the names of the sources and by statements in order.
-    fn write_parts(
+    pub(crate) fn write_parts(
         &self,
         names: &[u32],
         statements: &[Statement],
@@ -488,6 +482,23 @@ impl Contents<'_> {
         put_statements(out, size, base, statements)?;
         out.extend_from_slice(self.paths)?;
         out.extend_from_slice(self.identity)?;
+        Ok(())
+    }
+
+    /// Refuses contents that make no index.
+    pub(crate) fn check(&self) -> Result<(), MakeError>
+        ensures counts { OnOk result (FitsCounts (contents_of self.now self.now.statements.now)) }
+        ensures ascending { OnOk result (EntriesAscend self.now.entries.now) }
+        ensures columns { OnOk result (All (λ e. HasColumn e.place) self.now.entries.now) }
+        ensures err { IfErr result (IsMakeFault (contents_of self.now self.now.statements.now)) }
+    {
+        self.check_sizes()?;
+        if !entries_ascend(self.entries) {
+            return Err(MakeError::NotAscending);
+        }
+        if !have_columns(self.entries) {
+            return Err(MakeError::ColumnTooLarge);
+        }
         Ok(())
     }
 

@@ -17,6 +17,7 @@ pub mod laws;
 mod line_index;
 mod lines;
 mod made;
+mod named;
 mod number;
 mod order;
 mod ordering;

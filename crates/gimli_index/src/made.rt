@@ -4,13 +4,13 @@ ghost use Rattle.std.specs.Prelude.{◌≡◌, ◌≢◌, ◌≤◌, ◌++◌, �
 ghost use Rattle.std.specs.Prelude.{flat_map, map};
 ghost use Rattle.std.specs.Prelude.{slice_get, take, All, IfErr, IfOk, IsTrue, None, OnOk};
 ghost use Rattle.gimli_core.specs.Numbers.{is_address_size};
-ghost use Rattle.gimli_index.specs.Found.{texts_of, IsAppended, IsIndexAppended};
+ghost use Rattle.gimli_index.specs.Found.{code_of, texts_of, IsAppended, IsIndexAppended};
 ghost use Rattle.gimli_index.specs.Meaning.{Start};
 ghost use Rattle.gimli_index.specs.Refused.{IsIndexFault};
 ghost use Rattle.gimli_index.specs.declared.error.MakeError.TheVariants.{OutOfMemory};
 ghost use Rattle.gimli_index.specs.inside.Table.{AreSources, Entered, IsPushed, IsTableFault};
 ghost use Rattle.gimli_index.specs.inside.Table.{SayTheSame};
-ghost use Rattle.gimli_index.specs.inside.Turns.{code_of, end_after, row_start, rows_of_turns};
+ghost use Rattle.gimli_index.specs.inside.Turns.{end_after, row_start, rows_of_turns};
 ghost use Rattle.gimli_index.specs.inside.Turns.{starts_of_turn, turn_rows, IsTurn, Walked};
 ghost use Rattle.gimli_lookup.specs.Probes.{never_go_below, never_go_down};
 ghost use Rattle.gimli_lookup.specs.Section.{KeptUnit};
@@ -310,7 +310,7 @@ fn write_entries<R: Reader>(
         paths: table.paths(),
         identity,
     }
-    .write(origin.alloc, out)
+    .write_named(origin.alloc, out)
 }
 
 /// Appends the bytes of the index of a lookup: what [`SectionLookup::find`] says of each address,
@@ -319,7 +319,8 @@ fn write_entries<R: Reader>(
 /// index is made of: a build id or a checksum.
 ///
 /// [`LineIndex::addresses_of`](crate::LineIndex::addresses_of) gives the addresses of a line that
-/// the lookup gives, whichever of its sequences overlap. The sources are files of rows.
+/// the lookup gives, whichever of its sequences overlap. The sources are those that an entry or a
+/// statement names, each the file of a row of code.
 ///
 /// Adjacent starts of one place are one. A path that can't be told is a source with the number of
 /// its reason (`docs/INDEX.md`, "Sources"). Refuses lines, columns, and more entries, statements,

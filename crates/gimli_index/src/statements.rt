@@ -1,6 +1,6 @@
 //! The statements of a lookup: where code of lines begins.
 
-ghost use Rattle.std.specs.Prelude.{◌≡◌, ◌<◌, ◌++◌, ◌∷◌, ℕ, List, [], length, slice_get};
+ghost use Rattle.std.specs.Prelude.{◌≡◌, ◌<◌, ◌++◌, ◌∷◌, ℕ, List, [], false, length, slice_get};
 ghost use Rattle.std.specs.Prelude.{◌&&◌, nat_eq, slice_index_or, IfErr, IfOk, OnOk, Some, None};
 ghost use Rattle.gimli_index.specs.Contents.{path_at};
 ghost use Rattle.gimli_index.specs.Found.{texts_of, Texts, is_one_path};
@@ -80,7 +80,7 @@ fn take_row<R: Reader>(
     statements: &mut Vec<Statement>,
 ) -> Result<Option<Given>, MakeError>
     requires unit { rows.now.unit < length origin.now.lookup.now }
-    requires found { AreFound origin.now.lookup.now rows.now }
+    requires found { rows.now.row.end_sequence ≡ false → AreFound origin.now.lookup.now rows.now }
     requires given { IsGiven table.old given }
     requires inside { AreInside table.old statements.old.items }
     requires are { AreSources
@@ -211,6 +211,7 @@ pub(crate) fn statements_of<R: Reader>(
         (texts_of R.bytes origin.now.strings.now origin.now.compilations.now)
         origin.now.lookup.now origin.now.limit table.new) }
     ensures keeps { OnOk result (Keeps table.old table.new) }
+    ensures inside { IfOk result (λ statements. AreInside table.new statements.items) }
     ensures said { IfOk result (λ statements. statements_in table.new statements.items
         ≡ begun_in_units (texts_of R.bytes origin.now.strings.now origin.now.compilations.now)
         origin.now.lookup.now) }

@@ -59,12 +59,6 @@ abbrev pub end_after : ℕ → List LineRow → ℕ
 end_after end [] = end
 end_after end (r ∷ rows) = end_after r.address rows
 
--- rows without an end row at their end
-abbrev pub code_of : List LineRow → List LineRow
-code_of [] = []
-code_of (r ∷ []) = if r.end_sequence then [] else r ∷ []
-code_of (r ∷ next ∷ rows) = r ∷ code_of (next ∷ rows)
-
 abbrev pub row_start : Texts → ListedUnit → LineRow → Start
 row_start t u r = record { address = r.address; place = Some (row_place t u r) }
 

@@ -1,11 +1,13 @@
-use Rattle.std.proofs.Common.{◌≡◌, ◌∙◌, ◌++◌, ℕ, List, ap, arith, map, subst, take}
+use Rattle.std.proofs.Common.{◌≡◌, ◌∙◌, ◌++◌, ℕ, List, Some, ap, arith, map, subst, take}
+use Rattle.std.specs.Prelude.{slice_get}
 use Rattle.gimli_line.specs.declared.run.row.LineRow.{LineRow}
 use Rattle.gimli_lookup.specs.SequenceRows.{rows_of}
-use Rattle.gimli_index.specs.Found.{texts_of}
+use Rattle.gimli_index.specs.Found.{code_of, texts_of}
 use Rattle.gimli_index.specs.declared.contents.Entry.{Entry}
 use Rattle.gimli_index.specs.declared.contents.Source.{Source}
 use Rattle.gimli_index.specs.inside.Table.{IsPushed}
-use Rattle.gimli_index.specs.inside.Turns.{Walked, code_of, end_after, row_start, turn_rows}
+use Rattle.gimli_index.specs.inside.Turns.{Walked, end_after, row_start, turn_rows}
+use Rattle.gimli_index.proofs.CodeRows.{taken_at}
 use Rattle.gimli_index.proofs.TurnSteps.{row_walked, turn_place}
 use Rattle.gimli_index.proofs.made.take_rows.Goals as goal
 
@@ -52,3 +54,22 @@ returns-clause-walked g c =
     Walked t units limit c.loop-index.table c.loop-index.entries.items
     (said ++ map (row_start t (turn_rows units d c.args.turn).unit) rs) (end_after end rs))
     code_is (c.loop-index.invariant.walked d said end walked order)
+
+pub place_of-requires-clause-found : goal.place_of-requires-clause-found
+place_of-requires-clause-found g c =
+    let turn = c.args.turn in
+    let is = c.requires.turn in
+    let rows = rows_of turn.rows in
+    let k = c.loop-index.index in
+    let row = c.row-row.result in
+    record {
+      unit = is.unit;
+      there = is.there;
+      rows = rows;
+      sequence = is.sequence;
+      is_sequence = is.is_sequence;
+      index = k;
+      stands =
+          subst (λ (rs : List LineRow). slice_get rs k ≡ Some row) c.count_of_code-index-end.ensures.code
+          (taken_at rows c.count_of_code-index-end.result k row c.loop-index-test.true c.row-row.ensures);
+    }

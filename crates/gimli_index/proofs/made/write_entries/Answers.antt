@@ -1,12 +1,36 @@
-use Rattle.std.proofs.Common.{List, None, refl, sym, subst, ◌∙◌, ap}
+use Rattle.std.proofs.Common.{◌∙◌, ◌<◌, List, None, refl, sym, subst, ap, length}
+use Rattle.std.specs.Prelude.{IfSome, slice_get}
 use Rattle.gimli_index.specs.Found.{Given, texts_of, IsAppended}
-use Rattle.gimli_index.specs.Made.{IsMakeFault, IsWritten, SayTheSameLines, contents_of}
+use Rattle.gimli_index.specs.Made.{IsMakeFault, contents_of}
 use Rattle.gimli_index.specs.Refused.{IsIndexFault}
 use Rattle.gimli_index.specs.declared.contents.Contents.{Contents as Parts}
+use Rattle.gimli_index.specs.declared.contents.Entry.{Entry}
+use Rattle.gimli_index.specs.declared.contents.Source.{Source}
 use Rattle.gimli_index.specs.declared.contents.Statement.{Statement}
+use Rattle.gimli_index.specs.inside.Kept.{IsNamedWritten}
 use Rattle.gimli_index.proofs.Entered.{still_entered}
-use Rattle.gimli_index.proofs.WrittenIndex.{contents_are, contents_fault, on_fault, with_ok, within}
+use Rattle.gimli_index.proofs.WrittenIndex.{contents_fault, named_contents, on_fault, with_ok}
 use Rattle.gimli_index.proofs.made.write_entries.Goals as goal
+
+pub write_named-requires-clause-entries : goal.write_named-requires-clause-entries
+write_named-requires-clause-entries g c =
+    let units = c.args.origin.now.lookup.now in
+    let t = texts_of g.R.Reader.bytes c.args.origin.now.strings.now c.args.origin.now.compilations.now in
+    let table = c.statements_of.new.table in
+    let said = c.in_ok-statements.ensures in
+    let entered =
+    still_entered t units c.entries_of.new.table table c.in_ok-entries.entries.items None
+    c.in_ok-entries.ensures.entered said.keeps said.are in
+    λ i e there.
+    subst (λ (ss : List Source). IfSome e.place (λ l. l.source < length ss)) (sym c.sources.ensures)
+    (entered.inside i e (ap (λ (es : List Entry). slice_get es i) (sym c.as_slice.ensures.value) ∙ there))
+
+pub write_named-requires-clause-statements : goal.write_named-requires-clause-statements
+write_named-requires-clause-statements g c =
+    let said = c.in_ok-statements.ensures in
+    λ i s there.
+    subst (λ (ss : List Source). s.source < length ss) (sym c.sources.ensures)
+    (said.inside i s (ap (λ (xs : List Statement). slice_get xs i) (sym c.as_slice-2.ensures.value) ∙ there))
 
 pub returns-clause-bytes : goal.returns-clause-bytes
 returns-clause-bytes g c =
@@ -22,33 +46,17 @@ returns-clause-bytes g c =
       identity = c.args.identity;
     } in
     let old = c.args.out.now.items in
-    let new = c.write.new.out.items in
+    let new = c.write_named.new.out.items in
     let table = c.statements_of.new.table in
-    let statements = c.in_ok-statements.statements.items in
     let said = c.in_ok-statements.ensures in
     let entered =
     still_entered t units c.entries_of.new.table table c.in_ok-entries.entries.items None
     c.in_ok-entries.ensures.entered said.keeps said.are in
-    with_ok c.write.result (IsWritten parts old new) (IsAppended given c.args.origin.now.limit old new)
-    c.write.ensures.written
+    with_ok c.write_named.result (IsNamedWritten parts old new) (IsAppended given c.args.origin.now.limit old new)
+    c.write_named.ensures.written
     (λ written.
-    let contents = contents_of parts written.statements in
-    let same : SayTheSameLines contents statements contents.statements =
-    λ path line.
-    subst (λ (ss : List Statement). SayTheSameLines contents ss contents.statements) c.as_slice-2.ensures.value
-    written.same path line in
-    record {
-      contents = contents;
-      within =
-          within given table c.in_ok-entries.entries.items statements contents entered said.said c.sources.ensures
-          c.as_slice.ensures.value
-          c.paths.ensures;
-      bytes = written.bytes;
-      are =
-          contents_are given table c.in_ok-entries.entries.items statements contents entered said.said
-          c.sources.ensures
-          c.as_slice.ensures.value c.paths.ensures written.fits written.ordered same refl refl;
-    })
+    named_contents given table c.in_ok-entries.entries.items c.in_ok-statements.statements.items parts old new entered
+    said.said c.sources.ensures c.as_slice.ensures.value c.as_slice-2.ensures.value c.paths.ensures refl refl written)
 
 pub returns-clause-err : goal.returns-clause-err
 returns-clause-err g c =
@@ -70,7 +78,7 @@ returns-clause-err g c =
     let entered =
     still_entered t units c.entries_of.new.table table c.in_ok-entries.entries.items None
     c.in_ok-entries.ensures.entered said.keeps said.are in
-    on_fault c.write.result (IsMakeFault contents) (IsIndexFault given c.args.origin.now.limit) (λ e fault.
+    on_fault c.write_named.result (IsMakeFault contents) (IsIndexFault given c.args.origin.now.limit) (λ e fault.
     contents_fault given table c.in_ok-entries.entries.items statements contents entered said.said
     c.sources.ensures
-    c.as_slice.ensures.value c.paths.ensures e c.as_slice-2.ensures.value refl fault) c.write.ensures.err
+    c.as_slice.ensures.value c.paths.ensures e c.as_slice-2.ensures.value refl fault) c.write_named.ensures.err

@@ -10,6 +10,7 @@ use Rattle.gimli_index.specs.Found.{texts_of}
 use Rattle.gimli_index.specs.Meaning.{Statement}
 use Rattle.gimli_index.specs.inside.Begun.{begun, given_in, statements_in}
 use Rattle.gimli_index.proofs.BegunSteps.{keeps_on, keeps_self}
+use Rattle.gimli_index.proofs.CodeRows.{code_at}
 use Rattle.gimli_index.proofs.Lists.{append_none, get_inside}
 use Rattle.gimli_index.proofs.statements.take_rows.Goals as goal
 
@@ -48,6 +49,7 @@ loop-index-preserved g c =
 
 pub take_row-requires-clause-found : goal.take_row-requires-clause-found
 take_row-requires-clause-found g c =
+    λ open_end.
     let units = c.args.origin.now.lookup.now in
     let known = get_inside units c.args.unit c.requires.unit in
     let sequence = c.requires.sequence in
@@ -61,7 +63,7 @@ take_row-requires-clause-found g c =
           (sym (get_or_from_slice_get units c.args.unit known.0 known.0 known.1))
           ∙ sequence.1 known.0;
       index = c.loop-index.index;
-      stands = c.row-row.ensures;
+      stands = code_at (rows_of c.args.rows) c.loop-index.index c.row-row.result c.row-row.ensures open_end;
     }
 
 pub returns-clause-said : goal.returns-clause-said
