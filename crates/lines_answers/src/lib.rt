@@ -3,10 +3,19 @@
 #![tactic(auto)]
 
 mod addresses;
+mod components;
+mod counted_rows;
+mod covering;
 mod line_answers;
+mod line_search;
 mod made_index;
+mod meant_files;
 mod opened_index;
+mod path_digests;
+mod path_rows;
+mod section_strings;
 mod source;
+mod written_path;
 
 pub use addresses::print_addresses;
 pub use line_answers::LineAnswers;

@@ -8,7 +8,7 @@ use lines_places::PlacePrinter;
 use lines_words::{LineNames, Output, Request, build_id_of, map_path, parse_line_question};
 use lru::LruCache;
 use std::alloc::Global;
-use std::collections::HashSet;
+use std::collections::BTreeSet;
 use std::num::NonZeroUsize;
 
 /// How many indexes are kept.
@@ -23,7 +23,7 @@ pub struct LineAnswers<'n> {
     /// The indexes that were asked last, by what lines name.
     kept: LruCache<String, Vec<u8>>,
     /// What lines name that can't be asked.
-    refused: HashSet<String>,
+    refused: BTreeSet<String>,
 }
 
 impl<'n> LineAnswers<'n> {
@@ -41,7 +41,7 @@ impl<'n> LineAnswers<'n> {
             names,
             printer,
             kept,
-            refused: HashSet::new(alloc),
+            refused: BTreeSet::new(alloc),
         })
     }
 

@@ -1,15 +1,30 @@
 //! The command `source`: lines of source, with the addresses of their code beside them.
 
+use crate::components::components_of;
+use crate::path_digests::{PathDigests, Sum, sum_of_entry};
+use crate::written_path::{WrittenPath, WrittenPaths};
 use gimli_core::Reader;
-use gimli_index::PathEnd;
-use gimli_line::{LineProgramHeader, LineRow};
-use indexmap::IndexSet;
-use lines_inputs::{Functions, Input, PathSources, Printing, UnitRows, Walk, line_of};
+use gimli_line::{FileEntry, LineProgramHeader, LineRow};
+use lines_inputs::{Functions, Input, Printing, UnitRows, Walk, line_of};
 use lines_pieces::{Piece, Result, tell};
 use lines_places::SourceRow;
 use lines_words::{Output, SourcePlace, UnitChoice, bytes_of_word};
-use std::alloc::Global;
+use std::alloc::{AllocError, Global};
 use std::collections::BTreeMap;
+
+/// How many rows are put in order at first.
+const FEW: usize = 1024;
+
+/// What is known of a file of a unit.
+#[derive(Clone, Copy)]
+enum FileNumber {
+    /// Nothing yet.
+    Unknown,
+    /// It has no path, or its rows aren't wanted.
+    Unwanted,
+    /// The number of its path.
+    Wanted(usize),
+}
 
 /// The rows of a place, which are found unit by unit.
 #[derive(Drop)]
@@ -25,12 +40,21 @@ pub struct SourceRows<'w, R: Reader> {
     /// An address below which there is no code.
     lowest: u64,
     walk: Walk<R>,
-    sources: PathSources<R>,
+    written: WrittenPaths<R>,
+    digests: PathDigests<R>,
     /// The paths of files, each once; its number is its place here.
-    paths: IndexSet<Vec<u8>>,
-    /// The numbers of the paths of the unit's files; None where their rows aren't wanted.
-    numbers: BTreeMap<u64, Option<usize>>,
+    paths: Vec<WrittenPath<R>>,
+    /// The numbers of paths, by their bytes.
+    numbers: BTreeMap<Sum, usize>,
+    /// The numbers of paths in the unit, by what its header says of a file.
+    of_unit: BTreeMap<Sum, usize>,
+    /// What is known of the files of the unit, by their numbers.
+    files: Vec<FileNumber>,
     rows: Vec<SourceRow>,
+    /// How many rows were left when they were put in order.
+    ordered: usize,
+    /// The path that is printed, with room for the longest one.
+    path: Vec<u8>,
 }
 
 impl<'w, R: Reader> SourceRows<'w, R> {
@@ -54,7 +78,7 @@ impl<'w, R: Reader> SourceRows<'w, R> {
                 (word, code)
             }
         };
-        let sources = PathSources::new(alloc, input)?;
+        let written = WrittenPaths::new(alloc, input)?;
         Ok(Some(SourceRows {
             alloc,
             place,
@@ -63,24 +87,32 @@ impl<'w, R: Reader> SourceRows<'w, R> {
             code,
             lowest: input.notation.lowest,
             walk: Walk::new(alloc, input, UnitChoice::All, Printing::Rare, output),
-            sources,
-            paths: IndexSet::new(alloc),
+            written,
+            digests: PathDigests::new(alloc),
+            paths: Vec::new(alloc),
             numbers: BTreeMap::new(alloc),
+            of_unit: BTreeMap::new(alloc),
+            files: Vec::new(alloc),
             rows: Vec::new(alloc),
+            ordered: 0,
+            path: Vec::new(alloc),
         }))
     }
 
-    /// The path of a number, and its rows; None past the last one.
-    pub fn get(&self, number: usize) -> Option<(&[u8], &[SourceRow])> {
-        let path = self.paths.get_index(number)?;
+    /// The path of a number, and its rows; None past the last one. Asked after the last unit.
+    pub fn get(&mut self, number: usize) -> Option<(&[u8], &[SourceRow])> {
+        let written = *self.paths.get(number)?;
+        // There is room for it.
+        written.write_to(&mut self.path).ok()?;
         let start = self.rows.partition_point(|row| row.path < number);
         let end = self.rows.partition_point(|row| row.path <= number);
-        Some((path, self.rows.get(start..end).unwrap_or(&[])))
+        Some((&self.path, self.rows.get(start..end).unwrap_or(&[])))
     }
 
     /// Adds the rows of a unit that are wanted. Its fault is reported.
     fn add_unit(&mut self, unit: &mut UnitRows<R>, output: &mut Output<'_>) -> Result<bool> {
-        self.numbers = BTreeMap::new(self.alloc);
+        self.of_unit = BTreeMap::new(self.alloc);
+        self.files.clear();
         if matches!(self.place, SourcePlace::Line { .. }) {
             for index in 0..=unit.header().file_names().len() as u64 {
                 self.number_of(unit.header(), index)?;
@@ -113,7 +145,8 @@ impl<'w, R: Reader> SourceRows<'w, R> {
         }
     }
 
-    /// Adds a row, where those of its file are wanted.
+    /// Adds a row, where those of its file are wanted. Those that stand twice are dropped whenever
+    /// there are twice as many as before.
     fn add_row(&mut self, header: &LineProgramHeader<R>, row: &LineRow) -> Result<()> {
         let Some(path) = self.number_of(header, row.file_index())? else {
             return Ok(());
@@ -124,23 +157,73 @@ impl<'w, R: Reader> SourceRows<'w, R> {
             address: row.address(),
             is_stmt: row.is_stmt(),
         })?;
+        if self.rows.len() / 2 > self.ordered.max(FEW) {
+            self.sort()?;
+        }
         Ok(())
     }
 
     /// The number of the path of a file; None where it has none, or its rows aren't wanted. Those
     /// of a unit that were asked for are kept.
     fn number_of(&mut self, header: &LineProgramHeader<R>, index: u64) -> Result<Option<usize>> {
-        if let Some(number) = self.numbers.get(&index).copied() {
+        let Some(file) = header.file(index) else {
+            return Ok(None);
+        };
+        let place = index as usize;
+        if place >= self.files.len() {
+            self.files
+                .resize(place.saturating_add(1), FileNumber::Unknown)?;
+        }
+        match self.files.get(place) {
+            Some(FileNumber::Unwanted) => return Ok(None),
+            Some(FileNumber::Wanted(number)) => return Ok(Some(*number)),
+            _ => {}
+        }
+        let number = self.find_number(header, file, index)?;
+        if let Some(known) = self.files.get_mut(place) {
+            *known = match number {
+                Some(number) => FileNumber::Wanted(number),
+                None => FileNumber::Unwanted,
+            };
+        }
+        Ok(number)
+    }
+
+    /// The number of the path of a file that wasn't asked for, as `number_of` has it.
+    fn find_number(
+        &mut self,
+        header: &LineProgramHeader<R>,
+        file: &FileEntry<R>,
+        index: u64,
+    ) -> Result<Option<usize>> {
+        let Some(path) = self.written.of_file(header, index)? else {
+            return Ok(None);
+        };
+        if matches!(self.place, SourcePlace::Line { .. }) {
+            let components = components_of(self.alloc, &self.end)?;
+            if !path.ends_with(&components)? {
+                return Ok(None);
+            }
+        }
+        let entry = sum_of_entry(file)?;
+        if let Some(number) = self.of_unit.get(&entry).copied() {
+            return Ok(Some(number));
+        }
+        let number = self.number_of_path(path)?;
+        self.of_unit.insert(entry, number)?;
+        Ok(Some(number))
+    }
+
+    /// The number of a path, which is appended where it is new.
+    fn number_of_path(&mut self, path: WrittenPath<R>) -> Result<usize> {
+        self.digests.begin(&path)?;
+        let sum = self.digests.of_bytes(&path)?;
+        if let Some(number) = self.numbers.get(&sum).copied() {
             return Ok(number);
         }
-        let is_any = matches!(self.place, SourcePlace::Function(_));
-        let number = match self.sources.known_path(self.alloc, header, index)? {
-            Some(path) if is_any || PathEnd::new(&self.end).is_end_of(&path) => {
-                Some(self.paths.insert_full(path)?.0)
-            }
-            _ => None,
-        };
-        self.numbers.insert(index, number)?;
+        let number = self.paths.len();
+        self.paths.push(path)?;
+        self.numbers.insert(sum, number)?;
         Ok(number)
     }
 
@@ -153,7 +236,20 @@ impl<'w, R: Reader> SourceRows<'w, R> {
             before.is_stmt |= is_beside && row.is_stmt;
             is_beside
         });
+        self.ordered = self.rows.len();
         Ok(())
+    }
+
+    /// Makes room for the longest path.
+    fn reserve(&mut self) -> Result<()> {
+        let mut most = 0;
+        for path in &self.paths {
+            most = path.most().max(most);
+        }
+        match usize::try_from(most) {
+            Ok(most) => self.path.reserve(most),
+            Err(_) => Err(AllocError),
+        }
     }
 
     /// Adds the rows of the next unit, whose fault is reported, and returns whether more may
@@ -166,9 +262,10 @@ impl<'w, R: Reader> SourceRows<'w, R> {
         }
     }
 
-    /// Puts the rows in order, and reports that no file has the place.
+    /// Puts the rows in order, makes room for each path, and reports that no file has the place.
     fn finish(&mut self, output: &mut Output<'_>) -> Result<bool> {
         self.sort()?;
+        self.reserve()?;
         if self.paths.is_empty() {
             let (text, name) = match self.place {
                 SourcePlace::Line { path, .. } => ("no file's path ends with %", path),

@@ -135,9 +135,38 @@ impl<'l> SourceListing<'l> {
             if number > 0 && !output.is_json() {
                 output.print("...");
             }
-            for line in *first..=*last {
-                self.print_line(line, output);
+            self.print_range(*first, *last, output);
+        }
+    }
+
+    /// Prints the lines of a range: of those past the end of the file only such as may be printed.
+    fn print_range(self, first: u64, last: u64, output: &mut Output<'_>) {
+        let count = self.lines.len() as u64;
+        for line in first..=last.min(count) {
+            self.print_line(line, output);
+        }
+        let mut past = count.saturating_add(1).max(first);
+        for _ in 0..u64::MAX {
+            match self.next_line(past) {
+                Some(line) if line <= last => {
+                    self.print_line(line, output);
+                    past = line.saturating_add(1);
+                }
+                _ => break,
             }
+            if past > last {
+                break;
+            }
+        }
+    }
+
+    /// The first line from a line on that has rows, or is asked for.
+    fn next_line(self, from: u64) -> Option<u64> {
+        let index = self.rows.partition_point(|row| row.line < from);
+        let of_row = self.rows.get(index).map(|row| row.line);
+        match self.asked {
+            Some(asked) if asked >= from => Some(of_row.map_or(asked, |line| line.min(asked))),
+            _ => of_row,
         }
     }
 

@@ -1,0 +1,161 @@
+//! Which rows cover addresses.
+
+use crate::counted_rows::{CountedRow, CountedRows};
+use gimli_core::Reader;
+use gimli_line::LineRow;
+use gimli_lookup::SectionLookup;
+use lines_inputs::Input;
+use lines_pieces::Result;
+use std::alloc::{AllocError, Global};
+
+/// A row that covers an address.
+#[derive(Clone, Copy)]
+pub(crate) struct CoveringRow {
+    /// The index of its unit.
+    pub(crate) unit: usize,
+    pub(crate) row: LineRow,
+    /// Where it ends.
+    pub(crate) end: u64,
+}
+
+/// The rows that cover addresses, as `SectionLookup::find` finds them.
+#[derive(Drop)]
+pub(crate) enum Covering<R: Reader> {
+    /// For any address, by the rows of all units.
+    Kept(SectionLookup<R>),
+    /// For some addresses.
+    Found(FoundRows),
+}
+
+/// The first row of a section that covers each of some addresses.
+#[derive(Drop)]
+pub(crate) struct FoundRows {
+    /// The addresses in ascending order, each once.
+    addresses: Vec<u64>,
+    rows: Vec<Option<CoveringRow>>,
+    /// For each address the index of one from it on up to which each has a row.
+    next: Vec<usize>,
+}
+
+impl FoundRows {
+    /// No row is found of these addresses.
+    fn new(alloc: Global, mut addresses: Vec<u64>) -> Result<FoundRows> {
+        addresses.sort_unstable();
+        addresses.dedup();
+        let mut rows = Vec::new(alloc);
+        rows.resize(addresses.len(), None)?;
+        let next = (0..addresses.len()).collect(alloc)?;
+        Ok(FoundRows {
+            addresses,
+            rows,
+            next,
+        })
+    }
+
+    /// The index of the first address from that of an index on that has no row.
+    fn first_free(&mut self, index: usize) -> usize {
+        let mut free = index;
+        for _ in 0..usize::MAX {
+            let Some(after) = self.next.get(free).copied() else {
+                break;
+            };
+            if after == free {
+                break;
+            }
+            let further = self.next.get(after).copied().unwrap_or(after);
+            if let Some(next) = self.next.get_mut(free) {
+                *next = further;
+            }
+            free = further;
+        }
+        free
+    }
+
+    /// Takes a row for the addresses that it covers, as far as they have none.
+    fn take(&mut self, unit: usize, row: LineRow, end: u64) {
+        let start = row.address();
+        let from = self.addresses.partition_point(|address| *address < start);
+        let mut index = self.first_free(from);
+        for _ in 0..self.addresses.len() {
+            match self.addresses.get(index) {
+                Some(address) if *address < end => {}
+                _ => break,
+            }
+            if let Some(found) = self.rows.get_mut(index) {
+                *found = Some(CoveringRow { unit, row, end });
+            }
+            let after = index.saturating_add(1);
+            if let Some(next) = self.next.get_mut(index) {
+                *next = after;
+            }
+            index = self.first_free(after);
+        }
+    }
+
+    /// The row that covers an address; None at one that isn't among these.
+    fn find(&self, address: u64) -> Option<CoveringRow> {
+        let index = self.addresses.partition_point(|other| *other < address);
+        if *self.addresses.get(index)? != address {
+            return None;
+        }
+        *self.rows.get(index)?
+    }
+}
+
+impl<R: Reader> Covering<R> {
+    /// Keeps the rows of all units.
+    pub(crate) fn of_any(alloc: Global, input: &Input<R>) -> Result<Covering<R>> {
+        let (size, lowest) = (input.notation.address_size.bytes(), input.notation.lowest);
+        match SectionLookup::new(&input.lines, alloc, size, lowest) {
+            Ok(lookup) => Ok(Covering::Kept(lookup)),
+            Err(_) => Err(AllocError),
+        }
+    }
+
+    /// Finds the rows that cover some addresses in one run over the rows that count.
+    pub(crate) fn of_some(
+        alloc: Global,
+        input: &Input<R>,
+        counts: &[u64],
+        addresses: Vec<u64>,
+    ) -> Result<Covering<R>> {
+        let mut found = FoundRows::new(alloc, addresses)?;
+        if found.addresses.is_empty() {
+            return Ok(Covering::Found(found));
+        }
+        let mut rows = CountedRows::new(alloc, input, counts);
+        let mut last: Option<LineRow> = None;
+        for _ in 0..u64::MAX {
+            let Some(CountedRow { unit, row, stands }) = rows.next_row()? else {
+                break;
+            };
+            match last {
+                Some(last) if stands && last.address() < row.address() => {
+                    found.take(unit, last, row.address());
+                }
+                _ => {}
+            }
+            last = if stands && !row.end_sequence() {
+                Some(row)
+            } else {
+                None
+            };
+        }
+        Ok(Covering::Found(found))
+    }
+
+    /// The row that covers an address.
+    pub(crate) fn find(&self, address: u64) -> Option<CoveringRow> {
+        match self {
+            Covering::Kept(lookup) => {
+                let found = lookup.find(address)?;
+                Some(CoveringRow {
+                    unit: found.unit,
+                    row: found.row,
+                    end: found.next.address(),
+                })
+            }
+            Covering::Found(found) => found.find(address),
+        }
+    }
+}
