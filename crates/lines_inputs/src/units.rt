@@ -181,7 +181,8 @@ impl<R: Reader> UnitRows<R> {
         }
     }
 
-    /// The rows of the unit at an offset of a program, to be read once more. None where it has none.
+    /// The rows of the unit at an offset of a program, to be read once more. None where it has
+    /// none.
     pub fn at(
         alloc: Global,
         input: &Input<R>,
