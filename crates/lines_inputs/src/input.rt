@@ -52,6 +52,23 @@ impl<R: Reader> Input<R> {
         self.lines.reader().len().into_u64()
     }
 
+    /// The bytes of all its sections, made whole.
+    pub fn all_bytes(&self) -> u64 {
+        let sections = [
+            self.lines.reader(),
+            &self.strings.debug_line_str,
+            &self.strings.debug_str,
+            &self.compilations.debug_info,
+            &self.compilations.debug_abbrev,
+            &self.compilations.debug_str_offsets,
+        ];
+        let mut all = 0u64;
+        for section in sections {
+            all = all.saturating_add(section.len().into_u64());
+        }
+        all
+    }
+
     /// Why a command that needs addresses refuses it, where it isn't linked.
     pub fn refusal(&self) -> &'static str {
         if self.is_split { SPLIT } else { NOT_LINKED }

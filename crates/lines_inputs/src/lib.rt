@@ -6,6 +6,7 @@ mod files;
 mod functions;
 mod input;
 mod lookup;
+mod path_budget;
 mod path_sources;
 mod units;
 
@@ -13,6 +14,7 @@ pub use files::{build_id_in, write_file};
 pub use functions::Functions;
 pub use input::{Input, InputError, InputSections, tell_refusal};
 pub use lookup::{Covering, look_up, look_up_any, look_up_each};
+pub use path_budget::PathBudget;
 pub use path_sources::{PathFault, PathSources, resolved_path};
 pub use units::{
     FlagLetters, Printing, RowCount, UnitRows, Walk, column_of, flags_of, line_of, show_reading,

@@ -14,8 +14,9 @@ ghost use Rattle.gimli_lookup.specs.declared.path_error.PathError.TheVariants.{O
 ghost use Rattle.lines_inputs.specs.WholePaths.{paths_by};
 
 use crate::input::Input;
+use crate::path_budget::PathBudget;
 use gimli_compilation::Compilations;
-use gimli_core::{Reader, ReaderOffset};
+use gimli_core::{AttributeValue, Reader, ReaderOffset};
 use gimli_line::{FileEntry, LineProgramHeader, LineRow};
 use gimli_lookup::{CoveringRows, PathError, Paths, StringSections, UnitLookup};
 use std::alloc::{AllocError, Global};
@@ -121,6 +122,56 @@ impl<R: Reader> PathSources<R> {
             Some(file) => self.of_file(alloc, header, file),
             None => Err(PathError::InvalidFileIndex(row.file_index())),
         }
+    }
+
+    /// The whole path of the file of an index, as `of_row` tells it, whose bytes are counted; where
+    /// it can't be told, those that were read to find that.
+    pub fn counted(
+        &self,
+        alloc: Global,
+        header: &LineProgramHeader<R>,
+        index: u64,
+        budget: &mut PathBudget,
+    ) -> Result<Vec<u8>, PathError> {
+        let Some(file) = header.file(index) else {
+            return Err(PathError::InvalidFileIndex(index));
+        };
+        let path = self.of_file(alloc, header, file);
+        budget.count(match &path {
+            Ok(path) => path.len() as u64,
+            Err(_) => self.texts_length(header, file),
+        });
+        path
+    }
+
+    /// How many bytes the texts have that the path of a file may be made of.
+    fn texts_length(&self, header: &LineProgramHeader<R>, file: &FileEntry<R>) -> u64 {
+        let mut length = self.text_length(file.path_name());
+        for index in [file.directory_index(), 0] {
+            if let Some(directory) = header.directory(index) {
+                length = length.saturating_add(self.text_length(directory));
+            }
+        }
+        length
+    }
+
+    /// How many bytes the text of a value has; of one without an end, all up to the end of its
+    /// section.
+    pub fn text_length(&self, value: AttributeValue<R>) -> u64 {
+        let error = match self.strings.attr_line_string(value) {
+            Ok(text) => return text.len().into_u64(),
+            Err(error) => error,
+        };
+        if error != PathError::UnterminatedString {
+            return 0;
+        }
+        let (section, offset) = match value {
+            AttributeValue::DebugLineStrRef(offset) => (&self.strings.debug_line_str, offset.0),
+            AttributeValue::DebugStrRef(offset) => (&self.strings.debug_str, offset.0),
+            _ => return 0,
+        };
+        let length = section.len().into_u64();
+        length.saturating_sub(offset.into_u64())
     }
 
     /// The whole path of the file of rows that are found in units. Refused as `of_row` is.

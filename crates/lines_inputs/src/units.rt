@@ -4,7 +4,7 @@
 ghost use Rattle.std.specs.Prelude.{◌≡◌};
 
 use crate::input::Input;
-use gimli_core::{Error, Reader, ReaderOffset};
+use gimli_core::{DebugLineOffset, Error, Reader, ReaderOffset};
 use gimli_line::{
     ColumnType, IncompleteLineProgram, LineProgramHeader, LineRow, LineUnit, LineUnits,
     OneShotLineRows,
@@ -181,9 +181,38 @@ impl<R: Reader> UnitRows<R> {
         }
     }
 
+    /// The rows of the unit at an offset of a program, to be read once more. None where it has
+    /// none.
+    pub fn at(
+        alloc: Global,
+        input: &Input<R>,
+        offset: u64,
+    ) -> Result<Option<UnitRows<R>>, AllocError> {
+        let Ok(place) = R::Offset::from_u64(offset) else {
+            return Ok(None);
+        };
+        let size = input.notation.address_size.bytes();
+        let place = DebugLineOffset(place);
+        match input.lines.program(alloc, place, size, None, None) {
+            Ok(program) => Ok(Some(UnitRows::new(offset, program))),
+            Err(Error::OutOfMemory) => Err(AllocError),
+            Err(_) => Ok(None),
+        }
+    }
+
     /// The header, with the files that are defined so far.
     pub fn header(&self) -> &LineProgramHeader<R> {
         self.rows.header()
+    }
+
+    /// Runs through rows until the header has the file of an index, if it ever has.
+    pub fn run_to_file(&mut self, index: u64) -> Result<(), AllocError> {
+        for _ in 0..u64::MAX {
+            if self.header().file(index).is_some() || self.next_row()?.is_none() {
+                break;
+            }
+        }
+        Ok(())
     }
 
     /// The next row; None at the end, and at a fault, which is kept.

@@ -17,7 +17,9 @@ pub struct Diff<R: Reader> {
     old: Side<R>,
     new: Side<R>,
     stage: Stage,
-    paths: PathNumbers,
+    paths: PathNumbers<R>,
+    /// The path that was printed last, and its number.
+    printed: Option<(usize, Vec<u8>)>,
     /// The lines that differ and weren't printed, once both programs were read.
     differences: BTreeMap<LinePlace, Change>,
 }
@@ -31,6 +33,8 @@ enum Stage {
     New,
     /// The differences, of which there are so many.
     Differences(usize),
+    /// Nothing: more bytes of paths were made than there may be.
+    Nothing,
 }
 
 impl<R: Reader> Diff<R> {
@@ -41,26 +45,33 @@ impl<R: Reader> Diff<R> {
         new: &Input<R>,
         output: &mut Output<'_>,
     ) -> Result<Diff<R>> {
-        let old = Side::new(alloc, old, output)?;
-        let new = Side::new(alloc, new, output)?;
+        let old = Side::new(alloc, false, old, output)?;
+        let new = Side::new(alloc, true, new, output)?;
         Ok(Diff {
             old,
             new,
             stage: Stage::Old,
             paths: PathNumbers::new(alloc),
+            printed: None,
             differences: BTreeMap::new(alloc),
         })
     }
 
-    /// Goes on to the new program.
+    /// Goes on to the new program, where the old one was read.
     pub fn begin_new(&mut self) {
-        self.stage = Stage::New;
+        if let Stage::Old = self.stage {
+            self.stage = Stage::New;
+        }
     }
 
     /// Finds each line that has another number of bytes of code in the new program than in the old
     /// one. The command ends as refused where there is any.
     fn compare(&mut self, output: &mut Output<'_>) -> Result<()> {
-        let Side { reading, coverage } = &self.old;
+        let Side {
+            reading,
+            coverage,
+            ..
+        } = &self.old;
         self.differences = coverage.differences(reading.alloc, &self.new.coverage)?;
         self.stage = Stage::Differences(self.differences.len());
         if !self.differences.is_empty() {
@@ -71,18 +82,36 @@ impl<R: Reader> Diff<R> {
 
     /// Prints lines that differ until the output is full, and after the last one how many lines
     /// there are. False after these.
-    fn print_differences(&mut self, count: usize, output: &mut Output<'_>) -> bool {
+    fn print_differences(&mut self, count: usize, output: &mut Output<'_>) -> Result<bool> {
         for _ in 0..u64::MAX {
             if output.is_full() {
                 break;
             }
             let Some((place, change)) = self.differences.pop_first() else {
                 self.print_counts(count, output);
-                return false;
+                return Ok(false);
             };
-            self.print_change(place, change, output);
+            self.turn_to(place.path)?;
+            self.print_change(place.line, change, output);
         }
-        true
+        Ok(true)
+    }
+
+    /// Makes the path of a number once more, unless it is the one that was printed last.
+    fn turn_to(&mut self, number: usize) -> Result<()> {
+        if matches!(&self.printed, Some((printed, _)) if *printed == number) {
+            return Ok(());
+        }
+        self.printed = None;
+        if let Some(home) = self.paths.home(number) {
+            let path = if home.is_new {
+                self.paths.path_at(home, &self.new.reading)
+            } else {
+                self.paths.path_at(home, &self.old.reading)
+            };
+            self.printed = path?.map(|path| (number, path));
+        }
+        Ok(())
     }
 
     /// Prints how many lines there are.
@@ -97,19 +126,22 @@ impl<R: Reader> Diff<R> {
         print_fields(text, &fields, output);
     }
 
-    /// Prints a line that differs.
-    fn print_change(&self, place: LinePlace, change: Change, output: &mut Output<'_>) {
-        let path = self.paths.path(place.path);
+    /// Prints a line of the path that differs.
+    fn print_change(&self, line: u64, change: Change, output: &mut Output<'_>) {
+        let path = match &self.printed {
+            Some((_, path)) => Some(path.as_slice()),
+            None => None,
+        };
         if output.is_json() {
             let fields = [
                 ("path", Json::Bytes(path)),
-                ("line", Json::Number(place.line)),
+                ("line", Json::Number(line)),
                 ("old_bytes", Json::Count(change.old)),
                 ("new_bytes", Json::Count(change.new)),
             ];
             return output.print_object(&fields);
         }
-        let pieces = [Piece::Path(path), Piece::Number(place.line)];
+        let pieces = [Piece::Path(path), Piece::Number(line)];
         add("%:%  ", &pieces, output);
         match (change.old, change.new) {
             (Some(old), Some(new)) => {
@@ -123,38 +155,67 @@ impl<R: Reader> Diff<R> {
     }
 
     /// Adds the code of the next unit. After the last one of the new program follow the lines that
-    /// differ.
+    /// differ. Nothing follows where more bytes of paths were made than there may be, which is
+    /// reported.
     pub fn print_next(&mut self, output: &mut Output<'_>) -> Result<bool> {
         match self.stage {
-            Stage::Old => self.old.add_next(&mut self.paths, output),
+            Stage::Old => {
+                let may_follow = self.old.add_next(&mut self.paths, output)?;
+                Ok(!self.is_refused(output) && may_follow)
+            }
             Stage::New => {
-                if !self.new.add_next(&mut self.paths, output)? {
+                let may_follow = self.new.add_next(&mut self.paths, output)?;
+                if self.is_refused(output) {
+                    return Ok(false);
+                }
+                if !may_follow {
                     self.compare(output)?;
                 }
                 Ok(true)
             }
-            Stage::Differences(count) => Ok(self.print_differences(count, output)),
+            Stage::Differences(count) => self.print_differences(count, output),
+            Stage::Nothing => Ok(false),
         }
+    }
+
+    /// Whether more bytes of paths were made than there may be, which is reported. Then nothing
+    /// follows.
+    fn is_refused(&mut self, output: &mut Output<'_>) -> bool {
+        let is_refused = self.old.reading.is_refused(output) || self.new.reading.is_refused(output);
+        if is_refused {
+            self.stage = Stage::Nothing;
+        }
+        is_refused
     }
 }
 
 /// One of two programs, and how many bytes of code each of its lines has.
 #[derive(Drop)]
 struct Side<R: Reader> {
+    is_new: bool,
     reading: Reading<R>,
     coverage: Coverage,
 }
 
 impl<R: Reader> Side<R> {
     /// No line is known.
-    fn new(alloc: Global, input: &Input<R>, output: &mut Output<'_>) -> Result<Side<R>> {
+    fn new(
+        alloc: Global,
+        is_new: bool,
+        input: &Input<R>,
+        output: &mut Output<'_>,
+    ) -> Result<Side<R>> {
         let reading = Reading::new(alloc, input, UnitChoice::All, Printing::Rare, output)?;
         let coverage = Coverage::new(alloc);
-        Ok(Side { reading, coverage })
+        Ok(Side {
+            is_new,
+            reading,
+            coverage,
+        })
     }
 
     /// Adds the code of the next unit. False where there is none.
-    fn add_next(&mut self, paths: &mut PathNumbers, output: &mut Output<'_>) -> Result<bool> {
+    fn add_next(&mut self, paths: &mut PathNumbers<R>, output: &mut Output<'_>) -> Result<bool> {
         match self.reading.walk.next_rows(output)? {
             Some(mut unit) => self.add_unit(&mut unit, paths, output),
             None => Ok(false),
@@ -165,12 +226,15 @@ impl<R: Reader> Side<R> {
     fn add_unit(
         &mut self,
         unit: &mut UnitRows<R>,
-        paths: &mut PathNumbers,
+        paths: &mut PathNumbers<R>,
         output: &mut Output<'_>,
     ) -> Result<bool> {
         paths.begin_unit();
         let mut before: Option<LineRow> = None;
         for _ in 0..u64::MAX {
+            if self.reading.budget.is_spent() {
+                break;
+            }
             let Some(row) = unit.next_row()? else {
                 break;
             };
@@ -189,13 +253,13 @@ impl<R: Reader> Side<R> {
         header: &LineProgramHeader<R>,
         row: &LineRow,
         end: u64,
-        paths: &mut PathNumbers,
+        paths: &mut PathNumbers<R>,
     ) -> Result<()> {
         if row.address() < self.reading.input.notation.lowest || end <= row.address() {
             return Ok(());
         }
         let place = LinePlace {
-            path: paths.number_of(header, row.file_index(), &self.reading)?,
+            path: paths.number_of(header, row.file_index(), self.is_new, &mut self.reading)?,
             line: line_of(row),
         };
         self.coverage.add(place, end.saturating_sub(row.address()))

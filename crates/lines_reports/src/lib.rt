@@ -4,7 +4,10 @@
 
 mod check;
 mod diff;
+mod file_check;
+mod file_list;
 mod findings;
+mod overlaps;
 mod path_numbers;
 mod report;
 mod row_check;

@@ -1,30 +1,52 @@
 //! The paths of files, each by a number.
 
 use crate::report::Reading;
-use gimli_core::Reader;
+use gimli_core::{Reader, ReaderOffset};
 use gimli_line::LineProgramHeader;
-use indexmap::IndexSet;
+use lines_inputs::UnitRows;
 use lines_pieces::Result;
+use sha2::{Digest, Sha256};
 use std::alloc::Global;
 use std::collections::BTreeMap;
 
-/// The numbers of paths.
-#[derive(Drop)]
-pub(crate) struct PathNumbers {
-    alloc: Global,
-    /// The paths, each once; its number is its place here.
-    paths: IndexSet<Vec<u8>>,
-    /// The numbers of the files of a unit, by their indices.
-    of_unit: BTreeMap<u64, usize>,
+/// The path of all files that have none.
+const NO_PATH: &[u8] = b"??";
+
+/// Where a path was met first.
+#[derive(Clone, Copy)]
+pub(crate) struct Home {
+    /// Whether in the second of two programs.
+    pub(crate) is_new: bool,
+    /// The offset of the unit.
+    unit: u64,
+    /// The index of the file; None where it has no path.
+    file: Option<u64>,
 }
 
-impl PathNumbers {
+/// The numbers of paths. A path isn't kept: it is known by its SHA-256, and made once more where it
+/// is printed.
+#[derive(Drop)]
+pub(crate) struct PathNumbers<R: Reader> {
+    alloc: Global,
+    /// The number of each path, by its SHA-256.
+    numbers: BTreeMap<[u8; 32], usize>,
+    /// Where each path was met first, by its number.
+    homes: Vec<Home>,
+    /// The numbers of the files of a unit, by their indices.
+    of_unit: BTreeMap<u64, usize>,
+    /// The unit in which a path was made once more, and its program.
+    again: Option<(bool, UnitRows<R>)>,
+}
+
+impl<R: Reader> PathNumbers<R> {
     /// No path has a number.
-    pub(crate) fn new(alloc: Global) -> PathNumbers {
+    pub(crate) fn new(alloc: Global) -> PathNumbers<R> {
         PathNumbers {
             alloc,
-            paths: IndexSet::new(alloc),
+            numbers: BTreeMap::new(alloc),
+            homes: Vec::new(alloc),
             of_unit: BTreeMap::new(alloc),
+            again: None,
         }
     }
 
@@ -33,28 +55,71 @@ impl PathNumbers {
         self.of_unit = BTreeMap::new(self.alloc);
     }
 
-    /// The number of the path of a file of the unit. Files without a path have one together.
-    pub(crate) fn number_of<R: Reader>(
+    /// The number of the path of a file of the unit, in the first or the second of two programs.
+    /// Files without a path have one together. The bytes of the path count.
+    pub(crate) fn number_of(
         &mut self,
         header: &LineProgramHeader<R>,
         file: u64,
-        reading: &Reading<R>,
+        is_new: bool,
+        reading: &mut Reading<R>,
     ) -> Result<usize> {
         if let Some(number) = self.of_unit.get(&file).copied() {
             return Ok(number);
         }
-        let path = match reading.sources.known_path(self.alloc, header, file)? {
-            Some(path) => path,
-            None => Vec::from_slice(self.alloc, b"??")?,
+        let (path, _) = reading.path_of(header, file, false)?;
+        let home = Home {
+            is_new,
+            unit: header.offset().0.into_u64(),
+            file: path.is_some().then_some(file),
         };
-        let (number, _) = self.paths.insert_full(path)?;
+        let digest = Sha256::digest(path.as_deref().unwrap_or(NO_PATH));
+        let number = self.number_at(digest, home)?;
         self.of_unit.insert(file, number)?;
         Ok(number)
     }
 
-    /// The path of a number; None past the last one.
-    pub(crate) fn path(&self, number: usize) -> Option<&[u8]> {
-        let path = self.paths.get_index(number)?;
-        Some(path)
+    /// The number of the path with a digest, which is new where it wasn't met before.
+    fn number_at(&mut self, digest: [u8; 32], home: Home) -> Result<usize> {
+        if let Some(number) = self.numbers.get(&digest).copied() {
+            return Ok(number);
+        }
+        let number = self.homes.len();
+        self.homes.push(home)?;
+        self.numbers.insert(digest, number)?;
+        Ok(number)
+    }
+
+    /// Where the path of a number was met first; None past the last one.
+    pub(crate) fn home(&self, number: usize) -> Option<Home> {
+        self.homes.get(number).copied()
+    }
+
+    /// The path that was met first at a place, made once more. Where paths are asked for in the
+    /// order of their numbers, each unit is read once.
+    pub(crate) fn path_at(&mut self, home: Home, reading: &Reading<R>) -> Result<Option<Vec<u8>>> {
+        let Some(file) = home.file else {
+            return Ok(Some(Vec::from_slice(self.alloc, NO_PATH)?));
+        };
+        self.turn_to(home, reading)?;
+        let Some((_, unit)) = &mut self.again else {
+            return Ok(None);
+        };
+        unit.run_to_file(file)?;
+        reading.sources.known_path(self.alloc, unit.header(), file)
+    }
+
+    /// Reads the unit of a place once more, unless it is the one that was read last.
+    fn turn_to(&mut self, home: Home, reading: &Reading<R>) -> Result<()> {
+        if let Some((is_new, unit)) = &self.again {
+            if *is_new == home.is_new && unit.offset == home.unit {
+                return Ok(());
+            }
+        }
+        self.again = None;
+        if let Some(unit) = UnitRows::at(self.alloc, &reading.input, home.unit)? {
+            self.again = Some((home.is_new, unit));
+        }
+        Ok(())
     }
 }

@@ -1,12 +1,14 @@
 //! What is printed of line programs, piece by piece.
 
 use crate::check::Check;
+use crate::file_list::FileList;
 use crate::row_list::RowList;
 use crate::stat::Stat;
-use crate::unit_list::{print_heading, print_unit, print_unit_files};
+use crate::unit_list::{print_heading, print_unit};
 use gimli_core::Reader;
-use lines_inputs::{Input, PathSources, Printing, UnitRows, Walk};
-use lines_pieces::Result;
+use gimli_line::LineProgramHeader;
+use lines_inputs::{Input, PathBudget, PathFault, PathSources, Printing, UnitRows, Walk};
+use lines_pieces::{Result, path_or_fault};
 use lines_words::{Command, Output, Request, UnitChoice};
 use std::alloc::Global;
 
@@ -17,6 +19,8 @@ pub(crate) struct Reading<R: Reader> {
     pub(crate) walk: Walk<R>,
     pub(crate) sources: PathSources<R>,
     pub(crate) input: Input<R>,
+    /// The bytes of the paths that are made and aren't printed.
+    pub(crate) budget: PathBudget,
 }
 
 impl<R: Reader> Reading<R> {
@@ -34,7 +38,35 @@ impl<R: Reader> Reading<R> {
             walk: Walk::new(alloc, input, units, printing, output),
             sources,
             input: *input,
+            budget: PathBudget::new(input, output.memory_limit()),
         })
+    }
+
+    /// The whole path of the file of an index, or why it can't be told. Its bytes count, unless it
+    /// is printed.
+    pub(crate) fn path_of(
+        &mut self,
+        header: &LineProgramHeader<R>,
+        index: u64,
+        is_printed: bool,
+    ) -> Result<(Option<Vec<u8>>, Option<PathFault>)> {
+        let before = self.budget;
+        let path = self
+            .sources
+            .counted(self.alloc, header, index, &mut self.budget);
+        if is_printed && path.is_ok() {
+            self.budget = before;
+        }
+        path_or_fault(&self.sources, path)
+    }
+
+    /// Whether more bytes of paths were made than there may be, which is reported.
+    pub(crate) fn is_refused(&self, output: &mut Output<'_>) -> bool {
+        if self.budget.is_spent() {
+            output.clear();
+            output.tell(self.budget);
+        }
+        self.budget.is_spent()
     }
 }
 
@@ -51,10 +83,10 @@ pub struct Report<R: Reader> {
 #[derive(Drop)]
 enum Task<R: Reader> {
     Units,
-    Files,
+    Files(FileList),
     Rows(RowList),
     Check(Check<R>),
-    Stat(Stat),
+    Stat(Stat<R>),
 }
 
 impl<R: Reader> Report<R> {
@@ -72,7 +104,7 @@ impl<R: Reader> Report<R> {
         };
         let reading = Reading::new(alloc, input, request.units, printing, output)?;
         let task = match request.command {
-            Command::Files => Task::Files,
+            Command::Files => Task::Files(FileList::new()),
             Command::Rows(form) => Task::Rows(RowList::new(alloc, form)),
             Command::Check => Task::Check(Check::new(alloc)),
             Command::Stat => Task::Stat(Stat::new(alloc)),
@@ -88,8 +120,12 @@ impl<R: Reader> Report<R> {
         }))
     }
 
-    /// Prints the next piece, and returns whether more may follow.
+    /// Prints the next piece, and returns whether more may follow. None does where more bytes of
+    /// paths were made than there may be, which is reported.
     pub fn print_next(&mut self, output: &mut Output<'_>) -> Result<bool> {
+        if self.reading.is_refused(output) {
+            return Ok(false);
+        }
         if let Task::Check(check) = &mut self.task {
             return check.print_next(&mut self.reading, output);
         }
@@ -99,13 +135,13 @@ impl<R: Reader> Report<R> {
         }
         match (&mut self.unit, &mut self.task) {
             (Some(unit), task) => {
-                if !task.print_unit(&self.reading, unit, is_new, output)? {
+                if !task.print_unit(&mut self.reading, unit, is_new, output)? {
                     self.unit = None;
                 }
                 Ok(true)
             }
             (None, Task::Stat(stat)) => {
-                stat.finish(self.reading.input.length(), output)?;
+                stat.finish(&self.reading, output)?;
                 Ok(false)
             }
             (None, _) => Ok(false),
@@ -118,19 +154,23 @@ impl<R: Reader> Task<R> {
     /// follows.
     fn print_unit(
         &mut self,
-        reading: &Reading<R>,
+        reading: &mut Reading<R>,
         unit: &mut UnitRows<R>,
         is_new: bool,
         output: &mut Output<'_>,
     ) -> Result<bool> {
         match self {
             Task::Rows(list) if is_new => {
-                list.begin(unit, output);
+                list.begin(reading.alloc, unit, output);
+                return Ok(true);
+            }
+            Task::Files(list) if is_new => {
+                list.begin(unit, output)?;
                 return Ok(true);
             }
             Task::Rows(list) => return list.print_some(reading, unit, output),
+            Task::Files(list) => return list.print_some(reading, unit, output),
             Task::Units => print_unit(unit, output)?,
-            Task::Files => print_unit_files(reading, unit, output)?,
             Task::Stat(stat) => stat.add_unit(reading, unit, output)?,
             Task::Check(_) => {}
         }

@@ -4,12 +4,19 @@ use crate::report::Reading;
 use gimli_core::Reader;
 use gimli_line::LineRow;
 use lines_inputs::{FlagLetters, UnitRows, column_of, flags_of, line_of};
-use lines_pieces::{Piece, Result, path_or_fault, tell_of_unit};
+use lines_pieces::{Piece, Result, tell_of_unit};
 use lines_words::{Form, Json, JsonBytes, Output, PathText, last_part};
 use std::alloc::Global;
+use std::collections::BTreeMap;
 
 /// How many rows are printed before they are handed on.
 const SOME: u64 = 1024;
+
+/// How many bytes of texts are kept of the files of a unit.
+const KEPT: usize = 1 << 20;
+
+/// The bytes that a text takes beside its own.
+const BESIDE: usize = 128;
 
 /// How the rows of units are printed.
 #[derive(Drop)]
@@ -19,6 +26,11 @@ pub(crate) struct RowList {
     file: Option<u64>,
     /// How the path of that file is printed.
     path: String,
+    /// How the paths of files of the unit are printed, by their indices, since rows go back to a
+    /// file often.
+    texts: BTreeMap<u64, String>,
+    /// The bytes that these take.
+    bytes: usize,
 }
 
 impl RowList {
@@ -28,25 +40,39 @@ impl RowList {
             form,
             file: None,
             path: String::new(alloc),
+            texts: BTreeMap::new(alloc),
+            bytes: 0,
         }
     }
 
     /// Prints the headings of a unit.
-    pub(crate) fn begin<R: Reader>(&mut self, unit: &UnitRows<R>, output: &mut Output<'_>) {
+    pub(crate) fn begin<R: Reader>(
+        &mut self,
+        alloc: Global,
+        unit: &UnitRows<R>,
+        output: &mut Output<'_>,
+    ) {
         output.print_unit_heading(unit.offset, unit.header().version());
         output.print_heading("           address     line  column  discr  isa  flags  file");
         self.file = None;
+        self.forget(alloc);
+    }
+
+    /// Keeps no text.
+    fn forget(&mut self, alloc: Global) {
+        self.texts = BTreeMap::new(alloc);
+        self.bytes = 0;
     }
 
     /// Prints some rows of a unit. False after the last one, and after a fault, which is reported.
     pub(crate) fn print_some<R: Reader>(
         &mut self,
-        reading: &Reading<R>,
+        reading: &mut Reading<R>,
         unit: &mut UnitRows<R>,
         output: &mut Output<'_>,
     ) -> Result<bool> {
         for _ in 0..SOME {
-            if output.is_full() {
+            if output.is_full() || reading.budget.is_spent() {
                 break;
             }
             let Some(row) = unit.next_row()? else {
@@ -54,7 +80,7 @@ impl RowList {
                 return Ok(false);
             };
             if self.file != Some(row.file_index()) {
-                self.look_up(reading, unit, &row, output)?;
+                self.turn_to(row.file_index(), reading, unit, output)?;
             }
             match self.form {
                 Form::Json => print_json(unit.offset, &row, &self.path, output),
@@ -64,24 +90,56 @@ impl RowList {
         Ok(true)
     }
 
-    /// Keeps how the path of a row's file is printed. Where it has none, that is reported once for
-    /// rows of one file that follow each other.
-    fn look_up<R: Reader>(
+    /// Goes on to rows of another file.
+    fn turn_to<R: Reader>(
         &mut self,
-        reading: &Reading<R>,
+        file: u64,
+        reading: &mut Reading<R>,
         unit: &UnitRows<R>,
-        row: &LineRow,
         output: &mut Output<'_>,
     ) -> Result<()> {
-        self.file = Some(row.file_index());
-        let path = reading.sources.of_row(reading.alloc, unit.header(), row);
-        let (path, fault) = path_or_fault(&reading.sources, path)?;
+        self.file = Some(file);
+        if let Some(text) = self.texts.get(&file) {
+            self.path.clear();
+            self.path.push_str(text)?;
+            return Ok(());
+        }
+        self.look_up(file, reading, unit, output)
+    }
+
+    /// Keeps how the path of a file is printed. Where it has none, that is reported each time that
+    /// rows turn to it.
+    fn look_up<R: Reader>(
+        &mut self,
+        file: u64,
+        reading: &mut Reading<R>,
+        unit: &UnitRows<R>,
+        output: &mut Output<'_>,
+    ) -> Result<()> {
+        let is_whole = !matches!(self.form, Form::Text);
+        let (path, fault) = reading.path_of(unit.header(), file, is_whole)?;
+        self.path = path_text(reading.alloc, self.form, path.as_deref())?;
         if let Some(fault) = fault {
             let rows = Piece::Rows(unit.count.saturating_sub(1));
             let pieces = [rows, Piece::Fault(fault)];
             tell_of_unit(unit.offset, "after %: %", &pieces, output);
+            return Ok(());
         }
-        self.path = path_text(reading.alloc, self.form, path.as_deref())?;
+        self.keep(reading.alloc, file)
+    }
+
+    /// Keeps the text of a file, unless it is long.
+    fn keep(&mut self, alloc: Global, file: u64) -> Result<()> {
+        let bytes = self.path.len().saturating_add(BESIDE);
+        if bytes > KEPT {
+            return Ok(());
+        }
+        if self.bytes.saturating_add(bytes) > KEPT {
+            self.forget(alloc);
+        }
+        self.bytes = self.bytes.saturating_add(bytes);
+        let text = String::from_str(alloc, &self.path)?;
+        self.texts.insert(file, text)?;
         Ok(())
     }
 }

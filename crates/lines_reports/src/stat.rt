@@ -17,7 +17,7 @@ const LARGEST: usize = 10;
 
 /// What the bytes of the section are spent on, and its largest units and files.
 #[derive(Drop)]
-pub(crate) struct Stat {
+pub(crate) struct Stat<R: Reader> {
     tally: Tally,
     /// The bytes of the units that can be read.
     bytes: u64,
@@ -28,16 +28,16 @@ pub(crate) struct Stat {
     not_statements: u64,
     /// The bytes of each unit, with its offset.
     units: Vec<(u64, u64)>,
-    paths: PathNumbers,
+    paths: PathNumbers<R>,
     /// The rows of each file of a unit, by its index.
     of_unit: BTreeMap<u64, u64>,
     /// The rows of each path, by its number.
     files: BTreeMap<usize, u64>,
 }
 
-impl Stat {
+impl<R: Reader> Stat<R> {
     /// Nothing was counted.
-    pub(crate) fn new(alloc: Global) -> Stat {
+    pub(crate) fn new(alloc: Global) -> Stat<R> {
         Stat {
             tally: Tally::new(),
             bytes: 0,
@@ -52,9 +52,9 @@ impl Stat {
     }
 
     /// Counts a unit, whose fault is reported.
-    pub(crate) fn add_unit<R: Reader>(
+    pub(crate) fn add_unit(
         &mut self,
-        reading: &Reading<R>,
+        reading: &mut Reading<R>,
         unit: &mut UnitRows<R>,
         output: &mut Output<'_>,
     ) -> Result<()> {
@@ -73,7 +73,10 @@ impl Stat {
         self.ends = self.ends.saturating_add(unit.ends);
         self.paths.begin_unit();
         for (file, count) in &self.of_unit {
-            let number = self.paths.number_of(unit.header(), *file, reading)?;
+            if reading.budget.is_spent() {
+                break;
+            }
+            let number = self.paths.number_of(unit.header(), *file, false, reading)?;
             count_more(&mut self.files, number, *count)?;
         }
         unit.tell_fault(output);
@@ -90,13 +93,14 @@ impl Stat {
         count_more(&mut self.of_unit, row.file_index(), 1)
     }
 
-    /// Prints what was counted in a section of so many bytes.
-    pub(crate) fn finish(&mut self, all: u64, output: &mut Output<'_>) -> Result<()> {
+    /// Prints what was counted in a section.
+    pub(crate) fn finish(&mut self, reading: &Reading<R>, output: &mut Output<'_>) -> Result<()> {
+        let all = reading.input.length();
         self.tally.add_unread(all.saturating_sub(self.bytes));
         self.print_shares(all, output);
         self.units.sort()?;
         self.print_units(all, output);
-        self.print_files(output)?;
+        self.print_files(reading, output)?;
         let whole = all.checked_div(self.rows).unwrap_or(0);
         let rest = all.checked_rem(self.rows).unwrap_or(0);
         let tenths = rest.saturating_mul(10).checked_div(self.rows).unwrap_or(0);
@@ -146,26 +150,36 @@ impl Stat {
     }
 
     /// Prints the files with the most rows.
-    fn print_files(&self, output: &mut Output<'_>) -> Result<()> {
+    fn print_files(&mut self, reading: &Reading<R>, output: &mut Output<'_>) -> Result<()> {
         output.print_heading("most rows");
-        let mut largest = Vec::new(*self.units.allocator());
+        let mut largest = Vec::new(reading.alloc);
         for (number, count) in &self.files {
             largest.push((*count, *number))?;
         }
         largest.sort()?;
-        let all = self.rows.saturating_sub(self.ends);
         for (count, number) in largest.iter().rev().take(LARGEST) {
-            let path = Piece::Path(self.paths.path(*number));
-            if output.is_json() {
-                let fields = [("path", path), ("rows", Piece::Number(*count))];
-                print_fields("", &fields, output);
-            } else {
-                let share = Piece::Share(*count, all);
-                let count = Piece::WideNumber(*count, 9);
-                print("%  %  %", &[count, path, share], output);
-            }
+            let path = match self.paths.home(*number) {
+                Some(home) => self.paths.path_at(home, reading)?,
+                None => None,
+            };
+            self.print_file(path.as_deref(), *count, output);
         }
         Ok(())
+    }
+
+    /// Prints how many rows a file has.
+    fn print_file(&self, path: Option<&[u8]>, count: u64, output: &mut Output<'_>) {
+        let path = Piece::Path(path);
+        if output.is_json() {
+            let fields = [("path", path), ("rows", Piece::Number(count))];
+            return print_fields("", &fields, output);
+        }
+        let share = Piece::Share(count, self.rows.saturating_sub(self.ends));
+        print(
+            "%  %  %",
+            &[Piece::WideNumber(count, 9), path, share],
+            output,
+        );
     }
 }
 

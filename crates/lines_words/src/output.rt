@@ -118,7 +118,12 @@ impl<'o> Output<'o> {
 
     /// Whether so much was printed that it should be handed on before more is.
     pub fn is_full(&self) -> bool {
-        self.out.len() >= FULL
+        self.out.len() >= FULL || self.err.len() >= FULL
+    }
+
+    /// The limit of memory that the request names; None where it names none.
+    pub fn memory_limit(&self) -> Option<u64> {
+        self.request.memory_limit
     }
 
     /// Whether a JSON object a line is printed.
