@@ -250,30 +250,52 @@ gimli_line_status gimli_line_read_rows(const gimli_line_sections *sections, size
  * directory go to the front of `path` and `directory`, as far as they stand in the section itself; file->path.size and
  * file->directory.size say how many there are. No zero byte is added. GIMLI_LINE_NO_ROOM where one of the two is too short: *file is
  * written then, and nothing else. GIMLI_LINE_NO_SUCH_FILE where there is no such file. Where another number than these is answered,
- * nothing is written. */
+ * nothing is written. Each call parses the header of the unit: for more than a few files call gimli_line_read_files. */
 gimli_line_status gimli_line_read_file(const gimli_line_sections *sections, size_t offset, uint64_t number, gimli_line_file *file,
                                        char *path, size_t path_room, char *directory, size_t directory_room) GIMLI_LINE_CALL;
 
 /* Reads the directory of a number, as files have it: up to version 4 from 1 on, in version 5 from 0 on. Its bytes go to the front of
  * `bytes`, as far as they stand in the section itself; directory->size says how many there are. GIMLI_LINE_NO_ROOM where `room` is less:
  * *directory is written then, and nothing else. GIMLI_LINE_NO_SUCH_DIRECTORY where there is no such directory, as there is none of
- * number 0 up to version 4. Where another number than these is answered, nothing is written. */
+ * number 0 up to version 4. Where another number than these is answered, nothing is written. Each call parses the header of the unit. */
 gimli_line_status gimli_line_read_directory(const gimli_line_sections *sections, size_t offset, uint64_t number, gimli_line_text *directory,
                                             char *bytes, size_t room) GIMLI_LINE_CALL;
 
 /* Tells the whole path of the file of a number: a relative one goes on from its directory, and that one from the directory of the
  * compilation. In version 5 that is directory 0 of the unit. Up to version 4, or if directory 0 is empty, it is `comp_dir`, which
  * gimli_line_comp_dir gives; otherwise `comp_dir` isn't looked at. If the directory is relative or has no bytes, so is the path. The
- * bytes go into path[0] and so on; *size is how many there are. No zero byte is added. GIMLI_LINE_NO_ROOM where `room` is less: *size is written then, and nothing else.
- * GIMLI_LINE_NO_SUCH_FILE where there is no such file, as gimli_line_read_file has it; GIMLI_LINE_UNKNOWN_PATH where a string of the path
- * can't be told. Where another number than these is answered, nothing is written. */
+ * bytes go into path[0] and so on; *size is how many there are. No zero byte is added. GIMLI_LINE_NO_ROOM where `room` is less: *size is
+ * written then, and nothing else. GIMLI_LINE_NO_SUCH_FILE where there is no such file, as gimli_line_read_file has it;
+ * GIMLI_LINE_UNKNOWN_PATH where a string of the path can't be told. Where another number than these is answered, nothing is written. Each
+ * call parses the header of the unit: for more than a few files call gimli_line_read_files. */
 gimli_line_status gimli_line_read_path(const gimli_line_sections *sections, size_t offset, uint64_t number, const char *comp_dir,
                                        size_t comp_dir_length, char *path, size_t room, size_t *size) GIMLI_LINE_CALL;
+
+/* A file that gimli_line_read_files is asked for. */
+typedef struct gimli_line_listed_file {
+    uint64_t number;      /* which file: the caller sets it */
+    gimli_line_file file; /* what gimli_line_read_file says of it */
+    size_t path;          /* where its whole path begins in `texts`; 0 where it has none */
+    size_t path_size;     /* in bytes, without the zero byte that follows */
+    uint32_t status;      /* GIMLI_LINE_OK; GIMLI_LINE_UNKNOWN_PATH where a string of the path can't be read; or GIMLI_LINE_NO_SUCH_FILE,
+                           * and then nothing else of the struct is written */
+} gimli_line_listed_file;
+
+/* Reads `count` files of a unit in one pass: the one that has the number files[0].number, and so on. Each gets what gimli_line_read_file
+ * and gimli_line_read_path say of it, and a status of its own. The whole paths go into `texts`, one after the other, each with a zero byte
+ * after it; *size is how many bytes they take in all. GIMLI_LINE_NO_ROOM where `room` is less: `files` and *size are written then, and
+ * `texts` isn't. Where another number than 0 is answered, nothing is written; but at GIMLI_LINE_OUT_OF_MEMORY some of `files` may have
+ * been, with their numbers as they were. The header is parsed and the program run once, so the cost grows with the unit, the number of files
+ * and the bytes of their paths. To list a unit's files, count from gimli_line_first_number(&unit) on, unit.files of them. */
+gimli_line_status gimli_line_read_files(const gimli_line_sections *sections, size_t offset, const char *comp_dir, size_t comp_dir_length,
+                                        gimli_line_listed_file *files, size_t count, char *texts, size_t room,
+                                        size_t *size) GIMLI_LINE_CALL;
 
 /* Looks an address up in the unit at an offset: *first is the row that it belongs to, *second the next row, up to whose
  * address that holds. They are the first two adjacent rows of one sequence of which the first has an address at most the
  * one that is looked up, and the second one above it. GIMLI_LINE_NO_ROW where there are none. A program whose run has a fault
- * can't be looked up in: its first fault is answered. Where another number than 0 is answered, both rows stay as they were. */
+ * can't be looked up in: its first fault is answered. Where another number than 0 is answered, both rows stay as they were. Each call
+ * runs the program: for more than a few addresses make an index, or search the rows that gimli_line_read_rows gives. */
 gimli_line_status gimli_line_find_row(const gimli_line_sections *sections, size_t offset, uint64_t address, gimli_line_row *first,
                                       gimli_line_row *second) GIMLI_LINE_CALL;
 
@@ -405,10 +427,26 @@ gimli_line_status gimli_line_build_id(const void *file, size_t length, uint8_t *
  * how many there are. GIMLI_LINE_NO_ROOM where `room` is less: *size is written then, and nothing else. A unit that can't be read has no
  * directory, and the next one counts; what comes after a unit whose length can't be read, or passes the end of the section, isn't read.
  * GIMLI_LINE_NO_COMP_DIR where no unit has one. Where another number than these is answered, that or GIMLI_LINE_OUT_OF_MEMORY, nothing is
- * written. The first entry of each unit is read for each call: ask once for each unit. Only units up to version 4, and those of version 5
- * with an empty directory 0, need it for their paths. */
+ * written. Each call reads the first entry of each unit of .debug_info: for more than a few units call gimli_line_comp_dirs. Only units
+ * up to version 4, and those of version 5 with an empty directory 0, need it for their paths. */
 gimli_line_status gimli_line_comp_dir(const gimli_line_sections *sections, uint64_t offset, char *directory, size_t room,
                                       size_t *size) GIMLI_LINE_CALL;
+
+/* A directory that gimli_line_comp_dirs is asked for. */
+typedef struct gimli_line_listed_comp_dir {
+    uint64_t offset;  /* of the line program: the caller sets it */
+    size_t directory; /* where the directory begins in `texts`; 0 where there is none */
+    size_t size;      /* in bytes, without the zero byte that follows */
+    uint32_t status;  /* GIMLI_LINE_OK, or GIMLI_LINE_NO_COMP_DIR */
+} gimli_line_listed_comp_dir;
+
+/* Tells the directories of `count` compilations in one pass over .debug_info, each as gimli_line_comp_dir does: that of the line program
+ * at directories[0].offset, and so on. They go into `texts`, one after the other, each with a zero byte after it; *size is how many bytes
+ * they take in all. GIMLI_LINE_NO_ROOM where `room` is less: `directories` and *size are written then, and `texts` isn't. Where another
+ * number than 0 is answered, it is GIMLI_LINE_OUT_OF_MEMORY: some of `directories` may have been written then, with their offsets as they
+ * were. The cost grows with .debug_info, the number of directories and their bytes. */
+gimli_line_status gimli_line_comp_dirs(const gimli_line_sections *sections, gimli_line_listed_comp_dir *directories, size_t count,
+                                       char *texts, size_t room, size_t *size) GIMLI_LINE_CALL;
 
 /* The number of the first directory and of the first file of a unit: 1 up to version 4, 0 in version 5. */
 static inline uint64_t gimli_line_first_number(const gimli_line_unit *unit) { return unit->version <= 4; }

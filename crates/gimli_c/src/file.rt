@@ -158,7 +158,7 @@ fn file_told<R: Reader>(
 
 impl GimliFile {
     /// What is said of a file of a header.
-    fn new<R: Reader>(header: &LineProgramHeader<R>, file: &FileEntry<R>) -> Self
+    pub(crate) fn new<R: Reader>(header: &LineProgramHeader<R>, file: &FileEntry<R>) -> Self
         ensures { result
             ≡ file_seen_by_c header.now.meaning (file_seen R.bytes R.Offset.number file.now) }
     {

@@ -37,7 +37,7 @@ fn path_status(error: PathError) -> u32
 }
 
 /// The whole path of a file of a header, or `UNKNOWN_PATH` where it can't be told.
-fn path_in_header<'s>(
+pub(crate) fn path_in_header<'s>(
     alloc: Global,
     texts: StringSections<Slice<'s>>,
     header: &LineProgramHeader<Slice<'s>>,
