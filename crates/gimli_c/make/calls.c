@@ -139,6 +139,7 @@ gimli_line_status gimli_line_sections_of_elf(const void *file, size_t length, gi
                {".debug_abbrev", &made.abbreviations, &made.abbreviations_size},
                {".debug_str_offsets", &made.string_offsets, &made.string_offsets_size}};
     gimli_line_proved_elf found;
+    if (!is_known(sections)) return GIMLI_LINE_UNKNOWN_OPTIONS;
     uint32_t status = gimli_line_proved_elf_open(READ(file), length, &found);
     *sections = made;
     for (size_t i = 0; i < sizeof all / sizeof all[0] && status == GIMLI_LINE_OK; i++)
@@ -212,7 +213,7 @@ gimli_line_status gimli_line_index_of_sections(const gimli_line_sections *in, co
 }
 
 gimli_line_status gimli_line_index_of_elf(const void *file, size_t length, uint8_t **index, size_t *size) {
-    gimli_line_sections sections;
+    gimli_line_sections sections = GIMLI_LINE_SECTIONS;
     uint8_t id[64];
     size_t id_size = 0;
     gimli_line_status status = gimli_line_sections_of_elf(file, length, &sections);

@@ -400,6 +400,8 @@ static void structs(void) {
     in = (gimli_line_sections)GIMLI_LINE_SECTIONS;
     is(gimli_line_read_unit(&in, 0, unit) == GIMLI_LINE_UNEXPECTED_EOF, "no section");
     is(gimli_line_sections_of_elf(NULL, 0, &in) == GIMLI_LINE_NO_ELF && in.line == NULL, "no file");
+    gimli_line_sections *old = room_in(ANOTHER, sizeof *old);
+    is(gimli_line_sections_of_elf(NULL, 0, old) == GIMLI_LINE_UNKNOWN_OPTIONS && is_untouched(old, sizeof *old), "a struct of another size");
 }
 
 static void *all(void *nothing) {
