@@ -193,6 +193,7 @@ pub extern "C" fn gimli_line_proved_comp_dirs(
     let Ok(whole) = list_comp_dirs(alloc, &compilations, directories) else {
         return OUT_OF_MEMORY;
     };
-    *size = whole.len();
-    put_bytes(whole.as_slice(), texts)
+    let bytes = whole.as_slice();
+    *size = bytes.len();
+    put_bytes(bytes, texts)
 }

@@ -220,8 +220,9 @@ pub extern "C" fn gimli_line_proved_read_files(
         files,
     ) {
         Ok(whole) => {
-            *size = whole.len();
-            put_bytes(whole.as_slice(), texts)
+            let bytes = whole.as_slice();
+            *size = bytes.len();
+            put_bytes(bytes, texts)
         }
         Err(status) => status,
     }
