@@ -41,12 +41,8 @@ pub(crate) fn sections_in<'s>(
     }
 }
 
-/// Tells the directory of the compilation (`DW_AT_comp_dir`) whose line program begins at an offset
-/// of `.debug_line`: that of the first unit of `.debug_info` that names this line program and has a
-/// directory. The bytes go to the front of `directory`; `size` is how many there are. `NO_ROOM`
-/// where `directory` is shorter: then `size` alone is written. `NO_COMP_DIR` where no unit that can
-/// be read has one. Where another number than these is returned, nothing is written. The first
-/// entry of each unit is read for each call.
+/// Tells the directory of the compilation whose line program begins at an offset. Each status is
+/// that of `gimli_line_comp_dir` in `include/gimli_line.h`.
 #[unsafe(no_mangle)]
 pub extern "C" fn gimli_line_proved_comp_dir(
     alloc: Global,
@@ -151,11 +147,8 @@ fn list_comp_dirs<'s>(
     Ok(texts)
 }
 
-/// Tells the directories of many compilations at once: that of `directories[0].offset` and so on,
-/// each as `gimli_line_proved_comp_dir` does. The first entry of each unit is read once for all of
-/// them. Each goes into `texts`, with a zero byte after it; `size` is how many bytes all take.
-/// `NO_ROOM` where `texts` is shorter: then `directories` and `size` are written. Where memory is
-/// missing, `OUT_OF_MEMORY`: some of `directories` may have been written then.
+/// Tells the directories of many compilations in one pass: that of `directories[0].offset` and so
+/// on, as `gimli_line_comp_dirs` of `include/gimli_line.h` says.
 #[unsafe(no_mangle)]
 pub extern "C" fn gimli_line_proved_comp_dirs(
     alloc: Global,

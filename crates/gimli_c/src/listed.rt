@@ -169,12 +169,8 @@ fn files_of<'s>(
     list_files(alloc, sections, rows.header(), comp_dir, files)
 }
 
-/// Reads many files of a unit at once: that of `files[0].number` and so on. The header is parsed,
-/// and the program run to its end, once for all of them. Each whole path goes into `texts`, with a
-/// zero byte after it; `size` is how many bytes all take. `NO_ROOM` where `texts` is shorter: then
-/// `files` and `size` are written. Where another number than these is returned, nothing is written;
-/// but where memory is missing, some of `files` may have been. For the rest see
-/// `gimli_line_proved_read_path`.
+/// Reads many files of a unit in one pass: that of `files[0].number` and so on, as
+/// `gimli_line_read_files` of `include/gimli_line.h` says.
 #[unsafe(no_mangle)]
 pub extern "C" fn gimli_line_proved_read_files(
     alloc: Global,
