@@ -1,5 +1,5 @@
 -- Texts one after the other, and answers that stay as more texts come.
-use Rattle.std.proofs.Common.{◌≡◌, ◌⊎◌, ◌++◌, ◌∷◌, [], ℕ, List, length, refl, ap, ◌∙◌, append_assoc, inl, inr}
+use Rattle.std.proofs.Common.{◌≡◌, ◌++◌, ◌∷◌, ℕ, List, ap, ◌∙◌, append_assoc, inl, inr}
 use Rattle.std.specs.Prelude.{Option, Some, None, Result, Ok, Err}
 use Rattle.gimli_line.specs.header.Header.{Header}
 use Rattle.gimli_lookup.specs.Strings.{Strings}
@@ -7,17 +7,6 @@ use Rattle.gimli_lookup.specs.declared.path_error.PathError.{PathError}
 use Rattle.gimli_c.specs.declared.comp_dir.GimliCompDir.{GimliCompDir}
 use Rattle.gimli_c.specs.declared.listed.GimliListedFile.{GimliListedFile}
 use Rattle.gimli_c.specs.Listed.{StandsAt, SeesPathAmong, SeesFile, IsFileAnswer, SeesDirectoryAmong, IsCompDirAnswer}
-
--- a text that comes last
-pub stands_last : (texts text now : List ℕ) (first size : ℕ) → now ≡ texts ++ (text ++ 0 ∷ []) → first ≡ length texts
-    → size ≡ length text → StandsAt now first size text
-stands_last texts text now first size is first_is size_is = record {
-  before = texts;
-  after = [];
-  parts = is;
-  first_is = first_is;
-  size_is = size_is;
-}
 
 module _ (texts more now : List ℕ) (is : now ≡ texts ++ more) where
   -- a text stays where it stands
