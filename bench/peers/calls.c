@@ -11,7 +11,7 @@ int main(int argc, char **argv) {
     bytes file = read_file(argv[1]);
     uint8_t *index;
     size_t index_length;
-    gimli_line_sections sections;
+    gimli_line_sections sections = GIMLI_LINE_SECTIONS;
     stop_if(gimli_line_index_of_elf(file.at, file.length, &index, &index_length));
     stop_if(gimli_line_sections_of_elf(file.at, file.length, &sections));
     uint64_t lowest = strtoull(argv[4], NULL, 16), highest = strtoull(argv[5], NULL, 16);

@@ -174,7 +174,7 @@ const SENTENCES: [&str; 49] = [
     "no unit of .debug_info tells the directory of the compilation",
     "options have a size that this library doesn't know",
     "the bytes are no ELF file that can be read",
-    "the ELF file has no section of this name",
+    "the ELF file has no .debug_line, or no build ID",
     "a section is cut, or its compression or relocations are unknown",
     "an index would have more ranges, statements, files or bytes than 32 bits count, or paths longer than its limit",
     "a line or a column is more than 32 bits hold",

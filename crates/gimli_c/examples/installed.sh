@@ -13,20 +13,18 @@ have() { command -v "$1" >/dev/null || { echo "gimli_c: $1 is missing: $2 isn't 
 make -C "$crate" -s install DESTDIR="$work/root" PREFIX=/opt/gimli
 installed=$work/root/opt/gimli
 
-# Each symbol that is seen from outside is a call of the header, or a proved one that it hands on to.
-declared() {
-    grep -ohE '^(gimli_line_status |uint32_t |void |const char \*)gimli_line_[a-z_]+' "$crate/include/gimli_line.h" "$crate/make/proved.h" |
-        grep -oE '[a-z_]+$' | sort -u
-}
+# The shared library has the calls of the header; the static one also the proved ones that these hand on to, and the crate for Cargo calls.
+declared() { grep -ohE '^(gimli_line_status |uint32_t |void |const char \*)gimli_line_[a-z_]+' "$@" | grep -oE '[a-z_]+$' | sort -u; }
+header=$crate/include/gimli_line.h
 nm -D --defined-only "$installed/lib/libgimli_line.so" | awk '$2 == "T" {print $3}' | sort -u >"$work/versions"
 # Each has the version of its symbols.
 ! grep -vE '@@GIMLI_LINE_0\.1$' "$work/versions"
 sed 's/@.*//' "$work/versions" >"$work/shared"
 nm --defined-only -g "$installed/lib/libgimli_line.a" | awk '$2 == "T" {print $3}' | sort -u >"$work/static"
-declared | cmp - "$work/shared"
-declared | cmp - "$work/static"
+declared "$header" | cmp - "$work/shared"
+declared "$header" "$crate/make/proved.h" | cmp - "$work/static"
 # The page of man names each call of the header, and the pages and examples that the header names are there.
-for call in $(declared | grep -v _proved_); do grep -qw "$call" "$installed/share/man/man3/gimli_line.3" || { echo "man: no $call"; exit 1; }; done
+for call in $(cat "$work/shared"); do grep -qw "$call" "$installed/share/man/man3/gimli_line.3" || { echo "man: no $call"; exit 1; }; done
 for page in INDEX.md CALLING.md $(grep -oE 'examples/[a-z]+/[a-z_0-9]+\.c' "$installed/include/gimli_line.h" | sort -u); do
     [ -s "$installed/share/doc/gimli_line/$page" ] || { echo "share/doc/gimli_line: no $page"; exit 1; }
 done
@@ -107,4 +105,4 @@ cc -std=c11 -O1 -I "$work/other/opt/gimli/include" -I "$here/c" "$here/tests/dir
 if have valgrind "memory by it" && [ -x "$work/by_static" ]; then
     valgrind -q --error-exitcode=9 --leak-check=full --errors-for-leak-kinds=all "$work/by_static" "$work/by_static" "$main" 0 >/dev/null
 fi
-echo "gimli_c: installed, $(wc -l <"$work/static") calls and no other symbol, built by pkg-config and CMake, and from the tar without rt"
+echo "gimli_c: installed, $(wc -l <"$work/shared") calls and no other symbol, built by pkg-config and CMake, and from the tar without rt"

@@ -95,3 +95,15 @@ if have valgrind "memory by it"; then
     valgrind -q --error-exitcode=9 --tool=helgrind "$work/directories" >/dev/null
     echo "gimli_c: valgrind finds no memory that is misused or lost, and no thread that meets another"
 fi
+
+# What is asked of a whole unit or program at once costs in proportion: from 1,000 to 2,000 and to 4,000 files, directories or rows the
+# instructions that are added at most double, and a fifth.
+if have valgrind "growth by it"; then
+    build growth growth
+    counted() { valgrind --tool=callgrind --callgrind-out-file=/dev/null "$work/growth" "$1" "$2" 2>&1 >/dev/null | sed -nE 's/.*Collected : ([0-9]+)$/\1/p'; }
+    for all in files comp_dirs rows; do
+        few=$(counted $all 1000) many=$(counted $all 2000) most=$(counted $all 4000)
+        [ $((10 * (most - many))) -le $((24 * (many - few))) ] || { echo "gimli_c: growth $all: $few, $many, $most instructions"; exit 1; }
+    done
+    echo "gimli_c: files, directories of compilations and rows that are read at once cost in proportion to their number"
+fi

@@ -160,7 +160,7 @@ fi
 # What is no ELF file, and a file without lines.
 [ "$("$work/where_is" "$crate/include/gimli_line.h" 0 2>&1 || true)" = "the bytes are no ELF file that can be read" ]
 objcopy --strip-debug "$work/built" "$work/stripped"
-[ "$("$work/where_is" "$work/stripped" 0 2>&1 || true)" = "the ELF file has no section of this name" ]
+[ "$("$work/where_is" "$work/stripped" 0 2>&1 || true)" = "the ELF file has no .debug_line, or no build ID" ]
 # A small file whose section is so large, made whole, that its rows might take hundreds of times as much.
 head -c 8388608 /dev/zero >"$work/zeros"
 objcopy --update-section ".debug_line=$work/zeros" "$work/built" "$work/grown"

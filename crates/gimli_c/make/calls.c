@@ -59,6 +59,14 @@ gimli_line_status gimli_line_read_path(const gimli_line_sections *in, size_t off
                                                  READ(comp_dir), comp_dir_length, AT((void *)path), room, size));
 }
 
+gimli_line_status gimli_line_read_files(const gimli_line_sections *in, size_t offset, const char *comp_dir, size_t comp_dir_length,
+                                        gimli_line_listed_file *files, size_t count, char *texts, size_t room, size_t *size) {
+    if (!is_known(in)) return GIMLI_LINE_UNKNOWN_OPTIONS;
+    return status_of(gimli_line_proved_read_files(READ(in->line), in->line_size, READ(in->line_strings), in->line_strings_size,
+                                                  READ(in->strings), in->strings_size, in->big, in->address_size, offset, READ(comp_dir),
+                                                  comp_dir_length, AT(files), count, AT((void *)texts), room, size));
+}
+
 gimli_line_status gimli_line_find_row(const gimli_line_sections *in, size_t offset, uint64_t address, gimli_line_row *first,
                                       gimli_line_row *second) {
     if (!is_known(in)) return GIMLI_LINE_UNKNOWN_OPTIONS;
@@ -71,6 +79,15 @@ gimli_line_status gimli_line_comp_dir(const gimli_line_sections *in, uint64_t of
                                                 READ(in->line_strings), in->line_strings_size, READ(in->strings), in->strings_size,
                                                 READ(in->string_offsets), in->string_offsets_size, in->big, offset, AT((void *)directory),
                                                 room, size));
+}
+
+gimli_line_status gimli_line_comp_dirs(const gimli_line_sections *in, gimli_line_listed_comp_dir *directories, size_t count, char *texts,
+                                       size_t room, size_t *size) {
+    if (!is_known(in)) return GIMLI_LINE_UNKNOWN_OPTIONS;
+    return status_of(gimli_line_proved_comp_dirs(READ(in->info), in->info_size, READ(in->abbreviations), in->abbreviations_size,
+                                                 READ(in->line_strings), in->line_strings_size, READ(in->strings), in->strings_size,
+                                                 READ(in->string_offsets), in->string_offsets_size, in->big, AT(directories), count,
+                                                 AT((void *)texts), room, size));
 }
 
 gimli_line_status gimli_line_index_find_all(const void *index, size_t length, gimli_line_place *places, size_t count) {
@@ -122,6 +139,7 @@ gimli_line_status gimli_line_sections_of_elf(const void *file, size_t length, gi
                {".debug_abbrev", &made.abbreviations, &made.abbreviations_size},
                {".debug_str_offsets", &made.string_offsets, &made.string_offsets_size}};
     gimli_line_proved_elf found;
+    if (!is_known(sections)) return GIMLI_LINE_UNKNOWN_OPTIONS;
     uint32_t status = gimli_line_proved_elf_open(READ(file), length, &found);
     *sections = made;
     for (size_t i = 0; i < sizeof all / sizeof all[0] && status == GIMLI_LINE_OK; i++)
@@ -195,7 +213,7 @@ gimli_line_status gimli_line_index_of_sections(const gimli_line_sections *in, co
 }
 
 gimli_line_status gimli_line_index_of_elf(const void *file, size_t length, uint8_t **index, size_t *size) {
-    gimli_line_sections sections;
+    gimli_line_sections sections = GIMLI_LINE_SECTIONS;
     uint8_t id[64];
     size_t id_size = 0;
     gimli_line_status status = gimli_line_sections_of_elf(file, length, &sections);

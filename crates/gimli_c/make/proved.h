@@ -29,6 +29,10 @@ uint32_t gimli_line_proved_read_path(const uint8_t *, size_t, const uint8_t *, s
 uint32_t gimli_line_proved_find_row(const uint8_t *, size_t, bool, uint8_t, size_t, uint64_t, gimli_line_row *, gimli_line_row *);
 uint32_t gimli_line_proved_comp_dir(const uint8_t *, size_t, const uint8_t *, size_t, const uint8_t *, size_t, const uint8_t *, size_t,
                                     const uint8_t *, size_t, bool, uint64_t, uint8_t *, size_t, size_t *);
+uint32_t gimli_line_proved_read_files(const uint8_t *, size_t, const uint8_t *, size_t, const uint8_t *, size_t, bool, uint8_t, size_t,
+                                      const uint8_t *, size_t, gimli_line_listed_file *, size_t, uint8_t *, size_t, size_t *);
+uint32_t gimli_line_proved_comp_dirs(const uint8_t *, size_t, const uint8_t *, size_t, const uint8_t *, size_t, const uint8_t *, size_t,
+                                     const uint8_t *, size_t, bool, gimli_line_listed_comp_dir *, size_t, uint8_t *, size_t, size_t *);
 uint32_t gimli_line_proved_index_find_all(const uint8_t *, size_t, gimli_line_place *, size_t);
 uint32_t gimli_line_proved_index_addresses_of(const uint8_t *, size_t, const uint8_t *, size_t, uint64_t, uint64_t *, uint64_t *, size_t,
                                               size_t *);

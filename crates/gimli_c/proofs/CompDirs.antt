@@ -3,7 +3,10 @@ use Rattle.std.proofs.Common.{◌≡◌, ◌^◌, ℕ, Bool, List, Option, ap, s
 use Rattle.gimli_core.specs.Layout.{layout_of}
 use Rattle.gimli_compilation.specs.Directories.{TellsDirectories}
 use Rattle.gimli_compilation.specs.Sections.{Sections}
+use Rattle.std.specs.List.{AllZip}
+use Rattle.gimli_c.specs.declared.comp_dir.GimliCompDir.{GimliCompDir}
 use Rattle.gimli_c.specs.CompDir.{sections_handed, TellsDirectory}
+use Rattle.gimli_c.specs.Listed.{GivesCompDirs, IsCompDirAnswer}
 
 -- sections of readers, each with its bytes, and two with their orders
 abbrev pub sections_by : List ℕ → List ℕ → List ℕ → List ℕ → List ℕ → Bool → Bool → Sections
@@ -37,3 +40,12 @@ same_sections info abbreviations strings line_strings string_offsets i a s l o i
 pub tells : (s t : Sections) (tell : ℕ → Option (List ℕ)) (offset : ℕ) (directory : Option (List ℕ))
     → s ≡ t → TellsDirectories s tell → tell offset ≡ directory → TellsDirectory t offset directory
 tells s t tell offset directory same all is = (tell, subst (λ (x : Sections). TellsDirectories x tell) same all, is)
+
+-- answers by the same sections
+pub all_told : (s t : Sections) (tell : ℕ → Option (List ℕ)) (old now : List GimliCompDir) (texts : List ℕ)
+    → s ≡ t → TellsDirectories s tell → AllZip (IsCompDirAnswer tell texts) old now → GivesCompDirs t old now texts
+all_told s t tell old now texts same all each = record {
+  tell = tell;
+  tells = subst (λ (x : Sections). TellsDirectories x tell) same all;
+  each = each;
+}

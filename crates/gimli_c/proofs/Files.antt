@@ -172,3 +172,11 @@ pub has_complete : (p : Location) (layout : OrderAndLimit) (h : Header) (start :
 has_complete p layout h start unit n at_end fixed =
     has_files p layout h (complete start) (files_at_end start) unit n at_end
     (ap (λ (k : Header). record k { files = [] }) fixed) refl
+
+-- the header at the end of a run is the one with all files
+pub header_whole : (start now : RunState) (h : Header) → without_files h ≡ now.fixed → h.files ≡ now.files
+    → now.fixed ≡ start.fixed → now.files ≡ files_at_end start → h ≡ complete start
+header_whole start now h same are fixed files =
+    header_is now h same are
+    ∙ ap (λ (fs : List File). header_with now fs) files
+    ∙ ap (λ (k : Header). record k { files = files_at_end start }) fixed

@@ -47,3 +47,19 @@ module _ {A : Type 0} (R : A → A → Type 0) (old now : List A) (n : ℕ) (w :
   all_answered le = subst (λ xs. AllZip R xs now) (take_all n old le)
       (subst (λ ys. AllZip R (take n old) ys)
       (sym (w.now_is ∙ ap (λ xs. w.answers ++ xs) (drop_of_length-le old le) ∙ append-nil w.answers)) w.each)
+
+all_zipped_on : {A : Type 0} (R Q : A → A → Type 0) → ((x y : A) → R x y → Q x y) → (xs ys : List A)
+    → AllZip R xs ys → AllZip Q xs ys
+all_zipped_on R Q on [] [] w = tt
+all_zipped_on R Q on [] (y ∷ ys) w = absurd w
+all_zipped_on R Q on (x ∷ xs) [] w = absurd w
+all_zipped_on R Q on (x ∷ xs) (y ∷ ys) w = (on x y w.0, all_zipped_on R Q on xs ys w.1)
+
+-- answers of one kind that are of another one too
+pub answered_on : {A : Type 0} (R Q : A → A → Type 0) → ((x y : A) → R x y → Q x y) → (n : ℕ) (old now : List A)
+    → AreAnswered R n old now → AreAnswered Q n old now
+answered_on R Q on n old now w = record {
+  answers = w.answers;
+  each = all_zipped_on R Q on (take n old) w.answers w.each;
+  now_is = w.now_is;
+}

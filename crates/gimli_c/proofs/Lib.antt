@@ -10,5 +10,6 @@ pub mod SamePrograms
 pub mod CompDirs
 pub mod PathsOfFiles
 pub mod Indexes
+pub mod Listings
 pub mod MadeIndexes
 pub mod TakenOne

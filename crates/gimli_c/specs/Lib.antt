@@ -15,6 +15,7 @@ pub mod Refused
 pub mod Causes
 pub mod Path
 pub mod CompDir
+pub mod Listed
 pub mod Indexed
 pub mod MadeIndex
 pub mod IndexLines

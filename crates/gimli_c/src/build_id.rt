@@ -9,10 +9,8 @@ use crate::elf::elf_in;
 use crate::file::put_bytes;
 use crate::status::{BAD_SECTION, NO_ELF, NO_ROOM, NO_SECTION, OK};
 
-/// Puts the build id of an ELF file to the front of `id`; `size` is how many bytes it has.
-/// `NO_ROOM` where `id` is shorter: then `size` alone is written. `NO_SECTION` where the file has
-/// none, `BAD_SECTION` where the section of it can't be read, and `NO_ELF` where the file is none.
-/// Where another number than these is returned, nothing is written. Takes no memory.
+/// Copies the build ID of an ELF file. Each status is that of `gimli_line_build_id` in
+/// `include/gimli_line.h`. Takes no memory.
 #[unsafe(no_mangle)]
 pub extern "C" fn gimli_line_proved_elf_build_id(
     file: &[u8],

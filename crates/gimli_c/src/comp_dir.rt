@@ -1,12 +1,17 @@
 //! The directory of a compilation, which `.debug_info` has, and whole paths go on from.
 
-ghost use Rattle.std.specs.Prelude.{◌≡◌, ◌≢◌, ◌⊎◌, ◌^◌, None};
+ghost use Rattle.std.specs.Prelude.{◌≡◌, ◌≢◌, ◌⊎◌, ◌++◌, ◌^◌, ℕ, IfErr, IfOk, List, None, OnOk};
+ghost use Rattle.std.specs.Prelude.{option_map};
+ghost use Rattle.std.specs.List.{AllZip};
 ghost use Rattle.gimli_core.specs.Order.{is_big_endian};
+ghost use Rattle.gimli_compilation.specs.Directories.{directory_for};
 ghost use Rattle.gimli_compilation.specs.Sections.{sections_of};
 ghost use Rattle.gimli_c.specs.CompDir.{sections_handed, NeedsDirectoryRoom, TellsDirectory};
 ghost use Rattle.gimli_c.specs.CompDir.{WritesDirectory};
+ghost use Rattle.gimli_c.specs.Listed.{IsCompDirAnswer, NeedsCompDirsRoom, WritesCompDirs};
 
 use crate::file::put_bytes;
+use crate::listed::add_text;
 use crate::location::order;
 use crate::status::{NO_COMP_DIR, NO_ROOM, OK, OUT_OF_MEMORY};
 use gimli_compilation::{CompilationSections, Compilations};
@@ -36,12 +41,8 @@ pub(crate) fn sections_in<'s>(
     }
 }
 
-/// Tells the directory of the compilation (`DW_AT_comp_dir`) whose line program begins at an offset
-/// of `.debug_line`: that of the first unit of `.debug_info` that names this line program and has a
-/// directory. The bytes go to the front of `directory`; `size` is how many there are. `NO_ROOM`
-/// where `directory` is shorter: then `size` alone is written. `NO_COMP_DIR` where no unit that can
-/// be read has one. Where another number than these is returned, nothing is written. The first
-/// entry of each unit is read for each call.
+/// Tells the directory of the compilation whose line program begins at an offset. Each status is
+/// that of `gimli_line_comp_dir` in `include/gimli_line.h`.
 #[unsafe(no_mangle)]
 pub extern "C" fn gimli_line_proved_comp_dir(
     alloc: Global,
@@ -86,4 +87,106 @@ pub extern "C" fn gimli_line_proved_comp_dir(
     let bytes = text.slice();
     *size = bytes.len();
     put_bytes(bytes, directory)
+}
+
+/// The directory of a compilation, which is asked for by the offset of its line program.
+#[repr(C)]
+#[derive(Clone, Copy)]
+pub struct GimliCompDir {
+    /// The offset that is asked for.
+    pub offset: u64,
+    /// Where the directory begins among the texts; 0 where there is none.
+    pub directory: usize,
+    /// How many bytes it has, without the zero byte that follows it.
+    pub size: usize,
+    /// `OK` or `NO_COMP_DIR`.
+    pub status: u32,
+}
+
+/// What is answered to an offset. Fails only with `OUT_OF_MEMORY`.
+fn comp_dir_listed<'s>(
+    texts: &mut Vec<u8>,
+    compilations: &Compilations<EndianSlice<'s, RunTimeEndian>>,
+    offset: u64,
+) -> Result<GimliCompDir, u32>
+    ensures ok { (asked : GimliCompDir) → asked.offset ≡ offset →
+        IfOk result (IsCompDirAnswer
+        (λ line. option_map (λ s. s.slice.now) (directory_for compilations.now line))
+        texts.new.items asked) }
+    ensures more { OnOk result ((more : List ℕ) × (texts.new.items ≡ texts.old.items ++ more)) }
+    ensures err { IfErr result (λ s. s ≡ OUT_OF_MEMORY) }
+{
+    let (directory, size, status) = match compilations.directory_of(offset) {
+        Some(text) => (add_text(texts, text.slice())?, text.slice().len(), OK),
+        None => (0, 0, NO_COMP_DIR),
+    };
+    Ok(GimliCompDir {
+        offset,
+        directory,
+        size,
+        status,
+    })
+}
+
+/// Answers each of these, and returns the texts. Fails only with `OUT_OF_MEMORY`.
+fn list_comp_dirs<'s>(
+    alloc: Global,
+    compilations: &Compilations<EndianSlice<'s, RunTimeEndian>>,
+    directories: &mut [GimliCompDir],
+) -> Result<Vec<u8>, u32>
+    ensures ok { IfOk result (λ texts. AllZip (IsCompDirAnswer
+        (λ line. option_map (λ s. s.slice.now) (directory_for compilations.now line))
+        texts.items) directories.old directories.new) }
+    ensures err { IfErr result (λ s. s ≡ OUT_OF_MEMORY) }
+{
+    let mut texts = Vec::new(alloc);
+    for slot in 0..directories.len() {
+        let offset = directories[slot].offset;
+        directories[slot] = comp_dir_listed(&mut texts, compilations, offset)?;
+    }
+    Ok(texts)
+}
+
+/// Tells the directories of many compilations in one pass: that of `directories[0].offset` and so
+/// on, as `gimli_line_comp_dirs` of `include/gimli_line.h` says.
+#[unsafe(no_mangle)]
+pub extern "C" fn gimli_line_proved_comp_dirs(
+    alloc: Global,
+    info: &[u8],
+    abbreviations: &[u8],
+    line_strings: &[u8],
+    strings: &[u8],
+    string_offsets: &[u8],
+    is_big: bool,
+    directories: &mut [GimliCompDir],
+    texts: &mut [u8],
+    size: &mut usize,
+) -> u32
+    ensures found { result ≡ OK → WritesCompDirs (sections_handed info.now abbreviations.now
+        line_strings.now strings.now string_offsets.now is_big) directories.old directories.new
+        texts.old texts.new size.new }
+    ensures larger { result ≡ NO_ROOM → NeedsCompDirsRoom (sections_handed info.now
+        abbreviations.now line_strings.now strings.now string_offsets.now is_big)
+        directories.old directories.new texts.old size.new }
+    ensures refused { result ≢ OK → result ≢ NO_ROOM → result ≡ OUT_OF_MEMORY }
+    ensures kept { result ≢ OK → texts.new ≡ texts.old }
+    ensures no_size { result ≢ OK → result ≢ NO_ROOM → size.new ≡ size.old }
+{
+    let sections = sections_in(
+        info,
+        abbreviations,
+        line_strings,
+        strings,
+        string_offsets,
+        is_big,
+    );
+    let Ok(compilations) = Compilations::new(alloc, &sections) else {
+        return OUT_OF_MEMORY;
+    };
+    let Ok(whole) = list_comp_dirs(alloc, &compilations, directories) else {
+        return OUT_OF_MEMORY;
+    };
+    let bytes = whole.as_slice();
+    *size = bytes.len();
+    put_bytes(bytes, texts)
 }

@@ -14,12 +14,8 @@ use gimli_core::Reader;
 use gimli_line::LineProgramHeader;
 use std::alloc::Global;
 
-/// Reads the directory of a number, as files have it: up to version 4 from 1 on, in version 5 from
-/// 0 on. Its bytes go to the front of `bytes`, as far as they stand in the section itself.
-/// `NO_ROOM` where `bytes` is shorter: then `directory` alone is written. `NO_SUCH_DIRECTORY` where
-/// there is no such directory, as there is none of number 0 up to version 4. Where another number
-/// than these is returned, nothing is written. For `address_size` and the order see
-/// `gimli_line_proved_read_unit`.
+/// Reads the directory of a number. Each status is that of `gimli_line_read_directory` in
+/// `include/gimli_line.h`.
 #[unsafe(no_mangle)]
 pub extern "C" fn gimli_line_proved_read_directory(
     alloc: Global,

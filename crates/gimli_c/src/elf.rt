@@ -81,12 +81,9 @@ fn section_status(error: ElfError) -> u32
     }
 }
 
-/// Puts what the first section of a name of an ELF file holds into `bytes`: made whole where it is
-/// compressed, and relocated where it is an object file, whose sections all stand at 0. `size` is
-/// how many bytes there are. `NO_ROOM` where `bytes` is shorter: then `size` says how many there
-/// are, and what is compressed isn't made whole for that. `NO_SECTION` where there is none,
-/// `BAD_SECTION` where it can't be read, and `NO_ELF` where the file is none. Where another number
-/// than 0 is returned, nothing else is written.
+/// Copies what the first section of a name of an ELF file holds, decompressed, and relocated as if
+/// all sections stood at 0. At `NO_ROOM` `size` is how many bytes there are, and nothing is
+/// decompressed for that. Else a status other than 0 leaves `bytes` and `size` as they were.
 #[unsafe(no_mangle)]
 pub extern "C" fn gimli_line_proved_elf_section(
     alloc: Global,

@@ -81,13 +81,8 @@ pub const HAS_MD5: u64 = 4;
 /// The files have a source text.
 pub const HAS_SOURCE: u64 = 8;
 
-/// Reads the file of a number, as rows have it: up to version 4 from 1 on, in version 5 from 0 on.
-/// Where the unit's table has no such file, the program is run to its end, past its faults, for the
-/// files that it defines. The bytes of the path and of the directory go to the front of `path` and
-/// of `directory`, as far as they stand in the section itself. `NO_ROOM` where one of these is
-/// shorter: then `file` alone is written. `NO_SUCH_FILE` where there is no such file. Where another
-/// number than these is returned, nothing is written. For `address_size` and the order see
-/// `gimli_line_proved_read_unit`.
+/// Reads the file of a number, as rows have it. Each status is that of `gimli_line_read_file` in
+/// `include/gimli_line.h`.
 #[unsafe(no_mangle)]
 pub extern "C" fn gimli_line_proved_read_file(
     alloc: Global,
@@ -158,7 +153,7 @@ fn file_told<R: Reader>(
 
 impl GimliFile {
     /// What is said of a file of a header.
-    fn new<R: Reader>(header: &LineProgramHeader<R>, file: &FileEntry<R>) -> Self
+    pub(crate) fn new<R: Reader>(header: &LineProgramHeader<R>, file: &FileEntry<R>) -> Self
         ensures { result
             ≡ file_seen_by_c header.now.meaning (file_seen R.bytes R.Offset.number file.now) }
     {

@@ -11,12 +11,8 @@ use crate::status::{NO_ROW, OK, OUT_OF_MEMORY, UNSUPPORTED_ADDRESS_SIZE, error_s
 use gimli_lookup::find_in_run;
 use std::alloc::Global;
 
-/// Looks an address up in the unit at an offset: `first` is the row that it belongs to, and
-/// `second` the next row, up to whose address that holds. They are the first two adjacent rows of
-/// one sequence of which the first has an address at most the one that is looked up, and the second
-/// one above it. `NO_ROW` where there are none. A program whose run has a fault has no sequences,
-/// and its first fault is returned. Where another number than 0 is returned, both rows stay as they
-/// were. For `address_size` and the order see `gimli_line_proved_read_unit`.
+/// Looks an address up in the unit at an offset. Each status is that of `gimli_line_find_row` in
+/// `include/gimli_line.h`.
 #[unsafe(no_mangle)]
 pub extern "C" fn gimli_line_proved_find_row(
     alloc: Global,

@@ -16,6 +16,7 @@ mod find;
 mod index;
 mod items;
 pub mod laws;
+mod listed;
 mod location;
 mod next_unit;
 mod path;
@@ -32,7 +33,7 @@ mod write;
 
 pub use build_id::gimli_line_proved_elf_build_id;
 pub use check::{DIRECTORIES, FILES, GimliElement, NO_ARRAY, ROWS};
-pub use comp_dir::gimli_line_proved_comp_dir;
+pub use comp_dir::{GimliCompDir, gimli_line_proved_comp_dir, gimli_line_proved_comp_dirs};
 pub use directory::gimli_line_proved_read_directory;
 pub use elf::{GimliElf, gimli_line_proved_elf_open, gimli_line_proved_elf_section};
 pub use encoding::GimliEncoding;
@@ -49,6 +50,7 @@ pub use index::{
     gimli_line_proved_index_write,
 };
 pub use items::GimliSymbol;
+pub use listed::{GimliListedFile, gimli_line_proved_read_files};
 pub use path::gimli_line_proved_read_path;
 pub use relocatable::{GimliRelocation, gimli_line_proved_write_relocatable};
 pub use row::{BASIC_BLOCK, END_SEQUENCE, EPILOGUE_BEGIN, GimliRow, IS_STMT, PROLOGUE_END};

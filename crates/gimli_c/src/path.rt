@@ -37,7 +37,7 @@ fn path_status(error: PathError) -> u32
 }
 
 /// The whole path of a file of a header, or `UNKNOWN_PATH` where it can't be told.
-fn path_in_header<'s>(
+pub(crate) fn path_in_header<'s>(
     alloc: Global,
     texts: StringSections<Slice<'s>>,
     header: &LineProgramHeader<Slice<'s>>,
@@ -96,17 +96,8 @@ fn path_of<'s>(
     path_in_header(alloc, texts, header, entry, comp_dir)
 }
 
-/// Tells the whole path of the file of a number, as rows have it: up to version 4 from 1 on, in
-/// version 5 from 0 on. A relative path goes on from its directory, and that one from the directory
-/// of the compilation: directory 0 in version 5, and up to version 4, or if that one is empty,
-/// `comp_dir` (`DW_AT_comp_dir`). If it is relative or has no bytes, so is the path. `line_strings`
-/// and `strings` are the sections `.debug_line_str` and `.debug_str`, or no bytes. Where the unit's
-/// table has no such file, the program is run to its end, past its faults, for the files that it
-/// defines. The bytes go to the front of `path`; `size` is how many there are. `NO_ROOM` where
-/// `path` is shorter: then `size` alone is written. `NO_SUCH_FILE` where there is no such file, and
-/// `UNKNOWN_PATH` where a string of the path can't be told. Where another number than these is
-/// returned, nothing is written. For `address_size` and the order see
-/// `gimli_line_proved_read_unit`.
+/// Tells the whole path of the file of a number, as rows have it. Each status is that of
+/// `gimli_line_read_path` in `include/gimli_line.h`.
 #[unsafe(no_mangle)]
 pub extern "C" fn gimli_line_proved_read_path(
     alloc: Global,

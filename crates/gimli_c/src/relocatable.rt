@@ -141,14 +141,8 @@ fn passes(size: usize, room: usize, count: usize, slots: usize) -> bool
     size > room || count > slots
 }
 
-/// Does what `gimli_line_proved_write` does, where the first sequences begin at symbols: that of
-/// `symbols[0]` and so on; the others begin at the addresses of their first rows. Of a sequence at
-/// a symbol the addresses of its rows are counted from that of its first row, which stands for the
-/// symbol with its addend. The places of these addresses are told in `relocations`, in order, and
-/// `count` is how many there are. Their addends stand there, and the places are 0; or, where
-/// `in_place`, at the places. `NO_ROOM` where there are fewer bytes in `unit`, or fewer elements in
-/// `relocations`: then `size` and `count` say how many it takes, and nothing is written. Where
-/// another number than these is returned, both are 0.
+/// Writes a unit whose sequences begin at symbols, and the places of these. Each status is that of
+/// `gimli_line_write_relocatable` in `include/gimli_line.h`.
 #[unsafe(no_mangle)]
 pub extern "C" fn gimli_line_proved_write_relocatable(
     alloc: Global,

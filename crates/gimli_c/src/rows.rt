@@ -12,12 +12,8 @@ use crate::run::{copy_rows, fault_status, rows_fit};
 use crate::status::{OUT_OF_MEMORY, UNSUPPORTED_ADDRESS_SIZE, error_status};
 use std::alloc::Global;
 
-/// Runs the program of the unit at an offset. Its rows from the `skip`-th on, from 0, go into
-/// `rows`, as far as there is room; `count` is how many rows it has in all. A unit has no more rows
-/// than bytes, so an array of as many rows as its `length` has room for all. The first fault ends
-/// the run: its number is returned, and the rows before it are there. Where memory is missing,
-/// `count` is 0, and the first rows may be there. For `address_size` and the order see
-/// `gimli_line_proved_read_unit`.
+/// Runs the program of the unit at an offset, and copies its rows from the `skip`-th on, from 0, as
+/// far as there is room. Each status is that of `gimli_line_read_rows` in `include/gimli_line.h`.
 #[unsafe(no_mangle)]
 pub extern "C" fn gimli_line_proved_read_rows(
     alloc: Global,

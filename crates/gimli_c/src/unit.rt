@@ -40,12 +40,9 @@ pub struct GimliUnit {
     pub fault: u32,
 }
 
-/// Reads the unit at an offset, and runs its program. `is_big` says that the most significant byte
-/// of a number comes first. `address_size` is that of the compilation unit, which counts up to
-/// version 4; it has to be 1, 2, 4 or 8. Where another number than 0 is returned, `next` alone is
-/// written: a unit that is refused is passed over too, whatever its content is. Where its length
-/// can't be read, or says more bytes than there are, no unit follows, and `next` is the length of
-/// the section.
+/// Reads the unit at an offset, and runs its program. Each status is that of `gimli_line_read_unit`
+/// in `include/gimli_line.h`. `is_big` says that the most significant byte of a number comes first;
+/// `address_size`, which is 1, 2, 4 or 8, counts up to version 4.
 #[unsafe(no_mangle)]
 pub extern "C" fn gimli_line_proved_read_unit(
     alloc: Global,

@@ -35,16 +35,7 @@ use gimli_bytes::{DebugLine, EndianVec, Error, LineStringTable, StringTable};
 use gimli_core::RunTimeEndian;
 use std::alloc::Global;
 
-/// Writes a unit with these directories, files and rows to the front of `unit`; `size` is how many
-/// bytes it has. `NO_ROOM` where there are fewer in `unit`: then `size` says how many it takes, and
-/// nothing is written. Where another number than these is answered, `size` is 0; each but
-/// `OUT_OF_MEMORY` has its cause in what is handed over, and `element` is the first that has one:
-/// directories are tested first, then files, then rows. Texts stand among the bytes of `texts`. A
-/// directory or a file that comes twice is there once; rows have its number then. `numbers` gets
-/// that of each file, as far as there is room, where the unit is written. `details` is the sum of
-/// `HAS_TIMESTAMP`, `HAS_SIZE` and `HAS_MD5`, each where version 5 is to have that detail;
-/// other bits are ignored. Only the first address of a sequence is tested against the size of
-/// addresses.
+/// Writes a unit. Each status is that of `gimli_line_write` in `include/gimli_line.h`.
 #[unsafe(no_mangle)]
 pub extern "C" fn gimli_line_proved_write(
     alloc: Global,

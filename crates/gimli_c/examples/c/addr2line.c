@@ -45,7 +45,7 @@ int main(int argc, char **argv) {
         return 2;
     }
     bytes program = read_file(argv[1]);
-    gimli_line_sections sections;
+    gimli_line_sections sections = GIMLI_LINE_SECTIONS;
     stop_if(gimli_line_sections_of_elf(program.at, program.length, &sections));
     free(program.at); /* the sections are copies */
     int faults = 0;

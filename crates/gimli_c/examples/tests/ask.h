@@ -13,7 +13,7 @@
 #include "gimli_line.h"
 
 enum { AREA = 1 << 20, LARGEST = 1 << 18 };
-enum { ARRAY, BESIDE, ANOTHER, INPUT, OWN, AREAS = OWN + 8 }; /* those from OWN on are for each program */
+enum { ARRAY, BESIDE, ANOTHER, INPUT, LISTED, OWN, AREAS = OWN + 8 }; /* those from OWN on are for each program */
 
 static atomic_ulong answers; /* how many were as they have to be */
 
@@ -93,6 +93,38 @@ static inline uint32_t path_in(size_t offset, uint64_t number, void *path, size_
     return gimli_line_read_path(&in, offset, number, from, comp_dir_size, (char *)path, room, (size_t *)size);
 }
 
+/* One of those that are listed at once, and how many bytes the texts take. */
+typedef struct listed_file {
+    gimli_line_listed_file file;
+    size_t size;
+} listed_file;
+typedef struct listed_comp_dir {
+    gimli_line_listed_comp_dir directory;
+    size_t size;
+} listed_comp_dir;
+
+static inline uint32_t listed_file_in(size_t offset, uint64_t number, void *texts, size_t room, void *beside) {
+    const char *from = (const char *)memcpy(room_in(INPUT, comp_dir_size), comp_dir, comp_dir_size);
+    listed_file *listed = (listed_file *)beside;
+    gimli_line_listed_file *file = (gimli_line_listed_file *)room_in(LISTED, sizeof *file), asked;
+    file->number = number;
+    memcpy(&asked, file, sizeof asked);
+    uint32_t status = gimli_line_read_files(&in, offset, from, comp_dir_size, file, 1, (char *)texts, room, &listed->size);
+    if (status == GIMLI_LINE_OK || status == GIMLI_LINE_NO_ROOM) memcpy(&listed->file, file, sizeof *file);
+    else is(memcmp(&asked, file, sizeof asked) == 0, "a file that isn't listed");
+    return status;
+}
+
+static inline uint32_t listed_comp_dir_in(size_t offset, uint64_t number, void *texts, size_t room, void *beside) {
+    (void)number;
+    listed_comp_dir *listed = (listed_comp_dir *)beside;
+    gimli_line_listed_comp_dir *directory = (gimli_line_listed_comp_dir *)room_in(LISTED, sizeof *directory);
+    directory->offset = offset;
+    uint32_t status = gimli_line_comp_dirs(&in, directory, 1, (char *)texts, room, &listed->size);
+    if (status == GIMLI_LINE_OK || status == GIMLI_LINE_NO_ROOM) memcpy(&listed->directory, directory, sizeof *directory);
+    return status;
+}
+
 /* Makes a call with each room, from none to more than enough, or with two alone where that takes too long. It always says the same beside
  * it, and writes nothing else: nothing to the array where there is too little room, and nothing at all where it refuses. But rows are a
  * window, as far as there is room, and come before a fault. */
@@ -147,6 +179,31 @@ static inline void ask_rows(size_t offset, const gimli_line_unit *unit) {
     }
 }
 
+/* What is listed of a file is what is said of it alone, and a zero byte follows its path; likewise of a directory. */
+static inline void ask_listed(size_t offset, uint64_t number, uint32_t status, const told *whole, const told *home) {
+    static _Thread_local told texts;
+    listed_file file;
+    listed_comp_dir directory;
+    size_t size = status == GIMLI_LINE_OK ? whole->count + 1 : 0;
+    is(try_rooms(listed_file_in, offset, number, 1, sizeof file, offsetof(listed_file, size), &texts) == GIMLI_LINE_OK && texts.count == size,
+       "a file that is listed");
+    memcpy(&file, texts.beside, sizeof file);
+    is(file.file.number == number && file.file.status == status, "the status of a file that is listed");
+    is(size == 0 || (file.file.path == 0 && file.file.path_size == whole->count && memcmp(texts.array, whole->array, whole->count) == 0 &&
+                     texts.array[whole->count] == 0),
+       "the path of a file that is listed");
+    is(status != GIMLI_LINE_UNKNOWN_PATH || (file.file.path == 0 && file.file.path_size == 0), "no path");
+    size = home->status == GIMLI_LINE_OK ? home->count + 1 : 0;
+    is(try_rooms(listed_comp_dir_in, offset, 0, 1, sizeof directory, offsetof(listed_comp_dir, size), &texts) == GIMLI_LINE_OK &&
+           texts.count == size,
+       "a directory that is listed");
+    memcpy(&directory, texts.beside, sizeof directory);
+    is(directory.directory.offset == offset && directory.directory.status == home->status && directory.directory.directory == 0 &&
+           directory.directory.size == home->count,
+       "the status of a directory that is listed");
+    is(size == 0 || (memcmp(texts.array, home->array, home->count) == 0 && texts.array[home->count] == 0), "its bytes");
+}
+
 /* A file of a unit: its texts, and its whole path. */
 static inline void ask_file(size_t offset, uint64_t number) {
     static _Thread_local told path, directory, text, whole, home;
@@ -161,6 +218,7 @@ static inline void ask_file(size_t offset, uint64_t number) {
     comp_dir_size = home.count;
     uint32_t whole_status = try_rooms(path_in, offset, number, 1, sizeof(size_t), 0, &whole);
     is(whole_status == status || (status == GIMLI_LINE_OK && whole_status == GIMLI_LINE_UNKNOWN_PATH), "the status of a whole path");
+    ask_listed(offset, number, whole_status, &whole, &home);
     SEEN(4, status);
     SEEN(5, whole_status);
     SEEN(6, home.status);

@@ -69,8 +69,8 @@ static void path_is(const char *from, uint64_t number, uint32_t status, const ch
     tells(path_in, number, status, wanted);
 }
 
-/* Up to version 4 a path goes on from the directory of the compilation, which .debug_info has. In version 5 a relative directory
- * goes on from it, where directory 0 is relative; that one only where the caller's is absolute. */
+/* Up to version 4 a path goes on from the directory of the compilation, which .debug_info has. In version 5 it goes on from directory 0,
+ * whatever directory the caller has, unless directory 0 is empty. */
 static void paths(void) {
     static const struct {
         int version;
@@ -85,8 +85,8 @@ static void paths(void) {
                   {5, 0, "./w", "./w/a.c"},
                   {5, 1, "./w", "./w/../inc/b.h"},
                   {5, 2, "./w", "/abs/c.c"},
-                  {5, 0, "/src", "/src/./w/a.c"},
-                  {5, 1, "/src", "/src/../inc/b.h"},
+                  {5, 0, "/src", "./w/a.c"},
+                  {5, 1, "/src", "./w/../inc/b.h"},
                   {5, 0, "", "./w/a.c"},
                   {5, 1, "", "./w/../inc/b.h"},
                   {4, 0, "/w", NULL},
@@ -97,6 +97,71 @@ static void paths(void) {
     for (size_t i = 0; i < sizeof wanted / sizeof wanted[0]; i++) {
         take_version(wanted[i].version);
         path_is(wanted[i].from, wanted[i].number, wanted[i].path != NULL ? GIMLI_LINE_OK : GIMLI_LINE_NO_SUCH_FILE, wanted[i].path);
+    }
+}
+
+/* Many files of a unit at once: those that the program defines too, and numbers of none, of which only the status is written. */
+static void files_at_once(int version, const char *from, const char *wanted, size_t wanted_size) {
+    static const uint64_t asked[][5] = {{3, 1, 0, 2, UINT64_MAX}, {2, 0, 3, 1, UINT64_MAX}};
+    const uint64_t *numbers = asked[version == 5];
+    take_version(version);
+    for (size_t room = 0; room <= wanted_size + 1; room++) {
+        gimli_line_listed_file *files = room_in(ARRAY, 5 * sizeof *files);
+        char *texts = room_in(ANOTHER, room);
+        size_t *size = room_in(BESIDE, sizeof *size), next = 0;
+        uint32_t status = room < wanted_size ? GIMLI_LINE_NO_ROOM : GIMLI_LINE_OK;
+        for (int i = 0; i < 5; i++) files[i].number = numbers[i];
+        is(gimli_line_read_files(&in, 0, from, strlen(from), files, 5, texts, room, size) == status && *size == wanted_size,
+           "files at once");
+        for (int i = 2; i < 5; i += 2)
+            is(files[i].number == numbers[i] && files[i].status == GIMLI_LINE_NO_SUCH_FILE &&
+                   is_untouched(&files[i].file, offsetof(gimli_line_listed_file, status) - offsetof(gimli_line_listed_file, file)),
+               "numbers of no file");
+        for (int i = 0; i < 4; i++) {
+            gimli_line_file file;
+            char path[8], directory[8];
+            if (i == 2) continue;
+            is(files[i].status == GIMLI_LINE_OK && files[i].number == numbers[i] && files[i].path == next &&
+                   files[i].path_size == strlen(wanted + next),
+               "where a path is");
+            next += files[i].path_size + 1;
+            is(gimli_line_read_file(&in, 0, numbers[i], &file, path, 8, directory, 8) == GIMLI_LINE_OK &&
+                   memcmp(&file, &files[i].file, sizeof file) == 0,
+               "a file of many");
+        }
+        size_t written = status == GIMLI_LINE_OK ? wanted_size : 0;
+        is(memcmp(texts, wanted, written) == 0 && is_untouched(texts + written, room - written), "the paths of files at once");
+    }
+    size_t size = 77;
+    is(gimli_line_read_files(&in, 0, from, strlen(from), NULL, 0, NULL, 0, &size) == GIMLI_LINE_OK && size == 0, "no files");
+    gimli_line_listed_file file = {.number = 1, .status = 77};
+    size = 77;
+    is(gimli_line_read_files(&in, in.line_size, from, strlen(from), &file, 1, NULL, 0, &size) == GIMLI_LINE_UNEXPECTED_EOF && size == 77 &&
+           file.number == 1 && file.status == 77,
+       "files of no unit");
+}
+
+/* The directories of several line programs at once: those of 0 and 7 in two units, of which the first says which counts for 0. */
+static void comp_dirs_at_once(void) {
+    static const uint8_t info[] = {15, 0, 0, 0, 4, 0, 0, 0, 0, 0, 8, 1, 0, 0, 0, 0, '/', 'w', 0, 15, 0, 0, 0, 4, 0, 0, 0, 0, 0, 8, 1, 7, 0, 0,
+                                   0, 'x', 'y', 0, 15, 0, 0, 0, 4, 0, 0, 0, 0, 0, 8, 1, 0, 0, 0, 0, '/', 'z', 0};
+    static const char wanted[] = "xy\0/w\0xy";
+    take(lines_4, sizeof lines_4, info, sizeof info);
+    for (size_t room = 0; room <= sizeof wanted + 1; room++) {
+        gimli_line_listed_comp_dir *all = room_in(ARRAY, 4 * sizeof *all);
+        char *texts = room_in(ANOTHER, room);
+        size_t *size = room_in(BESIDE, sizeof *size), written = room < sizeof wanted ? 0 : sizeof wanted;
+        const gimli_line_listed_comp_dir answers[] = {
+            {7, 0, 2, GIMLI_LINE_OK}, {0, 3, 2, GIMLI_LINE_OK}, {3, 0, 0, GIMLI_LINE_NO_COMP_DIR}, {7, 6, 2, GIMLI_LINE_OK}};
+        for (int i = 0; i < 4; i++) all[i].offset = answers[i].offset;
+        is(gimli_line_comp_dirs(&in, all, 4, texts, room, size) == (written == 0 ? GIMLI_LINE_NO_ROOM : GIMLI_LINE_OK) &&
+               *size == sizeof wanted,
+           "directories at once");
+        for (int i = 0; i < 4; i++)
+            is(all[i].offset == answers[i].offset && all[i].directory == answers[i].directory && all[i].size == answers[i].size &&
+                   all[i].status == answers[i].status,
+               "a directory of many");
+        is(memcmp(texts, wanted, written) == 0 && is_untouched(texts + written, room - written), "the bytes of directories at once");
     }
 }
 
@@ -335,6 +400,8 @@ static void structs(void) {
     in = (gimli_line_sections)GIMLI_LINE_SECTIONS;
     is(gimli_line_read_unit(&in, 0, unit) == GIMLI_LINE_UNEXPECTED_EOF, "no section");
     is(gimli_line_sections_of_elf(NULL, 0, &in) == GIMLI_LINE_NO_ELF && in.line == NULL, "no file");
+    gimli_line_sections *old = room_in(ANOTHER, sizeof *old);
+    is(gimli_line_sections_of_elf(NULL, 0, old) == GIMLI_LINE_UNKNOWN_OPTIONS && is_untouched(old, sizeof *old), "a struct of another size");
 }
 
 static void *all(void *nothing) {
@@ -342,6 +409,9 @@ static void *all(void *nothing) {
     directories(info_4, sizeof info_4, "/w");
     directories(info_5, sizeof info_5, "./w");
     paths();
+    files_at_once(4, "/w", "/w/inc/d.c\0/w/a.c\0/w/inc/b.h", 29);
+    files_at_once(5, "./w", "/abs/c.c\0./w/a.c\0./w/../inc/b.h", 32);
+    comp_dirs_at_once();
     strings_of_paths();
     units(lines_4, sizeof lines_4, (gimli_line_unit){sizeof lines_4 - 4, 0, 1, 3, 5, 4, 8, 4, 0});
     units(lines_5, sizeof lines_5, (gimli_line_unit){sizeof lines_5 - 4, 0, 3, 3, 0, 5, 8, 4, 0});

@@ -37,7 +37,7 @@ int LLVMFuzzerTestOneInput(const uint8_t *data, size_t size) {
        "the index of any sections");
     free(index);
 
-    gimli_line_sections taken;
+    gimli_line_sections taken = GIMLI_LINE_SECTIONS;
     uint32_t is_elf = gimli_line_sections_of_elf(in.line, in.line_size, &taken);
     uint32_t status = gimli_line_build_id(in.line, in.line_size, NULL, 0, &length);
     is(is_elf != GIMLI_LINE_NO_ELF || (status == GIMLI_LINE_NO_ELF && taken.line == NULL), "no ELF file");

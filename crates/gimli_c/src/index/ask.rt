@@ -22,10 +22,8 @@ fn place_in(stored: &[u8], index: &LineIndex<'_>, address: u64) -> Option<GimliP
     Some(place_seen(index, address, place))
 }
 
-/// Tells where the code at an address comes from, by an index. `NO_ROW` where the index says
-/// nothing of it; the number of the refusal where the bytes begin with no index. Where another
-/// number than 0 is returned, nothing is written. Takes no memory, and looks at no more than three
-/// ranges above as many as their number has binary digits.
+/// Tells where the code at an address comes from, by an index. Each status is that of
+/// `include/gimli_line.h`. Takes no memory.
 #[unsafe(no_mangle)]
 pub extern "C" fn gimli_line_index_find(stored: &[u8], address: u64, place: &mut GimliPlace) -> u32
     ensures found { result ≡ OK → SeesPlaceAt stored.now address place.new }
@@ -69,9 +67,8 @@ fn answer_all(stored: &[u8], index: &LineIndex<'_>, places: &mut [GimliPlace])
     }
 }
 
-/// Asks for many addresses, each as `gimli_line_index_find` does: that of `places[0]` and so on.
-/// Where the index says nothing of an address, `known` and all other numbers of its place are 0.
-/// Where another number than 0 is returned, nothing is written. Takes no memory.
+/// Asks for many addresses: that of `places[0]` and so on. If the index says nothing of one, all
+/// other numbers of its place are 0. Takes no memory.
 #[unsafe(no_mangle)]
 pub extern "C" fn gimli_line_proved_index_find_all(stored: &[u8], places: &mut [GimliPlace]) -> u32
     ensures found { result ≡ OK → WritesIndexAnswers stored.now places.old places.new }

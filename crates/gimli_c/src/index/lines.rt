@@ -40,14 +40,8 @@ fn put_addresses(found: Addresses<'_, '_>, most: usize, room: &mut [u64]) -> usi
 }
 
 /// Tells the addresses for a breakpoint at a line of the files that a path names, by an index, in
-/// ascending order, each once. A path names a file by its last components (`stl_map.h`,
-/// `bits/stl_map.h`), and one from the root is a whole one; one without a component names none; `.`
-/// and `..` are resolved by text. `NO_ROOM` where `addresses` has fewer places than there are: then
-/// `count` alone is written. `NO_CODE` where no line from it on has any; the number of the refusal
-/// where the bytes begin with no index. Where another number than these is returned, nothing is
-/// written. Takes no memory, searches the statements by halves, and then looks at those of the line
-/// in files of the same name. What is told means something where they are in order, as they are in
-/// each index that this library made.
+/// ascending order, each once. Each status is that of `gimli_line_index_addresses_of` in
+/// `include/gimli_line.h`. Takes no memory.
 #[unsafe(no_mangle)]
 pub extern "C" fn gimli_line_proved_index_addresses_of(
     stored: &[u8],

@@ -32,12 +32,8 @@ fn range_in(stored: &[u8], index: &LineIndex<'_>, number: usize) -> Option<Gimli
     }
 }
 
-/// Tells what an index says from the start of a number on; the first one has the number 0.
-/// `address` and `first` are its address, and `end` that of the next start; 0 where it is the last
-/// one. A start that isn't the last holds nowhere where both are the same. Where nothing is known
-/// from there on, `known` and all other numbers are 0. `NO_ROW` where there is no such start; the
-/// number of the refusal where the bytes begin with no index. Where another number than 0 is
-/// returned, nothing is written. Takes no memory, and looks at two starts.
+/// Tells what an index says from the start of a number on. Each status is that of
+/// `include/gimli_line.h`. Takes no memory.
 #[unsafe(no_mangle)]
 pub extern "C" fn gimli_line_index_range(
     stored: &[u8],

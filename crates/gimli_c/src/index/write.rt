@@ -119,15 +119,9 @@ fn made_index<'s>(
     }
 }
 
-/// Makes the index of a program (`docs/INDEX.md`), at the front of `stored`; `size` is how many
-/// bytes it has. The sections are `.debug_line`, `.debug_line_str`, `.debug_str`, `.debug_info`,
-/// `.debug_abbrev` and `.debug_str_offsets`, or no bytes. The index says of every address what a
-/// lookup over all units finds there, with the whole path over the directory of the compilation;
-/// `identity` names what it is made of. `NO_ROOM` where there are fewer bytes in `stored`: then
-/// `size` says how many it takes, and nothing is written. Where another number than these is
-/// returned, `size` is 0 and nothing is written: `UNKNOWN_OPTIONS` where the options have another
-/// size, `UNSUPPORTED_ADDRESS_SIZE`, `OUT_OF_MEMORY`, `INDEX_TOO_LARGE` or `PLACE_TOO_LARGE`. All
-/// units are read for each call.
+/// Makes the index of a program (`docs/INDEX.md`). At `NO_ROOM` `size` says how many bytes it
+/// takes, at another status than 0 it is 0; and nothing is written. Reads all units for each call.
+/// The other statuses are those of `gimli_line_index_of_sections` in `include/gimli_line.h`.
 #[unsafe(no_mangle)]
 pub extern "C" fn gimli_line_proved_index_write(
     alloc: Global,
