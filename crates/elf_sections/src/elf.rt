@@ -165,8 +165,9 @@ impl<'a> Elf<'a> {
     /// `UnknownRelocation`), entries of relocations or symbols that are too short (`EntrySize`),
     /// relocations without a symbol table (`NoSymbols`), and one whose symbol or place isn't there
     /// (`SymbolOutside`, `RelocationOutside`). Where one section's addresses count, a symbol whose
-    /// section's index is noted elsewhere is refused too (`SymbolSection`). Relocations and symbols
-    /// are refused as sections are by `section`.
+    /// section's index is noted elsewhere is refused too (`SymbolSection`), and relocations are that
+    /// have more bytes together than the file (`RelocationsTooLarge`). Relocations and symbols are
+    /// refused as sections are by `section`.
     pub fn relocated(
         &self,
         alloc: Global,
