@@ -65,8 +65,8 @@ pub enum ElfError {
     SymbolSection,
     /// The place of a relocation isn't in the section.
     RelocationOutside,
-    /// The relocations of the section (`SHT_REL`, `SHT_RELA`) have more bytes than the file: several
-    /// sections of them share bytes, or one isn't all in the file.
+    /// The relocations of the section (`SHT_REL`, `SHT_RELA`) have more bytes than the file:
+    /// several sections of them share bytes, or one isn't all in the file.
     RelocationsTooLarge,
 }
 

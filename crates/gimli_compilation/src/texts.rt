@@ -1,4 +1,5 @@
-//! The texts of a section, and where they end: each byte of the section is searched for an end once.
+//! The texts of a section, and where they end: each byte of the section is searched for an end
+//! once.
 
 ghost use Rattle.std.specs.Prelude.{◌+◌, ◌≡◌, ◌≤◌, ℕ, IfErr, IfOk, IfSome, OnErr, OnOk, Some};
 ghost use Rattle.std.specs.Prelude.{drop, if◌then◌else◌, length, nat_eq, take};
