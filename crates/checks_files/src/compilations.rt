@@ -126,6 +126,70 @@ const SAID_TABLES: [(u64, Said); 11] = [
     (144, Ok((4, None, Some(b"/h"), None))),
 ];
 
+/// Units of version 4 that name texts of `STRINGS` in no order, each by its directory and its name.
+const TEXTS: [&[u8]; 3] = [
+    ABBREVIATIONS,
+    b"\x14\0\0\0\x04\0\x18\0\0\0\x08\x01\x01\0\0\0\x06\0\0\0\x05\0\0\0\
+    \x14\0\0\0\x04\0\x18\0\0\0\x08\x01\x01\0\0\0\x04\0\0\0\x05\0\0\0\
+    \x14\0\0\0\x04\0\x18\0\0\0\x08\x01\x01\0\0\0\x02\0\0\0\x01\0\0\0\
+    \x14\0\0\0\x04\0\x18\0\0\0\x08\x01\x01\0\0\0\x00\0\0\0\x03\0\0\0\
+    \x14\0\0\0\x04\0\x18\0\0\0\x08\x01\x01\0\0\0\x07\0\0\0\x09\0\0\0\
+    \x14\0\0\0\x04\0\x18\0\0\0\x08\x01\x01\0\0\0\x08\0\0\0\x00\0\0\0\
+    \x14\0\0\0\x04\0\x18\0\0\0\x08\x01\x01\0\0\0\x09\0\0\0\x00\0\0\0\
+    \x14\0\0\0\x04\0\x18\0\0\0\x08\x01\x01\0\0\0\x0a\0\0\0\x00\0\0\0\
+    \x14\0\0\0\x04\0\x18\0\0\0\x08\x01\x01\0\0\0\x0b\0\0\0\x00\0\0\0\
+    \x14\0\0\0\x04\0\x18\0\0\0\x08\x01\x01\0\0\0\x01\0\0\0\x04\0\0\0",
+    b"",
+];
+
+/// Of the last text, at 8, the end is missing.
+const STRINGS: &[u8] = b"\0/w\0a.c\0xy";
+
+const SAID_TEXTS: [(u64, Said); 10] = [
+    (0, Ok((4, Some(1), Some(b"c"), Some(b".c")))),
+    (24, Ok((4, Some(1), Some(b"a.c"), Some(b".c")))),
+    (48, Ok((4, Some(1), Some(b"w"), Some(b"/w")))),
+    (72, Ok((4, Some(1), Some(b""), Some(b"")))),
+    (
+        96,
+        Err(Refusal::Bytes(Error::UnexpectedEof(ReaderOffsetId(1)))),
+    ),
+    (
+        120,
+        Err(Refusal::Bytes(Error::UnexpectedEof(ReaderOffsetId(2)))),
+    ),
+    (
+        144,
+        Err(Refusal::Bytes(Error::UnexpectedEof(ReaderOffsetId(1)))),
+    ),
+    (
+        168,
+        Err(Refusal::Bytes(Error::UnexpectedEof(ReaderOffsetId(0)))),
+    ),
+    (
+        192,
+        Err(Refusal::Bytes(Error::UnexpectedEof(ReaderOffsetId(10)))),
+    ),
+    (216, Ok((4, Some(1), Some(b"/w"), Some(b"a.c")))),
+];
+
+/// A table of eight declarations without attributes, 41 bytes, and units of version 4 that begin it
+/// at each declaration and name the last one: after five units, which take 40, 35, 30, 25 and 20
+/// bytes, 14 of 164 are left, and the sixth would take 15.
+const OVERLAPPING: [&[u8]; 3] = [
+    b"\x01\x11\0\0\0\x02\x11\0\0\0\x03\x11\0\0\0\x04\x11\0\0\0\
+    \x05\x11\0\0\0\x06\x11\0\0\0\x07\x11\0\0\0\x08\x11\0\0\0\0",
+    b"\x08\0\0\0\x04\0\x00\0\0\0\x08\x08\
+    \x08\0\0\0\x04\0\x05\0\0\0\x08\x08\
+    \x08\0\0\0\x04\0\x0a\0\0\0\x08\x08\
+    \x08\0\0\0\x04\0\x0f\0\0\0\x08\x08\
+    \x08\0\0\0\x04\0\x14\0\0\0\x08\x08\
+    \x08\0\0\0\x04\0\x19\0\0\0\x08\x08\
+    \x08\0\0\0\x04\0\x1e\0\0\0\x08\x08\
+    \x08\0\0\0\x04\0\x23\0\0\0\x08\x08",
+    b"",
+];
+
 /// The sections of a program: `.debug_str` has /w at 1 and a.c at 4, `.debug_line_str` /v at 0 and
 /// b.c at 3.
 fn sections<E: Endianity>(
@@ -171,6 +235,28 @@ pub fn units(alloc: Global) -> Found {
     let big = first_wrong(alloc, &sections(BigEndian, BIG), &SAID_BIG)?;
     let tables = first_wrong(alloc, &sections(LittleEndian, TABLES), &SAID_TABLES)?;
     Ok(little.or(big).or(tables))
+}
+
+/// The first unit that says something else of its texts.
+pub fn texts(alloc: Global) -> Found {
+    let mut sections = sections(LittleEndian, TEXTS);
+    sections.debug_str = EndianSlice::new(STRINGS, LittleEndian);
+    first_wrong(alloc, &sections, &SAID_TEXTS)
+}
+
+/// Whether five units are read of tables that overlap, and no more.
+pub fn overlapping(alloc: Global) -> Found {
+    let mut units = sections(LittleEndian, OVERLAPPING).units(alloc);
+    for at in 0..5 {
+        let found = units.next()?.map(|it| (it.offset, said(it.compilation)));
+        if found != Some((12 * at, Ok((4, None, None, None)))) {
+            return Ok(Some(at as usize));
+        }
+    }
+    Ok(match units.next() {
+        Err(Error::OutOfMemory) => None,
+        _ => Some(5),
+    })
 }
 
 /// Offsets of line programs and their directories: of a unit and of a type after it, of another

@@ -21,9 +21,14 @@ fn first_false(found: &[bool]) -> Option<usize> {
 }
 
 /// Each check, and what it finds.
-fn checks(alloc: Global) -> [(&'static str, Found); 9] {
+fn checks(alloc: Global) -> [(&'static str, Found); 11] {
     [
         ("compilations::units", compilations::units(alloc)),
+        ("compilations::texts", compilations::texts(alloc)),
+        (
+            "compilations::overlapping",
+            compilations::overlapping(alloc),
+        ),
         ("compilations::lines", compilations::lines(alloc)),
         ("elf_files::relocated", elf_files::relocated(alloc)),
         ("elf_files::sought", elf_files::sought(alloc)),

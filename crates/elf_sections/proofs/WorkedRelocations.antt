@@ -7,7 +7,7 @@ use Rattle.elf_sections.specs.Relocating.{relocated_at, index_of}
 use Rattle.elf_sections.specs.declared.error.ElfError.{ElfError}
 use Rattle.elf_sections.specs.declared.error.ElfError.TheVariants.{UnknownMachine, UnknownRelocation, EntrySize}
 use Rattle.elf_sections.specs.declared.error.ElfError.TheVariants.{NoSymbols, SymbolOutside, SymbolSection}
-use Rattle.elf_sections.specs.declared.error.ElfError.TheVariants.{RelocationOutside}
+use Rattle.elf_sections.specs.declared.error.ElfError.TheVariants.{RelocationOutside, RelocationsTooLarge, SectionCut}
 use Rattle.elf_sections.specs.declared.place.SectionPlace.{SectionPlace}
 use Rattle.elf_sections.specs.declared.place.SectionPlace.TheVariants.{AllAtZero, Only}
 use Rattle.elf_sections.proofs.Worked.{header_32, contents_32, section_32}
@@ -102,6 +102,19 @@ no_section_6 = refl
 -- SHN_XINDEX
 pub noted_elsewhere : relocated (Only 1) (slice_set (slice_set file 0x17e 0xff) 0x17f 0xff) ≡ Err SymbolSection
 noted_elsewhere = refl
+
+-- the file has 0x180 bytes, of which none of its sections can have more
+pub larger_than_the_file : relocated AllAtZero (slice_set (slice_set file 0x114 0x81) 0x115 1) ≡ Err RelocationsTooLarge
+larger_than_the_file = refl
+
+pub as_large_as_the_file : relocated AllAtZero (slice_set (slice_set file 0x114 0x80) 0x115 1) ≡ Err SectionCut
+as_large_as_the_file = refl
+
+-- .text turned into other relocations of the section, of so many bytes that both have more than the file
+pub larger_together :
+    relocated AllAtZero (slice_set (slice_set (slice_set (slice_set file 0x8c 9) 0x9c 0x79) 0x9d 1) 0xa4 3)
+    ≡ Err RelocationsTooLarge
+larger_together = refl
 
 -- a section of relocations that names itself, and has none then that changes the section
 pub of_itself : relocated AllAtZero (slice_set file 0x11c 4)

@@ -15,7 +15,11 @@ use Rattle.elf_sections.specs.Relocation.{relocation, relocation_size, form_of, 
 use Rattle.elf_sections.specs.Machine.{change_of, size_of, number_after}
 use Rattle.elf_sections.specs.Entries.{entries_at, symbols_in, symbol_at}
 use Rattle.elf_sections.specs.declared.error.ElfError.{ElfError}
-use Rattle.elf_sections.specs.declared.error.ElfError.TheVariants.{RelocationOutside, SymbolSection}
+use Rattle.elf_sections.specs.declared.error.ElfError.TheVariants.{
+  RelocationOutside,
+  RelocationsTooLarge,
+  SymbolSection,
+}
 use Rattle.elf_sections.specs.declared.machine.Change.{Change}
 use Rattle.elf_sections.specs.declared.machine.Change.TheVariants.{Nothing, Number}
 use Rattle.elf_sections.specs.declared.machine.Operation.{Operation}
@@ -100,9 +104,16 @@ section_applied file place bytes header =
     symbols_in file.layout file.bytes (slice_get file.headers header.link) >>= λ symbols.
     steps (entry_applied file place (form_of header) symbols) bytes entries
 
--- the data of the section of an index, once all sections of its relocations are applied, in order
+-- the bytes that are left of so many, once a section of relocations takes its own
+abbrev pub room_after : ℕ → SectionHeader → Result ℕ ElfError
+room_after room header =
+    if nat_lt room header.size then Err RelocationsTooLarge else Ok (room - header.size)
+
+-- the data of the section of an index, once all sections of its relocations are applied, in order.
+-- Together these have no more bytes than the file, as is so unless they share bytes
 abbrev pub all_applied : File → SectionPlace → ℕ → List ℕ → Result (List ℕ) ElfError
 all_applied file place index bytes =
+    steps room_after (length file.bytes) (filter (relocates index) file.headers) >>= λ room.
     steps (section_applied file place) bytes (filter (relocates index) file.headers)
 
 -- ---- a section by its name

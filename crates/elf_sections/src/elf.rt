@@ -161,12 +161,12 @@ impl<'a> Elf<'a> {
     /// applied to what `section_data` answers, in order; in any other file none are. `place` says
     /// which addresses count. It takes memory for a copy of the section. Refuses what
     /// `section_data` refuses, a machine or a kind of relocations that isn't known
-    /// (`UnknownMachine`,
-    /// `UnknownRelocation`), entries of relocations or symbols that are too short (`EntrySize`),
-    /// relocations without a symbol table (`NoSymbols`), and one whose symbol or place isn't there
-    /// (`SymbolOutside`, `RelocationOutside`). Where one section's addresses count, a symbol whose
-    /// section's index is noted elsewhere is refused too (`SymbolSection`). Relocations and symbols
-    /// are refused as sections are by `section`.
+    /// (`UnknownMachine`, `UnknownRelocation`), entries of relocations or symbols that are too
+    /// short (`EntrySize`), relocations without a symbol table (`NoSymbols`), and one whose symbol
+    /// or place isn't there (`SymbolOutside`, `RelocationOutside`). Where one section's addresses
+    /// count, a symbol whose section's index is noted elsewhere is refused too (`SymbolSection`),
+    /// and relocations are that have more bytes together than the file (`RelocationsTooLarge`).
+    /// Relocations and symbols are refused as sections are by `section`.
     pub fn relocated(
         &self,
         alloc: Global,

@@ -65,6 +65,9 @@ pub enum ElfError {
     SymbolSection,
     /// The place of a relocation isn't in the section.
     RelocationOutside,
+    /// The relocations of the section (`SHT_REL`, `SHT_RELA`) have more bytes than the file:
+    /// several sections of them share bytes, or one isn't all in the file.
+    RelocationsTooLarge,
 }
 
 /// Why a section isn't made whole.
@@ -128,6 +131,9 @@ impl ElfError {
             ElfError::SymbolOutside(_) => "there is no symbol ",
             ElfError::SymbolSection => "the section of a symbol is noted elsewhere",
             ElfError::RelocationOutside => "a relocation is not in its section",
+            ElfError::RelocationsTooLarge => {
+                "the relocations of the section have more bytes than the file"
+            }
         }
     }
 

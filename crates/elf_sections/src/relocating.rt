@@ -1,18 +1,19 @@
 //! The relocations of an object file's sections.
 
-ghost use Rattle.std.specs.Prelude.{◌≡◌, ◌+◌, ◌≤◌, length, slice_get, nat_lt, if◌then◌else◌, IfOk};
+ghost use Rattle.std.specs.Prelude.{◌≡◌, ◌+◌, ◌≤◌, filter, length, slice_get, nat_lt, IfOk};
+ghost use Rattle.std.specs.Prelude.{if◌then◌else◌};
 ghost use Rattle.gimli_core.specs.Reading.{result_map};
 ghost use Rattle.elf_sections.specs.declared.error.ElfError.TheVariants.{RelocationOutside};
 ghost use Rattle.elf_sections.specs.Gives.{Gives};
 ghost use Rattle.elf_sections.specs.Steps.{steps};
 ghost use Rattle.elf_sections.specs.Entries.{entries, symbol_size, symbols_in};
 ghost use Rattle.elf_sections.specs.Machine.{size_of};
-ghost use Rattle.elf_sections.specs.Relocation.{relocation_size};
+ghost use Rattle.elf_sections.specs.Relocation.{relocation_size, relocates};
 ghost use Rattle.elf_sections.specs.Relocating.{is_in_memory, address_of, with_addend};
 ghost use Rattle.elf_sections.specs.Relocating.{address_value};
 ghost use Rattle.elf_sections.specs.Relocating.{value_of, changed, applied, entry_applied};
 ghost use Rattle.elf_sections.specs.Relocating.{section_applied};
-ghost use Rattle.elf_sections.specs.Relocating.{all_applied};
+ghost use Rattle.elf_sections.specs.Relocating.{all_applied, room_after};
 
 use crate::elf::Elf;
 use crate::entries::Entries;
@@ -56,6 +57,16 @@ fn address_value(addend: Option<u64>, old: u64, address: Option<u64>) -> u64
     }
 }
 
+/// The bytes that are left of so many, once a section of relocations takes its own.
+fn room_after(room: u64, header: &SectionHeader) -> Result<u64, ElfError>
+    ensures { result ≡ room_after room header.now }
+{
+    match room.checked_sub(header.size) {
+        Some(room) => Ok(room),
+        None => Err(ElfError::RelocationsTooLarge),
+    }
+}
+
 /// The offset of a place of so many bytes, which has to be within these bytes.
 fn offset_in(bytes: &[u8], offset: u64, width: Width) -> Result<usize, ElfError>
     ensures { result ≡ (if nat_lt (length bytes.now) (offset + size_of width)
@@ -81,15 +92,33 @@ impl<'a> Relocator<'a> {
         ensures { Gives (λ made. made.items) result
             (all_applied (file_of self.now.elf) self.now.place index (bytes_of bytes.entry)) }
     {
+        self.fit(index)?;
         let mut made = bytes.into_vec(alloc)?;
         self.apply_all(index, &mut made)?;
         Ok(made)
     }
 
+    /// Checks that the sections of relocations of the section of an index have no more bytes than
+    /// the file.
+    fn fit(&self, index: usize) -> Result<u64, ElfError>
+        ensures { let file = file_of self.now.elf in result
+            ≡ steps room_after (length file.bytes) (filter (relocates index) file.headers) }
+    {
+        let mut room = self.elf.bytes.len() as u64;
+        for other in 0..self.elf.table.len() {
+            let header = self.elf.table.header(other);
+            if header.relocates(index) {
+                room = room_after(room, &header)?;
+            }
+        }
+        Ok(room)
+    }
+
     /// Applies the sections of relocations of the section of an index.
     fn apply_all(&self, index: usize, bytes: &mut [u8]) -> Result<(), ElfError>
         ensures { result_map (λ _. bytes.new) result
-            ≡ all_applied (file_of self.now.elf) self.now.place index bytes.old }
+            ≡ steps (section_applied (file_of self.now.elf) self.now.place) bytes.old
+            (filter (relocates index) (file_of self.now.elf).headers) }
     {
         for other in 0..self.elf.table.len() {
             let header = self.elf.table.header(other);

@@ -5,7 +5,6 @@ use Rattle.std.specs.Prelude.{IfSome, nat_eq}
 use Rattle.std.proofs.lemmas.Bool.{ne_eqb}
 use Rattle.std.specs.BTreeMap.{BTreeMap, get}
 use Rattle.std.specs.Ordering.{nat_cmp}
-use Rattle.std.specs.declared.alloc.Global.{Global}
 use Rattle.gimli_core.specs.Reading.{Read, split_at}
 use Rattle.gimli_core.specs.declared.error.Error.{Error}
 use Rattle.gimli_compilation.specs.declared.abbreviation.Abbreviations.{Abbreviations}
@@ -66,16 +65,16 @@ module _ {R : Type 0} (view : R → List ℕ) where
   -- ---- the table
 
   -- of which nothing was read
-  module _ (section : List ℕ) (alloc : Global) (offset : ℕ) (kept : BTreeMap ℕ R) (none : kept.entries ≡ []) where
+  module _ (section : List ℕ) (offset : ℕ) (kept : BTreeMap ℕ R) (none : kept.entries ≡ []) where
     pub table_new : (part : List ℕ) (rest : R) → (Ok part, view rest) ≡ split_at offset section
         → IsTable view section
-        (record { alloc = alloc; offset = offset; asked = 0; specifications = kept; next = Ok (Some rest) })
+        (record { offset = offset; is_asked = false; specifications = kept; next = Ok (Some rest) })
     unfolding table_at
     table_new part rest read = record { answers = λ code. rw (none, ← read) refl; whole = λ code. rw none tt }
 
     pub table_outside : (e : Error) (left : List ℕ) → (Err e, left) ≡ split_at offset section
         → IsTable view section
-        (record { alloc = alloc; offset = offset; asked = 0; specifications = kept; next = Err e })
+        (record { offset = offset; is_asked = false; specifications = kept; next = Err e })
     unfolding table_at
     table_outside e left read = record { answers = λ code. rw (none, ← read) refl; whole = λ code. rw none tt }
 
@@ -124,10 +123,10 @@ module _ {R : Type 0} (view : R → List ℕ) where
       whole = is.whole;
     }
 
-  -- the same one, which was asked once more
-  pub table_asked : (section : List ℕ) (table : Abbreviations R) (asked : ℕ) → IsTable view section table
-      → IsTable view section (record table { asked = asked })
-  table_asked section table asked is = record { answers = is.answers; whole = is.whole }
+  -- the same one, which was asked
+  pub table_asked : (section : List ℕ) (table : Abbreviations R) (is_asked : Bool) → IsTable view section table
+      → IsTable view section (record table { is_asked = is_asked })
+  table_asked section table is_asked is = record { answers = is.answers; whole = is.whole }
 
   pub smaller_more : (next : Result (Option R) Error) (input rest : R) (d : Declaration) → next ≡ Ok (Some input)
       → (Ok d, view rest) ≡ declaration_at (view input)

@@ -1,5 +1,6 @@
 pub mod Shapes
 pub mod Sizes
+pub mod TextEnds
 pub mod Until
 pub mod Guards
 pub mod FormLaws

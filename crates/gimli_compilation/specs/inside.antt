@@ -8,3 +8,4 @@ pub mod UnitReading
 pub mod AbbreviationTable
 pub mod Seen
 pub mod Directories
+pub mod TextEnds

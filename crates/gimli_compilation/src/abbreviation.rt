@@ -16,6 +16,7 @@ use crate::constants::{self, DwAt};
 use gimli_core::{DwForm, Reader, ReaderOffset, Result};
 use std::alloc::{AllocError, Global};
 use std::collections::BTreeMap;
+use std::mem;
 
 /// What comes of a call that fails only where memory is missing.
 pub(crate) type MemoryResult<T> = std::result::Result<T, AllocError>;
@@ -141,23 +142,34 @@ pub(crate) fn keep_first<R: Reader>(
     Ok(())
 }
 
-/// How often a table is read from its start before it is kept: to keep a declaration takes about as
-/// long as to read so many.
-const ASKED_BEFORE_KEPT: u8 = 30;
-
 /// A table of declarations, as far as it was read.
 #[derive(Drop)]
 pub(crate) struct Abbreviations<R> {
-    alloc: Global,
     /// Where it begins in `.debug_abbrev`.
     offset: u64,
-    /// How often it was asked before it is kept.
-    asked: u8,
+    /// Whether a code was asked for. Only then are declarations kept, as to keep one takes as long
+    /// as to read thirty.
+    is_asked: bool,
     /// Where the specifications of each code begin, in the first declaration that has it.
     specifications: BTreeMap<u64, R>,
     /// Where the next declaration begins; None where the table ended, and the refusal where it
     /// can't be read on.
     next: Result<Option<R>>,
+}
+
+/// Takes bytes that were read from those that may be read. Where these don't suffice, none are
+/// left.
+fn charge(room: &mut u64, bytes: u64) -> MemoryResult<()> {
+    match room.checked_sub(bytes) {
+        Some(left) => {
+            *room = left;
+            Ok(())
+        }
+        None => {
+            *room = 0;
+            Err(AllocError)
+        }
+    }
 }
 
 impl<R: Reader> Abbreviations<R> {
@@ -171,15 +183,14 @@ impl<R: Reader> Abbreviations<R> {
     ghost use Rattle.gimli_compilation.specs.inside.UnitReading.{table_at};
 
     /// The table at an offset of a section, of which nothing was read.
-    pub(crate) fn new(alloc: Global, section: &R, offset: R::Offset) -> Self
+    fn new(alloc: Global, section: &R, offset: R::Offset) -> Self
         ensures table { IsTable R.bytes (R.bytes section.now) result }
         ensures offset { result.offset ≡ R.Offset.number offset }
     {
         let mut input = *section;
         Abbreviations {
-            alloc,
             offset: offset.into_u64(),
-            asked: 0,
+            is_asked: false,
             specifications: BTreeMap::new(alloc),
             next: match input.split(offset) {
                 Ok(_) => Ok(Some(input)),
@@ -188,8 +199,8 @@ impl<R: Reader> Abbreviations<R> {
         }
     }
 
-    /// Reads one more declaration, which begins where reading goes on.
-    fn read_on(&mut self, mut input: R) -> MemoryResult<()>
+    /// Reads one more declaration, which begins where reading goes on. Returns its bytes.
+    fn read_on(&mut self, mut input: R) -> MemoryResult<u64>
         requires { self.old.next ≡ Ok (Some input) }
         ensures table { (section : List ℕ) → IsTable R.bytes section self.old
             → IsTable R.bytes section self.new }
@@ -197,6 +208,7 @@ impl<R: Reader> Abbreviations<R> {
         ensures smaller { OnOk result
             (size_left R.bytes self.new.next < size_left R.bytes self.old.next) }
     {
+        let before = input.len().into_u64();
         self.next = match next_declaration(&mut input) {
             Ok(Some((code, specifications))) => {
                 keep_first(&mut self.specifications, code, specifications)?;
@@ -205,62 +217,143 @@ impl<R: Reader> Abbreviations<R> {
             Ok(None) => Ok(None),
             Err(refusal) => Err(refusal),
         };
-        Ok(())
+        Ok(before.saturating_sub(input.len().into_u64()))
     }
 
-    /// Reads all declarations that are left.
-    fn read_whole(&mut self) -> MemoryResult<()>
+    /// Reads on up to the declaration of a code, or to the end of the table. Fails where no memory
+    /// is left, or where more bytes would be read than may be.
+    fn read_up_to(&mut self, code: u64, room: &mut u64) -> MemoryResult<()>
         ensures table { (section : List ℕ) → IsTable R.bytes section self.old
             → IsTable R.bytes section self.new }
         ensures offset { self.new.offset ≡ self.old.offset }
     {
         while let Ok(Some(input)) = self.next {
-            self.read_on(input)?;
+            if self.specifications.contains_key(&code) {
+                return Ok(());
+            }
+            let bytes = self.read_on(input)?;
+            charge(room, bytes)?;
         }
         Ok(())
     }
 
     /// Finds the declaration of a code: what is kept of it, else what comes where reading goes on.
-    fn answer(&self, code: u64) -> Result<Option<R>>
-        ensures found { result_map (option_map (λ part. listed (R.bytes part))) result
+    /// Returns too how many bytes were read for it.
+    fn answer(&self, code: u64) -> (Result<Option<R>>, u64)
+        ensures found { result_map (option_map (λ part. listed (R.bytes part))) result.0
             ≡ answer_to R.bytes code (get nat_cmp self.now.specifications code) self.now.next }
         ensures listed { (section : List ℕ) → IsTable R.bytes section self.now
-            → IfOk result (λ found. IfSome found (λ part. IsListed (R.bytes part))) }
+            → IfOk result.0 (λ found. IfSome found (λ part. IsListed (R.bytes part))) }
     {
         if let Some(specifications) = self.specifications.get(&code) {
-            return Ok(Some(*specifications));
+            return (Ok(Some(*specifications)), 0);
         }
         match self.next {
-            Ok(Some(mut input)) => find_abbreviation(&mut input, code),
-            answer => answer,
+            Ok(Some(mut input)) => {
+                let before = input.len().into_u64();
+                let found = find_abbreviation(&mut input, code);
+                (found, before.saturating_sub(input.len().into_u64()))
+            }
+            answer => (answer, 0),
         }
     }
 
+    /// Finds the declaration of a code. What was read for it is kept from the second call on.
+    fn find(&mut self, code: u64, room: &mut u64) -> MemoryResult<Result<Option<R>>>
+        ensures table { (section : List ℕ) → IsTable R.bytes section self.old
+            → IsTable R.bytes section self.new }
+        ensures offset { self.new.offset ≡ self.old.offset }
+        ensures found { IfOk result (λ found. (section : List ℕ)
+            → IsTable R.bytes section self.old
+            → result_map (option_map (λ part. listed (R.bytes part))) found
+            ≡ (table_at self.old.offset code section).0) }
+        ensures listed { IfOk result (λ found. (section : List ℕ)
+            → IsTable R.bytes section self.old
+            → IfOk found (λ found. IfSome found (λ part. IsListed (R.bytes part)))) }
+    {
+        if self.is_asked {
+            self.read_up_to(code, room)?;
+        } else {
+            self.is_asked = true;
+        }
+        let (found, bytes) = self.answer(code);
+        charge(room, bytes)?;
+        Ok(found)
+    }
+}
+
+/// How many times the bytes of `.debug_abbrev` may be read. Tables that don't overlap have no more
+/// than these bytes together, and no declaration of a table is read more than twice.
+const TIMES_READ: u64 = 4;
+
+/// The tables of declarations of a section, as far as they were read.
+#[derive(Drop)]
+pub(crate) struct Tables<R> {
+    alloc: Global,
+    /// The one that was asked last.
+    last: Abbreviations<R>,
+    /// Those that were asked before, by where they begin.
+    others: BTreeMap<u64, Abbreviations<R>>,
+    /// How many more bytes may be read.
+    room: u64,
+}
+
+impl<R: Reader> Tables<R> {
+    ghost use Rattle.std.specs.Prelude.{◌≡◌, IfOk, IfSome, OnOk, option_map};
+    ghost use Rattle.gimli_core.specs.Reading.{result_map};
+    ghost use Rattle.gimli_compilation.specs.inside.AbbreviationReading.{IsListed, listed};
+    ghost use Rattle.gimli_compilation.specs.inside.AbbreviationTable.{AreTables};
+    ghost use Rattle.gimli_compilation.specs.inside.UnitReading.{table_at};
+
+    /// The tables of a section, of which nothing was read.
+    pub(crate) fn new(alloc: Global, section: &R) -> Self
+        ensures { AreTables R.bytes (R.bytes section.now) result }
+    {
+        Tables {
+            alloc,
+            last: Abbreviations::new(alloc, section, R::Offset::from_u8(0)),
+            others: BTreeMap::new(alloc),
+            room: section.len().into_u64().saturating_mul(TIMES_READ),
+        }
+    }
+
+    /// Makes the table at an offset the one that is asked.
+    fn turn_to(&mut self, section: &R, offset: R::Offset) -> MemoryResult<()>
+        requires { AreTables R.bytes (R.bytes section.now) self.old }
+        ensures tables { AreTables R.bytes (R.bytes section.now) self.new }
+        ensures offset { OnOk result (self.new.last.offset ≡ R.Offset.number offset) }
+    {
+        let place = offset.into_u64();
+        if place == self.last.offset {
+            return Ok(());
+        }
+        let table = match self.others.remove(&place) {
+            Some(table) => table,
+            None => Abbreviations::new(self.alloc, section, offset),
+        };
+        let before = mem::replace(&mut self.last, table);
+        self.others.insert(before.offset, before)?;
+        Ok(())
+    }
+
     /// Finds the declaration of a code in the table at an offset. Returns a reader that begins at
-    /// its specifications, or None where the table has no such declaration. The table is kept once
-    /// it was asked so often that keeping it takes no longer than what was read so far.
+    /// its specifications, or None where the table has no such declaration. Fails where memory is
+    /// missing, and where tables overlap so much that more bytes would be read than may be.
     pub(crate) fn find(
         &mut self,
         section: &R,
         offset: R::Offset,
         code: u64,
     ) -> MemoryResult<Result<Option<R>>>
-        requires { IsTable R.bytes (R.bytes section.now) self.old }
-        ensures table { IsTable R.bytes (R.bytes section.now) self.new }
+        requires { AreTables R.bytes (R.bytes section.now) self.old }
+        ensures tables { AreTables R.bytes (R.bytes section.now) self.new }
         ensures found { IfOk result
             (λ found. result_map (option_map (λ part. listed (R.bytes part))) found
             ≡ (table_at (R.Offset.number offset) code (R.bytes section.now)).0) }
         ensures listed { IfOk result (λ found. IfOk found
             (λ found. IfSome found (λ part. IsListed (R.bytes part)))) }
     {
-        if offset.into_u64() != self.offset {
-            *self = Self::new(self.alloc, section, offset);
-        }
-        if self.asked < ASKED_BEFORE_KEPT {
-            self.asked += 1;
-        } else {
-            self.read_whole()?;
-        }
-        Ok(self.answer(code))
+        self.turn_to(section, offset)?;
+        self.last.find(code, &mut self.room)
     }
 }

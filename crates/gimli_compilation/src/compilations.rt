@@ -67,7 +67,7 @@ fn keep<R: Reader>(directories: &mut BTreeMap<u64, R>, given: Option<(u64, R)>) 
 impl<R: Reader> Compilations<R> {
     /// Reads the first entry of each unit. A unit that is refused gives no directory. Where several
     /// units have one line program, the directory is that of the first that has one. Fails only
-    /// with `OutOfMemory`.
+    /// with `OutOfMemory`, as `CompilationUnits::next` does.
     pub fn new(alloc: Global, sections: &CompilationSections<R>) -> Result<Self>
         ensures ok { IfOk result (λ compilations.
             TellsDirectories (sections_of R.bytes R.is_big R.Offset.limit sections.now)

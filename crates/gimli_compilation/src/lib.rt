@@ -15,6 +15,7 @@ mod header;
 pub mod laws;
 mod refusal;
 mod sections;
+mod texts;
 mod units;
 
 pub use compilations::Compilations;

@@ -5,16 +5,18 @@ ghost use Rattle.gimli_core.specs.Layout.{layout_of};
 ghost use Rattle.gimli_core.specs.Numbers.{is_address_size};
 ghost use Rattle.gimli_core.specs.Reading.{result_map};
 ghost use Rattle.gimli_compilation.specs.inside.AbbreviationReading.{IsListed, listed};
-ghost use Rattle.gimli_compilation.specs.inside.AbbreviationTable.{IsTable};
+ghost use Rattle.gimli_compilation.specs.inside.AbbreviationTable.{AreTables};
 ghost use Rattle.gimli_compilation.specs.inside.UnitReading.{place_of, string_offset_at};
-ghost use Rattle.gimli_compilation.specs.inside.UnitReading.{text_from_at};
+ghost use Rattle.gimli_compilation.specs.inside.UnitReading.{some_text_at};
 
-use crate::abbreviation::{Abbreviations, MemoryResult};
+use crate::abbreviation::{MemoryResult, Tables};
 use crate::attributes::{Attributes, parse_attributes};
 use crate::form::{NumberKind, Value};
 use crate::header::{UnitHeader, split_unit};
 use crate::refusal::Refusal;
+use crate::texts::Texts;
 use gimli_core::{Encoding, Error, Format, Reader, ReaderOffset, Result};
+use std::alloc::Global;
 
 /// The sections from which compilations are read; empty where a program has none.
 ///
@@ -55,6 +57,14 @@ pub struct Compilation<R> {
     pub name: Option<R>,
 }
 
+/// What is kept of a unit for the next one.
+#[derive(Drop)]
+pub(crate) struct Kept<R: Reader> {
+    pub tables: Tables<R>,
+    pub strings: Texts<R>,
+    pub line_strings: Texts<R>,
+}
+
 /// What comes of a unit whose bytes could be read.
 #[derive(Drop)]
 enum Outcome<R> {
@@ -93,18 +103,17 @@ impl<R> Outcome<R> {
     }
 }
 
-/// The text that begins at an offset of a section. Refused by `UnexpectedEof` where the section
-/// ends before the offset or before the zero byte of the text, and by `UnsupportedOffset` where the
-/// offset type is too narrow.
-#[tactic(auto, unfolding(crate::specs::inside::UnitReading::text_from_at))]
-fn text_from<R: Reader>(section: &R, offset: u64) -> Result<R>
-    ensures { result_map R.bytes result
-        ≡ (text_from_at R.Offset.limit offset (R.bytes section.now)).0 }
+/// The text that begins at an offset of a section.
+fn some_text<R: Reader>(texts: &mut Texts<R>, offset: u64) -> MemoryResult<Result<Option<R>>>
+    ensures same { texts.new ≡ texts.old }
+    ensures read { IfOk result (λ text. (bytes : List ℕ)
+        → (result_map (option_map R.bytes) text, bytes)
+        ≡ some_text_at R.Offset.limit offset texts.old bytes) }
 {
-    let mut input = *section;
-    let offset = R::Offset::from_u64(offset)?;
-    input.split(offset)?;
-    input.read_null_terminated_slice()
+    match texts.text(offset)? {
+        Ok(text) => Ok(Ok(Some(text))),
+        Err(error) => Ok(Err(error)),
+    }
 }
 
 /// The place of an index in a table that begins at a base. Refused by `UnsupportedOffset` where it
@@ -144,6 +153,19 @@ impl<R: Reader> CompilationSections<R> {
     ghost use Rattle.gimli_compilation.specs.inside.UnitReading.{outcome_seen, text_by_at};
     ghost use Rattle.gimli_compilation.specs.inside.UnitReading.{text_of_at};
 
+    /// What is kept of no unit.
+    pub(crate) fn nothing_kept(&self, alloc: Global) -> Kept<R>
+        ensures tables { AreTables R.bytes (R.bytes self.now.debug_abbrev) result.tables }
+        ensures strings { result.strings ≡ R.bytes self.now.debug_str }
+        ensures line_strings { result.line_strings ≡ R.bytes self.now.debug_line_str }
+    {
+        Kept {
+            tables: Tables::new(alloc, &self.debug_abbrev),
+            strings: Texts::new(alloc, &self.debug_str),
+            line_strings: Texts::new(alloc, &self.debug_line_str),
+        }
+    }
+
     /// The compilation of the unit that begins at an offset of `.debug_info`; an offset past the
     /// end leaves no bytes. Refused as the first part that isn't met says: the header, the table of
     /// declarations up to the code of the first entry, the attributes of this, and the texts that
@@ -151,10 +173,14 @@ impl<R: Reader> CompilationSections<R> {
     pub(crate) fn compilation(
         &self,
         offset: R::Offset,
-        abbreviations: &mut Abbreviations<R>,
+        kept: &mut Kept<R>,
     ) -> MemoryResult<std::result::Result<Compilation<R>, Refusal>>
-        requires { IsTable R.bytes (R.bytes self.now.debug_abbrev) abbreviations.old }
-        ensures table { IsTable R.bytes (R.bytes self.now.debug_abbrev) abbreviations.new }
+        requires tables { AreTables R.bytes (R.bytes self.now.debug_abbrev) kept.old.tables }
+        requires strings { kept.old.strings ≡ R.bytes self.now.debug_str }
+        requires line_strings { kept.old.line_strings ≡ R.bytes self.now.debug_line_str }
+        ensures tables { AreTables R.bytes (R.bytes self.now.debug_abbrev) kept.new.tables }
+        ensures strings { kept.new.strings ≡ kept.old.strings }
+        ensures line_strings { kept.new.line_strings ≡ kept.old.line_strings }
         ensures compilation { IfOk result (λ answer. IfOk answer (λ compilation.
             HasCompilationAt (sections_of R.bytes R.is_big R.Offset.limit self.now)
             (R.Offset.number offset) (compilation_seen R.bytes compilation))) }
@@ -167,7 +193,7 @@ impl<R: Reader> CompilationSections<R> {
             Ok(unit) => unit,
             Err(error) => return Ok(Err(Refusal::Bytes(error))),
         };
-        let outcome = self.parse_content(&mut unit, format, abbreviations)?;
+        let outcome = self.parse_content(&mut unit, format, kept)?;
         Ok(Outcome::answer(outcome))
     }
 
@@ -190,11 +216,15 @@ impl<R: Reader> CompilationSections<R> {
         &self,
         unit: &mut R,
         format: Format,
-        abbreviations: &mut Abbreviations<R>,
+        kept: &mut Kept<R>,
     ) -> MemoryResult<Result<Outcome<R>>>
         requires order { R.is_big unit.old ≡ R.is_big self.now.debug_info }
-        requires table { IsTable R.bytes (R.bytes self.now.debug_abbrev) abbreviations.old }
-        ensures table { IsTable R.bytes (R.bytes self.now.debug_abbrev) abbreviations.new }
+        requires tables { AreTables R.bytes (R.bytes self.now.debug_abbrev) kept.old.tables }
+        requires strings { kept.old.strings ≡ R.bytes self.now.debug_str }
+        requires line_strings { kept.old.line_strings ≡ R.bytes self.now.debug_line_str }
+        ensures tables { AreTables R.bytes (R.bytes self.now.debug_abbrev) kept.new.tables }
+        ensures strings { kept.new.strings ≡ kept.old.strings }
+        ensures line_strings { kept.new.line_strings ≡ kept.old.line_strings }
         ensures read { IfOk result (λ outcome.
             (result_map (outcome_seen (compilation_seen R.bytes)) outcome, R.bytes unit.new)
             ≡ content_at (sections_of R.bytes R.is_big R.Offset.limit self.now) format
@@ -207,7 +237,7 @@ impl<R: Reader> CompilationSections<R> {
         if !header.unit_type.is_known() {
             return Ok(Ok(Outcome::UnknownUnitType(header.unit_type.0)));
         }
-        self.parse_entry(unit, header, abbreviations)
+        self.parse_entry(unit, header, kept)
     }
 
     /// Takes the first entry of a unit.
@@ -216,12 +246,16 @@ impl<R: Reader> CompilationSections<R> {
         &self,
         unit: &mut R,
         header: UnitHeader<R>,
-        abbreviations: &mut Abbreviations<R>,
+        kept: &mut Kept<R>,
     ) -> MemoryResult<Result<Outcome<R>>>
         requires order { R.is_big unit.old ≡ R.is_big self.now.debug_info }
         requires size { IsTrue (is_address_size header.encoding.address_size) }
-        requires table { IsTable R.bytes (R.bytes self.now.debug_abbrev) abbreviations.old }
-        ensures table { IsTable R.bytes (R.bytes self.now.debug_abbrev) abbreviations.new }
+        requires tables { AreTables R.bytes (R.bytes self.now.debug_abbrev) kept.old.tables }
+        requires strings { kept.old.strings ≡ R.bytes self.now.debug_str }
+        requires line_strings { kept.old.line_strings ≡ R.bytes self.now.debug_line_str }
+        ensures tables { AreTables R.bytes (R.bytes self.now.debug_abbrev) kept.new.tables }
+        ensures strings { kept.new.strings ≡ kept.old.strings }
+        ensures line_strings { kept.new.line_strings ≡ kept.old.line_strings }
         ensures read { IfOk result (λ outcome.
             (result_map (outcome_seen (compilation_seen R.bytes)) outcome, R.bytes unit.new)
             ≡ entry_at (sections_of R.bytes R.is_big R.Offset.limit self.now)
@@ -231,27 +265,43 @@ impl<R: Reader> CompilationSections<R> {
             Ok(code) => code,
             Err(error) => return Ok(Err(error)),
         };
-        let found = abbreviations.find(&self.debug_abbrev, header.abbreviations, code)?;
-        Ok(match found {
-            Ok(Some(specifications)) => self.parse_found(unit, header.encoding, specifications),
-            Ok(None) => Ok(Outcome::MissingAbbreviation(code)),
-            Err(error) => Err(error),
-        })
+        let table = header.abbreviations;
+        match kept.tables.find(&self.debug_abbrev, table, code)? {
+            Ok(Some(found)) => self.parse_found(unit, header.encoding, found, kept),
+            Ok(None) => Ok(Ok(Outcome::MissingAbbreviation(code))),
+            Err(error) => Ok(Err(error)),
+        }
     }
 
     /// Takes an entry whose specifications are known.
     #[tactic(auto, unfolding(crate::specs::inside::UnitReading::found_entry_at))]
-    fn parse_found(&self, unit: &mut R, encoding: Encoding, specifications: R) -> Result<Outcome<R>>
+    fn parse_found(
+        &self,
+        unit: &mut R,
+        encoding: Encoding,
+        specifications: R,
+        kept: &mut Kept<R>,
+    ) -> MemoryResult<Result<Outcome<R>>>
         requires order { R.is_big unit.old ≡ R.is_big self.now.debug_info }
         requires size { IsTrue (is_address_size encoding.address_size) }
         requires closed { IsListed (R.bytes specifications) }
-        ensures { (result_map (outcome_seen (compilation_seen R.bytes)) result, R.bytes unit.new)
+        requires strings { kept.old.strings ≡ R.bytes self.now.debug_str }
+        requires line_strings { kept.old.line_strings ≡ R.bytes self.now.debug_line_str }
+        ensures kept { kept.new ≡ kept.old }
+        ensures read { IfOk result (λ outcome.
+            (result_map (outcome_seen (compilation_seen R.bytes)) outcome, R.bytes unit.new)
             ≡ found_entry_at (sections_of R.bytes R.is_big R.Offset.limit self.now) encoding
-            (listed (R.bytes specifications)) (R.bytes unit.old) }
+            (listed (R.bytes specifications)) (R.bytes unit.old)) }
     {
-        let attributes = parse_attributes(unit, encoding, specifications)?;
-        let compilation = self.compilation_of(encoding, &attributes)?;
-        Ok(Outcome::Found(compilation))
+        let attributes = match parse_attributes(unit, encoding, specifications) {
+            Ok(attributes) => attributes,
+            Err(error) => return Ok(Err(error)),
+        };
+        let compilation = self.compilation_of(encoding, &attributes, kept)?;
+        match compilation {
+            Ok(compilation) => Ok(Ok(Outcome::Found(compilation))),
+            Err(error) => Ok(Err(error)),
+        }
     }
 
     /// What the attributes of an entry say.
@@ -260,32 +310,53 @@ impl<R: Reader> CompilationSections<R> {
         &self,
         encoding: Encoding,
         attributes: &Attributes<R>,
-    ) -> Result<Compilation<R>>
-        ensures { (bytes : List ℕ) → (result_map (compilation_seen R.bytes) result, bytes)
+        kept: &mut Kept<R>,
+    ) -> MemoryResult<Result<Compilation<R>>>
+        requires strings { kept.old.strings ≡ R.bytes self.now.debug_str }
+        requires line_strings { kept.old.line_strings ≡ R.bytes self.now.debug_line_str }
+        ensures kept { kept.new ≡ kept.old }
+        ensures read { IfOk result (λ compilation.
+            (bytes : List ℕ) → (result_map (compilation_seen R.bytes) compilation, bytes)
             ≡ compilation_at (sections_of R.bytes R.is_big R.Offset.limit self.now) encoding
-            (attributes_seen R.bytes attributes.now) bytes }
+            (attributes_seen R.bytes attributes.now) bytes) }
     {
         let base = attributes.str_offsets_base.section_offset();
-        let comp_dir = self.text_of(encoding.format, base, &attributes.comp_dir)?;
-        let name = self.text_of(encoding.format, base, &attributes.name)?;
-        Ok(Compilation {
+        let comp_dir = match self.text_of(encoding.format, base, &attributes.comp_dir, kept)? {
+            Ok(comp_dir) => comp_dir,
+            Err(error) => return Ok(Err(error)),
+        };
+        let name = match self.text_of(encoding.format, base, &attributes.name, kept)? {
+            Ok(name) => name,
+            Err(error) => return Ok(Err(error)),
+        };
+        Ok(Ok(Compilation {
             version: encoding.version,
             stmt_list: attributes.stmt_list.section_offset(),
             comp_dir,
             name,
-        })
+        }))
     }
 
     /// The text of a value; None where it is none, or stands in another file.
-    fn text_of(&self, format: Format, base: Option<u64>, value: &Value<R>) -> Result<Option<R>>
-        ensures { (bytes : List ℕ) → (result_map (option_map R.bytes) result, bytes)
+    fn text_of(
+        &self,
+        format: Format,
+        base: Option<u64>,
+        value: &Value<R>,
+        kept: &mut Kept<R>,
+    ) -> MemoryResult<Result<Option<R>>>
+        requires strings { kept.old.strings ≡ R.bytes self.now.debug_str }
+        requires line_strings { kept.old.line_strings ≡ R.bytes self.now.debug_line_str }
+        ensures kept { kept.new ≡ kept.old }
+        ensures read { IfOk result (λ text.
+            (bytes : List ℕ) → (result_map (option_map R.bytes) text, bytes)
             ≡ text_of_at (sections_of R.bytes R.is_big R.Offset.limit self.now) format base
-            (value_seen R.bytes value.now) bytes }
+            (value_seen R.bytes value.now) bytes) }
     {
         match *value {
-            Value::Text(text) => Ok(Some(text)),
-            Value::Number(kind, number) => self.text_by(format, base, kind, number),
-            Value::Passed => Ok(None),
+            Value::Text(text) => Ok(Ok(Some(text))),
+            Value::Number(kind, number) => self.text_by(format, base, kind, number, kept),
+            Value::Passed => Ok(Ok(None)),
         }
     }
 
@@ -297,29 +368,29 @@ impl<R: Reader> CompilationSections<R> {
         base: Option<u64>,
         kind: NumberKind,
         number: u64,
-    ) -> Result<Option<R>>
-        ensures { (bytes : List ℕ) → (result_map (option_map R.bytes) result, bytes)
+        kept: &mut Kept<R>,
+    ) -> MemoryResult<Result<Option<R>>>
+        requires strings { kept.old.strings ≡ R.bytes self.now.debug_str }
+        requires line_strings { kept.old.line_strings ≡ R.bytes self.now.debug_line_str }
+        ensures kept { kept.new ≡ kept.old }
+        ensures read { IfOk result (λ text.
+            (bytes : List ℕ) → (result_map (option_map R.bytes) text, bytes)
             ≡ text_by_at (sections_of R.bytes R.is_big R.Offset.limit self.now) format base kind
-            number bytes }
+            number bytes) }
     {
         match kind {
-            NumberKind::StringOffset => {
-                let text = text_from(&self.debug_str, number)?;
-                Ok(Some(text))
-            }
-            NumberKind::LineStringOffset => {
-                let text = text_from(&self.debug_line_str, number)?;
-                Ok(Some(text))
-            }
+            NumberKind::StringOffset => some_text(&mut kept.strings, number),
+            NumberKind::LineStringOffset => some_text(&mut kept.line_strings, number),
             NumberKind::StringIndex => match base {
                 Some(base) => {
-                    let offset = string_offset(&self.debug_str_offsets, format, base, number)?;
-                    let text = text_from(&self.debug_str, offset)?;
-                    Ok(Some(text))
+                    match string_offset(&self.debug_str_offsets, format, base, number) {
+                        Ok(offset) => some_text(&mut kept.strings, offset),
+                        Err(error) => Ok(Err(error)),
+                    }
                 }
-                None => Ok(None),
+                None => Ok(Ok(None)),
             },
-            _ => Ok(None),
+            _ => Ok(Ok(None)),
         }
     }
 }

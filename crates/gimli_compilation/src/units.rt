@@ -4,10 +4,9 @@ ghost use Rattle.std.specs.Prelude.{◌≡◌};
 ghost use Rattle.gimli_core.specs.Layout.{layout_of};
 ghost use Rattle.gimli_compilation.specs.inside.HeaderReading.{after_frame, frame_at};
 
-use crate::abbreviation::Abbreviations;
 use crate::header::split_unit;
 use crate::refusal::Refusal;
-use crate::sections::{Compilation, CompilationSections};
+use crate::sections::{Compilation, CompilationSections, Kept};
 use gimli_core::{Error, Reader, ReaderOffset, Result};
 use std::alloc::Global;
 use std::marker::Model;
@@ -38,11 +37,11 @@ pub struct CompilationUnits<R: Reader> {
     sections: CompilationSections<R>,
     /// Where the next unit begins.
     offset: R::Offset,
-    /// The table of the last unit that was read, for the next one.
-    abbreviations: Abbreviations<R>,
+    kept: Kept<R>,
 }
 
 impl<R: Reader> Model for CompilationUnits<R> {
+    ghost use Rattle.std.specs.Prelude.{◌≡◌};
     ghost use Rattle.gimli_compilation.specs.Sections.{sections_of};
     ghost use Rattle.gimli_compilation.specs.Unit.{Walk};
 
@@ -53,9 +52,11 @@ impl<R: Reader> Model for CompilationUnits<R> {
       offset = R.Offset.number a.offset;
     } };
 
-    ghost use Rattle.gimli_compilation.specs.inside.AbbreviationTable.{IsTable};
+    ghost use Rattle.gimli_compilation.specs.inside.AbbreviationTable.{AreTables};
 
-    ghost invariant = { λ a. IsTable R.bytes (R.bytes a.sections.debug_abbrev) a.abbreviations };
+    ghost invariant = { λ a. AreTables R.bytes (R.bytes a.sections.debug_abbrev) a.kept.tables
+        × (a.kept.strings ≡ R.bytes a.sections.debug_str)
+        × (a.kept.line_strings ≡ R.bytes a.sections.debug_line_str) };
 }
 
 impl<R: Reader> CompilationSections<R> {
@@ -67,11 +68,10 @@ impl<R: Reader> CompilationSections<R> {
         ensures sections { result.sections ≡ sections_of R.bytes R.is_big R.Offset.limit self.now }
         ensures offset { result.offset ≡ 0 }
     {
-        let offset = R::Offset::from_u8(0);
         CompilationUnits {
             sections: *self,
-            offset,
-            abbreviations: Abbreviations::new(alloc, &self.debug_abbrev, offset),
+            offset: R::Offset::from_u8(0),
+            kept: self.nothing_kept(alloc),
         }
     }
 }
@@ -85,7 +85,8 @@ impl<R: Reader> CompilationUnits<R> {
     /// The next unit; None where no bytes are left. A unit that is refused is given with its
     /// refusal, and the next one begins after it; where its length can't be read or says more bytes
     /// than there are, it is the last one. Fails only with `OutOfMemory`; nothing is changed then,
-    /// so that the call can be made again.
+    /// so that the call can be made again. It fails so too where tables of abbreviations overlap:
+    /// the walk reads four times the bytes of `.debug_abbrev` at most.
     pub fn next(&mut self) -> Result<Option<CompilationUnit<R>>>
         ensures end { IfOk result
             (λ next. IfNone next (drop self.old.offset self.old.sections.info ≡ [])) }
@@ -111,7 +112,7 @@ impl<R: Reader> CompilationUnits<R> {
         if rest.is_empty() {
             return Ok(None);
         }
-        let Ok(compilation) = self.sections.compilation(offset, &mut self.abbreviations) else {
+        let Ok(compilation) = self.sections.compilation(offset, &mut self.kept) else {
             return Err(Error::OutOfMemory);
         };
         skip_unit(&mut rest);

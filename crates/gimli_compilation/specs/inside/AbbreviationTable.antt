@@ -6,6 +6,7 @@ use Rattle.std.specs.Ordering.{nat_cmp}
 use Rattle.gimli_core.specs.declared.error.Error.{Error}
 use Rattle.gimli_compilation.specs.declared.abbreviation.Abbreviations.{Abbreviations}
 use Rattle.gimli_compilation.specs.declared.abbreviation.Specification.{Specification}
+use Rattle.gimli_compilation.specs.declared.abbreviation.Tables.{Tables}
 use Rattle.gimli_compilation.specs.inside.AbbreviationReading.{IsListed, listed, abbreviation_at}
 use Rattle.gimli_compilation.specs.inside.UnitReading.{table_at}
 
@@ -25,6 +26,13 @@ module _ {R : Type 0} (bytes : R → List ℕ) where
         ≡ (table_at table.offset code section).0
     pub whole : (code : ℕ)
         → IfSome (get nat_cmp table.specifications code) (λ part. IsListed (bytes part))
+
+  -- the tables at their offsets
+  pub record AreTables (section : List ℕ) (tables : Tables R) : Type 0 where
+    pub last : IsTable section tables.last
+    pub others : (place : ℕ) → IfSome (get nat_cmp tables.others place) (IsTable section)
+    pub places : (place : ℕ)
+        → IfSome (get nat_cmp tables.others place) (λ table. table.offset ≡ place)
 
   -- how much may still be read
   abbrev pub size_left : Result (Option R) Error → ℕ

@@ -49,6 +49,11 @@ from_offset_at limit offset read bytes =
 unfoldable pub text_from_at : ℕ → ℕ → List ℕ → Read (List ℕ)
 text_from_at limit offset section = from_offset_at limit offset text_at section
 
+-- the same, in the place of no bytes
+abbrev pub some_text_at : ℕ → ℕ → List ℕ → List ℕ → Read (Option (List ℕ))
+some_text_at limit offset section bytes =
+    ((text_from_at limit offset section).0, bytes) >>= λ name rest. (Ok (Some name), rest)
+
 -- the place of an index in a table
 abbrev pub place_of : ℕ → ℕ → ℕ → Result ℕ Error
 place_of base index size =

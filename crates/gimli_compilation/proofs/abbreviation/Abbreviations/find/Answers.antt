@@ -1,20 +1,9 @@
-use Rattle.gimli_compilation.specs.inside.AbbreviationTable.{IsTable}
 use Rattle.gimli_compilation.proofs.AbbreviationTables.{table_asked}
 use Rattle.gimli_compilation.proofs.abbreviation.Abbreviations.find.Goals as goal
-use Rattle.gimli_compilation.proofs.abbreviation.Abbreviations.find.Goals.{then-into_u64-self, else-into_u64-self}
-use Rattle.gimli_compilation.proofs.abbreviation.Abbreviations.find.Goals.{
-  then-self-lt-ASKED_BEFORE_KEPT,
-  else-self-lt-ASKED_BEFORE_KEPT+in_ok-read_whole,
-}
+use Rattle.gimli_compilation.proofs.abbreviation.Abbreviations.find.Goals.{then-self+in_ok-read_up_to, else-self}
 
 pub returns-clause-listed : goal.returns-clause-listed
-returns-clause-listed g c =
-    let section = g.R.Reader.bytes c.args.section.now in
-    let begun : IsTable g.R.Reader.bytes section c.if-into_u64-self.self = elim c.if-into_u64-self.branch [
-      | then-into_u64-self w ↦ rw w.self-is w.new.ensures.table
-      | else-into_u64-self w ↦ rw w.self-is c.requires
-    ] in
-    c.answer.ensures.listed section (elim c.if-self-lt-ASKED_BEFORE_KEPT.branch [
-      | then-self-lt-ASKED_BEFORE_KEPT w ↦ rw w.self-is (table_asked _ _ _ _ begun)
-      | else-self-lt-ASKED_BEFORE_KEPT+in_ok-read_whole w ↦ rw w.self-is (w.read_whole.ensures.table section begun)
-    ])
+returns-clause-listed g c = λ section table. c.answer-found.ensures.listed section (elim c.if-self.branch [
+  | then-self+in_ok-read_up_to w ↦ rw w.self-is (w.read_up_to.ensures.table section table)
+  | else-self w ↦ rw w.self-is (table_asked _ _ _ _ table)
+])

@@ -1,6 +1,6 @@
 use Rattle.std.proofs.Common.{◌≡◌, ℕ, List}
 use Rattle.gimli_compilation.specs.inside.AbbreviationTable.{IsTable, size_left}
-use Rattle.gimli_compilation.proofs.abbreviation.Abbreviations.read_whole.Given as goal
+use Rattle.gimli_compilation.proofs.abbreviation.Abbreviations.read_up_to.Given as goal
 
 abbrev pub invariant-loop-self : goal.invariant-loop-self
 invariant-loop-self g l = record {

@@ -1,0 +1,7 @@
+use Rattle.std.proofs.Common.{sym, ◌∙◌}
+use Rattle.gimli_compilation.proofs.TextEnds.{not_found}
+use Rattle.gimli_compilation.proofs.texts.searched_size.Goals as goal
+
+pub returns-in-Err : goal.returns-in-Err
+returns-in-Err g c =
+    c.len.ensures ∙ sym (not_found (g.R.Reader.bytes c.args.input.now) c.in-Err.field-0 c.in-Err.ensures)
