@@ -13,7 +13,7 @@ pub loop-slot-preserved : goal.loop-slot-preserved
 loop-slot-preserved c =
     let old = c.loop-slot.texts.items in
     let now = c.comp_dir_listed.new.texts.items in
-    let more = c.in_ok-comp_dir_listed.ensures.more in
+    let more = c.in_ok-directories.ensures.more in
     one_more_answered
     (IsCompDirAnswer (λ line. option_map (λ s. s.slice.now) (directory_for c.args.compilations.now line)) now)
     c.args.directories.now c.loop-slot.directories c.loop-slot.slot
@@ -23,7 +23,7 @@ loop-slot-preserved c =
     (comp_dir_on old more.0 now more.1
     (λ line. option_map (λ s. s.slice.now) (directory_for c.args.compilations.now line)))
     c.loop-slot.slot c.args.directories.now c.loop-slot.directories c.loop-slot.invariant)
-    _ _ (omega arith) (c.in_ok-comp_dir_listed.ensures.ok _ refl)
+    _ _ (omega arith) (c.in_ok-directories.ensures.ok _ refl)
 
 pub returns-clause-ok : goal.returns-clause-ok
 returns-clause-ok c =

@@ -14,12 +14,12 @@ loop-slot-preserved c =
     let texts = strings (λ s. s.slice.now) c.args.sections in
     let old = c.loop-slot.texts.items in
     let now = c.file_listed.new.texts.items in
-    let more = c.in_ok-file_listed.ensures.more in
+    let more = c.in_ok-files.ensures.more in
     one_more_answered (IsFileAnswer h texts c.args.comp_dir.now now) c.args.files.now c.loop-slot.files c.loop-slot.slot
     (answered_on (IsFileAnswer h texts c.args.comp_dir.now old) (IsFileAnswer h texts c.args.comp_dir.now now)
     (answer_on old more.0 now more.1 h texts c.args.comp_dir.now) c.loop-slot.slot c.args.files.now c.loop-slot.files
     c.loop-slot.invariant)
-    _ _ (omega arith) c.in_ok-file_listed.ensures.ok
+    _ _ (omega arith) c.in_ok-files.ensures.ok
 
 pub returns-clause-ok : goal.returns-clause-ok
 returns-clause-ok c =
