@@ -1,21 +1,19 @@
-//! The cost of many files, directories, rows or units: `build KIND VERSION COUNT` builds a program
+//! The cost of many files, directories or rows: `build KIND VERSION COUNT` builds a program
 //! of this version with COUNT of a kind, and writes it into an `EndianVec`.
 //!
 //! The kinds are `rows`, and `files` and `directories` with names in the unit. With `_in_line_str`
 //! or `_in_str` after these two, the names stand in `.debug_line_str` or `.debug_str`. Standard
-//! output has the length of the section and a sum of its bytes. Three more words do other work:
+//! output has the length of the section and a sum of its bytes. Two more words do other work:
 //!
-//! - `build units VERSION COUNT` writes COUNT units of one row into a `RelocatableVec`. The address
-//!   of each is a symbol.
 //! - `build traps VERSION COUNT` builds COUNT rows and counts their traps.
 //! - `build refused_file COUNT` asks for the first refused one of COUNT files of version 5.
 
+ghost use Rattle.std.specs.Prelude.{◌≡◌, false};
+ghost use Rattle.gimli_build.specs.LineText.{line_text, IsNotEmpty};
+
 use crate::{parse, print_sum};
 use gimli_build::{LineProgram, LineString};
-use gimli_bytes::{
-    Addends, Address, DebugLine, EndianVec, Error, LineStringTable, RelocatableVec, Result,
-    StringTable, Writer,
-};
+use gimli_bytes::{DebugLine, EndianVec, Error, LineStringTable, Result, StringTable};
 use gimli_core::{Encoding, Format, LineEncoding, LittleEndian};
 use linetool_commands::{begin_at, end_at, put_row};
 use std::alloc::Global;
@@ -84,9 +82,17 @@ fn kind_of(word: &str) -> io::Result<(Kind, Place)> {
     }
 }
 
+/// The version that a word says.
+fn version_of(word: &str) -> io::Result<u16> {
+    match u16::try_from(parse(word)?) {
+        Ok(version) => Ok(version),
+        Err(_) => Err(io::Error::from(ErrorKind::InvalidInput)),
+    }
+}
+
 /// Builds and writes a program, and prints what it was.
 pub fn run(rt: &HostRuntime, kind: &str, version: &str, count: &str) -> io::Result<()> {
-    let version = parse(version)? as u16;
+    let version = version_of(version)?;
     let count = parse(count)?;
     let (kind, place) = kind_of(kind)?;
     let mut names = Names::new(rt.alloc(), place);
@@ -98,7 +104,7 @@ pub fn run(rt: &HostRuntime, kind: &str, version: &str, count: &str) -> io::Resu
 
 /// Builds a program of so many rows, none of a file that it has, and prints how many traps it has.
 pub fn ask_traps(rt: &HostRuntime, version: &str, count: &str) -> io::Result<()> {
-    let version = parse(version)? as u16;
+    let version = version_of(version)?;
     let count = parse(count)?;
     match count_of_traps(rt.alloc(), version, count) {
         Ok(traps) => println!(rt; "traps {traps}"),
@@ -114,7 +120,11 @@ fn count_of_traps(alloc: Global, version: u16, count: u64) -> Result<usize> {
     if program.is_none() {
         return Err(Error::InvalidRange);
     }
-    Ok(program.traps().count())
+    let mut traps: usize = 0;
+    for _ in program.traps() {
+        traps = traps.saturating_add(1);
+    }
+    Ok(traps)
 }
 
 /// Builds a program of version 5 with so many files, whose names stand in `.debug_line_str`, and
@@ -137,47 +147,6 @@ fn refused_file(alloc: Global, count: u64) -> Result<Option<(usize, Error)>> {
         return Err(Error::InvalidRange);
     }
     Ok(program.refused_file(&names.line_strings, &names.strings))
-}
-
-/// Writes so many units of a row, whose address is a symbol, into a `RelocatableVec`, and prints
-/// how many relocations these have.
-pub fn write_units(rt: &HostRuntime, version: &str, count: &str) -> io::Result<()> {
-    let version = parse(version)? as u16;
-    let count = parse(count)?;
-    match relocated_units(rt.alloc(), version, count) {
-        Ok(section) => {
-            let (bytes, relocations) = (section.0.slice(), section.0.relocations());
-            println!(rt; "relocations {}", relocations.len())?;
-            print_sum(rt, bytes)
-        }
-        Err(_) => Err(io::Error::from(ErrorKind::InvalidData)),
-    }
-}
-
-/// A section of so many units.
-fn relocated_units(
-    alloc: Global,
-    version: u16,
-    count: u64,
-) -> Result<DebugLine<RelocatableVec<LittleEndian>>> {
-    let mut names = Names::new(alloc, Place::Unit);
-    let mut program = program_of(alloc, version, &mut names)?;
-    let symbol = Address::Symbol {
-        symbol: 1,
-        addend: 0,
-    };
-    if program.is_none() {
-        return Err(Error::InvalidRange);
-    }
-    program.set_address(symbol)?;
-    put_row(&mut program)?;
-    end_at(&mut program, 1)?;
-    let section = RelocatableVec::new(alloc, LittleEndian, Addends::Listed);
-    let mut section = DebugLine::from(section);
-    for _ in 0..count {
-        write_into(&program, &mut names, &mut section)?;
-    }
-    Ok(section)
 }
 
 /// The section of a program with so many of a kind.
@@ -249,8 +218,13 @@ fn add_directories(
 }
 
 /// Whether a name that stands in the unit has no bytes.
-fn is_empty(name: &LineString) -> bool {
-    matches!(name, LineString::String(text) if text.is_empty())
+fn is_empty(name: &LineString) -> bool
+    ensures { result ≡ false → IsNotEmpty (line_text name.now) }
+{
+    match name {
+        LineString::String(text) => text.is_empty(),
+        _ => false,
+    }
 }
 
 /// Adds a sequence of so many rows, each an address and a line further on.
@@ -268,21 +242,11 @@ fn add_rows(program: &mut LineProgram, count: u64) -> Result<()> {
 /// The section of a program.
 fn write(alloc: Global, program: &LineProgram, names: &mut Names) -> Result<Vec<u8>> {
     let mut section = DebugLine::from(EndianVec::new(alloc, LittleEndian));
-    write_into(program, names, &mut section)?;
-    Ok(section.0.into_vec())
-}
-
-/// Appends the unit of a program.
-fn write_into<W: Writer>(
-    program: &LineProgram,
-    names: &mut Names,
-    section: &mut DebugLine<W>,
-) -> Result<()> {
     if !program.can_write(&names.line_strings, &names.strings) {
         return Err(Error::InvalidRange);
     }
     let encoding = program.encoding();
     let line_strings = &mut names.line_strings;
-    program.write(section, encoding, line_strings, &mut names.strings)?;
-    Ok(())
+    program.write(&mut section, encoding, line_strings, &mut names.strings)?;
+    Ok(section.0.into_vec())
 }

@@ -53,7 +53,6 @@ fn start(rt: &HostRuntime) -> io::Result<()> {
     perform(rt, &["build", "rows", "2", "3"])?;
     perform(rt, &["build", "traps", "5", "3"])?;
     perform(rt, &["build", "refused_file", "3"])?;
-    perform(rt, &["build", "units", "4", "2"])?;
     perform(rt, &["convert", "unit.section", "0", "2"])?;
     perform(rt, &["lookup", "demo.section", "0", "find", "1"])?;
     perform(rt, &["index", "demo.section", "find", "1"])
@@ -67,7 +66,6 @@ fn perform(rt: &HostRuntime, words: &[&str]) -> io::Result<()> {
         ["write", sequences] => write::run(rt, sequences),
         ["build", "traps", version, count] => build::ask_traps(rt, version, count),
         ["build", "refused_file", count] => build::ask_refused_file(rt, count),
-        ["build", "units", version, count] => build::write_units(rt, version, count),
         ["build", kind, version, count] => build::run(rt, kind, version, count),
         ["convert", path, offset, times] => convert::run(rt, path, offset, times),
         ["index", path, work, times] => index::run(rt, path, work, times),
