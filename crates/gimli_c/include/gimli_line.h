@@ -247,7 +247,7 @@ gimli_line_status gimli_line_index_of_sections(const gimli_line_sections *sectio
 /* Makes the index of a program's sections. Free it with free(). `identity` names what it is made
  * of: a build ID, a checksum, or nothing. A unit that can't be read has no rows; of a unit whose
  * program has a fault, the sequences that end before it count. Rows that no end row follows are in
- * no sequence, and that is no fault. For a path that can't be told the index has the reason.
+ * no sequence, and that is no fault. If a path can't be made, the index has the reason.
  *
  * Returns GIMLI_LINE_OK for any bytes of these sections, or
  *   GIMLI_LINE_INDEX_TOO_LARGE   it would be too large: at most 48 bytes, and 36 for each byte of
@@ -275,8 +275,8 @@ typedef struct gimli_line_index {
 
 gimli_line_status gimli_line_index_open(const void *index, size_t length,
                                         gimli_line_index *found) GIMLI_LINE_CALL GIMLI_LINE_NONNULL;
-/* [async-signal-safe] Tells what an index says of itself, by its header and its length alone. It
- * may be followed by other bytes. */
+/* [async-signal-safe] Stores what an index says of itself, by its header and its length alone.
+ * Other bytes may follow the index. */
 
 gimli_line_status gimli_line_index_check(const void *index,
                                          size_t length) GIMLI_LINE_CALL GIMLI_LINE_NONNULL;
@@ -338,7 +338,7 @@ gimli_line_status gimli_line_index_find_all(const void *index, size_t length,
 gimli_line_status gimli_line_index_range(
     const void *index, size_t length, size_t number,
     gimli_line_place *place) GIMLI_LINE_CALL GIMLI_LINE_NONNULL;
-/* [async-signal-safe] Tells what an index says from the start of a number on, to list its ranges by
+/* [async-signal-safe] Stores what an index says from the start of a number on; list its ranges by
  * 0, 1 and so on. `address` and `first` are the address of the start, and `end` that of the next
  * one; 0 if it is the last. A range that isn't the last is empty if both are the same. If nothing
  * is known from there on, `known` and all other numbers of the place are 0. Reads two starts.
@@ -350,15 +350,15 @@ gimli_line_status gimli_line_index_addresses_of(const void *index, size_t length
                                                 size_t path_length, uint64_t line,
                                                 uint64_t *found_line, uint64_t *addresses,
                                                 size_t room, size_t *count) GIMLI_LINE_CALL;
-/* [async-signal-safe] Tells the addresses for a breakpoint at a line of the files that a path
+/* [async-signal-safe] Stores the addresses for a breakpoint at a line of the files that a path
  * names. A path names files by its last components (stl_map.h, bits/stl_map.h), or one file if it
  * begins with a separator; `.` and `..` are resolved by text; one without a component names none.
  *
  * Where rows of that line of one file stand side by side in a sequence, the first one that is a
  * statement gives its address; so a function may have several, and that of its entry is before the
- * prologue. If the line has none, those of the next line that has any are told; *found_line is that
- * line. *count is how many addresses there are; they ascend, each once. They are those that the
- * rows of the program give, also of functions that a linker dropped or folded (INDEX).
+ * prologue. If the line has none, it stores those of the next line that has any; *found_line is
+ * that line. *count is how many addresses there are; they ascend, each once. They are those that
+ * the rows of the program give, also of functions that a linker dropped or folded (INDEX).
  *
  * Returns:
  *   GIMLI_LINE_NO_ROOM   *count is how many there are; *found_line isn't written
@@ -539,14 +539,14 @@ gimli_line_status gimli_line_read_path(const gimli_line_sections *sections, size
                                        uint64_t number, const char *comp_dir,
                                        size_t comp_dir_length, char *path, size_t room,
                                        size_t *size) GIMLI_LINE_CALL;
-/* Tells the whole path of the file of a number:
+/* Writes the whole path of the file of a number:
  *
  *   a file `a.c` in the directory `inc`, in a unit
  *     up to version 4                             COMP_DIR/inc/a.c
  *     of version 5, whose directory 0 is /home    /home/inc/a.c
  *     of version 5, whose directory 0 is empty    COMP_DIR/inc/a.c
  *
- * COMP_DIR is `comp_dir`, which gimli_line_comp_dir tells; elsewhere it isn't looked at. If it, or
+ * COMP_DIR is `comp_dir`, from gimli_line_comp_dir; elsewhere it isn't looked at. If it, or
  * directory 0, is relative or has no bytes, so is the path. An absolute file or directory stands
  * alone.
  *
@@ -578,7 +578,7 @@ typedef struct gimli_line_listed_comp_dir {
 gimli_line_status gimli_line_comp_dirs(const gimli_line_sections *sections,
                                        gimli_line_listed_comp_dir *directories, size_t count,
                                        char *texts, size_t room, size_t *size) GIMLI_LINE_CALL;
-/* Tells the directories of `count` compilations in one pass over .debug_info, each as
+/* Writes the directories of `count` compilations in one pass over .debug_info, each as
  * gimli_line_comp_dir does: that of the unit at directories[0].offset, and so on. They go into
  * `texts`, one after the other, each with a zero byte after it; *size is how many bytes they take
  * in all. The cost grows with .debug_info, with `count`, and with the bytes of the directories.
@@ -589,7 +589,7 @@ gimli_line_status gimli_line_comp_dirs(const gimli_line_sections *sections,
 
 gimli_line_status gimli_line_comp_dir(const gimli_line_sections *sections, uint64_t offset,
                                       char *directory, size_t room, size_t *size) GIMLI_LINE_CALL;
-/* Tells the directory of the compilation (DW_AT_comp_dir) whose unit of .debug_line is at an
+/* Writes the directory of the compilation (DW_AT_comp_dir) whose unit of .debug_line is at an
  * offset: that of the first unit of .debug_info that names it and has a directory. Only units up to
  * version 4, and those of version 5 with an empty directory 0, need it for their paths.
  *
