@@ -73,7 +73,8 @@ impl<'r> Session<'r> {
                     return Ok(());
                 }
                 let mut questions = Questions::new(rt, &request.addresses)?;
-                self.locate(program, input, None, &mut questions)
+                self.locate(program, input, None, &mut questions)?;
+                Ok(())
             }
             Command::At(place) => {
                 if self.begin_lookup(input.length(), files.limit)? {
@@ -139,38 +140,51 @@ impl<'r> Session<'r> {
         Ok(())
     }
 
-    /// Prints the places of the addresses that follow each other in a section. False where it can't
-    /// be read, which is reported.
+    /// Prints the places of the addresses that follow each other in the section of a name, or in
+    /// the section of the first function of it. False where none can be printed, which is reported.
     fn locate_in_section(
         &mut self,
         files: Files<'_>,
         name: &[u8],
         questions: &mut Questions<'_>,
     ) -> io::Result<bool> {
-        match InputSections::of_section(self.run.rt.alloc(), files, name) {
+        let alloc = self.run.rt.alloc();
+        let (found, section) = match InputSections::of_section(alloc, files, name) {
+            Ok(None) => (InputSections::of_function(alloc, files, name), &[][..]),
+            found => (found, name),
+        };
+        match found {
             Ok(Some(program)) => {
-                if self.begin_lookup(program.lines().len() as u64, files.limit)? {
-                    self.locate(&program, &program.input(), Some(name), questions)?;
+                if !self.begin_lookup(program.lines().len() as u64, files.limit)? {
+                    return Ok(false);
+                }
+                if self.locate(&program, &program.input(), Some(section), questions)? {
                     return Ok(true);
                 }
+                self.tell_of_none(name);
             }
-            Ok(None) => {
-                let name = PathText(name);
-                self.output.tell(format_args!("there is no section {name}"));
-            }
+            Ok(None) => self.tell_of_none(name),
             Err(refusal) => tell_refusal(refusal, &mut self.output)?,
         }
         Ok(false)
     }
 
+    /// Reports that an object file has nothing of a name.
+    fn tell_of_none(&mut self, name: &[u8]) {
+        let name = PathText(name);
+        let text = format_args!("there is no section and no function {name}");
+        self.output.tell(text);
+    }
+
     /// Prints the places of addresses by the rows of a program, or of the section of a name.
+    /// Returns whether there was one.
     fn locate<R: Reader>(
         &mut self,
         program: &InputSections<'_>,
         input: &Input<R>,
         section: Option<&[u8]>,
         questions: &mut Questions<'_>,
-    ) -> io::Result<()> {
+    ) -> io::Result<bool> {
         let Run { rt, request } = self.run;
         let functions = program.functions(rt.alloc())?;
         let output = &mut self.output;
@@ -179,12 +193,14 @@ impl<'r> Session<'r> {
         self.answer_all(&places, questions)
     }
 
-    /// Answers questions up to the first that is asked of another section.
+    /// Answers questions up to the first that is asked of another section. Returns whether there
+    /// was one that wasn't.
     fn answer_all<R: Reader>(
         &mut self,
         places: &Places<'_, '_, R>,
         questions: &mut Questions<'_>,
-    ) -> io::Result<()> {
+    ) -> io::Result<bool> {
+        let mut is_any = false;
         for _ in 0..u64::MAX {
             let Some(asked) = questions.current()? else {
                 break;
@@ -198,10 +214,11 @@ impl<'r> Session<'r> {
                     }
                 }
             }
+            is_any = true;
             self.hand_on()?;
             questions.go_on();
         }
-        Ok(())
+        Ok(is_any)
     }
 
     /// Finds the rows of a place or of a function, and prints their lines with their addresses.

@@ -9,6 +9,9 @@ const FUNCTION: u8 = 2;
 /// A function that chooses another as the program begins (`STT_GNU_IFUNC`).
 const CHOOSING: u8 = 10;
 
+/// How many bytes of a name, from its beginning on, make its key.
+const KEYED: usize = 64;
+
 /// The code of a function. Of several that begin at one address the greatest counts, and of these
 /// the first in the table.
 #[derive(Clone, Copy, PartialEq, Eq, PartialOrd, Ord)]
@@ -18,15 +21,28 @@ struct CodeRange {
     /// How many symbols are left from it on.
     left: usize,
     name: u32,
+    /// The index of its section.
+    section: u16,
     /// Where its section ends.
     section_end: u64,
+}
+
+/// A function by the key of its name.
+#[derive(Clone, Copy, PartialEq, Eq, PartialOrd, Ord)]
+struct NamedRange {
+    key: u64,
+    /// Which of the ranges it is.
+    index: usize,
 }
 
 /// The functions of a program, in the order of their addresses.
 #[derive(Drop)]
 pub struct Functions<'n> {
     table: SymbolTable<'n>,
+    names: &'n [u8],
     ranges: Vec<CodeRange>,
+    /// The functions in the order of their keys, once these are sorted.
+    named: Vec<NamedRange>,
 }
 
 impl<'n> Functions<'n> {
@@ -35,6 +51,7 @@ impl<'n> Functions<'n> {
     pub(crate) fn new(
         alloc: Global,
         table: SymbolTable<'n>,
+        names: &'n [u8],
         section: Option<u16>,
         code_ends: &[u64],
     ) -> Result<Functions<'n>, AllocError> {
@@ -51,12 +68,32 @@ impl<'n> Functions<'n> {
                     size: symbol.size,
                     left: count.saturating_sub(index),
                     name: symbol.name,
+                    section: symbol.section,
                     section_end,
                 })?;
             }
         }
         ranges.sort()?;
-        Ok(Functions { table, ranges })
+        Ok(Functions {
+            table,
+            names,
+            ranges,
+            named: Vec::new(alloc),
+        })
+    }
+
+    /// Sorts the functions by their names, for who asks for many: each is then found without a
+    /// search through all.
+    pub fn sort_names(&mut self, alloc: Global) -> Result<(), AllocError> {
+        let mut named = Vec::with_capacity(alloc, self.ranges.len())?;
+        for (index, range) in self.ranges.iter().enumerate() {
+            let name = self.names.get(range.name as usize..).unwrap_or(&[]);
+            let key = key_of(name);
+            named.push(NamedRange { key, index })?;
+        }
+        named.sort()?;
+        self.named = named;
+        Ok(())
     }
 
     /// The last function that begins at an address or below it.
@@ -89,11 +126,36 @@ impl<'n> Functions<'n> {
         })
     }
 
+    /// The first function of a name.
+    fn first_of(&self, name: &[u8]) -> Option<&CodeRange> {
+        if self.named.is_empty() {
+            let mut ranges = self.ranges.iter();
+            return ranges.find(|range| self.table.is_name(range.name, name));
+        }
+        let key = key_of(name);
+        let from = self.named.partition_point(|named| named.key < key);
+        for named in self.named.get(from..)? {
+            let range = self.ranges.get(named.index)?;
+            if named.key != key {
+                return None;
+            }
+            if self.table.is_name(range.name, name) {
+                return Some(range);
+            }
+        }
+        None
+    }
+
     /// The addresses of the first function of a name: where it begins, and where it ends.
     pub fn range_of(&self, name: &[u8]) -> Option<(u64, u64)> {
-        let mut ranges = self.ranges.iter();
-        let range = ranges.find(|range| self.table.is_name(range.name, name))?;
+        let range = self.first_of(name)?;
         Some((range.start, self.end_of(range)))
+    }
+
+    /// The index of the section of the first function of a name. None where there is none.
+    pub fn section_of(&self, name: &[u8]) -> Option<u16> {
+        let range = self.first_of(name)?;
+        Some(range.section)
     }
 
     /// The address at an offset in the first function of a name. None where there is none.
@@ -114,6 +176,19 @@ impl<'n> Functions<'n> {
         };
         end.min(range.section_end)
     }
+}
+
+/// The key of the name that bytes begin with, which a zero byte or their end ends.
+fn key_of(bytes: &[u8]) -> u64 {
+    let mut key = 0u64;
+    for byte in bytes.iter().take(KEYED) {
+        if *byte == 0 {
+            break;
+        }
+        // The prime of FNV-1a of 64 bits.
+        key = (key ^ u64::from(*byte)).wrapping_mul(0x100_0000_01b3);
+    }
+    key
 }
 
 /// Whether a symbol is a function of the program, or of one of its sections.

@@ -248,6 +248,24 @@ impl<'i> InputSections<'i> {
         Ok(Some(program))
     }
 
+    /// The sections of an object file, as the addresses of the section that has the first function
+    /// of a name count. None where there is no such function.
+    pub fn of_function(
+        alloc: Global,
+        files: Files<'i>,
+        name: &[u8],
+    ) -> Result<Option<InputSections<'i>>, InputError> {
+        let elf = Elf::parse(files.file)?;
+        let all = InputSections::of_elf(alloc, files, elf, SectionPlace::AllAtZero)?;
+        let functions = all.functions(alloc).map_err(ElfError::from)?;
+        let Some(section) = functions.section_of(name) else {
+            return Ok(None);
+        };
+        let place = SectionPlace::Only(usize::from(section));
+        let program = InputSections::of_elf(alloc, files, elf, place)?;
+        Ok(Some(program))
+    }
+
     /// The sections of an ELF file. Those of an object file stand at a place.
     fn of_elf(
         alloc: Global,
@@ -295,7 +313,14 @@ impl<'i> InputSections<'i> {
             SectionPlace::Only(index) => u16::try_from(index).ok(),
             SectionPlace::AllAtZero => None,
         };
-        Functions::new(alloc, self.symbols(), section, &self.others.code_ends)
+        let names = self.others.symbol_names.as_slice();
+        Functions::new(
+            alloc,
+            self.symbols(),
+            names,
+            section,
+            &self.others.code_ends,
+        )
     }
 
     /// The symbols.

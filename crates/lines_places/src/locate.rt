@@ -10,6 +10,12 @@ use lines_pieces::{Piece, Result, path_or_fault, tell, tell_of_unit};
 use lines_words::{CodeAddress, Json, Output, Request};
 use std::alloc::Global;
 
+/// How many addresses are named at most without the functions being sorted by their names.
+const FEW: usize = 8;
+
+/// How many characters of a name are reported at most.
+const SHOWN: usize = 200;
+
 /// What came of a question.
 #[derive(Drop)]
 pub enum Answered {
@@ -41,7 +47,7 @@ pub struct Places<'r, 'n, R: Reader> {
     sources: PathSources<R>,
     functions: Functions<'n>,
     printer: PlacePrinter<'r>,
-    /// The name of the section, in an object file.
+    /// The name of the section, in an object file; no bytes where a function of it was asked for.
     section: Option<&'r [u8]>,
 }
 
@@ -51,12 +57,15 @@ impl<'r, 'n, R: Reader> Places<'r, 'n, R> {
     pub fn new(
         alloc: Global,
         input: &Input<R>,
-        functions: Functions<'n>,
+        mut functions: Functions<'n>,
         request: &'r Request<'r>,
         section: Option<&'r [u8]>,
         output: &mut Output<'_>,
     ) -> Result<Places<'r, 'n, R>> {
         let printer = PlacePrinter::new(alloc, request)?;
+        if request.addresses.is_empty() || request.addresses.len() > FEW {
+            functions.sort_names(alloc)?;
+        }
         let sources = PathSources::new(alloc, input)?;
         let lookup = rows_for(alloc, input, &functions, request, section.is_some(), output)?;
         Ok(Places {
@@ -78,6 +87,12 @@ impl<'r, 'n, R: Reader> Places<'r, 'n, R> {
             }
             (Asked::Address(CodeAddress::InSection { section, offset }), Some(own))
                 if section.as_bytes() == own => self.print_place(offset, output),
+            (Asked::Address(CodeAddress::InSection { section, offset }), Some(_)) => {
+                match self.functions.address_in(section, offset) {
+                    Some(own) => self.print_place(own, output),
+                    None => Ok(Answered::Elsewhere),
+                }
+            }
             (_, Some(_)) => Ok(Answered::Elsewhere),
             (Asked::Address(CodeAddress::InSection { section, offset }), None) => {
                 self.print_in_function(section, offset, output)
@@ -100,7 +115,9 @@ impl<'r, 'n, R: Reader> Places<'r, 'n, R> {
             return self.print_place(own.saturating_add(self.printer.request.bias), output);
         }
         self.printer.print(None, None, None, output);
-        tell("no function has the name %", &[Piece::Name(name)], output);
+        let (name, rest) = beginning_of(name);
+        let pieces = [Piece::Name(name), Piece::Word(rest)];
+        tell("no function has the name %%", &pieces, output);
         Ok(Answered::Whole)
     }
 
@@ -148,6 +165,14 @@ impl<'r, 'n, R: Reader> Places<'r, 'n, R> {
             }
             _ => Answered::Whole,
         })
+    }
+}
+
+/// The beginning of a name that is reported, and what stands for the rest of a long one.
+fn beginning_of(name: &str) -> (&str, &'static str) {
+    match name.char_indices().nth(SHOWN) {
+        Some((at, _)) => (name.get(..at).unwrap_or(name), ".."),
+        None => (name, ""),
     }
 }
 

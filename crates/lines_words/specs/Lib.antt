@@ -1,3 +1,4 @@
+pub mod CodeWords
 pub mod Findings
 pub mod LineQuestions
 pub mod Words

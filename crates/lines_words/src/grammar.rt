@@ -11,13 +11,14 @@ const VERSION: &str = "0.1.0";
 /// or a stroke for none; how it is written, which `argument` reads; and help.
 const COMMANDS: [&str; 10] = [
     "where Prints path:line:column of each address, ??:0:0 where there is none
-ADDRESS - words An address in hexadecimal digits, or FUNCTION+OFFSET, or in an object file \
-    SECTION+OFFSET; without one they are read from standard input
+ADDRESS - words An address in hexadecimal digits, FUNCTION+OFFSET, FUNCTION, or a line of a \
+    backtrace, or in an object file SECTION+OFFSET; without one they are read from standard input
+exe e FILE Takes this as FILE, so that every other word is an address
 addresses a flag Prints the address before the answer
 functions f flag Prints the name of the function that holds the address, before the path
 pretty - flag Prints the line of source below each answer, with a mark at the column
 source - SOURCE Reads this source file in the place of those that paths name
-basenames - flag Prints the last component of each path
+basenames s flag Prints the last component of each path
 relative-to - DIR Prints paths that begin with this directory without it
 bias - ADDRESS Subtracts this from each address, for a program that was loaded elsewhere
 index - INDEX Asks an index in the place of FILE, which may be left out; where it is named, the \
@@ -83,6 +84,7 @@ fn conflicts_of(name: &str) -> &'static [&'static str] {
         "pretty" => &["json"],
         "whole-paths" => &["json"],
         "basenames" => &["relative-to"],
+        "exe" => &["indexes", "files"],
         "index" => &["functions"],
         "indexes" => &["index", "functions", "raw", "line-str", "str"],
         "files" => &["index", "indexes", "functions"],
@@ -158,7 +160,7 @@ fn argument<'a>(alloc: Global, command: &str, row: &'static str) -> Result<Arg<'
     };
     match name {
         "FILE" if command == "where" => word
-            .required_unless_present_any(&["index", "indexes", "files"])?
+            .required_unless_present_any(&["exe", "index", "indexes", "files"])?
             .conflicts_with_all(&["indexes", "files"]),
         "address-size" => word.requires_arg("raw"),
         "source" if command == "where" => word.requires_arg("pretty"),

@@ -39,6 +39,11 @@ macro_rules! said {
     };
 }
 
+/// What an unknown option of `where` is answered by, as the options of addr2line are known.
+const OF_ADDR2LINE: &str =
+    "of addr2line's options, where takes -a, -e, -f and -s; a line table has \
+    no inlined functions (-i), names stay as symbols have them (-C), and each answer is a line (-p)";
+
 /// What must stand in the place of a wrong word, by the name of that place.
 fn wanted_of(name: &str) -> &'static str {
     match name {
@@ -46,7 +51,7 @@ fn wanted_of(name: &str) -> &'static str {
         "address-size" => "an address size: 1, 2, 4 or 8",
         "bias" => "an address, up to 16 hexadecimal digits with or without 0x",
         "ADDRESS" => {
-            "an address, up to 16 hexadecimal digits with or without 0x, or NAME+OFFSET"
+            "an address, up to 16 hexadecimal digits with or without 0x, or NAME or NAME+OFFSET"
         }
         "PLACE" => "a path, a colon and a line, or the name of a function",
         "context" => "a number of lines up to 100000",
@@ -60,7 +65,10 @@ fn wanted_of(name: &str) -> &'static str {
 /// What words ask for, of which the first is the program's name.
 pub fn parse<'w>(alloc: Global, words: &'w [String]) -> Result<Request<'w>, Error> {
     let mut grammar = program(alloc)?;
-    let matches = grammar.try_get_matches_from_mut(words)?;
+    let matches = match grammar.try_get_matches_from_mut(words) {
+        Ok(matches) => matches,
+        Err(error) => return Err(with_hint(alloc, words, error)?),
+    };
     match request_of(alloc, &matches) {
         Ok(request) => Ok(request),
         Err(Mistake::Memory) => Err(Error::from(AllocError)),
@@ -72,6 +80,20 @@ pub fn parse<'w>(alloc: Global, words: &'w [String]) -> Result<Request<'w>, Erro
             Err(command.error(ErrorKind::ValueValidation, &mistake)?)
         }
     }
+}
+
+/// An error in words. Of an unknown option of `where` it says too which ones of addr2line's there
+/// are.
+fn with_hint(alloc: Global, words: &[String], error: Error) -> Result<Error, AllocError> {
+    let is_where = words.get(1).is_some_and(|word| word.as_str() == "where");
+    if !is_where || error.kind() != ErrorKind::UnknownArgument {
+        return Ok(error);
+    }
+    let message = format!(in alloc; "{error}")?;
+    let first = message.lines().next().unwrap_or("");
+    let first = first.strip_prefix("error: ").unwrap_or(first);
+    let mistake = format!(in alloc; "{first}; {OF_ADDR2LINE}")?;
+    command(alloc, "where")?.error(ErrorKind::UnknownArgument, &mistake)
 }
 
 /// What is said of words that ask for nothing, or of help. A control character, and a byte that is
@@ -102,9 +124,13 @@ fn request_of<'w>(alloc: Global, matches: &ArgMatches<'w>) -> Result<Request<'w>
     let Some((name, matches)) = matches.subcommand() else {
         return Err(Mistake::Word("", ""));
     };
-    // Beside an index the first word may be an address, and then no file is named.
     let word = matches.get_str("FILE").unwrap_or("");
-    let first = matches.get_str("index").and(parse_address(word));
+    let first = first_address(matches, word);
+    let file = match matches.get_str("exe") {
+        Some(file) => file,
+        None if first.is_some() => "",
+        None => word,
+    };
     Ok(Request {
         kind: kind_of(matches)?,
         bias: said!(matches, "bias", parse_address).unwrap_or(0),
@@ -119,7 +145,7 @@ fn request_of<'w>(alloc: Global, matches: &ArgMatches<'w>) -> Result<Request<'w>
             allowed: kinds_of(matches, "allow")?,
             is_all: matches.get_flag("all"),
         },
-        file: if first.is_some() { "" } else { word },
+        file,
         line_str: matches.get_str("line-str"),
         strings: matches.get_str("str"),
         memory_limit: said!(matches, "memory-limit", parse_bytes),
@@ -134,6 +160,16 @@ fn request_of<'w>(alloc: Global, matches: &ArgMatches<'w>) -> Result<Request<'w>
         has_range: matches.get_flag("range"),
         addresses: addresses_of(alloc, first, matches)?,
     })
+}
+
+/// The address that the first word is, where it isn't the file: it may be one beside an index, and is
+/// one where the option -e names the file.
+fn first_address<'w>(matches: &ArgMatches<'w>, word: &'w str) -> Option<CodeAddress<'w>> {
+    if matches.get_str("exe").is_some() {
+        return parse_code_address(word);
+    }
+    let address = matches.get_str("index").and(parse_address(word))?;
+    Some(CodeAddress::Linked(address))
 }
 
 /// How the file is read: an address of a raw section is so wide where its unit doesn't say.
@@ -180,25 +216,31 @@ fn where_of<'w>(matches: &ArgMatches<'w>) -> Command<'w> {
         (Some(index), _) => Command::Ask(index),
         (None, Some(folder)) => Command::AskLines(LineNames::BuildIds(folder)),
         _ if matches.get_flag("files") => Command::AskLines(LineNames::Files),
-        _ => {
-            let words = matches.get_strs("ADDRESS").unwrap_or(&[]);
-            let may_name = words.is_empty() || words.iter().any(|word| word.contains('+'));
-            Command::Where {
-                has_names: may_name || matches.get_flag("functions"),
-            }
-        }
+        _ => Command::Where {
+            has_names: matches.get_flag("functions") || may_name_functions(matches),
+        },
     }
+}
+
+/// Whether the words of the command `where` may name functions, or those of standard input where
+/// there are none.
+fn may_name_functions(matches: &ArgMatches<'_>) -> bool {
+    let words = matches.get_strs("ADDRESS").unwrap_or(&[]);
+    let is_first_a_name = match matches.get_str("exe").and(matches.get_str("FILE")) {
+        Some(word) => parse_address(word).is_none(),
+        None => words.is_empty(),
+    };
+    is_first_a_name || words.iter().any(|word| parse_address(word).is_none())
 }
 
 /// The addresses that are named, after the first of them.
 fn addresses_of<'w>(
     alloc: Global,
-    first: Option<u64>,
+    first: Option<CodeAddress<'w>>,
     matches: &ArgMatches<'w>,
 ) -> Result<Vec<CodeAddress<'w>>, Mistake<'w>> {
     let mut addresses = Vec::new(alloc);
     if let Some(first) = first {
-        let first = CodeAddress::Linked(first);
         addresses.push(first).map_err(AllocError::from)?;
     }
     for word in matches.get_strs("ADDRESS").unwrap_or(&[]) {
