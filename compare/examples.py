@@ -20,7 +20,7 @@ LINES = os.environ.get("LINES_PROGRAM", f"{TOP}/crates/lines/out/lines")
 FOLDER = "/tmp/square"
 BLOCK = re.compile(r"^```text\n(\$ .*?)^```$", re.M | re.S)
 # What the page hands to a command of README.md, and what it says of its output.
-ASKED = re.compile(r"^cd crates/lines && rt try -- (.*?) +# (.*)$", re.M)
+ASKED = re.compile(r"^\(cd crates/lines && rt try -- (.*?)\) +# (.*)$", re.M)
 
 
 def text_of(page):
