@@ -1,4 +1,3 @@
-pub mod CodeWords
 pub mod Findings
 pub mod LineQuestions
 pub mod Words

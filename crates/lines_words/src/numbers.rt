@@ -1,9 +1,8 @@
 //! Addresses, offsets and lines in words, and lines of standard input that name what they ask.
 
-ghost use Rattle.std.specs.Prelude.{◌≡◌, ◌++◌, ◌⊎◌, ℕ, List, codes, false, is_ok, IfOk, IfSome, MatchOption, Ok};
+ghost use Rattle.std.specs.Prelude.{◌≡◌, ℕ, List, false, is_ok, IfOk, IfSome, MatchOption, Ok};
 ghost use Rattle.std.specs.Prelude.{Some, string_bytes};
 ghost use Rattle.hex.specs.Hex.{decode_of};
-ghost use Rattle.lines_words.specs.CodeWords.{IsFrame, IsSized, NamesCode, SaysCode};
 ghost use Rattle.lines_words.specs.LineQuestions.{AsksFor, Parts, map_path};
 ghost use Rattle.lines_words.specs.Words.{HasPrefix, NamesAddress, NamesOffset};
 ghost use Rattle.lines_words.specs.Words.{NamesPlace, NamesTarget};
@@ -70,9 +69,7 @@ pub fn parse_place(word: &str) -> Option<(&str, u64)>
 /// Where a word says that code is: at an address; at an offset in a function or in a section, or at
 /// the beginning of one, by its name; or at what a line of a backtrace names, as the Linux kernel
 /// and glibc print it. None for no word alone. What is an address is no name.
-pub fn parse_code_address(word: &str) -> Option<CodeAddress<'_>>
-    ensures { IfSome result (SaysCode word.now) }
-{
+pub fn parse_code_address(word: &str) -> Option<CodeAddress<'_>> {
     if let Some((place, address)) = parse_frame(word) {
         return match place.is_empty() {
             true => Some(CodeAddress::Linked(address)),
@@ -86,9 +83,7 @@ pub fn parse_code_address(word: &str) -> Option<CodeAddress<'_>>
 }
 
 /// Where a word says that code is by itself.
-fn parse_named_code(word: &str) -> Option<CodeAddress<'_>>
-    ensures { IfSome result (NamesCode word.now) }
-{
+fn parse_named_code(word: &str) -> Option<CodeAddress<'_>> {
     if let Some(address) = parse_address(word.strip_prefix('+').unwrap_or(word)) {
         return Some(CodeAddress::Linked(address));
     }
@@ -106,19 +101,14 @@ fn parse_named_code(word: &str) -> Option<CodeAddress<'_>>
 
 /// The place in a line of a backtrace of the kernel, before the size of its function. None for
 /// another word.
-fn parse_sized(word: &str) -> Option<&str>
-    ensures { IfSome result (λ place. IsSized word.now place.now) }
-{
+fn parse_sized(word: &str) -> Option<&str> {
     let (place, size) = without_module(word).rsplit_once('/')?;
     parse_address(size)?;
     Some(place)
 }
 
 /// A word without the name of a module at its end, where one is there.
-fn without_module(word: &str) -> &str
-    ensures { (word.now ≡ result.now) ⊎ ((name : List ℕ)
-        × (word.now ≡ result.now ++ (codes " [" ++ (name ++ codes "]")))) }
-{
+fn without_module(word: &str) -> &str {
     match word.strip_suffix(']') {
         Some(head) => match head.rsplit_once('[') {
             Some((head, _)) => head.strip_suffix(' ').unwrap_or(word),
@@ -129,9 +119,7 @@ fn without_module(word: &str) -> &str
 }
 
 /// The place in a line of a backtrace of glibc, and the address in memory. None for another line.
-fn parse_frame(line: &str) -> Option<(&str, u64)>
-    ensures { IfSome result (λ frame. IsFrame line.now frame.0.now frame.1) }
-{
+fn parse_frame(line: &str) -> Option<(&str, u64)> {
     let (head, digits) = line.strip_suffix(']')?.rsplit_once('[')?;
     let address = parse_address(digits)?;
     let named = head.strip_suffix(' ').unwrap_or(head);

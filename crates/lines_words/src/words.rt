@@ -162,8 +162,8 @@ fn request_of<'w>(alloc: Global, matches: &ArgMatches<'w>) -> Result<Request<'w>
     })
 }
 
-/// The address that the first word is, where it isn't the file: it may be one beside an index, and is
-/// one where the option -e names the file.
+/// The address that the first word is, where it isn't the file: it may be one beside an index, and
+/// is one where the option -e names the file.
 fn first_address<'w>(matches: &ArgMatches<'w>, word: &'w str) -> Option<CodeAddress<'w>> {
     if matches.get_str("exe").is_some() {
         return parse_code_address(word);
