@@ -39,10 +39,10 @@ macro_rules! said {
     };
 }
 
-/// What an unknown option of `where` is answered by, as the options of addr2line are known.
-const OF_ADDR2LINE: &str =
-    "of addr2line's options, where takes -a, -e, -f and -s; a line table has \
-    no inlined functions (-i), names stay as symbols have them (-C), and each answer is a line (-p)";
+/// What an error says of an unknown option of `where`, since people type those of addr2line.
+const OF_ADDR2LINE: &str = "of addr2line's options, where takes -a, -e, -f and -s; a line table \
+    has no inlined functions (-i), names stay as symbols have them (-C), and each answer is a line \
+    (-p)";
 
 /// What must stand in the place of a wrong word, by the name of that place.
 fn wanted_of(name: &str) -> &'static str {
