@@ -159,7 +159,7 @@ pub(crate) struct Abbreviations<R> {
 
 /// Takes bytes that were read from those that may be read. Where these don't suffice, none are
 /// left.
-fn charge(room: &mut u64, bytes: u64) -> MemoryResult<()> {
+pub(crate) fn charge(room: &mut u64, bytes: u64) -> MemoryResult<()> {
     match room.checked_sub(bytes) {
         Some(left) => {
             *room = left;

@@ -57,23 +57,22 @@ impl<R: Drop> Attributes<R> {
     }
 }
 
-/// Takes the attributes of an entry, whose specifications stand in another reader. Requires that
+/// Takes the attributes of an entry, and their specifications from another reader. Requires that
 /// these are closed there.
 pub(crate) fn parse_attributes<R: Reader>(
     input: &mut R,
     encoding: Encoding,
-    specifications: R,
+    specifications: &mut R,
 ) -> Result<Attributes<R>>
     requires size { IsTrue (is_address_size encoding.address_size) }
-    requires closed { IsListed (R.bytes specifications) }
+    requires closed { IsListed (R.bytes specifications.old) }
     ensures read { (result_map (attributes_seen R.bytes) result, R.bytes input.new)
         ≡ attributes_at (layout_of (R.is_big input.old) R.Offset.limit) encoding no_attributes
-        (listed (R.bytes specifications)) (R.bytes input.old) }
+        (listed (R.bytes specifications.old)) (R.bytes input.old) }
 {
-    let mut specifications = specifications;
     let mut attributes = Attributes::none();
     loop {
-        let specification = parse_specification(&mut specifications)?;
+        let specification = parse_specification(specifications)?;
         if specification.is_end() {
             return Ok(attributes);
         }

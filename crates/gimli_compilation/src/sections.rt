@@ -9,7 +9,7 @@ ghost use Rattle.gimli_compilation.specs.inside.AbbreviationTable.{AreTables};
 ghost use Rattle.gimli_compilation.specs.inside.UnitReading.{place_of, string_offset_at};
 ghost use Rattle.gimli_compilation.specs.inside.UnitReading.{some_text_at};
 
-use crate::abbreviation::{MemoryResult, Tables};
+use crate::abbreviation::{MemoryResult, Tables, charge};
 use crate::attributes::{Attributes, parse_attributes};
 use crate::form::{NumberKind, Value};
 use crate::header::{UnitHeader, split_unit};
@@ -63,7 +63,13 @@ pub(crate) struct Kept<R: Reader> {
     pub tables: Tables<R>,
     pub strings: Texts<R>,
     pub line_strings: Texts<R>,
+    /// How many more bytes of specifications may be read for first entries.
+    room: u64,
 }
+
+/// How many bytes of specifications may be read for first entries, for each byte of `.debug_info`.
+/// A unit has at least 12 bytes, which pay for 60 attributes without a value.
+const SPECIFICATIONS_READ: u64 = 16;
 
 /// What comes of a unit whose bytes could be read.
 #[derive(Drop)]
@@ -163,6 +169,11 @@ impl<R: Reader> CompilationSections<R> {
             tables: Tables::new(alloc, &self.debug_abbrev),
             strings: Texts::new(alloc, &self.debug_str),
             line_strings: Texts::new(alloc, &self.debug_line_str),
+            room: self
+                .debug_info
+                .len()
+                .into_u64()
+                .saturating_mul(SPECIFICATIONS_READ),
         }
     }
 
@@ -273,13 +284,14 @@ impl<R: Reader> CompilationSections<R> {
         }
     }
 
-    /// Takes an entry whose specifications are known.
+    /// Takes an entry whose specifications are known. Fails where no memory is left, or where more
+    /// bytes of specifications would be read than may be.
     #[tactic(auto, unfolding(crate::specs::inside::UnitReading::found_entry_at))]
     fn parse_found(
         &self,
         unit: &mut R,
         encoding: Encoding,
-        specifications: R,
+        mut specifications: R,
         kept: &mut Kept<R>,
     ) -> MemoryResult<Result<Outcome<R>>>
         requires order { R.is_big unit.old ≡ R.is_big self.now.debug_info }
@@ -287,13 +299,19 @@ impl<R: Reader> CompilationSections<R> {
         requires closed { IsListed (R.bytes specifications) }
         requires strings { kept.old.strings ≡ R.bytes self.now.debug_str }
         requires line_strings { kept.old.line_strings ≡ R.bytes self.now.debug_line_str }
-        ensures kept { kept.new ≡ kept.old }
+        ensures tables { kept.new.tables ≡ kept.old.tables }
+        ensures strings { kept.new.strings ≡ kept.old.strings }
+        ensures line_strings { kept.new.line_strings ≡ kept.old.line_strings }
         ensures read { IfOk result (λ outcome.
             (result_map (outcome_seen (compilation_seen R.bytes)) outcome, R.bytes unit.new)
             ≡ found_entry_at (sections_of R.bytes R.is_big R.Offset.limit self.now) encoding
             (listed (R.bytes specifications)) (R.bytes unit.old)) }
     {
-        let attributes = match parse_attributes(unit, encoding, specifications) {
+        let before = specifications.len().into_u64();
+        let parsed = parse_attributes(unit, encoding, &mut specifications);
+        let after = specifications.len().into_u64();
+        charge(&mut kept.room, before.saturating_sub(after))?;
+        let attributes = match parsed {
             Ok(attributes) => attributes,
             Err(error) => return Ok(Err(error)),
         };

@@ -85,8 +85,9 @@ impl<R: Reader> CompilationUnits<R> {
     /// The next unit; None where no bytes are left. A unit that is refused is given with its
     /// refusal, and the next one begins after it; where its length can't be read or says more bytes
     /// than there are, it is the last one. Fails only with `OutOfMemory`; nothing is changed then,
-    /// so that the call can be made again. It fails so too where tables of abbreviations overlap:
-    /// the walk reads four times the bytes of `.debug_abbrev` at most.
+    /// so that the call can be made again. It fails so too where tables of abbreviations overlap,
+    /// or first entries have many attributes without a value: the walk reads at most four times the
+    /// bytes of `.debug_abbrev`, and 16 bytes of specifications for each byte of `.debug_info`.
     pub fn next(&mut self) -> Result<Option<CompilationUnit<R>>>
         ensures end { IfOk result
             (λ next. IfNone next (drop self.old.offset self.old.sections.info ≡ [])) }

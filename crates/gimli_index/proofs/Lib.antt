@@ -19,7 +19,7 @@ mod Entered
 mod WrittenIndex
 mod Lists
 mod PathLists
-mod Distinct
+mod Numbered
 mod Sources
 mod TurnPlaces
 mod WalkedStarts

@@ -1,5 +1,6 @@
 -- Where the paths of an index stand in its bytes (docs/INDEX.md, "Parts").
-use Rattle.std.specs.Prelude.{◌≡◌, ◌<◌, ◌≤◌, ℕ, ◌+◌, ◌*◌, List, length, slice_range, Option}
+use Rattle.std.specs.Prelude.{◌≡◌, ◌<◌, ◌≤◌, ℕ, ◌+◌, ◌*◌, List, [], ◌∷◌, fold, length, nat_le}
+use Rattle.std.specs.Prelude.{nat_lt, slice_range, Option, None, Some, if◌then◌else◌}
 use Rattle.std.specs.Prelude.{IfSome, MatchOption, option_map}
 use Rattle.gimli_core.specs.Reading.{result_map}
 use Rattle.gimli_index.specs.Header.{size_of, statement_size}
@@ -52,8 +53,21 @@ IsRangeOf index i first end = (first ≡ (start_at index i).address)
     × MatchOption end (i + 1 ≡ index.starts)
     (λ e. (i + 1 < index.starts) × (e ≡ (start_at index (i + 1)).address))
 
--- from the first address on, up to the end where there is one, all holds that holds at an address
+-- the address of the last start that is at most an address
+abbrev pub start_up_to : ℕ → List Start → Option ℕ
+start_up_to a starts =
+    fold (λ current s. if nat_le s.address a then Some s.address else current) None starts
+
+-- that of the first start above it
+abbrev pub start_above : ℕ → List Start → Option ℕ
+start_above a [] = None
+start_above a (s ∷ starts) = if nat_lt a s.address then Some s.address else start_above a starts
+
+-- from the last start that is at most an address, up to the first start above it where there is
+-- one, all holds that holds at the address
 pub record HoldsAround (starts : List Start) (a first : ℕ) (end : Option ℕ) : Type 0 where
+  pub first_is : start_up_to a starts ≡ Some first
+  pub end_is : end ≡ start_above a starts
   pub begins : first ≤ a
   pub ends : IfSome end (λ e. a < e)
   pub same : (b : ℕ) → first ≤ b → IfSome end (λ e. b < e) → place_at b starts ≡ place_at a starts

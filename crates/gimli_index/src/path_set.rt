@@ -3,23 +3,26 @@
 ghost use Rattle.std.specs.Prelude.{◌≡◌, ◌≢◌, ◌++◌, ◌∷◌, [], All, Some, MatchOption, OnOk};
 ghost use Rattle.std.specs.Prelude.{slice_get};
 
-use indexmap::IndexSet;
 use std::alloc::{AllocError, Global};
+use std::collections::BTreeMap;
 use std::marker::Model;
 
-/// Paths, each once, in the order in which they came.
+/// Paths, each once, in the order in which they came. A map in the order of the paths finds their
+/// numbers: no choice of paths makes it slow, as it could a map of hashes.
 #[derive(Drop)]
 pub(crate) struct PathSet {
-    paths: IndexSet<Vec<u8>>,
+    numbers: BTreeMap<Vec<u8>, usize>,
 }
 
 impl Model for PathSet {
     ghost use Rattle.std.specs.Prelude.{List, ℕ};
-    ghost use Rattle.gimli_index.specs.inside.Paths.{texts_of};
+    ghost use Rattle.gimli_index.specs.inside.Numbered.{texts_in_turn, HaveNumbers};
 
     ghost Value = { List (List ℕ) };
 
-    ghost view = { λ a. texts_of a.paths.keys };
+    ghost view = { λ a. texts_in_turn a.numbers.entries };
+
+    ghost invariant = { λ a. HaveNumbers a.numbers.entries };
 }
 
 impl PathSet {
@@ -28,7 +31,7 @@ impl PathSet {
         ensures { result ≡ [] }
     {
         PathSet {
-            paths: IndexSet::new(alloc),
+            numbers: BTreeMap::new(alloc),
         }
     }
 
@@ -37,7 +40,7 @@ impl PathSet {
         ensures { MatchOption result (All (λ p. p ≢ path.now) self.now)
             (λ index. slice_get self.now index ≡ Some path.now) }
     {
-        self.paths.get_index_of(path)
+        self.numbers.get(path).copied()
     }
 
     /// Appends a path that isn't there.
@@ -46,7 +49,8 @@ impl PathSet {
         ensures { OnOk result (self.new ≡ self.old ++ path.now ∷ []) }
     {
         let copy = path.to_vec(alloc)?;
-        self.paths.insert_full(copy)?;
+        let number = self.numbers.len();
+        self.numbers.insert(copy, number)?;
         Ok(())
     }
 }

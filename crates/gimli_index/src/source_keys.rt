@@ -3,30 +3,35 @@
 ghost use Rattle.std.specs.Prelude.{◌≡◌, ◌≢◌, ◌++◌, ◌∷◌, [], All, Some, MatchOption, OnOk};
 ghost use Rattle.std.specs.Prelude.{slice_get};
 
-use indexmap::IndexSet;
 use std::alloc::{AllocError, Global};
+use std::collections::BTreeMap;
 use std::marker::Model;
 
 /// What a source is of: a file of a unit, by the index of the unit.
-#[derive(Clone, Copy, PartialEq, Eq, Hash)]
+#[derive(Clone, Copy, PartialEq, Eq, PartialOrd, Ord)]
 pub(crate) struct SourceKey {
     pub(crate) unit: usize,
     pub(crate) file: u64,
 }
 
-/// Files of units, each once, in the order in which they came.
+/// Files of units, each once, in the order in which they came. A map in the order of the files
+/// finds their numbers: no choice of numbers makes it slow, as it could a map of hashes.
 #[derive(Drop)]
 pub(crate) struct SourceKeys {
-    keys: IndexSet<SourceKey>,
+    keys: Vec<SourceKey>,
+    numbers: BTreeMap<SourceKey, usize>,
 }
 
 impl Model for SourceKeys {
     ghost use Rattle.std.specs.Prelude.{List};
     ghost use Rattle.gimli_index.specs.declared.source_keys.SourceKey.{SourceKey as Key};
+    ghost use Rattle.gimli_index.specs.inside.Numbered.{number_of_key, AreNumbered};
 
     ghost Value = { List Key };
 
-    ghost view = { λ a. a.keys.keys };
+    ghost view = { λ a. a.keys.items };
+
+    ghost invariant = { λ a. AreNumbered a.keys.items (number_of_key a.numbers.entries) };
 }
 
 impl SourceKeys {
@@ -35,7 +40,8 @@ impl SourceKeys {
         ensures { result ≡ [] }
     {
         SourceKeys {
-            keys: IndexSet::new(alloc),
+            keys: Vec::new(alloc),
+            numbers: BTreeMap::new(alloc),
         }
     }
 
@@ -44,7 +50,7 @@ impl SourceKeys {
     pub(crate) fn get(&self, index: usize) -> Option<SourceKey>
         ensures { result ≡ slice_get self.now index }
     {
-        self.keys.get_index(index).copied()
+        self.keys.get(index).copied()
     }
 
     /// The index of a file.
@@ -52,7 +58,7 @@ impl SourceKeys {
         ensures { MatchOption result (All (λ k. k ≢ key) self.now)
             (λ index. slice_get self.now index ≡ Some key) }
     {
-        self.keys.get_index_of(&key)
+        self.numbers.get(&key).copied()
     }
 
     /// Appends a file that isn't there.
@@ -60,7 +66,12 @@ impl SourceKeys {
         requires { All (λ k. k ≢ key) self.old }
         ensures { OnOk result (self.new ≡ self.old ++ key ∷ []) }
     {
-        self.keys.insert_full(key)?;
+        let number = self.keys.len();
+        self.keys.push(key)?;
+        if self.numbers.insert(key, number).is_err() {
+            self.keys.truncate(number);
+            return Err(AllocError);
+        }
         Ok(())
     }
 }

@@ -40,9 +40,11 @@ pub struct PlaceSpan {
     pub prologue_end: bool,
     /// The offset in `.debug_line` of the unit that says so.
     pub unit: u64,
-    /// The first address of those around the one that was asked for, of which all this holds.
+    /// The address of the start from which on all this holds: the last one that isn't above the
+    /// address that was asked for.
     pub first: u64,
-    /// The address after the last one of them; None where they go on up to the greatest address.
+    /// The address of the first start above it, up to which all this holds; None where there is
+    /// none, and it holds up to the greatest address.
     pub end: Option<u64>,
 }
 
@@ -164,6 +166,8 @@ impl<'a> LineIndex<'a> {
             ≡ slice_get (starts_of (index_of self.now)) index }
         ensures end { IfSome result
             (λ s. s.end ≡ first_start (drop (index + 1) (starts_of (index_of self.now)))) }
+        ensures around { IfSome result
+            (λ s. IfSome s.place (λ p. (p.first ≡ s.first) × (p.end ≡ s.end))) }
         ensures ended { IfSome result (λ s. IfSome s.place (λ p. IfOk p.path
             (λ s. slice_get self.now.path_bytes.now (s.first + s.size) ≡ Some 0))) }
     {

@@ -15,10 +15,6 @@ use Rattle.gimli_index.specs.declared.place.NoPath.TheVariants.{Reason, Outside}
 use Rattle.std.specs.declared.alloc.Global.{Global}
 use Rattle.std.specs.declared.vec.Vec.{Vec}
 
--- texts, without where they lie
-abbrev pub texts_of : List (Vec ℕ Global) → List (List ℕ)
-texts_of keys = map (λ v. v.items) keys
-
 -- a path as it was made, or the number of a reason
 abbrev pub made_path : Result (Vec ℕ Global) ℕ → Result (List ℕ) NoPath
 made_path (Ok path) = Ok path.items

@@ -1,7 +1,8 @@
-use Rattle.gimli_index.proofs.Distinct.{key_search}
+use Rattle.std.proofs.Common.{◌≡◌, rules}
+use Rattle.gimli_index.specs.inside.Numbered.{number_of_key}
 use Rattle.gimli_index.proofs.source_keys.SourceKeys.find.Goals as goal
 
 pub returns : goal.returns
 returns c =
-    rw (← c.self.view_is) (key_search c.self.inside.keys.keys c.args.key c.get_index_of.result
-    c.get_index_of.ensures.index c.get_index_of.ensures.found)
+    let found : c.copied.result ≡ number_of_key c.self.inside.numbers.entries c.args.key = search rules in
+    rw (← c.self.view_is, found) (c.self.invariant c.args.key)
