@@ -7,39 +7,199 @@ use crate::meant_files::MeantFiles;
 use crate::path_rows::column_at;
 use crate::written_path::WrittenPaths;
 use gimli_core::Reader;
-use gimli_lookup::PathError;
-use lines_inputs::{Functions, Input, PathSources, column_of, line_of};
-use lines_pieces::{Piece, Result, add, note, path_or_fault};
+use lines_inputs::{Functions, Input, PathBudget, column_of, line_of};
+use lines_pieces::{Piece, Result, add, note};
 use lines_words::{Json, Output, Request, SourcePlace, bytes_of_word};
 use std::alloc::{AllocError, Global};
 use std::collections::BTreeSet;
 
-/// Prints the addresses to break at for a line in each file whose whole path ends with the
-/// components that are asked for, each path once. Where none of its rows is a statement, these are
-/// the addresses of these rows; where it has none, those of the next line that has statements. Or
-/// prints where a function begins. Where there is no address, the command ends as refused.
-pub fn print_addresses<R: Reader>(
-    alloc: Global,
-    input: &Input<R>,
-    functions: &Functions<'_>,
-    request: &Request<'_>,
-    place: SourcePlace<'_>,
-    output: &mut Output<'_>,
-) -> Result<()> {
-    let reading = Reading {
-        alloc,
-        input,
-        functions,
-        request,
-    };
-    let is_found = match place {
-        SourcePlace::Line { path, line } => reading.print_line(path, line, output)?,
-        SourcePlace::Function(name) => reading.print_function(name, output)?,
-    };
-    if !is_found {
-        output.refuse();
+/// The addresses to break at for a line, in each file whose whole path ends with the components
+/// that are asked for, each path once. Where none of its rows is a statement, these are the
+/// addresses of these rows; where it has none, those of the next line that has statements.
+#[derive(Drop)]
+pub struct Addresses<'s, R: Reader> {
+    search: Search<'s, R>,
+    rows: LineRows,
+    /// The line that is asked for.
+    line: u64,
+    /// The number of the path whose addresses are printed.
+    number: usize,
+    /// Which of them come next.
+    stage: Stage,
+    /// How many rows of the stage were seen.
+    seen: usize,
+    /// The path; no bytes before it is printed.
+    path: Vec<u8>,
+    /// The address that was printed last of the rows that are no statements.
+    last: Option<u64>,
+    /// The addresses of statements that were printed.
+    printed: BTreeSet<u64>,
+    /// Whether a path had addresses.
+    is_found: bool,
+}
+
+/// Which addresses of a path come next.
+#[derive(Clone, Copy)]
+enum Stage {
+    /// None: the path isn't begun.
+    Path,
+    /// Those of the rows of the line that are no statements.
+    Others,
+    /// Those of the statements of a line.
+    Statements(u64),
+}
+
+impl<'s, R: Reader> Addresses<'s, R> {
+    /// Finds the addresses of a place, and prints where a function begins. None where nothing is
+    /// left to be printed. Where there is no address, the command ends as refused.
+    pub fn new(
+        alloc: Global,
+        input: &'s Input<R>,
+        functions: &'s Functions<'s>,
+        request: &'s Request<'s>,
+        place: SourcePlace<'_>,
+        output: &mut Output<'_>,
+    ) -> Result<Option<Addresses<'s, R>>> {
+        let reading = Reading {
+            alloc,
+            input,
+            functions,
+            request,
+        };
+        let mut found = None;
+        let has_address = match place {
+            SourcePlace::Line { path, line } => {
+                found = reading.find_line(path, line, output)?;
+                found.is_some()
+            }
+            SourcePlace::Function(name) => reading.print_function(name, output)?,
+        };
+        if !has_address {
+            output.refuse();
+        }
+        Ok(found)
     }
-    Ok(())
+
+    /// Prints addresses until the output is full, and returns whether more may follow. Where there
+    /// was none, the command ends as refused.
+    pub fn print_next(&mut self, output: &mut Output<'_>) -> Result<bool> {
+        for _ in 0..u64::MAX {
+            if output.is_full() {
+                return Ok(true);
+            }
+            match self.stage {
+                Stage::Path => {
+                    if !self.begin_path() {
+                        break;
+                    }
+                }
+                Stage::Others => self.print_other(output)?,
+                Stage::Statements(line) => self.print_statement(line, output)?,
+            }
+        }
+        if !self.is_found {
+            output.refuse();
+        }
+        Ok(false)
+    }
+
+    /// Begins the path of the number; false where there is none.
+    fn begin_path(&mut self) -> bool {
+        let Some(next) = self.rows.lines.get(self.number).copied() else {
+            return false;
+        };
+        self.seen = 0;
+        self.path.clear();
+        self.last = None;
+        self.printed = BTreeSet::new(self.search.reading.alloc);
+        self.stage = match next {
+            Some(next) if next == self.line => Stage::Statements(next),
+            _ => Stage::Others,
+        };
+        true
+    }
+
+    /// Goes on to the next path.
+    fn end_path(&mut self, is_found: bool) {
+        self.is_found |= is_found;
+        self.number = self.number.saturating_add(1);
+        self.stage = Stage::Path;
+    }
+
+    /// Makes the path whole, unless it was made.
+    fn make_path(&mut self) -> Result<()> {
+        match self.search.files.paths.get(self.number) {
+            Some(written) if self.path.is_empty() => written.write_to(&mut self.path),
+            _ => Ok(()),
+        }
+    }
+
+    /// Prints the address of the next row of the line that is no statement. Code of such a row is
+    /// sure to be there if the row covers its address.
+    fn print_other(&mut self, output: &mut Output<'_>) -> Result<()> {
+        let rows = self.rows.others.of_path(self.number);
+        let Some(address) = rows.get(self.seen).map(|row| row.address) else {
+            return self.end_others(output);
+        };
+        self.seen = self.seen.saturating_add(1);
+        if self.last == Some(address) {
+            return Ok(());
+        }
+        let (number, line) = (self.number, self.line);
+        if let Some(column) = self.search.other_column(number, line, address) {
+            self.make_path()?;
+            let search = &self.search;
+            search.print_address(&self.path, line, false, address, Some(column), output);
+            self.last = Some(address);
+        }
+        Ok(())
+    }
+
+    /// Goes on after the rows that are no statements: to the next path where one of them has code,
+    /// or else to the next line that has statements. That the line has no code is noted.
+    fn end_others(&mut self, output: &mut Output<'_>) -> Result<()> {
+        if self.last.is_some() {
+            self.end_path(true);
+            return Ok(());
+        }
+        self.make_path()?;
+        let (asked, path) = (Piece::Number(self.line), Piece::Path(Some(&self.path)));
+        match self.rows.lines.get(self.number).copied() {
+            Some(Some(next)) => {
+                let text = "no code at line % of %; the next is line %";
+                note(text, &[asked, path, Piece::Number(next)], output);
+                self.seen = 0;
+                self.stage = Stage::Statements(next);
+            }
+            _ => {
+                note("no code from line % on in %", &[asked, path], output);
+                self.end_path(false);
+            }
+        }
+        Ok(())
+    }
+
+    /// Prints the address of the next statement of a line, each address of the path once.
+    fn print_statement(&mut self, line: u64, output: &mut Output<'_>) -> Result<()> {
+        let rows = self.rows.addresses.of_path(self.number);
+        let Some(address) = rows.get(self.seen).map(|row| row.address) else {
+            self.end_path(true);
+            return Ok(());
+        };
+        self.seen = self.seen.saturating_add(1);
+        let breakpoint = self.search.breakpoint(address);
+        if !self.printed.insert(breakpoint)? {
+            return Ok(());
+        }
+        if breakpoint != address && self.search.print_row(breakpoint, output)? {
+            return Ok(());
+        }
+        self.make_path()?;
+        let column = column_at(self.rows.columns.of_path(self.number), address);
+        let search = &self.search;
+        search.print_address(&self.path, line, true, address, column, output);
+        Ok(())
+    }
 }
 
 /// What addresses are searched in.
@@ -51,18 +211,37 @@ struct Reading<'s, R: Reader> {
     request: &'s Request<'s>,
 }
 
-impl<R: Reader> Reading<'_, R> {
-    /// Prints the addresses of a line in the files whose path ends so, and returns whether there is
-    /// any.
-    fn print_line(&self, path: &str, line: u64, output: &mut Output<'_>) -> Result<bool> {
+impl<'s, R: Reader> Reading<'s, R> {
+    /// The files whose paths are searched for, none yet.
+    fn files(&self, output: &Output<'_>) -> Result<MeantFiles<R>> {
+        let (alloc, input) = (self.alloc, self.input);
+        let written = WrittenPaths::new(alloc, input)?;
+        let budget = PathBudget::new(input, output.memory_limit());
+        // Past a prologue may be a row of another file, which is printed instead.
+        let are_printed = !self.request.is_after_prologue;
+        Ok(MeantFiles::new(alloc, written, budget, are_printed))
+    }
+
+    /// Finds the addresses of a line in the files whose path ends so. None where no file has such a
+    /// path, and where more bytes of paths were read than may be, which is reported.
+    fn find_line(
+        &self,
+        path: &str,
+        line: u64,
+        output: &mut Output<'_>,
+    ) -> Result<Option<Addresses<'s, R>>> {
         let (alloc, input) = (self.alloc, self.input);
         let end = bytes_of_word(alloc, path)?;
-        let written = WrittenPaths::new(alloc, input)?;
-        let mut files = MeantFiles::new(alloc, written);
+        let mut files = self.files(output)?;
         let counts = count_rows(alloc, input, Some(&end), &mut files, output)?;
+        if files.budget.is_spent() {
+            output.clear();
+            output.tell(files.budget);
+            return Ok(None);
+        }
         if files.paths.is_empty() {
             note("no file's path ends with %", &[Piece::Name(path)], output);
-            return Ok(false);
+            return Ok(None);
         }
         let has_column = self.request.has_column || output.is_json();
         let rows = LineRows::find(alloc, input, &files, &counts, line, has_column)?;
@@ -70,14 +249,10 @@ impl<R: Reader> Reading<'_, R> {
         let covering = self.cover(&counts, &rows, has_range)?;
         let search = Search {
             reading: *self,
-            sources: files.written.sources(),
-            covering: &covering,
+            files,
+            covering,
         };
-        let mut is_found = false;
-        for number in 0..files.paths.len() {
-            is_found |= search.print_of_path(&files, &rows, number, line, output)?;
-        }
-        Ok(is_found)
+        Ok(Some(search.begin(rows, line)))
     }
 
     /// What covers the addresses that are asked for.
@@ -100,8 +275,7 @@ impl<R: Reader> Reading<'_, R> {
     /// Prints where the code of a function begins, and returns whether a row covers it.
     fn print_function(&self, name: &str, output: &mut Output<'_>) -> Result<bool> {
         let (alloc, input) = (self.alloc, self.input);
-        let written = WrittenPaths::new(alloc, input)?;
-        let mut files = MeantFiles::new(alloc, written);
+        let mut files = self.files(output)?;
         let counts = count_rows(alloc, input, None, &mut files, output)?;
         let word = bytes_of_word(alloc, name)?;
         let Some((start, _)) = self.functions.range_of(&word) else {
@@ -114,12 +288,13 @@ impl<R: Reader> Reading<'_, R> {
             let asked = Vec::from_slice(alloc, &[start])?;
             Covering::of_some(alloc, input, &counts.all, asked)?
         };
-        let search = Search {
+        let mut search = Search {
             reading: *self,
-            sources: files.written.sources(),
-            covering: &covering,
+            files,
+            covering,
         };
-        let is_covered = search.print_row(search.breakpoint(start), output)?;
+        let breakpoint = search.breakpoint(start);
+        let is_covered = search.print_row(breakpoint, output)?;
         if !is_covered {
             note("no rows have the code of %", &[Piece::Name(name)], output);
         }
@@ -128,14 +303,32 @@ impl<R: Reader> Reading<'_, R> {
 }
 
 /// A search for addresses.
-#[derive(Clone, Copy)]
+#[derive(Drop)]
 struct Search<'s, R: Reader> {
     reading: Reading<'s, R>,
-    sources: &'s PathSources<R>,
-    covering: &'s Covering<R>,
+    /// The files whose paths are searched for.
+    files: MeantFiles<R>,
+    covering: Covering<R>,
 }
 
-impl<R: Reader> Search<'_, R> {
+impl<'s, R: Reader> Search<'s, R> {
+    /// The addresses of a line by its rows, of which none is printed.
+    fn begin(self, rows: LineRows, line: u64) -> Addresses<'s, R> {
+        let alloc = self.reading.alloc;
+        Addresses {
+            search: self,
+            rows,
+            line,
+            number: 0,
+            stage: Stage::Path,
+            seen: 0,
+            path: Vec::new(alloc),
+            last: None,
+            printed: BTreeSet::new(alloc),
+            is_found: false,
+        }
+    }
+
     /// An address, or that after the prologue where it is the beginning of a function, if that is
     /// asked for: the first one whose row is marked as the end of the prologue (DWARF 5, section
     /// 6.2.2), and where none is, that of the second row, as debuggers have it.
@@ -159,28 +352,28 @@ impl<R: Reader> Search<'_, R> {
     }
 
     /// Prints an address by the row that covers it; false where none does.
-    fn print_row(&self, address: u64, output: &mut Output<'_>) -> Result<bool> {
+    fn print_row(&mut self, address: u64, output: &mut Output<'_>) -> Result<bool> {
         let Some(found) = self.covering.find(address) else {
             return Ok(false);
         };
-        let (path, _) = path_or_fault(self.sources, self.path_of(&found)?)?;
+        let path = self.path_of(&found)?;
         let path = path.as_deref().unwrap_or(b"??");
         let (line, column) = (line_of(&found.row), Some(column_of(&found.row)));
         self.print_address(path, line, found.row.is_stmt(), address, column, output);
         Ok(true)
     }
 
-    /// The whole path of the file of a row that covers an address. Where no rows are kept, its unit
-    /// is run anew.
-    fn path_of(&self, found: &CoveringRow) -> Result<Result<Vec<u8>, PathError>> {
-        let alloc = self.reading.alloc;
-        let none = Err(PathError::InvalidFileIndex(found.row.file_index()));
-        if let Covering::Kept(lookup) = self.covering {
+    /// The whole path of the file of a row that covers an address; None where it can't be told.
+    /// Where no rows are kept, its unit is run again.
+    fn path_of(&mut self, found: &CoveringRow) -> Result<Option<Vec<u8>>> {
+        let (alloc, number) = (self.reading.alloc, found.row.file_index());
+        let written = &mut self.files.written;
+        if let Covering::Kept(lookup) = &self.covering {
             let unit = lookup.units().get(found.unit);
-            return Ok(match unit.and_then(|unit| unit.header()) {
-                Some(header) => self.sources.of_row(alloc, header, &found.row),
-                None => none,
-            });
+            return match unit.and_then(|unit| unit.header()) {
+                Some(header) => written.whole_path(alloc, header, number),
+                None => Ok(None),
+            };
         }
         let mut units = units_of(alloc, self.reading.input);
         for index in 0..usize::MAX {
@@ -193,117 +386,27 @@ impl<R: Reader> Search<'_, R> {
             match unit.program {
                 Ok(program) if index == found.unit => {
                     let run = WholeRun::new(program)?;
-                    return Ok(self.sources.of_row(alloc, run.rows.header(), &found.row));
+                    return written.whole_path(alloc, run.rows.header(), number);
                 }
                 _ => {}
             }
         }
-        Ok(none)
-    }
-
-    /// Prints the addresses in the files of one path, those of the rows of the line where none is a
-    /// statement, and returns whether there is any.
-    fn print_of_path(
-        &self,
-        files: &MeantFiles<R>,
-        rows: &LineRows,
-        number: usize,
-        line: u64,
-        output: &mut Output<'_>,
-    ) -> Result<bool> {
-        let next = rows.lines.get(number).copied().unwrap_or(None);
-        let Some(written) = files.paths.get(number) else {
-            return Ok(false);
-        };
-        let mut path = Vec::new(self.reading.alloc);
-        written.write_to(&mut path)?;
-        if next != Some(line) {
-            if self.print_others(files, rows, number, &path, line, output) {
-                return Ok(true);
-            }
-            let (asked, path) = (Piece::Number(line), Piece::Path(Some(&path)));
-            match next {
-                Some(next) => {
-                    let text = "no code at line % of %; the next is line %";
-                    note(text, &[asked, path, Piece::Number(next)], output);
-                }
-                None => note("no code from line % on in %", &[asked, path], output),
-            }
-        }
-        match next {
-            Some(next) => self.print_statements(rows, number, &path, next, output),
-            None => Ok(false),
-        }
-    }
-
-    /// Prints the addresses of the rows of a line that are no statements, and returns whether there
-    /// is any. Code of such a row is sure to be there if the row covers its address.
-    fn print_others(
-        &self,
-        files: &MeantFiles<R>,
-        rows: &LineRows,
-        number: usize,
-        path: &[u8],
-        line: u64,
-        output: &mut Output<'_>,
-    ) -> bool {
-        let mut last = None;
-        for row in rows.others.of_path(number) {
-            let address = row.address;
-            if last == Some(address) {
-                continue;
-            }
-            if let Some(column) = self.other_column(files, number, line, address) {
-                self.print_address(path, line, false, address, Some(column), output);
-                last = Some(address);
-            }
-        }
-        last.is_some()
+        Ok(None)
     }
 
     /// The column of the row that covers an address, if it begins there, and is one of a line of a
     /// path and no statement.
-    fn other_column(
-        &self,
-        files: &MeantFiles<R>,
-        number: usize,
-        line: u64,
-        address: u64,
-    ) -> Option<u64> {
+    fn other_column(&self, number: usize, line: u64, address: u64) -> Option<u64> {
         let CoveringRow { unit, row, .. } = self.covering.find(address)?;
         if row.address() != address || line_of(&row) != line || row.is_stmt() {
             return None;
         }
-        let (_, path) = files.find(unit, row.file_index())?;
+        let (_, path) = self.files.find(unit, row.file_index())?;
         if path == number {
             Some(column_of(&row))
         } else {
             None
         }
-    }
-
-    /// Prints the statements of a line, each address once, and returns true.
-    fn print_statements(
-        &self,
-        rows: &LineRows,
-        number: usize,
-        path: &[u8],
-        line: u64,
-        output: &mut Output<'_>,
-    ) -> Result<bool> {
-        let columns = rows.columns.of_path(number);
-        let mut printed = BTreeSet::new(self.reading.alloc);
-        for row in rows.addresses.of_path(number) {
-            let breakpoint = self.breakpoint(row.address);
-            if !printed.insert(breakpoint)? {
-                continue;
-            }
-            if breakpoint == row.address || !self.print_row(breakpoint, output)? {
-                let column = column_at(columns, row.address);
-                self.print_address(path, line, true, row.address, column, output);
-            }
-        }
-        Ok(true)
     }
 
     /// Prints an address of a line.

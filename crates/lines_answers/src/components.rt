@@ -63,6 +63,8 @@ pub(crate) struct PathLeft<'p> {
     ups: u64,
     /// Whether the path begins at the root, which isn't passed yet.
     is_whole: bool,
+    /// How many bytes were dropped.
+    dropped: u64,
 }
 
 impl<'p> PathLeft<'p> {
@@ -81,7 +83,13 @@ impl<'p> PathLeft<'p> {
             rest: [directory, base],
             ups: 0,
             is_whole: matches!(first, [b'/' | b'\\', ..]),
+            dropped: 0,
         }
+    }
+
+    /// How many bytes were read and are no part of the components that were passed.
+    pub(crate) fn dropped(&self) -> u64 {
+        self.dropped
     }
 
     /// Goes on to the piece before; false where none has bytes.
@@ -94,6 +102,7 @@ impl<'p> PathLeft<'p> {
 
     /// Passes what is dropped at the end of the piece that was begun; false where nothing is.
     fn drop_last(&mut self) -> bool {
+        let length = self.text.len();
         if let Some(before) = before_last(self.text, b"") {
             self.text = before;
         } else if let Some(before) = before_last(self.text, b".") {
@@ -107,6 +116,8 @@ impl<'p> PathLeft<'p> {
         } else {
             return false;
         }
+        let dropped = length.saturating_sub(self.text.len());
+        self.dropped = self.dropped.saturating_add(dropped as u64);
         true
     }
 
@@ -147,7 +158,7 @@ impl<'p> PathLeft<'p> {
     }
 
     /// Whether these are the last components that are left.
-    pub(crate) fn ends_with(mut self, components: &[&[u8]]) -> bool {
+    pub(crate) fn ends_with(&mut self, components: &[&[u8]]) -> bool {
         for component in components.iter().rev() {
             if !self.passes(component) {
                 return false;

@@ -17,7 +17,7 @@ mod section_strings;
 mod source;
 mod written_path;
 
-pub use addresses::print_addresses;
+pub use addresses::Addresses;
 pub use line_answers::LineAnswers;
 pub use made_index::{MadeIndex, index_of_program, program_identity};
 pub use opened_index::{IndexFault, IndexPlaces, open_index};

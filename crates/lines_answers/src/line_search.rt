@@ -20,7 +20,8 @@ pub(crate) struct RowCounts {
 }
 
 /// Counts the rows of all units, and adds their files whose paths end with some bytes, where files
-/// are meant. The fault of each unit is reported.
+/// are meant, up to the unit with which more bytes of paths were read than may be. The fault of
+/// each unit is reported.
 pub(crate) fn count_rows<R: Reader>(
     alloc: Global,
     input: &Input<R>,
@@ -34,6 +35,9 @@ pub(crate) fn count_rows<R: Reader>(
     };
     let mut units = units_of(alloc, input);
     for index in 0..usize::MAX {
+        if files.budget.is_spent() {
+            break;
+        }
         let Ok(next) = units.next() else {
             return Err(AllocError);
         };

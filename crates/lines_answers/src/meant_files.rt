@@ -4,6 +4,7 @@ use crate::path_digests::{PathDigests, Sum, sum_of_entry};
 use crate::written_path::{WrittenPath, WrittenPaths};
 use gimli_core::Reader;
 use gimli_line::{FileEntry, LineProgramHeader};
+use lines_inputs::PathBudget;
 use lines_pieces::Result;
 use std::alloc::Global;
 use std::collections::BTreeMap;
@@ -47,11 +48,20 @@ pub(crate) struct MeantFiles<R: Reader> {
     spellings: BTreeMap<Sum, Spelling>,
     /// The groups of a unit, by what its header says of a file.
     of_unit: BTreeMap<Sum, usize>,
+    /// The bytes of paths that are read and aren't printed.
+    pub(crate) budget: PathBudget,
+    /// Whether each of the paths is printed.
+    are_printed: bool,
 }
 
 impl<R: Reader> MeantFiles<R> {
     /// No file is meant.
-    pub(crate) fn new(alloc: Global, written: WrittenPaths<R>) -> MeantFiles<R> {
+    pub(crate) fn new(
+        alloc: Global,
+        written: WrittenPaths<R>,
+        budget: PathBudget,
+        are_printed: bool,
+    ) -> MeantFiles<R> {
         MeantFiles {
             written,
             paths: Vec::new(alloc),
@@ -61,11 +71,14 @@ impl<R: Reader> MeantFiles<R> {
             numbers: BTreeMap::new(alloc),
             spellings: BTreeMap::new(alloc),
             of_unit: BTreeMap::new(alloc),
+            budget,
+            are_printed,
         }
     }
 
     /// Adds the files of a unit whose paths end with these components, after those of the units
-    /// before. One that has no path is passed over. Returns whether there is any.
+    /// before, up to the one with which more bytes of paths were read than may be. One that has no
+    /// path is skipped. Returns whether there is any.
     pub(crate) fn add_unit(
         &mut self,
         alloc: Global,
@@ -76,10 +89,13 @@ impl<R: Reader> MeantFiles<R> {
         let before = self.files.len();
         self.of_unit = BTreeMap::new(alloc);
         for number in 0..=header.file_names().len() as u64 {
+            if self.budget.is_spent() {
+                break;
+            }
             let Some(path) = self.written.of_file(header, number)? else {
                 continue;
             };
-            if !path.ends_with(end)? {
+            if !path.ends_with(end, &mut self.budget)? {
                 continue;
             }
             if let Some(file) = header.file(number) {
@@ -105,14 +121,19 @@ impl<R: Reader> MeantFiles<R> {
         if let Some(group) = self.of_unit.get(&sum).copied() {
             return Ok(group);
         }
+        let length = path.own_length();
+        let before = self.paths.len();
         let group = self.group_of_path(unit, path)?;
+        if self.paths.len() == before || !self.are_printed {
+            self.budget.count(length);
+        }
         self.of_unit.insert(sum, group)?;
         Ok(group)
     }
 
     /// The group of a path in a unit.
     fn group_of_path(&mut self, unit: usize, path: WrittenPath<R>) -> Result<usize> {
-        self.digests.begin(&path)?;
+        self.digests.begin(unit as u64, &path, &mut self.budget)?;
         let sum = self.digests.of_bytes(&path)?;
         let known = self.spellings.get(&sum).copied();
         match known {

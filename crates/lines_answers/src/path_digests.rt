@@ -7,9 +7,13 @@
 use crate::written_path::{WrittenPath, append_piece, bytes_in, is_separator};
 use gimli_core::{AttributeValue, Reader, ReaderOffset};
 use gimli_line::FileEntry;
+use lines_inputs::PathBudget;
 use lines_pieces::Result;
 use sha2::{Digest, Sha256};
 use std::alloc::Global;
+
+/// As many bytes count as one when they are compared, which takes less time than to make one.
+const COMPARED: u64 = 32;
 
 /// A SHA-256 digest.
 pub(crate) type Sum = [u8; 32];
@@ -135,7 +139,9 @@ impl Way<'_> {
 #[derive(Drop)]
 pub(crate) struct PathDigests<R: Reader> {
     alloc: Global,
-    /// The directory of the compilation of the path before.
+    /// The unit of the path before that is in a directory of a compilation.
+    unit: Option<u64>,
+    /// That directory.
     base: Option<R>,
     /// The digest of its bytes, with the separator that comes after them, which isn't ended.
     bytes: Sha256,
@@ -148,6 +154,7 @@ impl<R: Reader> PathDigests<R> {
     pub(crate) fn new(alloc: Global) -> PathDigests<R> {
         PathDigests {
             alloc,
+            unit: None,
             base: None,
             bytes: Sha256::new(),
             levels: Levels::new(alloc),
@@ -167,10 +174,21 @@ impl<R: Reader> PathDigests<R> {
         Ok(before == base)
     }
 
-    /// Goes on to paths in the directory of a path, if it has one.
-    pub(crate) fn begin(&mut self, path: &WrittenPath<R>) -> Result<()> {
+    /// Goes on to paths in the directory of a path of a unit, if it has one: that of all paths of
+    /// the unit. A part of its bytes counts, which are compared.
+    pub(crate) fn begin(
+        &mut self,
+        unit: u64,
+        path: &WrittenPath<R>,
+        budget: &mut PathBudget,
+    ) -> Result<()> {
         let base = &path.base;
-        if base.is_empty() || self.is_in(base)? {
+        if base.is_empty() || self.unit == Some(unit) {
+            return Ok(());
+        }
+        self.unit = Some(unit);
+        budget.count(base.len().into_u64() / COMPARED);
+        if self.is_in(base)? {
             return Ok(());
         }
         self.base = None;

@@ -3,9 +3,9 @@
 use crate::components::components_of;
 use crate::path_digests::{PathDigests, Sum, sum_of_entry};
 use crate::written_path::{WrittenPath, WrittenPaths};
-use gimli_core::Reader;
+use gimli_core::{Reader, ReaderOffset};
 use gimli_line::{FileEntry, LineProgramHeader, LineRow};
-use lines_inputs::{Functions, Input, Printing, UnitRows, Walk, line_of};
+use lines_inputs::{Functions, Input, PathBudget, Printing, UnitRows, Walk, line_of};
 use lines_pieces::{Piece, Result, tell};
 use lines_places::SourceRow;
 use lines_words::{Output, SourcePlace, UnitChoice, bytes_of_word};
@@ -53,8 +53,10 @@ pub struct SourceRows<'w, R: Reader> {
     rows: Vec<SourceRow>,
     /// How many rows were left when they were put in order.
     ordered: usize,
-    /// The path that is printed, with room for the longest one.
+    /// The path that is printed, with capacity for the longest one.
     path: Vec<u8>,
+    /// The bytes of paths that are read and aren't printed.
+    budget: PathBudget,
 }
 
 impl<'w, R: Reader> SourceRows<'w, R> {
@@ -96,6 +98,7 @@ impl<'w, R: Reader> SourceRows<'w, R> {
             rows: Vec::new(alloc),
             ordered: 0,
             path: Vec::new(alloc),
+            budget: PathBudget::new(input, output.memory_limit()),
         }))
     }
 
@@ -109,16 +112,23 @@ impl<'w, R: Reader> SourceRows<'w, R> {
         Some((&self.path, self.rows.get(start..end).unwrap_or(&[])))
     }
 
-    /// Adds the rows of a unit that are wanted. Its fault is reported.
-    fn add_unit(&mut self, unit: &mut UnitRows<R>, output: &mut Output<'_>) -> Result<bool> {
+    /// Adds the rows of a unit that are wanted, up to the one with which more bytes of paths were
+    /// read than may be. The fault of the unit is reported.
+    fn add_unit(&mut self, unit: &mut UnitRows<R>, output: &mut Output<'_>) -> Result<()> {
         self.of_unit = BTreeMap::new(self.alloc);
         self.files.clear();
         if matches!(self.place, SourcePlace::Line { .. }) {
             for index in 0..=unit.header().file_names().len() as u64 {
+                if self.budget.is_spent() {
+                    break;
+                }
                 self.number_of(unit.header(), index)?;
             }
         }
         for _ in 0..u64::MAX {
+            if self.budget.is_spent() {
+                break;
+            }
             let Some(row) = unit.next_row()? else {
                 break;
             };
@@ -127,7 +137,7 @@ impl<'w, R: Reader> SourceRows<'w, R> {
             }
         }
         unit.tell_fault(output);
-        Ok(true)
+        Ok(())
     }
 
     /// Whether a row may be wanted.
@@ -201,7 +211,7 @@ impl<'w, R: Reader> SourceRows<'w, R> {
         };
         if matches!(self.place, SourcePlace::Line { .. }) {
             let components = components_of(self.alloc, &self.end)?;
-            if !path.ends_with(&components)? {
+            if !path.ends_with(&components, &mut self.budget)? {
                 return Ok(None);
             }
         }
@@ -209,16 +219,19 @@ impl<'w, R: Reader> SourceRows<'w, R> {
         if let Some(number) = self.of_unit.get(&entry).copied() {
             return Ok(Some(number));
         }
+        let unit = header.offset().0.into_u64();
+        self.digests.begin(unit, &path, &mut self.budget)?;
         let number = self.number_of_path(path)?;
         self.of_unit.insert(entry, number)?;
         Ok(Some(number))
     }
 
-    /// The number of a path, which is appended where it is new.
+    /// The number of a path in the directory that was begun last, or in none. It is appended where
+    /// it is new; its bytes count where it isn't.
     fn number_of_path(&mut self, path: WrittenPath<R>) -> Result<usize> {
-        self.digests.begin(&path)?;
         let sum = self.digests.of_bytes(&path)?;
         if let Some(number) = self.numbers.get(&sum).copied() {
+            self.budget.count(path.own_length());
             return Ok(number);
         }
         let number = self.paths.len();
@@ -240,7 +253,7 @@ impl<'w, R: Reader> SourceRows<'w, R> {
         Ok(())
     }
 
-    /// Makes room for the longest path.
+    /// Makes the buffer large enough for the longest path.
     fn reserve(&mut self) -> Result<()> {
         let mut most = 0;
         for path in &self.paths {
@@ -254,15 +267,31 @@ impl<'w, R: Reader> SourceRows<'w, R> {
 
     /// Adds the rows of the next unit, whose fault is reported, and returns whether more may
     /// follow. After the last one the rows are put in order; that no file has the place is
-    /// reported.
+    /// reported. There are none where more bytes of paths were read than may be, which is reported.
     pub fn add_next(&mut self, output: &mut Output<'_>) -> Result<bool> {
         match self.walk.next_rows(output)? {
-            Some(mut unit) => self.add_unit(&mut unit, output),
+            Some(mut unit) => {
+                self.add_unit(&mut unit, output)?;
+                Ok(!self.is_refused(output))
+            }
             None => self.finish(output),
         }
     }
 
-    /// Puts the rows in order, makes room for each path, and reports that no file has the place.
+    /// Whether more bytes of paths were read than may be, which is reported. Then there are no
+    /// paths.
+    fn is_refused(&mut self, output: &mut Output<'_>) -> bool {
+        let is_refused = self.budget.is_spent();
+        if is_refused {
+            output.clear();
+            output.tell(self.budget);
+            self.paths.clear();
+        }
+        is_refused
+    }
+
+    /// Puts the rows in order, makes the buffer large enough for each path, and reports that no
+    /// file has the place.
     fn finish(&mut self, output: &mut Output<'_>) -> Result<bool> {
         self.sort()?;
         self.reserve()?;

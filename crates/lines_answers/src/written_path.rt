@@ -8,7 +8,7 @@ use crate::components::PathLeft;
 use crate::section_strings::SectionStrings;
 use gimli_core::{AttributeValue, Reader, ReaderOffset};
 use gimli_line::LineProgramHeader;
-use lines_inputs::{Input, PathSources};
+use lines_inputs::{Input, PathBudget, PathSources};
 use lines_pieces::Result;
 use std::alloc::{AllocError, Global};
 use std::borrow::CowSlice;
@@ -79,19 +79,34 @@ impl<R: Reader> WrittenPath<R> {
         name.saturating_add(directories).saturating_add(2)
     }
 
-    /// Whether these are the last components of the path.
-    pub(crate) fn ends_with(&self, components: &[&[u8]]) -> Result<bool> {
+    /// How many bytes the path has without the directory of its compilation.
+    pub(crate) fn own_length(&self) -> u64 {
+        let name = self.name.len().into_u64();
+        name.saturating_add(self.directory.len().into_u64())
+    }
+
+    /// Whether these are the last components of the path. The bytes count that are read after these
+    /// and are no part of them.
+    pub(crate) fn ends_with(&self, components: &[&[u8]], budget: &mut PathBudget) -> Result<bool> {
         let name = bytes_in(&self.name)?;
         let directory = bytes_in(&self.directory)?;
         let base = bytes_in(&self.base)?;
-        Ok(end_with(&name, &directory, &base, components))
+        Ok(end_with(&name, &directory, &base, components, budget))
     }
 }
 
 /// Whether components are the last ones of a path in pieces.
-fn end_with(name: &[u8], directory: &[u8], base: &[u8], components: &[&[u8]]) -> bool {
-    let path = PathLeft::new([name, directory, base]);
-    path.ends_with(components)
+fn end_with(
+    name: &[u8],
+    directory: &[u8],
+    base: &[u8],
+    components: &[&[u8]],
+    budget: &mut PathBudget,
+) -> bool {
+    let mut path = PathLeft::new([name, directory, base]);
+    let ends_so = path.ends_with(components);
+    budget.count(path.dropped());
+    ends_so
 }
 
 /// What paths are read from.
@@ -113,11 +128,6 @@ impl<R: Reader> WrittenPaths<R> {
             line_strings,
             strings,
         })
-    }
-
-    /// The paths as they are made whole.
-    pub(crate) fn sources(&self) -> &PathSources<R> {
-        &self.sources
     }
 
     /// The string that a value stands for; None where it stands for none.
@@ -195,6 +205,20 @@ impl<R: Reader> WrittenPaths<R> {
             return Ok(None);
         };
         path.base = base;
+        Ok(Some(path))
+    }
+    /// The whole path of the file of an index; None where there is none, or it can't be told.
+    pub(crate) fn whole_path(
+        &mut self,
+        alloc: Global,
+        header: &LineProgramHeader<R>,
+        index: u64,
+    ) -> Result<Option<Vec<u8>>> {
+        let Some(written) = self.of_file(header, index)? else {
+            return Ok(None);
+        };
+        let mut path = Vec::new(alloc);
+        written.write_to(&mut path)?;
         Ok(Some(path))
     }
 }

@@ -7,7 +7,7 @@ ghost use Rattle.lines_inputs.specs.Lines.{HasLines};
 use crate::session::{Questions, REFUSED, Run, Session};
 use elf_sections::ElfError;
 use gimli_core::Reader;
-use lines_answers::{SourceRows, print_addresses};
+use lines_answers::{Addresses, SourceRows};
 use lines_inputs::{Input, InputError, InputSections, tell_refusal};
 use lines_places::{Answered, Asked, PlacePrinter, Places, print_below, print_lines};
 use lines_reports::{Diff, Report};
@@ -78,10 +78,7 @@ impl<'r> Session<'r> {
             }
             Command::At(place) => {
                 if self.begin_lookup(input.length(), files.limit)? {
-                    let functions = program.functions(alloc)?;
-                    let output = &mut self.output;
-                    print_addresses(alloc, input, &functions, request, place, output)?;
-                    output.clear();
+                    self.print_addresses(program, input, place)?;
                 }
                 Ok(())
             }
@@ -219,6 +216,24 @@ impl<'r> Session<'r> {
             questions.go_on();
         }
         Ok(is_any)
+    }
+
+    /// Prints the addresses of a place or of a function.
+    fn print_addresses<R: Reader>(
+        &mut self,
+        program: &InputSections<'_>,
+        input: &Input<R>,
+        place: SourcePlace<'_>,
+    ) -> io::Result<()> {
+        let Run { rt, request } = self.run;
+        let functions = program.functions(rt.alloc())?;
+        let output = &mut self.output;
+        let found = Addresses::new(rt.alloc(), input, &functions, request, place, output)?;
+        output.clear();
+        match found {
+            Some(mut found) => self.print_steps(|output| found.print_next(output)),
+            None => Ok(()),
+        }
     }
 
     /// Finds the rows of a place or of a function, and prints their lines with their addresses.

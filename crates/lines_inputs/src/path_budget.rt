@@ -1,28 +1,30 @@
-//! How many bytes of paths a command may make, so that it takes no longer than its sections let it.
+//! A limit on the bytes of paths that a command makes or reads and doesn't print, so that its time
+//! stays in proportion to the sections and to what it prints.
 
 use crate::input::Input;
 use gimli_core::Reader;
 use std::fmt;
 
-/// How many bytes of paths may be made for each byte of the sections; the tables of compilers need
-/// 12 to 20.
+/// How many bytes of paths may be made for each byte of the sections. A file of version 5 whose
+/// name stands in `.debug_line_str` takes five bytes of its table: four for the name, and one for
+/// the index of its directory. So a path of 320 bytes may be made once for each such file.
 const FOR_A_BYTE: u64 = 64;
 
-/// How many may be made beside these.
+/// How many more may be made, whatever the sections have.
 const BESIDE: u64 = 1 << 24;
 
-/// The bytes of the paths that a command made and didn't print whole, and how many they may be.
+/// The bytes of the paths that a command made or read and didn't print whole, and their limit.
 #[derive(Clone, Copy)]
 pub struct PathBudget {
-    /// How many they may be.
+    /// The most of them that are allowed.
     limit: u64,
-    /// How many there were.
+    /// How many were counted.
     made: u64,
 }
 
 impl PathBudget {
-    /// No path is made of a program yet: 64 bytes may be for each byte of its sections, and 16 MiB,
-    /// or as many as a limit says, if that is more.
+    /// A budget of a program, of which nothing is spent: 64 bytes for each byte of its sections,
+    /// and 16 MiB, or the given limit if that is larger.
     pub fn new<R: Reader>(input: &Input<R>, limit: Option<u64>) -> PathBudget {
         let own = input.all_bytes().saturating_mul(FOR_A_BYTE);
         PathBudget {
@@ -31,18 +33,18 @@ impl PathBudget {
         }
     }
 
-    /// Counts bytes that were made, or read for a path that can't be told.
+    /// Counts bytes that were made, or were read for a path that isn't printed.
     pub fn count(&mut self, bytes: u64) {
         self.made = self.made.saturating_add(bytes);
     }
 
-    /// Whether there were more than there may be.
+    /// Whether more bytes were counted than the limit allows.
     pub fn is_spent(&self) -> bool {
         self.made > self.limit
     }
 }
 
-/// Why a command goes no further, once it is spent.
+/// Why a command stops once the budget is spent.
 impl fmt::Display for PathBudget {
     fn fmt<W: fmt::Write>(&self, f: &mut fmt::Formatter<W>) -> fmt::Result {
         let limit = self.limit;
