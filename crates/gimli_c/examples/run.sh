@@ -1,8 +1,8 @@
 #!/usr/bin/env bash
 # Builds a small program, takes its line information as raw bytes, builds the examples over libgimli_c.a, and compares what one
 # prints with what linetool prints: every row of every unit, and the rows round some addresses. Others, in C and in C++, print
-# paths and lines by an index of the program, which are compared with those of addr2line of binutils. Another writes lines for an assembler,
-# which addr2line reads once they are linked. Another asks for directories of compilations, paths and lines, by sections that are made by
+# paths and lines by an index of the program, which are compared with those of addr2line of binutils; so does a profiler of its own threads,
+# in the handler of a signal. Another writes lines for an assembler, which addr2line reads once they are linked. Another asks for directories of compilations, paths and lines, by sections that are made by
 # hand.
 # It needs a C compiler, objcopy and addr2line, and a C++ compiler for the one in C++.
 # Where one is missing it says so, and ends well. The examples in Rust are those of bindings/rust.
@@ -147,6 +147,31 @@ if [ "$(uname -m)" = x86_64 ] || [ "$(uname -m)" = aarch64 ]; then
     cp "$work/built.index" "$work/loaded/crash.lines"
     [ "$("$work/crash" "$work/loaded" || true)" = "??" ]
 fi
+# A profiler: a thousand times a second each of its threads stops in a handler, on an alternate stack of the size that INDEX names, with a
+# page below it that can't be written. There a call that takes memory or a lock ends it. What it says of each address is what addr2line says;
+# binutils joins a relative directory to itself, so of a relative path the name and the line are compared.
+profiled="a profiler isn't tried on this machine"
+if [ "$(uname -m)" = x86_64 ] || [ "$(uname -m)" = aarch64 ]; then
+    wraps=()
+    for name in $(sed -nE 's/^WRAPPED\([^,]*, ([a-z_]+),.*/\1/p' "$here/tests/on_stack.c"); do wraps+=("-Wl,--wrap=$name"); done
+    [ "${#wraps[@]}" -ge 8 ]
+    cc -std=c11 -Wall -Wextra -Werror -O2 -g -I "$crate/include" -I "$here/c" "$here/c/profile.c" "$here/tests/on_stack.c" "${wraps[@]}" \
+        "$work/calls.o" "$library" "$kit/liblibc_c.a" -lpthread -Wl,-z,now -o "$work/profile"
+    cc -std=c11 -Wall -Wextra -Werror -O1 -g -shared -fPIC "$here/tests/plugin.c" -o "$work/plugin.so"
+    mkdir "$work/profiled"
+    "$work/profile" "$work/profiled" "$work/plugin.so" >"$work/samples" 2>"$work/said"
+    [ "$(wc -l <"$work/samples")" -ge 1000 ] && [ "$(grep -c "^$work/plugin.so " "$work/samples")" -ge 100 ]
+    profiled="$(cat "$work/said")"
+    sort -u "$work/samples" >"$work/distinct"
+    for file in $(cut -d' ' -f1 "$work/distinct" | sort -u); do
+        awk -v file="$file" '$1 == file' "$work/distinct" >"$work/of_file"
+        cut -d' ' -f2 "$work/of_file" | addr2line -e "${file/#\/proc\/self\/exe/$work/profile}" |
+            sed -E 's/ \(discriminator [0-9]+\)//; s/:\?$/:0/; s,^[^/].*/,,' >"$work/places"
+        cut -d' ' -f3- "$work/of_file" | sed -E 's,^[^/].*/,,' | cmp "$work/places" -
+    done
+    # Nothing is left of the names under which indexes were written.
+    [ -z "$(find "$work/profiled" -type f ! -name '*.lines')" ]
+fi
 # The lines of two functions whose addresses a linker gives, by each form of relocations.
 linked=0
 if [ "$(uname -m)" = x86_64 ]; then
@@ -178,6 +203,7 @@ echo "gimli_c: an index that was written by docs/INDEX.md alone is read as it wa
 echo "gimli_c: $directories answers on directories, paths and lines are as made by hand"
 echo "gimli_c: $mapped places by indexes that make_index made are addr2line's, and each index has its program's build id"
 echo "gimli_c: $begins addresses of lines by those indexes have these lines by addr2line too"
+echo "gimli_c: a profiler: $profiled; each of their places is addr2line's"
 echo "gimli_c: $linked answers of readelf, addr2line and gdb on two functions that ld and lld placed are as wanted"
 echo "gimli_c: $places paths and lines of the examples ($in_each) are addr2line's"
 echo "gimli_c: $compared lines of the example addr2line are linetool's"

@@ -17,7 +17,7 @@
  * Part 1  versions and statuses
  * Part 2  sections of an ELF file
  * Part 3  indexes: made once, and then asked by threads and signal handlers
- *         (examples/c/where_is.c, make_index.c, ask_index.c, crash.c)
+ *         (examples/c/where_is.c, make_index.c, ask_index.c, crash.c, profile.c)
  * Part 4  units, rows, files and directories (examples/c/addr2line.c)
  * Part 5  units written, for a compiler (examples/c/compiler.c)
  *
@@ -48,6 +48,9 @@
  *   change any of this, under another version and another file name; CHANGELOG lists the changes.
  *   The gimli_line_proved_* symbols of the static library are not for callers. A plugin that links
  *   it keeps them to itself by -Wl,--exclude-libs,libgimli_line.a.
+ * - CET: the kit's compiler writes neither endbr64 nor the notes of IBT and SHSTK. A program that
+ *   links the static library has neither note, and one that loads the shared library runs without
+ *   these protections.
  *
  * In the texts, a number is that of a unit, file or directory; `first` is where bytes begin, `size`
  * is how many there are, and `room` is how many elements an array has. */
@@ -69,6 +72,13 @@ extern "C" {
 #else
 #define GIMLI_LINE_CALL
 #define GIMLI_LINE_NONNULL
+#endif
+
+/* A cast, as either language writes it. */
+#ifdef __cplusplus
+#define GIMLI_LINE_AS(type, value) static_cast<type>(value)
+#else
+#define GIMLI_LINE_AS(type, value) (type)(value)
 #endif
 
 /* ---- Part 1: versions and statuses ---------------------------------------------------------- */
@@ -212,20 +222,22 @@ gimli_line_status gimli_line_build_id(const void *file, size_t length, uint8_t *
 
 /* An index says for all addresses of a program which path, line and column they have. It is a
  * string of bytes (INDEX), to be kept in memory, mapped from a file, or linked into a program. It
- * takes an eighth to a sixth of the debug file. It has no function names and no inlined frames.
+ * takes about 20 bytes for each row of the line table. It has no function names and no inlined
+ * frames.
  *
- * Making one takes about four times the size of the debug file in memory. To write one to a file
- * that others may have mapped, write to a new name and rename(): a process that reads a mapped file
- * which another one truncates is killed by SIGBUS.
+ * Making one takes about 200 bytes of memory for each row, with the sections of an ELF file. To
+ * write one to a file that others may have mapped, write to a new name and rename(): a process that
+ * reads a mapped file which another one truncates is killed by SIGBUS.
  *
- * For a profiler's handler of SIGPROF:
+ * For a profiler's handler of SIGPROF (examples/c/profile.c; INDEX explains it):
  * - gimli_line_index_find uses less than 1 KB of stack, gimli_line_index_addresses_of less than
  *   2 KB (x86-64). With lazy binding the first call goes through the dynamic linker, which takes
  *   several KB more: link with -z now, or ask once before the handler is set.
  * - Your own table of loaded objects and their indexes must be whole whenever the signal comes.
- *   Build the new one beside it, store its pointer atomically, and free the old one only when no
- *   handler can be reading it; or block the signal meanwhile.
- * - An object without an index, as linux-vdso.so.1, is none of yours: pass over its addresses. */
+ *   Build the new one next to it, store its pointer atomically, and free the old one only when no
+ *   handler can be reading it. In a program of one thread, blocking the signal meanwhile is enough;
+ *   pthread_sigmask() blocks it only in the thread that calls it.
+ * - An object without an index, as linux-vdso.so.1, is none of yours: skip its addresses. */
 
 gimli_line_status gimli_line_index_of_elf(const void *file, size_t length, uint8_t **index,
                                           size_t *size) GIMLI_LINE_CALL;
@@ -356,9 +368,12 @@ gimli_line_status gimli_line_index_addresses_of(const void *index, size_t length
  *
  * Where rows of that line of one file stand side by side in a sequence, the first one that is a
  * statement gives its address; so a function may have several, and that of its entry is before the
- * prologue. If the line has none, it stores those of the next line that has any; *found_line is
- * that line. *count is how many addresses there are; they ascend, each once. They are those that
- * the rows of the program give, also of functions that a linker dropped or folded (INDEX).
+ * prologue. To pass the prologue, ask gimli_line_index_find for that address, and then for the
+ * `end` of each place in turn, up to one with `prologue_end` (clang sets it, gcc doesn't).
+ *
+ * If the line has no address, it stores those of the next line that has any; *found_line is that
+ * line. *count is how many addresses there are; they ascend, each once. They are those that the
+ * rows of the program give, also of functions that a linker dropped or folded (INDEX).
  *
  * Returns:
  *   GIMLI_LINE_NO_ROOM   *count is how many there are; *found_line isn't written
@@ -369,7 +384,7 @@ gimli_line_status gimli_line_index_addresses_of(const void *index, size_t length
 /* [async-signal-safe] Returns the path of a place, which a zero byte follows whatever the index is;
  * null if it has none. */
 static inline const char *gimli_line_place_path(const void *index, const gimli_line_place *place) {
-    return place->path != 0 ? (const char *)index + place->path : NULL;
+    return place->path != 0 ? GIMLI_LINE_AS(const char *, index) + place->path : NULL;
 }
 
 /* ---- Part 4: units, rows, files and directories --------------------------------------------- */
@@ -561,7 +576,8 @@ gimli_line_status gimli_line_read_directory(const gimli_line_sections *sections,
                                             uint64_t number, gimli_line_text *directory,
                                             char *bytes, size_t room) GIMLI_LINE_CALL;
 /* Reads the directory of a number. A string that stands in the unit itself is copied to `bytes`;
- * directory->size is its size. Each call parses the header of the unit.
+ * directory->size is its size. Each call parses the header of the unit: the directories of its
+ * files come in the paths of gimli_line_read_files, in one pass.
  *
  * Returns:
  *   GIMLI_LINE_NO_ROOM             *directory is written
@@ -619,7 +635,7 @@ typedef struct gimli_line_encoding {
  * three in gimli_line_unit; the rows of any unit whose op_index is always 0 can be written by it.
  * */
 #define GIMLI_LINE_ENCODING(version) \
-    { (uint16_t)(version), 8, 4, 1, 1, 1, -5, 14 }
+    { GIMLI_LINE_AS(uint16_t, version), 8, 4, 1, 1, 1, -5, 14 }
 
 /* A string among the bytes of `texts`. */
 typedef struct gimli_line_name {
