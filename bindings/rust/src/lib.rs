@@ -21,7 +21,7 @@ mod row;
 mod write;
 
 pub use compilation::CompilationSections;
-pub use elf::Elf;
+pub use elf::{DebugLink, Elf};
 pub use error::Error;
 pub use file::{File, Text};
 pub use index::{Addresses, Index, NoPath, Place, Range, Ranges};

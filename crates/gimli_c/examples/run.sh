@@ -37,7 +37,7 @@ work=$(mktemp -d)
 trap 'rm -rf "$work"' EXIT
 
 cc -std=c11 -Wall -Wextra -Werror -O2 -I "$crate/include" -c "$crate/make/calls.c" -o "$work/calls.o"
-for example in addr2line where_is directories make_index ask_index indexes compiler; do
+for example in addr2line where_is directories make_index ask_index indexes compiler debug_links; do
     cc -std=c11 -Wall -Wextra -Werror -O2 -I "$crate/include" -I "$here/c" "$here"/*/"$example.c" "$work/calls.o" \
         "$library" "$kit/liblibc_c.a" -lpthread -o "$work/$example"
 done
@@ -185,7 +185,34 @@ fi
 # What is no ELF file, and a file without lines.
 [ "$("$work/where_is" "$crate/include/gimli_line.h" 0 2>&1 || true)" = "the bytes are no ELF file that can be read" ]
 objcopy --strip-debug "$work/built" "$work/stripped"
-[ "$("$work/where_is" "$work/stripped" 0 2>&1 || true)" = "the ELF file has no .debug_line, or no build ID" ]
+[ "$("$work/where_is" "$work/stripped" 0 2>&1 || true)" = "the ELF file has no .debug_line, build ID or .gnu_debuglink" ]
+# Of a stripped program the debug file is taken: by its build ID, or by its debug link in one of three directories. Another file of that
+# name, which has another checksum, is none.
+mkdir "$work/apart"
+objcopy --only-keep-debug "$work/built" "$work/built.debug"
+(cd "$work" && objcopy --strip-debug --add-gnu-debuglink=built.debug built apart/built)
+id=$(readelf -n "$work/built" | sed -nE 's/.*Build ID: //p')
+for place in "debug/.build-id/${id:0:2}/${id:2}.debug" apart/built.debug apart/.debug/built.debug "debug$(realpath "$work")/apart/built.debug"; do
+    mkdir -p "$(dirname "$work/$place")" && cp "$work/built.debug" "$work/$place"
+    [ "$("$work/make_index" "$work/apart/built" "$work/apart.index" "$work/debug")" = "$id" ]
+    cmp "$work/built.index" "$work/apart.index"
+    mv "$work/$place" "$work/last" && rm "$work/apart.index"
+done
+printf 'x' | cat "$work/last" - >"$work/apart/built.debug"
+[ "$("$work/make_index" "$work/apart/built" "$work/apart.index" "$work/debug" 2>&1 || true)" = \
+    "the ELF file has no .debug_line, build ID or .gnu_debuglink" ]
+# Links whose bytes are written here: a name, a zero byte, zeros up to a multiple of 4, and the checksum 44332211. A name without bytes is
+# one; a link that ends before its checksum does, or whose name has no end, is none.
+links=()
+for bytes in 'abc\0\21\42\63\104' 'abcd\0\0\0\0\21\42\63\104' '\0\0\0\0\21\42\63\104' 'abcd\0\0\0\0\21\42\63' 'abcd' ''; do
+    # shellcheck disable=SC2059
+    printf "$bytes" >"$work/link"
+    links+=("$work/link${#links[@]}")
+    objcopy --add-section ".gnu_debuglink=$work/link" "$work/built" "${links[-1]}"
+done
+none="the ELF file has no .debug_line, build ID or .gnu_debuglink"
+printf '%s\n' "abc 44332211" "abcd 44332211" " 44332211" "$none" "$none" "$none" "$none" "the bytes are no ELF file that can be read" |
+    cmp - <("$work/debug_links" "${links[@]}" "$work/built" "$crate/include/gimli_line.h")
 # A small file whose section is so large, made whole, that its rows might take hundreds of times as much.
 head -c 8388608 /dev/zero >"$work/zeros"
 objcopy --update-section ".debug_line=$work/zeros" "$work/built" "$work/grown"

@@ -144,7 +144,7 @@ uint32_t gimli_line_version(void);
     X(NO_COMP_DIR, 42, "no unit of .debug_info tells the directory of the compilation") \
     X(UNKNOWN_OPTIONS, 43, "options have a size that this library doesn't know") \
     X(NO_ELF, 44, "the bytes are no ELF file that can be read") \
-    X(NO_SECTION, 45, "the ELF file has no .debug_line, or no build ID") \
+    X(NO_SECTION, 45, "the ELF file has no .debug_line, build ID or .gnu_debuglink") \
     X(BAD_SECTION, 46, "a section is cut, or its compression or relocations are unknown") \
     X(INDEX_TOO_LARGE, 47, \
       "an index would have more ranges, statements, files or bytes than 32 bits count, " \
@@ -218,6 +218,21 @@ gimli_line_status gimli_line_build_id(const void *file, size_t length, uint8_t *
  *   GIMLI_LINE_BAD_SECTION   the section of it can't be read
  *   GIMLI_LINE_NO_ELF        the bytes are no ELF file that can be read */
 
+gimli_line_status gimli_line_debug_link(const void *file, size_t length, char *name, size_t room,
+                                        size_t *size, uint32_t *checksum) GIMLI_LINE_CALL;
+/* Copies the name of the file with an ELF file's debug information (.gnu_debuglink), and stores the
+ * checksum of that file's bytes: zlib's crc32(0, bytes, length). Allocates nothing. The debug file
+ * of a stripped program in the directory DIR is one of these (examples/c/make_index.c):
+ *
+ *   /usr/lib/debug/.build-id/NN/REST.debug   NNREST is its build ID in hexadecimal
+ *   DIR/NAME, DIR/.debug/NAME, /usr/lib/debug/DIR/NAME   if it has the checksum
+ *
+ * Returns:
+ *   GIMLI_LINE_NO_ROOM       *size is the size of the name
+ *   GIMLI_LINE_NO_SECTION    the file has none, or its section ends before the checksum does
+ *   GIMLI_LINE_BAD_SECTION   its section can't be read
+ *   GIMLI_LINE_NO_ELF        the bytes are no ELF file that can be read */
+
 /* ---- Part 3: indexes ------------------------------------------------------------------------ */
 
 /* An index says for all addresses of a program which path, line and column they have. It is a
@@ -243,8 +258,7 @@ gimli_line_status gimli_line_index_of_elf(const void *file, size_t length, uint8
                                           size_t *size) GIMLI_LINE_CALL;
 /* Makes the index of an ELF file, named by its build ID if it has one of at most 64 bytes. Free it
  * with free(). It reads this file alone, and follows neither a build ID nor .gnu_debuglink: of a
- * stripped program hand over the debug file, mostly
- * /usr/lib/debug/.build-id/NN/REST.debug, where NNREST is its build ID in hexadecimal.
+ * stripped program pass the debug file (gimli_line_debug_link).
  *
  * Returns as gimli_line_sections_of_elf and gimli_line_index_of_sections do, and
  *   GIMLI_LINE_NO_SECTION        the file has no .debug_line
