@@ -240,7 +240,7 @@ gimli_line_status gimli_line_debug_link(const void *file, size_t length, char *n
  * takes about 20 bytes for each row of the line table. It has no function names and no inlined
  * frames.
  *
- * Making one takes about 200 bytes of memory for each row, with the sections of an ELF file. To
+ * Making one takes 200 to 500 bytes of memory for each row, with the ELF file and its sections. To
  * write one to a file that others may have mapped, write to a new name and rename(): a process that
  * reads a mapped file which another one truncates is killed by SIGBUS.
  *
