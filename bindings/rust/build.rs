@@ -1,5 +1,5 @@
-//! Links libgimli_line.a: that of the folder that GIMLI_LINE_DIR names; else the one that pkg-config finds; else the one that `make` in
-//! crates/gimli_c builds.
+//! Links libgimli_line.a: that of the folder that GIMLI_LINE_DIR names; else the one that `make` in crates/gimli_c has built; else the one
+//! that pkg-config finds.
 
 use std::env;
 use std::path::{Path, PathBuf};

@@ -233,6 +233,7 @@ declared! {
     gimli_line_proved_elf_open([file: u8], found: *mut Elf);
     gimli_line_proved_elf_section([file: u8], [name: u8], [mut bytes: u8], size: *mut usize);
     gimli_line_proved_elf_build_id([file: u8], [mut id: u8], size: *mut usize);
+    gimli_line_proved_elf_debug_link([file: u8], [mut name: u8], size: *mut usize, checksum: *mut u32);
     gimli_line_proved_read_unit([section: u8], big: bool, address_size: u8, offset: usize, unit: *mut Unit);
     gimli_line_proved_read_rows(
         [section: u8], big: bool, address_size: u8, offset: usize, skip: u64, [mut rows: Row], count: *mut u64

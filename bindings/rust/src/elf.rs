@@ -10,6 +10,15 @@ pub struct Elf<'a> {
     found: calls::Elf,
 }
 
+/// The name of the file with a program's debug information (`.gnu_debuglink`).
+#[derive(Clone, Debug, PartialEq, Eq)]
+pub struct DebugLink {
+    /// The name of the file, without a directory.
+    pub name: Vec<u8>,
+    /// The CRC-32 of its bytes, as zlib has it.
+    pub checksum: u32,
+}
+
 impl<'a> Elf<'a> {
     /// The ELF file that these bytes are.
     ///
@@ -72,5 +81,20 @@ impl<'a> Elf<'a> {
             Error::of(unsafe { call!(gimli_line_proved_elf_build_id([self.bytes], [mut room], size)) })
         });
         unless(Error::NO_SECTION, id)
+    }
+
+    /// The name and the checksum of the file with the debug information. None where there is none, or its section ends before the
+    /// checksum does.
+    ///
+    /// # Errors
+    ///
+    /// [`Error::BAD_SECTION`] where the section of it can't be read.
+    pub fn debug_link(&self) -> Result<Option<DebugLink>, Error> {
+        let mut checksum = 0;
+        let name = whole(64, |room, size| {
+            // The pointers are those of slices and of locals.
+            Error::of(unsafe { call!(gimli_line_proved_elf_debug_link([self.bytes], [mut room], size, &mut checksum)) })
+        });
+        Ok(unless(Error::NO_SECTION, name)?.map(|name| DebugLink { name, checksum }))
     }
 }

@@ -91,7 +91,7 @@ impl Error {
     pub const UNKNOWN_OPTIONS: Error = Error(43);
     /// The bytes are no ELF file that can be read.
     pub const NO_ELF: Error = Error(44);
-    /// An ELF file has no section of this name.
+    /// An ELF file has no section of this name, no build ID or no debug link.
     pub const NO_SECTION: Error = Error(45);
     /// A section of an ELF file can't be read.
     pub const BAD_SECTION: Error = Error(46);
@@ -174,7 +174,7 @@ const SENTENCES: [&str; 49] = [
     "no unit of .debug_info tells the directory of the compilation",
     "options have a size that this library doesn't know",
     "the bytes are no ELF file that can be read",
-    "the ELF file has no .debug_line, or no build ID",
+    "the ELF file has no .debug_line, build ID or .gnu_debuglink",
     "a section is cut, or its compression or relocations are unknown",
     "an index would have more ranges, statements, files or bytes than 32 bits count, or paths longer than its limit",
     "a line or a column is more than 32 bits hold",

@@ -6,7 +6,7 @@
 //! one. [`CompilationSections`] tell the directory of a unit, for whole paths. [`Contents`] are written as a unit. The names are
 //! gimli's where they fit.
 //!
-//! The archive is that of `make` in crates/gimli_c; or the one in the folder that `GIMLI_LINE_DIR` names, or else the one that
+//! The archive is the one in the folder that `GIMLI_LINE_DIR` names, or else that of `make` in crates/gimli_c, or else the one that
 //! pkg-config finds.
 
 #![warn(missing_docs)]
@@ -21,7 +21,7 @@ mod row;
 mod write;
 
 pub use compilation::CompilationSections;
-pub use elf::Elf;
+pub use elf::{DebugLink, Elf};
 pub use error::Error;
 pub use file::{File, Text};
 pub use index::{Addresses, Index, NoPath, Place, Range, Ranges};

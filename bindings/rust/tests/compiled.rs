@@ -2,7 +2,7 @@
 //! says so, and ends well.
 
 use gimli_line_proved::{
-    version, ColumnType, CompilationSections, Contents, Elf, Encoding, Error, LineRow, Index, Sections, Text,
+    version, ColumnType, CompilationSections, Contents, DebugLink, Elf, Encoding, Error, LineRow, Index, Sections, Text,
 };
 use std::collections::BTreeSet;
 use std::fs;
@@ -158,6 +158,24 @@ fn an_elf_file_has_the_index_of_its_sections() {
         assert_eq!(Index::write_elf(&elf), Ok(bytes));
     }
     assert_eq!(Elf::open(b"no ELF").map(|_| ()), Err(Error::NO_ELF));
+}
+
+#[test]
+fn an_elf_file_has_the_link_that_objcopy_adds() {
+    for built in built() {
+        let file = fs::read(&built.program).expect("it is there");
+        assert_eq!(Elf::open(&file).expect("it is an ELF file").debug_link(), Ok(None));
+        // The CRC-32 of these nine bytes is the check value that each list of checksums has.
+        let folder = built.program.parent().expect("it has a folder");
+        let (other, linked) = (folder.join("nine.debug"), built.program.with_extension("linked"));
+        fs::write(&other, "123456789").expect("it is written");
+        let add = format!("--add-gnu-debuglink={}", other.display());
+        let added = Command::new("objcopy").arg(add).args([&built.program, &linked]).status().expect("objcopy runs");
+        assert!(added.success());
+        let file = fs::read(&linked).expect("it is there");
+        let found = Elf::open(&file).expect("it is an ELF file").debug_link();
+        assert_eq!(found, Ok(Some(DebugLink { name: b"nine.debug".to_vec(), checksum: 0xcbf4_3926 })));
+    }
 }
 
 #[test]

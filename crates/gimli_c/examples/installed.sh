@@ -29,19 +29,25 @@ for page in INDEX.md CALLING.md $(grep -oE 'examples/[a-z]+/[a-z_0-9]+\.c' "$ins
     [ -s "$installed/share/doc/gimli_line/$page" ] || { echo "share/doc/gimli_line: no $page"; exit 1; }
 done
 
-# The header, alone, without a warning.
-printf '#include <gimli_line.h>\nconst char *name(void);\nconst char *name(void) { return gimli_line_status_sentence(GIMLI_LINE_OK); }\n' >"$work/header.c"
+# The header, and each macro of it that makes a value, without a warning.
+printf '%s\n' '#include <gimli_line.h>' 'const char *name(const void *index, const gimli_line_place *place, unsigned version);' \
+    'const char *name(const void *index, const gimli_line_place *place, unsigned version) {' '    gimli_line_sections in = GIMLI_LINE_SECTIONS;' \
+    '    gimli_line_encoding by = GIMLI_LINE_ENCODING(version);' '    const char *path = gimli_line_place_path(index, place);' \
+    '    return in.line_size == by.version ? path : gimli_line_status_sentence(GIMLI_LINE_OK);' '}' >"$work/header.c"
 cp "$work/header.c" "$work/header.cc"
+[ -z "$(awk 'length > 100' "$header")" ] || { echo "gimli_line.h: a line of more than 100 columns"; exit 1; }
 read_header() {
     local compiler=$1 file=$2
     shift 2
     have "$compiler" "the header by it" || return 0
     for standard in "$@"; do
-        "$compiler" "-std=$standard" -Wall -Wextra -pedantic -Werror -I "$installed/include" -c "$work/$file" -o "$work/header.o"
+        "$compiler" "-std=$standard" -Wall -Wextra -Wconversion $casts -pedantic -Werror -I "$installed/include" -c "$work/$file" -o "$work/header.o"
     done
 }
+casts=
 for compiler in gcc clang; do read_header $compiler header.c c99 c11 c17 c2x; done
 if command -v clang >/dev/null; then clang -std=c11 -Weverything -Wno-padded -Werror -I "$installed/include" -c "$work/header.c" -o "$work/header.o"; fi
+casts=-Wold-style-cast
 for compiler in g++ clang++; do read_header $compiler header.cc c++11 c++14 c++17 c++20 c++2b; done
 
 # A program over what was installed.

@@ -101,9 +101,9 @@ fi
 if have valgrind "growth by it"; then
     build growth growth
     counted() { valgrind --tool=callgrind --callgrind-out-file=/dev/null "$work/growth" "$1" "$2" 2>&1 >/dev/null | sed -nE 's/.*Collected : ([0-9]+)$/\1/p'; }
-    for all in files comp_dirs rows; do
+    for all in files directories comp_dirs rows; do
         few=$(counted $all 1000) many=$(counted $all 2000) most=$(counted $all 4000)
         [ $((10 * (most - many))) -le $((24 * (many - few))) ] || { echo "gimli_c: growth $all: $few, $many, $most instructions"; exit 1; }
     done
-    echo "gimli_c: files, directories of compilations and rows that are read at once cost in proportion to their number"
+    echo "gimli_c: files, directories, those of compilations and rows that are read at once cost in proportion to their number"
 fi

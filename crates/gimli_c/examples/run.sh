@@ -1,8 +1,8 @@
 #!/usr/bin/env bash
 # Builds a small program, takes its line information as raw bytes, builds the examples over libgimli_c.a, and compares what one
 # prints with what linetool prints: every row of every unit, and the rows round some addresses. Others, in C and in C++, print
-# paths and lines by an index of the program, which are compared with those of addr2line of binutils. Another writes lines for an assembler,
-# which addr2line reads once they are linked. Another asks for directories of compilations, paths and lines, by sections that are made by
+# paths and lines by an index of the program, which are compared with those of addr2line of binutils; so does a profiler of its own threads,
+# in the handler of a signal. Another writes lines for an assembler, which addr2line reads once they are linked. Another asks for directories of compilations, paths and lines, by sections that are made by
 # hand.
 # It needs a C compiler, objcopy and addr2line, and a C++ compiler for the one in C++.
 # Where one is missing it says so, and ends well. The examples in Rust are those of bindings/rust.
@@ -37,7 +37,7 @@ work=$(mktemp -d)
 trap 'rm -rf "$work"' EXIT
 
 cc -std=c11 -Wall -Wextra -Werror -O2 -I "$crate/include" -c "$crate/make/calls.c" -o "$work/calls.o"
-for example in addr2line where_is directories make_index ask_index indexes compiler; do
+for example in addr2line where_is directories make_index ask_index indexes compiler debug_links; do
     cc -std=c11 -Wall -Wextra -Werror -O2 -I "$crate/include" -I "$here/c" "$here"/*/"$example.c" "$work/calls.o" \
         "$library" "$kit/liblibc_c.a" -lpthread -o "$work/$example"
 done
@@ -147,6 +147,31 @@ if [ "$(uname -m)" = x86_64 ] || [ "$(uname -m)" = aarch64 ]; then
     cp "$work/built.index" "$work/loaded/crash.lines"
     [ "$("$work/crash" "$work/loaded" || true)" = "??" ]
 fi
+# A profiler: a thousand times a second each of its threads stops in a handler, on an alternate stack of the size that INDEX names, with a
+# page below it that can't be written. There a call that takes memory or a lock ends it. What it says of each address is what addr2line says;
+# binutils joins a relative directory to itself, so of a relative path the name and the line are compared.
+profiled="a profiler isn't tried on this machine"
+if [ "$(uname -m)" = x86_64 ] || [ "$(uname -m)" = aarch64 ]; then
+    wraps=()
+    for name in $(sed -nE 's/^WRAPPED\([^,]*, ([a-z_]+),.*/\1/p' "$here/tests/on_stack.c"); do wraps+=("-Wl,--wrap=$name"); done
+    [ "${#wraps[@]}" -ge 8 ]
+    cc -std=c11 -Wall -Wextra -Werror -O2 -g -I "$crate/include" -I "$here/c" "$here/c/profile.c" "$here/tests/on_stack.c" "${wraps[@]}" \
+        "$work/calls.o" "$library" "$kit/liblibc_c.a" -lpthread -Wl,-z,now -o "$work/profile"
+    cc -std=c11 -Wall -Wextra -Werror -O1 -g -shared -fPIC "$here/tests/plugin.c" -o "$work/plugin.so"
+    mkdir "$work/profiled"
+    "$work/profile" "$work/profiled" "$work/plugin.so" >"$work/samples" 2>"$work/said"
+    [ "$(wc -l <"$work/samples")" -ge 1000 ] && [ "$(grep -c "^$work/plugin.so " "$work/samples")" -ge 100 ]
+    profiled="$(cat "$work/said")"
+    sort -u "$work/samples" >"$work/distinct"
+    for file in $(cut -d' ' -f1 "$work/distinct" | sort -u); do
+        awk -v file="$file" '$1 == file' "$work/distinct" >"$work/of_file"
+        cut -d' ' -f2 "$work/of_file" | addr2line -e "${file/#\/proc\/self\/exe/$work/profile}" |
+            sed -E 's/ \(discriminator [0-9]+\)//; s/:\?$/:0/; s,^[^/].*/,,' >"$work/places"
+        cut -d' ' -f3- "$work/of_file" | sed -E 's,^[^/].*/,,' | cmp "$work/places" -
+    done
+    # Nothing is left of the names under which indexes were written.
+    [ -z "$(find "$work/profiled" -type f ! -name '*.lines')" ]
+fi
 # The lines of two functions whose addresses a linker gives, by each form of relocations.
 linked=0
 if [ "$(uname -m)" = x86_64 ]; then
@@ -160,7 +185,34 @@ fi
 # What is no ELF file, and a file without lines.
 [ "$("$work/where_is" "$crate/include/gimli_line.h" 0 2>&1 || true)" = "the bytes are no ELF file that can be read" ]
 objcopy --strip-debug "$work/built" "$work/stripped"
-[ "$("$work/where_is" "$work/stripped" 0 2>&1 || true)" = "the ELF file has no .debug_line, or no build ID" ]
+[ "$("$work/where_is" "$work/stripped" 0 2>&1 || true)" = "the ELF file has no .debug_line, build ID or .gnu_debuglink" ]
+# Of a stripped program the debug file is taken: by its build ID, or by its debug link in one of three directories. Another file of that
+# name, which has another checksum, is none.
+mkdir "$work/apart"
+objcopy --only-keep-debug "$work/built" "$work/built.debug"
+(cd "$work" && objcopy --strip-debug --add-gnu-debuglink=built.debug built apart/built)
+id=$(readelf -n "$work/built" | sed -nE 's/.*Build ID: //p')
+for place in "debug/.build-id/${id:0:2}/${id:2}.debug" apart/built.debug apart/.debug/built.debug "debug$(realpath "$work")/apart/built.debug"; do
+    mkdir -p "$(dirname "$work/$place")" && cp "$work/built.debug" "$work/$place"
+    [ "$("$work/make_index" "$work/apart/built" "$work/apart.index" "$work/debug")" = "$id" ]
+    cmp "$work/built.index" "$work/apart.index"
+    mv "$work/$place" "$work/last" && rm "$work/apart.index"
+done
+printf 'x' | cat "$work/last" - >"$work/apart/built.debug"
+[ "$("$work/make_index" "$work/apart/built" "$work/apart.index" "$work/debug" 2>&1 || true)" = \
+    "the ELF file has no .debug_line, build ID or .gnu_debuglink" ]
+# Links whose bytes are written here: a name, a zero byte, zeros up to a multiple of 4, and the checksum 44332211. A name without bytes is
+# one; a link that ends before its checksum does, or whose name has no end, is none.
+links=()
+for bytes in 'abc\0\21\42\63\104' 'abcd\0\0\0\0\21\42\63\104' '\0\0\0\0\21\42\63\104' 'abcd\0\0\0\0\21\42\63' 'abcd' ''; do
+    # shellcheck disable=SC2059
+    printf "$bytes" >"$work/link"
+    links+=("$work/link${#links[@]}")
+    objcopy --add-section ".gnu_debuglink=$work/link" "$work/built" "${links[-1]}"
+done
+none="the ELF file has no .debug_line, build ID or .gnu_debuglink"
+printf '%s\n' "abc 44332211" "abcd 44332211" " 44332211" "$none" "$none" "$none" "$none" "the bytes are no ELF file that can be read" |
+    cmp - <("$work/debug_links" "${links[@]}" "$work/built" "$crate/include/gimli_line.h")
 # A small file whose section is so large, made whole, that its rows might take hundreds of times as much.
 head -c 8388608 /dev/zero >"$work/zeros"
 objcopy --update-section ".debug_line=$work/zeros" "$work/built" "$work/grown"
@@ -178,6 +230,7 @@ echo "gimli_c: an index that was written by docs/INDEX.md alone is read as it wa
 echo "gimli_c: $directories answers on directories, paths and lines are as made by hand"
 echo "gimli_c: $mapped places by indexes that make_index made are addr2line's, and each index has its program's build id"
 echo "gimli_c: $begins addresses of lines by those indexes have these lines by addr2line too"
+echo "gimli_c: a profiler: $profiled; each of their places is addr2line's"
 echo "gimli_c: $linked answers of readelf, addr2line and gdb on two functions that ld and lld placed are as wanted"
 echo "gimli_c: $places paths and lines of the examples ($in_each) are addr2line's"
 echo "gimli_c: $compared lines of the example addr2line are linetool's"

@@ -17,7 +17,7 @@
  * Part 1  versions and statuses
  * Part 2  sections of an ELF file
  * Part 3  indexes: made once, and then asked by threads and signal handlers
- *         (examples/c/where_is.c, make_index.c, ask_index.c, crash.c)
+ *         (examples/c/where_is.c, make_index.c, ask_index.c, crash.c, profile.c)
  * Part 4  units, rows, files and directories (examples/c/addr2line.c)
  * Part 5  units written, for a compiler (examples/c/compiler.c)
  *
@@ -48,6 +48,9 @@
  *   change any of this, under another version and another file name; CHANGELOG lists the changes.
  *   The gimli_line_proved_* symbols of the static library are not for callers. A plugin that links
  *   it keeps them to itself by -Wl,--exclude-libs,libgimli_line.a.
+ * - CET: the kit's compiler writes neither endbr64 nor the notes of IBT and SHSTK. A program that
+ *   links the static library has neither note, and one that loads the shared library runs without
+ *   these protections.
  *
  * In the texts, a number is that of a unit, file or directory; `first` is where bytes begin, `size`
  * is how many there are, and `room` is how many elements an array has. */
@@ -69,6 +72,13 @@ extern "C" {
 #else
 #define GIMLI_LINE_CALL
 #define GIMLI_LINE_NONNULL
+#endif
+
+/* A cast, as either language writes it. */
+#ifdef __cplusplus
+#define GIMLI_LINE_AS(type, value) static_cast<type>(value)
+#else
+#define GIMLI_LINE_AS(type, value) (type)(value)
 #endif
 
 /* ---- Part 1: versions and statuses ---------------------------------------------------------- */
@@ -134,7 +144,7 @@ uint32_t gimli_line_version(void);
     X(NO_COMP_DIR, 42, "no unit of .debug_info tells the directory of the compilation") \
     X(UNKNOWN_OPTIONS, 43, "options have a size that this library doesn't know") \
     X(NO_ELF, 44, "the bytes are no ELF file that can be read") \
-    X(NO_SECTION, 45, "the ELF file has no .debug_line, or no build ID") \
+    X(NO_SECTION, 45, "the ELF file has no .debug_line, build ID or .gnu_debuglink") \
     X(BAD_SECTION, 46, "a section is cut, or its compression or relocations are unknown") \
     X(INDEX_TOO_LARGE, 47, \
       "an index would have more ranges, statements, files or bytes than 32 bits count, " \
@@ -208,31 +218,47 @@ gimli_line_status gimli_line_build_id(const void *file, size_t length, uint8_t *
  *   GIMLI_LINE_BAD_SECTION   the section of it can't be read
  *   GIMLI_LINE_NO_ELF        the bytes are no ELF file that can be read */
 
+gimli_line_status gimli_line_debug_link(const void *file, size_t length, char *name, size_t room,
+                                        size_t *size, uint32_t *checksum) GIMLI_LINE_CALL;
+/* Copies the name of the file with an ELF file's debug information (.gnu_debuglink), and stores the
+ * checksum of that file's bytes: zlib's crc32(0, bytes, length). Allocates nothing. The debug file
+ * of a stripped program in the directory DIR is one of these (examples/c/make_index.c):
+ *
+ *   /usr/lib/debug/.build-id/NN/REST.debug   NNREST is its build ID in hexadecimal
+ *   DIR/NAME, DIR/.debug/NAME, /usr/lib/debug/DIR/NAME   if it has the checksum
+ *
+ * Returns:
+ *   GIMLI_LINE_NO_ROOM       *size is the size of the name
+ *   GIMLI_LINE_NO_SECTION    the file has none, or its section ends before the checksum does
+ *   GIMLI_LINE_BAD_SECTION   its section can't be read
+ *   GIMLI_LINE_NO_ELF        the bytes are no ELF file that can be read */
+
 /* ---- Part 3: indexes ------------------------------------------------------------------------ */
 
 /* An index says for all addresses of a program which path, line and column they have. It is a
  * string of bytes (INDEX), to be kept in memory, mapped from a file, or linked into a program. It
- * takes an eighth to a sixth of the debug file. It has no function names and no inlined frames.
+ * takes about 20 bytes for each row of the line table. It has no function names and no inlined
+ * frames.
  *
- * Making one takes about four times the size of the debug file in memory. To write one to a file
- * that others may have mapped, write to a new name and rename(): a process that reads a mapped file
- * which another one truncates is killed by SIGBUS.
+ * Making one takes 200 to 500 bytes of memory for each row, with the ELF file and its sections. To
+ * write one to a file that others may have mapped, write to a new name and rename(): a process that
+ * reads a mapped file which another one truncates is killed by SIGBUS.
  *
- * For a profiler's handler of SIGPROF:
+ * For a profiler's handler of SIGPROF (examples/c/profile.c; INDEX explains it):
  * - gimli_line_index_find uses less than 1 KB of stack, gimli_line_index_addresses_of less than
  *   2 KB (x86-64). With lazy binding the first call goes through the dynamic linker, which takes
  *   several KB more: link with -z now, or ask once before the handler is set.
  * - Your own table of loaded objects and their indexes must be whole whenever the signal comes.
- *   Build the new one beside it, store its pointer atomically, and free the old one only when no
- *   handler can be reading it; or block the signal meanwhile.
- * - An object without an index, as linux-vdso.so.1, is none of yours: pass over its addresses. */
+ *   Build the new one next to it, store its pointer atomically, and free the old one only when no
+ *   handler can be reading it. In a program of one thread, blocking the signal meanwhile is enough;
+ *   pthread_sigmask() blocks it only in the thread that calls it.
+ * - An object without an index, as linux-vdso.so.1, is none of yours: skip its addresses. */
 
 gimli_line_status gimli_line_index_of_elf(const void *file, size_t length, uint8_t **index,
                                           size_t *size) GIMLI_LINE_CALL;
 /* Makes the index of an ELF file, named by its build ID if it has one of at most 64 bytes. Free it
  * with free(). It reads this file alone, and follows neither a build ID nor .gnu_debuglink: of a
- * stripped program hand over the debug file, mostly
- * /usr/lib/debug/.build-id/NN/REST.debug, where NNREST is its build ID in hexadecimal.
+ * stripped program pass the debug file (gimli_line_debug_link).
  *
  * Returns as gimli_line_sections_of_elf and gimli_line_index_of_sections do, and
  *   GIMLI_LINE_NO_SECTION        the file has no .debug_line
@@ -356,9 +382,12 @@ gimli_line_status gimli_line_index_addresses_of(const void *index, size_t length
  *
  * Where rows of that line of one file stand side by side in a sequence, the first one that is a
  * statement gives its address; so a function may have several, and that of its entry is before the
- * prologue. If the line has none, it stores those of the next line that has any; *found_line is
- * that line. *count is how many addresses there are; they ascend, each once. They are those that
- * the rows of the program give, also of functions that a linker dropped or folded (INDEX).
+ * prologue. To pass the prologue, ask gimli_line_index_find for that address, and then for the
+ * `end` of each place in turn, up to one with `prologue_end` (clang sets it, gcc doesn't).
+ *
+ * If the line has no address, it stores those of the next line that has any; *found_line is that
+ * line. *count is how many addresses there are; they ascend, each once. They are those that the
+ * rows of the program give, also of functions that a linker dropped or folded (INDEX).
  *
  * Returns:
  *   GIMLI_LINE_NO_ROOM   *count is how many there are; *found_line isn't written
@@ -369,7 +398,7 @@ gimli_line_status gimli_line_index_addresses_of(const void *index, size_t length
 /* [async-signal-safe] Returns the path of a place, which a zero byte follows whatever the index is;
  * null if it has none. */
 static inline const char *gimli_line_place_path(const void *index, const gimli_line_place *place) {
-    return place->path != 0 ? (const char *)index + place->path : NULL;
+    return place->path != 0 ? GIMLI_LINE_AS(const char *, index) + place->path : NULL;
 }
 
 /* ---- Part 4: units, rows, files and directories --------------------------------------------- */
@@ -561,7 +590,8 @@ gimli_line_status gimli_line_read_directory(const gimli_line_sections *sections,
                                             uint64_t number, gimli_line_text *directory,
                                             char *bytes, size_t room) GIMLI_LINE_CALL;
 /* Reads the directory of a number. A string that stands in the unit itself is copied to `bytes`;
- * directory->size is its size. Each call parses the header of the unit.
+ * directory->size is its size. Each call parses the header of the unit: the directories of its
+ * files come in the paths of gimli_line_read_files, in one pass.
  *
  * Returns:
  *   GIMLI_LINE_NO_ROOM             *directory is written
@@ -619,7 +649,7 @@ typedef struct gimli_line_encoding {
  * three in gimli_line_unit; the rows of any unit whose op_index is always 0 can be written by it.
  * */
 #define GIMLI_LINE_ENCODING(version) \
-    { (uint16_t)(version), 8, 4, 1, 1, 1, -5, 14 }
+    { GIMLI_LINE_AS(uint16_t, version), 8, 4, 1, 1, 1, -5, 14 }
 
 /* A string among the bytes of `texts`. */
 typedef struct gimli_line_name {

@@ -236,6 +236,10 @@ gimli_line_status gimli_line_build_id(const void *file, size_t length, uint8_t *
     return status_of(gimli_line_proved_elf_build_id(READ(file), length, AT((void *)id), room, size));
 }
 
+gimli_line_status gimli_line_debug_link(const void *file, size_t length, char *name, size_t room, size_t *size, uint32_t *checksum) {
+    return status_of(gimli_line_proved_elf_debug_link(READ(file), length, AT((void *)name), room, size, checksum));
+}
+
 gimli_line_status gimli_line_write(const gimli_line_contents *in, uint8_t *unit, size_t room, size_t *size) {
     gimli_line_element element;
     *size = 0;

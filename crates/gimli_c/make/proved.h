@@ -42,6 +42,7 @@ uint32_t gimli_line_proved_index_write(const uint8_t *, size_t, const uint8_t *,
 uint32_t gimli_line_proved_elf_open(const uint8_t *, size_t, gimli_line_proved_elf *);
 uint32_t gimli_line_proved_elf_section(const uint8_t *, size_t, const uint8_t *, size_t, uint8_t *, size_t, size_t *);
 uint32_t gimli_line_proved_elf_build_id(const uint8_t *, size_t, uint8_t *, size_t, size_t *);
+uint32_t gimli_line_proved_elf_debug_link(const uint8_t *, size_t, uint8_t *, size_t, size_t *, uint32_t *);
 uint32_t gimli_line_proved_write(const gimli_line_encoding *, bool, uint64_t, const uint8_t *, size_t, const gimli_line_name *, size_t,
                                  const gimli_line_file_name *, size_t, const gimli_line_row *, size_t, uint8_t *, size_t, size_t *,
                                  uint64_t *, size_t, gimli_line_element *);

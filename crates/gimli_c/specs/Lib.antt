@@ -21,4 +21,5 @@ pub mod MadeIndex
 pub mod IndexLines
 pub mod ElfSeen
 pub mod BuildId
+pub mod DebugLink
 pub mod inside

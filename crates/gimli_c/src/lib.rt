@@ -31,7 +31,7 @@ mod unit;
 mod version;
 mod write;
 
-pub use build_id::gimli_line_proved_elf_build_id;
+pub use build_id::{gimli_line_proved_elf_build_id, gimli_line_proved_elf_debug_link};
 pub use check::{DIRECTORIES, FILES, GimliElement, NO_ARRAY, ROWS};
 pub use comp_dir::{GimliCompDir, gimli_line_proved_comp_dir, gimli_line_proved_comp_dirs};
 pub use directory::gimli_line_proved_read_directory;

@@ -99,7 +99,7 @@ pub const NO_COMP_DIR: u32 = 42;
 pub const UNKNOWN_OPTIONS: u32 = 43;
 /// The bytes are no ELF file that can be read.
 pub const NO_ELF: u32 = 44;
-/// An ELF file has no section of this name.
+/// An ELF file has no section of this name, no build ID or no debug link.
 pub const NO_SECTION: u32 = 45;
 /// A section of an ELF file can't be read: it is cut, compressed in a way that is unknown, or its
 /// relocations are.

@@ -40,6 +40,8 @@ int LLVMFuzzerTestOneInput(const uint8_t *data, size_t size) {
     gimli_line_sections taken = GIMLI_LINE_SECTIONS;
     uint32_t is_elf = gimli_line_sections_of_elf(in.line, in.line_size, &taken);
     uint32_t status = gimli_line_build_id(in.line, in.line_size, NULL, 0, &length);
+    uint32_t checksum = 0, linked = gimli_line_debug_link(in.line, in.line_size, NULL, 0, &length, &checksum);
+    is((linked == GIMLI_LINE_NO_ELF) == (status == GIMLI_LINE_NO_ELF), "a debug link");
     is(is_elf != GIMLI_LINE_NO_ELF || (status == GIMLI_LINE_NO_ELF && taken.line == NULL), "no ELF file");
     gimli_line_sections_free(&taken);
     seen(16, is_elf);

@@ -1,6 +1,7 @@
 /* Asks for all of N at once, so that its instructions are counted by growth.sh: they grow as N does.
  *
  *   growth files N        the files of a unit of version 4, with their whole paths, by gimli_line_read_files
+ *   growth directories N  its directories, each of one file, by the paths that gimli_line_read_files gives
  *   growth comp_dirs N    the directories of N units of .debug_info, by gimli_line_comp_dirs
  *   growth rows N         the rows of a unit, by gimli_line_read_rows
  *
@@ -39,21 +40,31 @@ static void close_length(made *all, size_t place) {
     put_number(&length, all->size - place - WORD, WORD);
 }
 
-/* A unit of version 4 with one directory, so many files in it, and so many rows in one sequence. */
-static made lines_of(size_t files, size_t rows) {
+static void put_leb128(made *all, uint64_t number) {
+    for (; number > 127; number >>= 7) put_number(all, number % 128 + 128, 1);
+    put_number(all, number, 1);
+}
+
+/* A unit of version 4 with so many directories, so many files in turn in these, and so many rows in one sequence. */
+static made lines_of(size_t directories, size_t files, size_t rows) {
     static const uint8_t before[] = {1, 1, 1, 0xfb, 14, 13, 0, 1, 1, 1, 1, 0, 0, 0, 1, 0, 0, 1};
-    made all = with_room(100 + 16 * files + 2 * rows);
+    made all = with_room(100 + 16 * directories + 32 * files + 2 * rows);
+    char name[32];
     put_number(&all, 0, WORD);
     put_number(&all, 4, 2);
     size_t header = all.size;
     put_number(&all, 0, WORD);
     put(&all, before, sizeof before);
-    put(&all, "inc\0", 5);
+    for (size_t i = 0; i < directories; i++) {
+        snprintf(name, sizeof name, "d%07zu", i);
+        put(&all, name, 9);
+    }
+    put_number(&all, 0, 1);
     for (size_t i = 0; i < files; i++) {
-        char name[32];
         snprintf(name, sizeof name, "f%07zu.c", i);
         put(&all, name, 11);
-        put(&all, "\1\0", 3); /* in the directory 1, of no time and no size */
+        put_leb128(&all, i % directories + 1);
+        put_number(&all, 0, 2); /* no time and no size */
     }
     put_number(&all, 0, 1);
     close_length(&all, header);
@@ -84,9 +95,10 @@ static made info_of(size_t units) {
     return all;
 }
 
-static size_t all_files(size_t count) {
+/* The files of a unit with so many directories, each with its path. */
+static size_t all_files(size_t directories, size_t count) {
     gimli_line_sections in = GIMLI_LINE_SECTIONS;
-    made lines = lines_of(count, 0), texts = with_room(32 * count);
+    made lines = lines_of(directories, count, 0), texts = with_room(32 * count);
     gimli_line_listed_file *files = calloc(count, sizeof *files);
     size_t size = 0;
     if (files == NULL) return 0;
@@ -94,8 +106,12 @@ static size_t all_files(size_t count) {
     in.line_size = lines.size;
     for (size_t i = 0; i < count; i++) files[i].number = i + 1;
     stop_if(gimli_line_read_files(&in, 0, "/w", 2, files, count, (char *)texts.at, 32 * count, &size));
-    for (size_t i = 0; i < count; i++) stop_if(files[i].status);
-    if (memcmp(texts.at + files[count - 1].path, "/w/inc/f", 8) != 0) stop_if(GIMLI_LINE_UNKNOWN_PATH);
+    for (size_t i = 0; i < count; i++) {
+        char path[64];
+        snprintf(path, sizeof path, "/w/d%07zu/f%07zu.c", i % directories, i);
+        stop_if(files[i].status);
+        if (strcmp((const char *)texts.at + files[i].path, path) != 0) stop_if(GIMLI_LINE_UNKNOWN_PATH);
+    }
     free(files);
     free(texts.at);
     free(lines.at);
@@ -124,7 +140,7 @@ static size_t all_comp_dirs(size_t count) {
 
 static size_t all_rows(size_t count) {
     gimli_line_sections in = GIMLI_LINE_SECTIONS;
-    made lines = lines_of(1, count);
+    made lines = lines_of(1, 1, count);
     gimli_line_row *rows = calloc(count + 1, sizeof *rows);
     uint64_t many = 0;
     if (rows == NULL) return 0;
@@ -138,11 +154,12 @@ static size_t all_rows(size_t count) {
 
 int main(int argc, char **argv) {
     if (argc != 3) {
-        fprintf(stderr, "usage: growth files|comp_dirs|rows N\n");
+        fprintf(stderr, "usage: growth files|directories|comp_dirs|rows N\n");
         return 2;
     }
     size_t count = strtoull(argv[2], NULL, 10);
-    if (strcmp(argv[1], "files") == 0) printf("%zu\n", all_files(count));
+    if (strcmp(argv[1], "files") == 0) printf("%zu\n", all_files(1, count));
+    else if (strcmp(argv[1], "directories") == 0) printf("%zu\n", all_files(count, count));
     else if (strcmp(argv[1], "comp_dirs") == 0) printf("%zu\n", all_comp_dirs(count));
     else printf("%zu\n", all_rows(count));
     return 0;
