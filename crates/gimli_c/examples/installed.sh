@@ -18,7 +18,7 @@ declared() { grep -ohE '^(gimli_line_status |uint32_t |void |const char \*)gimli
 header=$crate/include/gimli_line.h
 nm -D --defined-only "$installed/lib/libgimli_line.so" | awk '$2 == "T" {print $3}' | sort -u >"$work/versions"
 # Each has the version of its symbols.
-! grep -vE '@@GIMLI_LINE_0\.1$' "$work/versions"
+if grep -vE '@@GIMLI_LINE_0\.1$' "$work/versions"; then exit 1; fi
 sed 's/@.*//' "$work/versions" >"$work/shared"
 nm --defined-only -g "$installed/lib/libgimli_line.a" | awk '$2 == "T" {print $3}' | sort -u >"$work/static"
 declared "$header" | cmp - "$work/shared"
@@ -93,7 +93,7 @@ done
 (
     cd "$work"/unpacked/gimli_line-*
     export PATH=$work/words
-    ! command -v rt
+    if command -v rt; then exit 1; fi
     make -s install DESTDIR="$work/other" PREFIX=/opt/gimli
     for file in examples/c/*.c; do
         cc -std=c11 -O1 -Wall -Wextra -Werror -I "$work/other/opt/gimli/include" "$file" "$work/other/opt/gimli/lib/libgimli_line.a" -lpthread \

@@ -133,9 +133,9 @@ printf '%s\n' /source/0.c:1:0 '??:2:1' none /source/0.c:4:3 none >"$work/expecte
 7 400060
 none
 none" ]
-! "$work/ask_index" "$crate/include/gimli_line.h" 400000 2>"$work/said"
+if "$work/ask_index" "$crate/include/gimli_line.h" 400000 2>"$work/said"; then exit 1; fi
 [ "$(cat "$work/said")" = "the bytes don't begin as an index does" ]
-! "$work/make_index" "$crate/include/gimli_line.h" "$work/no.index" 2>"$work/said"
+if "$work/make_index" "$crate/include/gimli_line.h" "$work/no.index" 2>"$work/said"; then exit 1; fi
 [ "$(cat "$work/said")" = "the bytes are no ELF file that can be read" ]
 # A program that crashes tells where, by its own index, and nothing by that of another program.
 crash=$here/c/crash.c
@@ -222,7 +222,7 @@ objcopy --compress-debug-sections=zlib "$work/grown" "$work/large"
 # After a unit that is refused the rows of the next ones are still printed.
 printf '\4\0\0\0\11\0\0\0' | cat - "$work/line.bin" >"$work/refused.bin"
 objcopy --update-section ".debug_line=$work/refused.bin" "$work/built" "$work/refused"
-! "$work/addr2line" "$work/refused" >"$work/answer" 2>"$work/said"
+if "$work/addr2line" "$work/refused" >"$work/answer" 2>"$work/said"; then exit 1; fi
 cmp "$work/rows" "$work/answer"
 [ "$(cat "$work/said")" = "unit at 0: the version of a unit is none of 2 to 5" ]
 directories=$("$work/directories")

@@ -53,4 +53,4 @@ echo 'int f(void) { return 1; }' | cc -g -c -x c - -o "$work/f.o"
 { printf '\020\000'; cat "$work/f.o"; } >"$work/seeds/object"
 "$work/fuzz" "-dict=$here/line.dict" -max_len=4096 "-max_total_time=$seconds" -print_final_stats=1 "$found" "$work/seeds" 2>&1 |
     grep -E 'stat::number_of_executed_units|stat::peak_rss_mb|ERROR|SUMMARY|Test unit|artifact|DONE' | tee "$work/said"
-! grep -qE 'ERROR|SUMMARY' "$work/said"
+if grep -qE 'ERROR|SUMMARY' "$work/said"; then exit 1; fi
