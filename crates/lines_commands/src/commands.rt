@@ -226,9 +226,11 @@ impl<'r> Session<'r> {
         place: SourcePlace<'_>,
     ) -> io::Result<()> {
         let Run { rt, request } = self.run;
+        // A copy, since a struct takes no two references at two lifetimes of the signature.
+        let input = *input;
         let functions = program.functions(rt.alloc())?;
         let output = &mut self.output;
-        let found = Addresses::new(rt.alloc(), input, &functions, request, place, output)?;
+        let found = Addresses::new(rt.alloc(), &input, &functions, request, place, output)?;
         output.clear();
         match found {
             Some(mut found) => self.print_steps(|output| found.print_next(output)),
