@@ -8,10 +8,10 @@ use crate::session::{Questions, REFUSED, Run, Session};
 use elf_sections::ElfError;
 use gimli_core::Reader;
 use lines_answers::{Addresses, SourceRows};
-use lines_inputs::{Input, InputError, InputSections, tell_refusal};
+use lines_inputs::{Functions, Input, InputError, InputSections, tell_refusal};
 use lines_places::{Answered, Asked, PlacePrinter, Places, print_below, print_lines};
 use lines_reports::{Diff, Report};
-use lines_words::{CodeAddress, Command, Files, InputKind, PathText, SourcePlace};
+use lines_words::{CodeAddress, Command, Files, InputKind, PathText, Request, SourcePlace};
 use std::io::ErrorKind;
 use std::{fs, io, str};
 
@@ -226,11 +226,21 @@ impl<'r> Session<'r> {
         place: SourcePlace<'_>,
     ) -> io::Result<()> {
         let Run { rt, request } = self.run;
-        // A copy, since a struct takes no two references at two lifetimes of the signature.
-        let input = *input;
         let functions = program.functions(rt.alloc())?;
+        self.print_all_addresses(input, &functions, request, place)
+    }
+
+    /// Prints the addresses of a place or of one of these functions.
+    fn print_all_addresses<'x, R: Reader>(
+        &mut self,
+        input: &'x Input<R>,
+        functions: &'x Functions<'x>,
+        request: &'x Request<'x>,
+        place: SourcePlace<'_>,
+    ) -> io::Result<()> {
+        let alloc = self.run.rt.alloc();
         let output = &mut self.output;
-        let found = Addresses::new(rt.alloc(), &input, &functions, request, place, output)?;
+        let found = Addresses::new(alloc, input, functions, request, place, output)?;
         output.clear();
         match found {
             Some(mut found) => self.print_steps(|output| found.print_next(output)),
