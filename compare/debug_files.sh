@@ -380,7 +380,7 @@ says() {
     ask "$@" >found 2>told || status=$?
     if [ "$status" = 1 ] && [ "$(cat found)" = "$wanted" ] && grep -qF -- "$phrase" told; then right; else wrong "$name: status $status, $(head -3 found told)"; fi
 }
-says "a word that is no address" "??:0:0" "'zz' is no address" where whole <<<zz
+says "a word that is no address" "??:0:0" "no function has the name zz" where whole <<<zz
 says "a line that names standard input" "??:0:0" "standard input has the lines; write ./- for a file of this name" where --files <<<"- 1000"
 says "a name that isn't UTF-8" "" "a name that isn't UTF-8 can't be opened; write - in its place" units $'no\xfftext'
 
