@@ -17,7 +17,8 @@ use Rattle.gimli_lookup.specs.Statements.{is_of_line}
 use Rattle.gimli_lookup.specs.Statements.{addresses_in as addresses_in_rows}
 use Rattle.gimli_lookup.proofs.AscendingOnce.{has, same_ascending_once}
 use Rattle.gimli_lookup.proofs.StatementRuns.{addresses_on, at_end, of_first, of_given, of_no_statement, of_none}
-use Rattle.gimli_index.specs.Found.{Texts, SayWhereLinesBegin, file_path, is_one_file, is_one_path, lookup_addresses}
+use Rattle.gimli_index.specs.Found.{SayWhereLinesBegin, file_path, is_one_file, is_one_path, lookup_addresses}
+use Rattle.gimli_lookup.specs.ProgramPaths.{Texts}
 use Rattle.gimli_index.specs.Found.{sequence_addresses}
 use Rattle.gimli_index.specs.Lines.{addresses_in, is_named, is_of}
 use Rattle.gimli_index.specs.Meaning.{Statement}

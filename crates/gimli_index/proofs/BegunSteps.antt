@@ -8,7 +8,8 @@ use Rattle.std.proofs.lemmas.List.{length-append, map-append}
 use Rattle.gimli_line.specs.declared.run.row.LineRow.{LineRow}
 use Rattle.gimli_lookup.specs.Section.{KeptUnit, ListedUnit}
 use Rattle.gimli_index.specs.Contents.{path_at, statement_in}
-use Rattle.gimli_index.specs.Found.{Texts, file_path}
+use Rattle.gimli_index.specs.Found.{file_path}
+use Rattle.gimli_lookup.specs.ProgramPaths.{Texts}
 use Rattle.gimli_index.specs.Meaning.{Statement}
 use Rattle.gimli_index.specs.declared.contents.Source.{Source}
 use Rattle.gimli_index.specs.declared.contents.Statement.{Statement as Made}

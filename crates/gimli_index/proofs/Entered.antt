@@ -15,7 +15,8 @@ use Rattle.gimli_lookup.specs.Section.{KeptUnit}
 use Rattle.gimli_lookup.specs.declared.ranges.CoveredRange.{CoveredRange}
 use Rattle.gimli_lookup.specs.declared.section_lookup.CoveringRows.{CoveringRows}
 use Rattle.gimli_index.specs.Contents.{HasColumn, entry_start}
-use Rattle.gimli_index.specs.Found.{Texts, found_place}
+use Rattle.gimli_index.specs.Found.{found_place}
+use Rattle.gimli_lookup.specs.ProgramPaths.{Texts}
 use Rattle.gimli_index.specs.Meaning.{Place, Start, place_at}
 use Rattle.gimli_index.specs.Refused.{AreFound}
 use Rattle.gimli_index.specs.declared.contents.Entry.{Entry}

@@ -19,7 +19,8 @@ use Rattle.gimli_lookup.specs.declared.path_error.PathError.{PathError}
 use Rattle.gimli_lookup.specs.declared.section_lookup.CoveringRows.{CoveringRows}
 use Rattle.gimli_index.specs.Contents.{line_in, path_at, source_path}
 use Rattle.gimli_index.specs.Found.{is_one_path}
-use Rattle.gimli_index.specs.Found.{Texts, found_place, path_by, path_said, row_place, unit_path, unit_paths}
+use Rattle.gimli_index.specs.Found.{found_place, path_by, path_said, row_place, unit_path}
+use Rattle.gimli_lookup.specs.ProgramPaths.{Texts, unit_paths}
 use Rattle.gimli_index.specs.Meaning.{Place, path_in}
 use Rattle.gimli_index.specs.Refused.{AreFound, HasLongPaths, HasManyFiles, IsFoundFile, IsFoundPath}
 use Rattle.gimli_index.specs.Short.{joined, IsSpanOf}

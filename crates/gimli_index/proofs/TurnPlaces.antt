@@ -11,7 +11,8 @@ use Rattle.gimli_line.specs.declared.run.row.LineRow.{LineRow}
 use Rattle.gimli_lookup.specs.FirstPair.{HasNoPair, IsPairAt}
 use Rattle.gimli_lookup.specs.Probes.{never_go_below}
 use Rattle.gimli_lookup.specs.Section.{ListedUnit}
-use Rattle.gimli_index.specs.Found.{Texts, row_place}
+use Rattle.gimli_index.specs.Found.{row_place}
+use Rattle.gimli_lookup.specs.ProgramPaths.{Texts}
 use Rattle.gimli_index.specs.Meaning.{Place, Start}
 use Rattle.gimli_index.specs.inside.Turns.{UnitRows, end_after, end_start, row_start, starts_of_rows, starts_of_turn}
 

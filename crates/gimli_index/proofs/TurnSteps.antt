@@ -14,7 +14,8 @@ use Rattle.gimli_lookup.specs.Probes.{never_go_below, never_go_down}
 use Rattle.gimli_lookup.specs.Section.{KeptUnit, ListedUnit}
 use Rattle.gimli_lookup.specs.SequenceRows.{rows_of}
 use Rattle.gimli_index.specs.Contents.{HasColumn, entry_start}
-use Rattle.gimli_index.specs.Found.{Texts, code_of, found_place, row_place}
+use Rattle.gimli_index.specs.Found.{code_of, found_place, row_place}
+use Rattle.gimli_lookup.specs.ProgramPaths.{Texts}
 use Rattle.gimli_index.specs.Meaning.{Place, Start}
 use Rattle.gimli_index.specs.declared.contents.Entry.{Entry}
 use Rattle.gimli_index.specs.declared.contents.SourceLine.{SourceLine}

@@ -11,7 +11,7 @@ use Rattle.std.proofs.lemmas.List.Sums.{fold-append}
 use Rattle.std.proofs.lemmas.Option.{slice_get_within}
 use Rattle.gimli_lookup.specs.Section.{KeptUnit}
 use Rattle.gimli_index.specs.Contents.{HasColumn, entry_start}
-use Rattle.gimli_index.specs.Found.{Texts}
+use Rattle.gimli_lookup.specs.ProgramPaths.{Texts}
 use Rattle.gimli_index.specs.Meaning.{Place, Start, place_at}
 use Rattle.gimli_index.specs.Short.{IsShort}
 use Rattle.gimli_index.specs.declared.contents.Entry.{Entry}

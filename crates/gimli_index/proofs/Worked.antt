@@ -6,7 +6,7 @@ use Rattle.gimli_core.specs.Reading.{result_map}
 use Rattle.gimli_line.specs.declared.run.row.LineRow.{LineRow}
 use Rattle.gimli_lookup.specs.Statements.{addresses_in}
 use Rattle.gimli_index.specs.Parts.{index_at}
-use Rattle.gimli_index.specs.Found.{Texts}
+use Rattle.gimli_lookup.specs.ProgramPaths.{Texts}
 use Rattle.gimli_index.specs.Lines.{addresses_of}
 use Rattle.gimli_index.specs.Meaning.{Place, Start, place_at, starts_of, statements_of}
 use Rattle.gimli_index.specs.Meaning.{Statement as StatementMeaning}

@@ -7,7 +7,6 @@ use Rattle.std.specs.Prelude.{All}
 use Rattle.std.specs.List.{Contains}
 use Rattle.std.specs.Option.{option_map, option_map_or}
 use Rattle.std.specs.Str.{bytes_eq}
-use Rattle.gimli_compilation.specs.Directories.{directory_for}
 use Rattle.gimli_index.specs.Contents.{Contents, Fits, entry_start, index_bytes, statement_in}
 use Rattle.gimli_index.specs.Files.{File, files_of, source_file}
 use Rattle.gimli_index.specs.Lines.{addresses_of, is_named}
@@ -21,12 +20,11 @@ use Rattle.gimli_index.specs.Short.{HasPathsOnce, IsShort}
 use Rattle.gimli_index.specs.declared.place.NoPath.{NoPath}
 use Rattle.gimli_index.specs.declared.place.NoPath.TheVariants.{Reason}
 use Rattle.gimli_line.specs.declared.run.row.LineRow.{LineRow}
-use Rattle.gimli_line.specs.header.Header.{Header}
-use Rattle.gimli_lookup.specs.Paths.{Paths, row_path}
+use Rattle.gimli_lookup.specs.Paths.{row_path}
+use Rattle.gimli_lookup.specs.ProgramPaths.{Texts, unit_paths}
 use Rattle.gimli_lookup.specs.Ranges.{IsFoundAt}
 use Rattle.gimli_lookup.specs.Section.{KeptHeader, KeptUnit, ListedUnit}
 use Rattle.gimli_lookup.specs.Statements.{addresses_in, ascending_once}
-use Rattle.gimli_lookup.specs.Strings.{Strings, strings}
 use Rattle.gimli_lookup.specs.declared.path_error.PathError.{PathError}
 use Rattle.gimli_lookup.specs.declared.path_error.PathError.TheVariants.{
   UnsupportedStringIndex,
@@ -39,26 +37,8 @@ use Rattle.gimli_lookup.specs.declared.path_error.PathError.TheVariants.{
   OutOfMemory,
 }
 use Rattle.gimli_lookup.specs.declared.section_lookup.CoveringRows.{CoveringRows}
-use Rattle.gimli_lookup.specs.declared.string_sections.StringSections.{StringSections}
 
 -- ---- paths
-
--- what the whole paths of a section are made of, beside the headers of its units
-pub record Texts : Type 0 where
-  pub strings : Strings
-  -- the directory of the compilation whose line program is at an offset
-  pub directory : ℕ → Option (List ℕ)
-
--- those of the sections of strings, and of the directories of compilations
-abbrev pub texts_of : {R : Type 0} → (R → List ℕ) → StringSections R → List (ℕ × R) → Texts
-texts_of bytes sections compilations = record {
-  strings = strings bytes sections;
-  directory = λ offset. option_map bytes (directory_for compilations offset);
-}
-
--- the paths of the header of the unit at an offset
-abbrev pub unit_paths : Texts → ℕ → Header → Paths
-unit_paths t offset h = record { sections = t.strings; header = h; comp_dir = t.directory offset }
 
 -- the number of the reason why a path can't be told (docs/INDEX.md, "Sources"). Missing memory is
 -- none: then nothing is made
@@ -185,6 +165,10 @@ pub record Given : Type 0 where
   pub units : List KeptUnit
   pub size : ℕ
   pub name : List ℕ
+
+abbrev pub given_by : Texts → List KeptUnit → ℕ → List ℕ → Given
+given_by texts units size name =
+    record { texts = texts; units = units; size = size; name = name }
 
 -- contents that say of each address what is found there, and nothing twice, and of each line where
 -- its code begins; their sources are files of rows, and an entry or a statement names each

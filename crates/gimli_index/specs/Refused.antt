@@ -5,7 +5,8 @@ use Rattle.std.specs.Prelude.{slice_get, AllPairs}
 use Rattle.gimli_line.specs.declared.run.row.LineRow.{LineRow}
 use Rattle.gimli_lookup.specs.Section.{KeptUnit, all_sequences}
 use Rattle.gimli_lookup.specs.declared.section_lookup.CoveringRows.{CoveringRows}
-use Rattle.gimli_index.specs.Found.{Given, Texts, code_of, found_place, SayWhatIsFound}
+use Rattle.gimli_index.specs.Found.{Given, code_of, found_place, SayWhatIsFound}
+use Rattle.gimli_lookup.specs.ProgramPaths.{Texts}
 use Rattle.gimli_index.specs.Meaning.{AreAscending, Place, Start}
 use Rattle.gimli_index.specs.Short.{IsShort, joined}
 use Rattle.gimli_index.specs.declared.error.MakeError.{MakeError}

@@ -4,7 +4,8 @@ ghost use Rattle.std.specs.Prelude.{◌≡◌, ◌≢◌, ◌≤◌, ◌++◌, �
 ghost use Rattle.std.specs.Prelude.{flat_map, map};
 ghost use Rattle.std.specs.Prelude.{slice_get, take, All, IfErr, IfOk, IsTrue, None, OnOk};
 ghost use Rattle.gimli_core.specs.Numbers.{is_address_size};
-ghost use Rattle.gimli_index.specs.Found.{code_of, texts_of, IsAppended, IsIndexAppended};
+ghost use Rattle.gimli_index.specs.Found.{code_of, given_by, IsAppended, IsIndexAppended};
+ghost use Rattle.gimli_lookup.specs.ProgramPaths.{texts_seen};
 ghost use Rattle.gimli_index.specs.Meaning.{Start};
 ghost use Rattle.gimli_index.specs.Refused.{IsIndexFault};
 ghost use Rattle.gimli_index.specs.declared.error.MakeError.TheVariants.{OutOfMemory};
@@ -22,9 +23,8 @@ use crate::origin::Origin;
 use crate::source_table::SourceTable;
 use crate::statements::statements_of;
 use crate::turns::{Turn, are_in_turn, turns_of};
-use gimli_compilation::Compilations;
 use gimli_core::Reader;
-use gimli_lookup::{CoveringRows, Ranges, SectionLookup, SequenceRows, StringSections};
+use gimli_lookup::{CoveringRows, ProgramPaths, Ranges, SectionLookup, SequenceRows};
 use std::alloc::{AllocError, Global};
 
 /// Whether two numbers are of sources that are the same.
@@ -88,13 +88,13 @@ fn take_ranges<R: Reader>(
 ) -> Result<(), MakeError>
     requires units { ranges.old.units ≡ origin.now.lookup.now }
     requires entered { Entered
-        (texts_of R.bytes origin.now.strings.now origin.now.compilations.now)
+        (texts_seen R.bytes origin.now.paths.now)
         origin.now.lookup.now origin.now.limit table.old entries.old.items ranges.old.from }
     ensures entered { OnOk result (Entered
-        (texts_of R.bytes origin.now.strings.now origin.now.compilations.now)
+        (texts_seen R.bytes origin.now.paths.now)
         origin.now.lookup.now origin.now.limit table.new entries.new.items None) }
     ensures err { IfErr result (IsTableFault
-        (texts_of R.bytes origin.now.strings.now origin.now.compilations.now)
+        (texts_seen R.bytes origin.now.paths.now)
         origin.now.lookup.now origin.now.limit) }
 {
     'ranges: while let Some(range) = ranges.next_range() {
@@ -132,23 +132,23 @@ fn take_rows<R: Reader>(
 ) -> Result<(), MakeError>
     requires turn { IsTurn origin.now.lookup.now turn }
     requires are { AreSources
-        (texts_of R.bytes origin.now.strings.now origin.now.compilations.now)
+        (texts_seen R.bytes origin.now.paths.now)
         origin.now.lookup.now origin.now.limit table.old }
     ensures are { OnOk result (AreSources
-        (texts_of R.bytes origin.now.strings.now origin.now.compilations.now)
+        (texts_seen R.bytes origin.now.paths.now)
         origin.now.lookup.now origin.now.limit table.new) }
     ensures walked { OnOk result ((d : KeptUnit) (said : List Start) (end : ℕ) → Walked
-        (texts_of R.bytes origin.now.strings.now origin.now.compilations.now)
+        (texts_seen R.bytes origin.now.paths.now)
         origin.now.lookup.now origin.now.limit table.old entries.old.items said end
         → never_go_below end (rows_of turn.entry.rows) ≡ true → Walked
-        (texts_of R.bytes origin.now.strings.now origin.now.compilations.now)
+        (texts_seen R.bytes origin.now.paths.now)
         origin.now.lookup.now origin.now.limit table.new entries.new.items
         (said
-        ++ map (row_start (texts_of R.bytes origin.now.strings.now origin.now.compilations.now)
+        ++ map (row_start (texts_seen R.bytes origin.now.paths.now)
         (turn_rows origin.now.lookup.now d turn.entry).unit) (code_of (rows_of turn.entry.rows)))
         (end_after end (code_of (rows_of turn.entry.rows)))) }
     ensures err { IfErr result (IsTableFault
-        (texts_of R.bytes origin.now.strings.now origin.now.compilations.now)
+        (texts_seen R.bytes origin.now.paths.now)
         origin.now.lookup.now origin.now.limit) }
 {
     for index in 0..count_of_code(turn.rows) {
@@ -177,23 +177,23 @@ fn take_turn<R: Reader>(
 ) -> Result<(), MakeError>
     requires turn { IsTurn origin.now.lookup.now turn }
     requires are { AreSources
-        (texts_of R.bytes origin.now.strings.now origin.now.compilations.now)
+        (texts_seen R.bytes origin.now.paths.now)
         origin.now.lookup.now origin.now.limit table.old }
     ensures are { OnOk result (AreSources
-        (texts_of R.bytes origin.now.strings.now origin.now.compilations.now)
+        (texts_seen R.bytes origin.now.paths.now)
         origin.now.lookup.now origin.now.limit table.new) }
     ensures walked { OnOk result ((d : KeptUnit) (said : List Start) (end : ℕ) → Walked
-        (texts_of R.bytes origin.now.strings.now origin.now.compilations.now)
+        (texts_seen R.bytes origin.now.paths.now)
         origin.now.lookup.now origin.now.limit table.old entries.old.items said end
         → never_go_below end (rows_of turn.entry.rows) ≡ true → Walked
-        (texts_of R.bytes origin.now.strings.now origin.now.compilations.now)
+        (texts_seen R.bytes origin.now.paths.now)
         origin.now.lookup.now origin.now.limit table.new entries.new.items
         (said
-        ++ starts_of_turn (texts_of R.bytes origin.now.strings.now origin.now.compilations.now)
+        ++ starts_of_turn (texts_seen R.bytes origin.now.paths.now)
         (turn_rows origin.now.lookup.now d turn.entry))
         (end_after end (rows_of turn.entry.rows))) }
     ensures err { IfErr result (IsTableFault
-        (texts_of R.bytes origin.now.strings.now origin.now.compilations.now)
+        (texts_seen R.bytes origin.now.paths.now)
         origin.now.lookup.now origin.now.limit) }
 {
     let Some((_, last)) = turn.rows.range() else {
@@ -216,20 +216,20 @@ fn take_turns<R: Reader>(
 ) -> Result<(), MakeError>
     requires turns { All (IsTurn origin.now.lookup.now) turns.now }
     requires are { AreSources
-        (texts_of R.bytes origin.now.strings.now origin.now.compilations.now)
+        (texts_seen R.bytes origin.now.paths.now)
         origin.now.lookup.now origin.now.limit table.old }
     ensures walked { OnOk result ((d : KeptUnit) → Walked
-        (texts_of R.bytes origin.now.strings.now origin.now.compilations.now)
+        (texts_seen R.bytes origin.now.paths.now)
         origin.now.lookup.now origin.now.limit table.old entries.old.items [] 0
         → never_go_down (rows_of_turns turns.now) ≡ true → Walked
-        (texts_of R.bytes origin.now.strings.now origin.now.compilations.now)
+        (texts_seen R.bytes origin.now.paths.now)
         origin.now.lookup.now origin.now.limit table.new entries.new.items
         (flat_map
-        (starts_of_turn (texts_of R.bytes origin.now.strings.now origin.now.compilations.now))
+        (starts_of_turn (texts_seen R.bytes origin.now.paths.now))
         (map (turn_rows origin.now.lookup.now d) turns.now))
         (end_after 0 (rows_of_turns turns.now))) }
     ensures err { IfErr result (IsTableFault
-        (texts_of R.bytes origin.now.strings.now origin.now.compilations.now)
+        (texts_seen R.bytes origin.now.paths.now)
         origin.now.lookup.now origin.now.limit) }
 {
     for turn in turns {
@@ -254,13 +254,13 @@ fn entries_of<R: Reader>(
     origin: &Origin<'_, R>,
     table: &mut SourceTable,
 ) -> Result<Vec<Entry>, MakeError>
-    requires { AreSources (texts_of R.bytes origin.now.strings.now origin.now.compilations.now)
+    requires { AreSources (texts_seen R.bytes origin.now.paths.now)
         origin.now.lookup.now origin.now.limit table.old }
     ensures entered { IfOk result (λ entries. Entered
-        (texts_of R.bytes origin.now.strings.now origin.now.compilations.now)
+        (texts_seen R.bytes origin.now.paths.now)
         origin.now.lookup.now origin.now.limit table.new entries.items None) }
     ensures err { IfErr result (IsTableFault
-        (texts_of R.bytes origin.now.strings.now origin.now.compilations.now)
+        (texts_seen R.bytes origin.now.paths.now)
         origin.now.lookup.now origin.now.limit) }
 {
     let turns = turns_of(origin.alloc, origin.lookup)?;
@@ -284,20 +284,14 @@ fn write_entries<R: Reader>(
 ) -> Result<(), MakeError>
     requires size { IsTrue (is_address_size address_size) }
     requires sources { AreSources
-        (texts_of R.bytes origin.now.strings.now origin.now.compilations.now)
+        (texts_seen R.bytes origin.now.paths.now)
         origin.now.lookup.now origin.now.limit table.old }
-    ensures bytes { OnOk result (IsAppended (record {
-      texts = texts_of R.bytes origin.now.strings.now origin.now.compilations.now;
-      units = origin.now.lookup.now;
-      size = address_size;
-      name = identity.now;
-    }) origin.now.limit out.old.items out.new.items) }
-    ensures err { IfErr result (IsIndexFault (record {
-      texts = texts_of R.bytes origin.now.strings.now origin.now.compilations.now;
-      units = origin.now.lookup.now;
-      size = address_size;
-      name = identity.now;
-    }) origin.now.limit) }
+    ensures bytes { OnOk result
+        (IsAppended (given_by (texts_seen R.bytes origin.now.paths.now) origin.now.lookup.now
+        address_size identity.now) origin.now.limit out.old.items out.new.items) }
+    ensures err { IfErr result
+        (IsIndexFault (given_by (texts_seen R.bytes origin.now.paths.now) origin.now.lookup.now
+        address_size identity.now) origin.now.limit) }
     ensures kept { IfErr result (λ e. e ≢ OutOfMemory → out.new.items ≡ out.old.items) }
 {
     let entries = entries_of(origin, table)?;
@@ -314,8 +308,7 @@ fn write_entries<R: Reader>(
 }
 
 /// Appends the bytes of the index of a lookup: what [`SectionLookup::find`] says of each address,
-/// with the whole path of the row's file by [`Paths::of_row`](gimli_lookup::Paths::of_row), over
-/// these sections of strings and the directory of its compilation. The identity names what the
+/// with the whole path of the row's file by [`ProgramPaths::of_row`]. The identity names what the
 /// index is made of: a build id or a checksum.
 ///
 /// [`LineIndex::addresses_of`](crate::LineIndex::addresses_of) gives the addresses of a line that
@@ -335,39 +328,25 @@ fn write_entries<R: Reader>(
 pub fn write_index<R: Reader>(
     alloc: Global,
     lookup: &SectionLookup<R>,
-    strings: &StringSections<R>,
-    compilations: &Compilations<R>,
+    paths: &ProgramPaths<R>,
     address_size: u16,
     identity: &[u8],
     limit: usize,
     out: &mut Vec<u8>,
 ) -> Result<(), MakeError>
     requires { IsTrue (is_address_size address_size) }
-    ensures bytes { OnOk result (IsAppended (record {
-      texts = texts_of R.bytes strings.now compilations.now;
-      units = lookup.now;
-      size = address_size;
-      name = identity.now;
-    }) limit out.old.items out.new.items) }
-    ensures index { OnOk result (IsIndexAppended (record {
-      texts = texts_of R.bytes strings.now compilations.now;
-      units = lookup.now;
-      size = address_size;
-      name = identity.now;
-    }) out.old.items out.new.items) }
-    ensures err { IfErr result (IsIndexFault (record {
-      texts = texts_of R.bytes strings.now compilations.now;
-      units = lookup.now;
-      size = address_size;
-      name = identity.now;
-    }) limit) }
+    ensures bytes { OnOk result (IsAppended (given_by (texts_seen R.bytes paths.now) lookup.now
+        address_size identity.now) limit out.old.items out.new.items) }
+    ensures index { OnOk result (IsIndexAppended (given_by (texts_seen R.bytes paths.now) lookup.now
+        address_size identity.now) out.old.items out.new.items) }
+    ensures err { IfErr result (IsIndexFault (given_by (texts_seen R.bytes paths.now) lookup.now
+        address_size identity.now) limit) }
     ensures kept { IfErr result (λ e. e ≢ OutOfMemory → out.new.items ≡ out.old.items) }
 {
     let origin = Origin {
         alloc,
         lookup,
-        strings,
-        compilations,
+        paths,
         limit,
     };
     let mut table = SourceTable::new(alloc, lookup)?;

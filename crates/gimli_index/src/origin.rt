@@ -1,17 +1,15 @@
 //! What an index of a lookup is made from.
 
-ghost use Rattle.std.specs.Prelude.{◌≡◌, ◌≢◌, Some, Ok, Err, IfOk, IfErr, MatchOption};
-ghost use Rattle.gimli_compilation.specs.Directories.{directory_for};
-ghost use Rattle.gimli_lookup.specs.Paths.{row_path};
+ghost use Rattle.std.specs.Prelude.{◌≡◌, ◌≢◌, IfOk, IfErr, MatchOption};
 ghost use Rattle.gimli_lookup.specs.declared.path_error.PathError.TheVariants.{OutOfMemory};
-ghost use Rattle.gimli_index.specs.Found.{path_by, reason_of, texts_of, unit_path, unit_paths};
+ghost use Rattle.gimli_lookup.specs.ProgramPaths.{texts_seen};
+ghost use Rattle.gimli_index.specs.Found.{reason_of, unit_path};
 ghost use Rattle.gimli_index.specs.inside.Paths.{made_path};
 
 use crate::error::MakeError;
-use gimli_compilation::Compilations;
-use gimli_core::{Reader, ReaderOffset};
-use gimli_line::{LineProgramHeader, LineRow};
-use gimli_lookup::{PathError, Paths, SectionLookup, StringSections, UnitLookup};
+use gimli_core::Reader;
+use gimli_line::LineRow;
+use gimli_lookup::{PathError, ProgramPaths, SectionLookup, UnitLookup};
 use std::alloc::Global;
 
 /// The number of the reason that the header of a unit isn't known.
@@ -23,8 +21,7 @@ const NO_HEADER: u32 = 8;
 pub(crate) struct Origin<'a, R: Reader> {
     pub(crate) alloc: Global,
     pub(crate) lookup: &'a SectionLookup<R>,
-    pub(crate) strings: &'a StringSections<R>,
-    pub(crate) compilations: &'a Compilations<R>,
+    pub(crate) paths: &'a ProgramPaths<R>,
     /// The most bytes that all paths may have.
     pub(crate) limit: usize,
 }
@@ -47,25 +44,6 @@ fn reason_of(error: PathError) -> Option<u32>
 }
 
 impl<R: Reader> Origin<'_, R> {
-    /// The whole path of a row's file by its header.
-    fn row_path(&self, header: &LineProgramHeader<R>, row: &LineRow) -> Result<Vec<u8>, PathError>
-        ensures ok { let texts = texts_of R.bytes self.now.strings.now self.now.compilations.now in
-            IfOk result (λ path. row_path (unit_paths texts (R.Offset.number header.now.offset.0)
-            header.now.meaning) row.now ≡ Ok path.items) }
-        ensures err { let texts = texts_of R.bytes self.now.strings.now self.now.compilations.now in
-            IfErr result (λ e. e ≢ OutOfMemory → row_path (unit_paths texts
-            (R.Offset.number header.now.offset.0) header.now.meaning) row.now ≡ Err e) }
-    {
-        let offset = header.offset().0.into_u64();
-        let Some(directory) = self.compilations.directory_of(offset) else {
-            return Paths::new(header, *self.strings, None).of_row(self.alloc, row);
-        };
-        let Ok(directory) = directory.to_slice() else {
-            return Err(PathError::OutOfMemory);
-        };
-        Paths::new(header, *self.strings, Some(&directory)).of_row(self.alloc, row)
-    }
-
     /// The whole path of a row's file, or the number of the reason why it can't be told. Fails only
     /// with `OutOfMemory`.
     pub(crate) fn path_of(
@@ -74,14 +52,14 @@ impl<R: Reader> Origin<'_, R> {
         row: &LineRow,
     ) -> Result<Result<Vec<u8>, u32>, MakeError>
         ensures path { IfOk result (λ path. made_path path ≡ unit_path
-            (texts_of R.bytes self.now.strings.now self.now.compilations.now) unit.now row.now) }
+            (texts_seen R.bytes self.now.paths.now) unit.now row.now) }
         ensures reason { IfOk result (λ path. IfErr path (λ reason. reason ≢ 0)) }
         ensures err { IfErr result (λ e. e ≡ MakeError.OutOfMemory) }
     {
         let Some(header) = unit.header() else {
             return Ok(Err(NO_HEADER));
         };
-        match self.row_path(header, row) {
+        match self.paths.of_row(self.alloc, header, row) {
             Ok(path) => Ok(Ok(path)),
             Err(e) => match reason_of(e) {
                 Some(reason) => Ok(Err(reason)),

@@ -1,12 +1,12 @@
 -- Sequences that cover an address: they have a pair of rows round it.
 use Rattle.std.proofs.Common.{◌≡◌, ℕ, zero, suc, ◌+◌, ◌-◌, ◌<◌, ◌≤◌, Bool, true, false, leb, ltb, cond, List, [], ◌∷◌}
-use Rattle.std.proofs.Common.{◌++◌, length, Option, None, Some}
-use Rattle.std.proofs.Common.{MatchOption, refl, sym, ap, ◌∙◌, inl, inr, arith}
+use Rattle.std.proofs.Common.{◌++◌, length, take, Option, None, Some}
+use Rattle.std.proofs.Common.{MatchOption, refl, sym, ap, subst, ◌∙◌, inl, inr, arith}
 use Rattle.std.specs.Prelude.{All, slice_get, slice_index_or}
 use Rattle.std.specs.Option.{option_or}
 use Rattle.std.proofs.lemmas.Bool.{and_parts, and_from, cond-true, cond-false, cases_lt, ltb-true, leb-true, lt-ltb}
 use Rattle.std.proofs.lemmas.Bool.{le-leb, true≢false}
-use Rattle.std.proofs.lemmas.List.{length-append}
+use Rattle.std.proofs.lemmas.List.{length-append, get_or-take, length-take-le}
 use Rattle.std.proofs.lemmas.Option.{get_or_from_slice_get, slice_get_within}
 use Rattle.gimli_line.specs.declared.run.row.LineRow.{LineRow}
 use Rattle.gimli_lookup.specs.declared.steps.Step.{Step}
@@ -148,6 +148,17 @@ cases_covering a first (rows ∷ later) =
             → covers a (slice_index_or (rows ∷ later) k d) ≡ false
         earlier after zero d lt = isnt
         earlier after (suc k) d lt = h.none_earlier k d (omega arith)
+
+-- no sequence before an end covers the address
+abbrev pub NoneCovers : ℕ → ℕ → List (List LineRow) → Type 0
+NoneCovers a end sequences = (k : ℕ) (d : List LineRow) → k < end → covers a (slice_index_or sequences k d) ≡ false
+
+-- what holds of each sequence before an index
+pub all_taken : (P : List LineRow → Type 0) (sequences : List (List LineRow)) (n : ℕ) → n ≤ length sequences
+    → ((k : ℕ) (d : List LineRow) → k < n → P (slice_index_or sequences k d)) → All P (take n sequences)
+all_taken P sequences n within each k d lt =
+    let before : k < n = omega (arith, lt, length-take-le n sequences within) in
+    subst P (sym (get_or-take n sequences k d before)) (each k d before)
 
 -- ---- the range of rows, by their first and last
 

@@ -3,7 +3,8 @@ use Rattle.std.proofs.Common.{◌≡◌, ℕ, zero, suc, ◌+◌, ◌/◌, ◌<�
 use Rattle.std.proofs.Common.{length, refl, ap, arith}
 use Rattle.std.proofs.Math.Nat.{pow-suc}
 use Rattle.gimli_line.specs.declared.run.row.LineRow.{LineRow}
-use Rattle.gimli_lookup.specs.Probes.{halvings, binary_digits, most_probes, never_go_down}
+use Rattle.gimli_lookup.specs.Probes.{halvings, binary_digits, never_go_down}
+use Rattle.gimli_lookup.specs.Scan.{most_probes}
 
 -- a limit that is large enough doesn't matter
 enough : (l m n : ℕ) → n ≤ l → n ≤ m → halvings l n ≡ halvings m n

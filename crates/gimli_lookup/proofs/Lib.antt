@@ -3,6 +3,7 @@ pub mod Pairs
 pub mod KeptRows
 pub mod OnePair
 pub mod StringLaws
+pub mod EndedStrings
 pub mod WholePaths
 pub mod DirectoryNeeds
 pub mod OneAnswer
@@ -17,14 +18,15 @@ pub mod Runs
 pub mod UnitRuns
 pub mod Sections
 pub mod SectionUnits
+pub mod Ascents
 pub mod Headless
 pub mod SectionPairs
 pub mod StepLists
 pub mod Merging
 pub mod StepsInTurn
 pub mod CoveringPairs
-pub mod Unordered
 pub mod StepTables
+pub mod Unordered
 pub mod Files
 pub mod SequenceCuts
 pub mod CoveringSearches
@@ -33,8 +35,6 @@ pub mod SectionSearches
 pub mod OneSectionAnswer
 pub mod SectionAddressSteps
 pub mod StillFound
-pub mod NearerEnds
-pub mod Asides
 pub mod ComponentLists
 pub mod FileMarks
 pub mod RowCounts

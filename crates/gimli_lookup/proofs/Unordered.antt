@@ -1,11 +1,11 @@
 -- The sequences whose addresses go down, one after the other, and the first pair of all.
 use Rattle.std.proofs.Common.{◌≡◌, ◌⊎◌, ℕ, zero, suc, ◌+◌, ◌-◌, ◌<◌, ◌≤◌, ◌^◌, Bool, true, false, cond, List, [], ◌∷◌}
-use Rattle.std.proofs.Common.{length, take, drop, Option, Some}
+use Rattle.std.proofs.Common.{length, take, drop, Option, None, Some}
 use Rattle.std.proofs.Common.{MatchOption, refl, sym, ap, subst, ◌∙◌, inl, inr, arith}
 use Rattle.std.specs.Prelude.{All, Any, sum_by, slice_index_or}
 use Rattle.std.proofs.lemmas.Bool.{cond-true, cond-false, cases_lt, cases_Bool, true≢false}
 use Rattle.std.proofs.lemmas.List.{length-drop, length-take-le, take-take, get_or-drop, get_or-take, get_or_default}
-use Rattle.std.proofs.lemmas.List.{drop-drop}
+use Rattle.std.proofs.lemmas.List.{drop-drop, take_all}
 use Rattle.std.proofs.lemmas.List.Sums.{sum_by_more, sum_by_more_le_part, sum_by-take-le, sum_by-take-drop, sum_by-le}
 use Rattle.std.proofs.lemmas.List.Sums.{sum_by-le-sum_by, sum_by-drop_more}
 use Rattle.std.proofs.lemmas.List.Sums.{get_or-le-sum_by}
@@ -14,18 +14,15 @@ use Rattle.gimli_line.specs.declared.run.row.LineRow.{LineRow}
 use Rattle.gimli_lookup.specs.declared.steps.Step.{Step}
 use Rattle.gimli_lookup.specs.FirstPair.{HasNoPair, IsFirstPairOf}
 use Rattle.gimli_lookup.specs.inside.FirstPair.{IsFirstPairIn}
-use Rattle.gimli_lookup.specs.Covering.{covers, covering_index, scan_probes, IsLookedInto}
+use Rattle.gimli_lookup.specs.declared.scan.ScanTable.{ScanTable}
+use Rattle.gimli_lookup.specs.declared.step_table.Found.{Found}
+use Rattle.gimli_lookup.specs.Covering.{covers, covering_index}
+use Rattle.gimli_lookup.specs.Scan.{indexes_out_of_order, scan_probes, IsLookedInto, IsScanTableOf}
 use Rattle.gimli_lookup.specs.Probes.{never_go_down}
-use Rattle.gimli_lookup.specs.Steps.{step_at, indexes_out_of_order}
-use Rattle.gimli_lookup.specs.inside.Steps.{HaveNoUnorderedPair, IsFirstUnorderedPair}
-use Rattle.gimli_lookup.proofs.CoveringPairs.{IsFirstCovering, cases_covering, uncovered_has_none}
-
--- what holds of each sequence before an index
-all_taken : (P : List LineRow → Type 0) (sequences : List (List LineRow)) (n : ℕ) → n ≤ length sequences
-    → ((k : ℕ) (d : List LineRow) → k < n → P (slice_index_or sequences k d)) → All P (take n sequences)
-all_taken P sequences n within each k d lt =
-    let before : k < n = omega (arith, lt, length-take-le n sequences within) in
-    subst P (sym (get_or-take n sequences k d before)) (each k d before)
+use Rattle.gimli_lookup.specs.Steps.{step_at}
+use Rattle.gimli_lookup.specs.inside.Scan.{HaveNoUnorderedPair, IsFirstUnorderedPair}
+use Rattle.gimli_lookup.proofs.CoveringPairs.{uncovered_has_none, NoneCovers, all_taken}
+use Rattle.gimli_lookup.proofs.StepTables.{covered_steps, none_covers}
 
 -- ---- the indices of the sequences whose addresses go down
 
@@ -297,10 +294,6 @@ uncovered_none a rows isnt down_none = elim (cases_Bool (never_go_down rows)) [
   | inr goes_down ↦ down_none goes_down
 ]
 
--- no sequence before the end covers the address
-abbrev pub NoneCovers : ℕ → ℕ → List (List LineRow) → Type 0
-NoneCovers a end sequences = (k : ℕ) (d : List LineRow) → k < end → covers a (slice_index_or sequences k d) ≡ false
-
 pub none_before_covering : (a end : ℕ) (sequences : List (List LineRow)) → end ≤ length sequences
     → NoneCovers a end sequences
     → HaveNoUnorderedPair a (take end sequences) → All (HasNoPair a) (take end sequences)
@@ -340,24 +333,18 @@ first_of_covering a sequences index rows x y within item uncovered none first = 
 -- ---- the counts of a search
 
 -- a sequence that covers some address gives steps, and one whose addresses go down gives rows to scan
-pub looked_into : (sequences : List (List LineRow)) (steps : List Step)
+looked_into : (sequences : List (List LineRow)) (steps : List Step)
     → ((a : ℕ) → step_at a steps ≡ covering_index a 0 sequences)
     → Any IsLookedInto sequences → (0 < length steps) ⊎ (0 < sum_by scan_probes sequences)
-looked_into sequences (s ∷ steps) value some = inl (omega arith)
-looked_into sequences [] value some = inr (by_kind some.4)
+looked_into sequences steps value some = by_kind some.4
   where
-    by_kind : IsLookedInto some.1 → 0 < sum_by scan_probes sequences
-    by_kind (inl covering) =
-        let none : All (λ (rows : List LineRow). covers covering.0 rows ≡ false) sequences =
-        subst (λ (o : Option ℕ).
-        MatchOption o (All (λ (rows : List LineRow). covers covering.0 rows ≡ false) sequences)
-        (IsFirstCovering covering.0 0 sequences))
-        (sym (value covering.0)) (cases_covering covering.0 0 sequences) in
-        absurd (true≢false (sym covering.1 ∙ ap (covers covering.0) (sym some.3) ∙ none some.0 some.1 some.2))
+    by_kind : IsLookedInto some.1 → (0 < length steps) ⊎ (0 < sum_by scan_probes sequences)
+    by_kind (inl covering) = inl (covered_steps sequences steps value (some.0, some.1, some.2, some.3, covering))
     by_kind (inr goes_down) =
         let there : scan_probes (slice_index_or sequences some.0 some.1) ≡ length some.1 = ap scan_probes some.3
         ∙ scan_down some.1 goes_down in
-        omega (arith, get_or-le-sum_by scan_probes sequences some.0 some.1 some.2, there, down_some some.1 goes_down)
+        inr (omega
+        (arith, get_or-le-sum_by scan_probes sequences some.0 some.1 some.2, there, down_some some.1 goes_down))
 
 -- the rows of an ordered sequence and all that are scanned are rows of different sequences
 pub scan_and_rows : (sequences : List (List LineRow)) (index : ℕ) (rows : List LineRow) → index < length sequences
@@ -377,3 +364,23 @@ scan_and_rows sequences index rows within item order =
       sum_by-le-sum_by scan_probes length (take index sequences) scan_few,
       sum_by-le-sum_by scan_probes length (drop (index + 1) sequences) scan_few,
     )
+
+-- ---- what a table says of them
+
+module _ (table : ScanTable) (sequences : List (List LineRow)) (is : IsScanTableOf table sequences) (a : ℕ) where
+  pub some_probes : Any IsLookedInto sequences
+      → (0 < length table.table.steps.items) ⊎ (0 < sum_by scan_probes sequences)
+  some_probes some = looked_into sequences table.table.steps.items is.steps.steps.value some
+
+  pub found_uncovered : None ≡ step_at a table.table.steps.items → (found : Option Found)
+      → MatchOption found (HaveNoUnorderedPair a (take (length sequences) sequences))
+      (λ (f : Found). IsFirstUnorderedPair a (length sequences) sequences f.sequence f.row f.next)
+      → MatchOption found (All (HasNoPair a) sequences) (λ (f : Found).
+      IsFirstPairIn a sequences f.sequence f.row f.next)
+  found_uncovered e None none =
+      subst (All (HasNoPair a)) (take_all (length sequences) sequences (omega arith))
+      (none_before_covering a (length sequences) sequences (omega arith)
+      (none_covers table.table sequences is.steps a e) none)
+  found_uncovered e (Some f) first =
+      first_of_unordered a (length sequences) sequences f.sequence f.row f.next
+      (none_covers table.table sequences is.steps a e) first

@@ -1,7 +1,7 @@
 -- The sequence that covers an address, where the addresses of its rows never go down: its first
 -- row's address is at most that address, and its last row's above it (DWARF 5, section 6.2.5.3,
 -- `end_sequence`).
-use Rattle.std.specs.Prelude.{◌≡◌, ◌⊎◌, ◌+◌, ℕ, Bool, true, false, ◌&&◌, nat_le, nat_lt}
+use Rattle.std.specs.Prelude.{◌≡◌, ◌+◌, ℕ, Bool, true, false, ◌&&◌, nat_le, nat_lt}
 use Rattle.std.specs.Prelude.{if◌then◌else◌, List, [], ◌∷◌, length, Option, None, Some}
 use Rattle.gimli_line.specs.declared.run.row.LineRow.{LineRow}
 use Rattle.gimli_lookup.specs.Probes.{never_go_down, binary_digits}
@@ -38,10 +38,6 @@ covering_probes a [] = 0
 covering_probes a (rows ∷ later) =
     if covers a rows then binary_digits (length rows) else covering_probes a later
 
--- the most probes row by row: the rows of a sequence whose addresses go down
-abbrev pub scan_probes : List LineRow → ℕ
-scan_probes rows = if never_go_down rows then 0 else length rows
-
--- the rows cover some address, or go down
-abbrev pub IsLookedInto : List LineRow → Type 0
-IsLookedInto rows = ((a : ℕ) × (covers a rows ≡ true)) ⊎ (never_go_down rows ≡ false)
+-- the rows cover some address
+abbrev pub CoversSome : List LineRow → Type 0
+CoversSome rows = (a : ℕ) × (covers a rows ≡ true)

@@ -2,10 +2,12 @@ pub mod FirstPair
 pub mod Probes
 pub mod Covering
 pub mod Steps
+pub mod Scan
 pub mod Kept
 pub mod Cut
 pub mod Strings
 pub mod Paths
+pub mod ProgramPaths
 pub mod Run
 pub mod Components
 pub mod Statements

@@ -1,6 +1,6 @@
 -- How many addresses of rows a lookup reads.
-use Rattle.std.specs.Prelude.{ℕ, zero, suc, ◌+◌, ◌/◌, Bool, true, not, ◌&&◌, nat_lt, if◌then◌else◌}
-use Rattle.std.specs.Prelude.{List, [], ◌∷◌, length}
+use Rattle.std.specs.Prelude.{◌≡◌, ℕ, zero, suc, ◌+◌, ◌/◌, Bool, true, not, ◌&&◌, nat_lt}
+use Rattle.std.specs.Prelude.{List, [], ◌∷◌, All}
 use Rattle.gimli_line.specs.declared.run.row.LineRow.{LineRow}
 
 -- no row has an address below the one before it, nor the first below `lowest`
@@ -12,6 +12,10 @@ never_go_below lowest (r ∷ rows) = not (nat_lt r.address lowest) && never_go_b
 abbrev pub never_go_down : List LineRow → Bool
 never_go_down rows = never_go_below 0 rows
 
+-- so of the rows of each of these sequences
+abbrev pub NoneGoesDown : List (List LineRow) → Type 0
+NoneGoesDown sequences = All (λ rows. never_go_down rows ≡ true) sequences
+
 -- how often a number can be halved until nothing is left, at most a limit
 abbrev pub halvings : ℕ → ℕ → ℕ
 halvings zero n = 0
@@ -21,8 +25,3 @@ halvings (suc limit) (suc n) = 1 + halvings limit (suc n / 2)
 -- the number of a number's binary digits; 0 has none
 abbrev pub binary_digits : ℕ → ℕ
 binary_digits n = halvings n n
-
--- the most probes in a sequence: it is searched by halves where its addresses never go down, else
--- row by row
-abbrev pub most_probes : List LineRow → ℕ
-most_probes rows = if never_go_down rows then binary_digits (length rows) else length rows

@@ -1,12 +1,11 @@
 -- The steps of an index: the first sequence that covers an address, as a function of the address
 -- that changes at few places.
-use Rattle.std.specs.Prelude.{◌≡◌, ◌<◌, ◌≤◌, ◌+◌, ◌*◌, ◌^◌, ℕ, nat_le, if◌then◌else◌, List, [], ◌∷◌}
+use Rattle.std.specs.Prelude.{◌≡◌, ◌<◌, ◌≤◌, ◌+◌, ◌*◌, ◌^◌, ℕ, nat_le, if◌then◌else◌, List}
 use Rattle.std.specs.Prelude.{length, fold, sum_by, slice_index_or, Option, None}
 use Rattle.gimli_line.specs.declared.run.row.LineRow.{LineRow}
 use Rattle.gimli_lookup.specs.declared.steps.Step.{Step}
 use Rattle.gimli_lookup.specs.declared.step_table.StepTable.{StepTable}
 use Rattle.gimli_lookup.specs.Covering.{covering_index}
-use Rattle.gimli_lookup.specs.Probes.{never_go_down}
 
 -- what the last of the steps says whose address is at most a
 abbrev pub step_at : ℕ → List Step → Option ℕ
@@ -30,16 +29,7 @@ pub record AreStepsOf (first : ℕ) (sequences : List (List LineRow)) (steps : L
   pub ended : last_step steps ≡ None
   pub few : length steps ≤ 2 * length sequences
 
--- the indices of the sequences whose addresses go down, the first of these sequences having the
--- index `first`
-abbrev pub indexes_out_of_order : ℕ → List (List LineRow) → List ℕ
-indexes_out_of_order first [] = []
-indexes_out_of_order first (rows ∷ later) =
-    if never_go_down rows then indexes_out_of_order (first + 1) later
-    else first ∷ indexes_out_of_order (first + 1) later
-
--- an index of these sequences. All probes that a search of them takes can be counted
-pub record IsStepTableOf (index : StepTable) (sequences : List (List LineRow)) : Type 0 where
-  pub steps : AreStepsOf 0 sequences index.steps.items
-  pub unordered : index.unordered.items ≡ indexes_out_of_order 0 sequences
+-- the table of steps of these sequences. All probes that a search of them takes can be counted
+pub record IsStepTableOf (table : StepTable) (sequences : List (List LineRow)) : Type 0 where
+  pub steps : AreStepsOf 0 sequences table.steps.items
   pub countable : 2 ^ 8 + sum_by length sequences < 2 ^ 64

@@ -1,4 +1,5 @@
 -- What no public clause reaches: private functions and proofs alone speak of it.
+pub mod EndedStrings
 pub mod Ends
 pub mod FirstPair
 pub mod PairSearch
@@ -10,5 +11,6 @@ pub mod UnitSearch
 pub mod SectionSearch
 pub mod StatementLines
 pub mod Statements
+pub mod Scan
 pub mod Steps
 pub mod Components

@@ -1,12 +1,11 @@
 //! How far what is found at an address goes on.
 
-ghost use Rattle.std.specs.Prelude.{◌≡◌, ◌<◌, ◌≤◌, ℕ, length, slice_index_or, All, IfSome};
+ghost use Rattle.std.specs.Prelude.{◌<◌, ◌≤◌, ℕ, length, slice_index_or, IfSome};
 ghost use Rattle.gimli_lookup.specs.declared.steps.Step.{Step};
 ghost use Rattle.gimli_lookup.specs.Ranges.{IsBefore};
-ghost use Rattle.gimli_lookup.specs.Steps.{indexes_out_of_order, AreInOrder};
-ghost use Rattle.gimli_lookup.specs.inside.Ends.{AreRowsClear, IsClear, IsUnorderedClear};
+ghost use Rattle.gimli_lookup.specs.Steps.{AreInOrder};
+ghost use Rattle.gimli_lookup.specs.inside.Ends.{IsClear};
 
-use crate::kept_rows::KeptRows;
 use crate::steps::Step;
 
 /// The lower of two addresses, where there are any.
@@ -38,32 +37,4 @@ pub(crate) fn next_step(steps: &[Step], a: u64, index: usize) -> Option<u64>
         return None;
     }
     Some(steps[index].from)
-}
-
-/// The lowest address above `a` among those of rows.
-fn next_row(rows: &KeptRows, a: u64) -> Option<u64>
-    ensures above { IfSome result (λ end. a < end) }
-    ensures clear { AreRowsClear a result rows.now }
-{
-    let mut end = None;
-    for index in 0..rows.len() {
-        let address = rows.row(index).address();
-        if a < address {
-            end = nearer(end, Some(address));
-        }
-    }
-    end
-}
-
-/// The lowest address above `a` among those of the sequences whose addresses go down.
-pub(crate) fn next_unordered(indexes: &[usize], sequences: &[KeptRows], a: u64) -> Option<u64>
-    requires { indexes.now ≡ indexes_out_of_order 0 sequences.now }
-    ensures above { IfSome result (λ end. a < end) }
-    ensures clear { All (IsUnorderedClear a result) sequences.now }
-{
-    let mut end = None;
-    for index in indexes {
-        end = nearer(end, next_row(&sequences[*index], a));
-    }
-    end
 }

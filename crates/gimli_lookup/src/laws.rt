@@ -15,7 +15,8 @@ ghost use Rattle.gimli_lookup.specs.Paths.{file_path, compilation_directory, nee
 ghost use Rattle.gimli_lookup.specs.Paths.{with_directory, EndsWithOwnPath, HasAbsoluteRoot};
 ghost use Rattle.gimli_lookup.specs.Run.{AreRowsOfSequences, IsFirstFound, IsFoundInRun};
 ghost use Rattle.gimli_lookup.specs.Ranges.{IsFoundAt};
-ghost use Rattle.gimli_lookup.specs.Section.{KeptUnit};
+ghost use Rattle.gimli_lookup.specs.Probes.{NoneGoesDown};
+ghost use Rattle.gimli_lookup.specs.Section.{KeptUnit, all_sequences};
 ghost use Rattle.gimli_lookup.specs.SectionUnits.{AreUnitsOf};
 ghost use Rattle.gimli_lookup.specs.declared.section_lookup.CoveringRows.{CoveringRows};
 ghost use Rattle.gimli_lookup.specs.declared.path_error.PathError.TheVariants.{
@@ -25,8 +26,9 @@ ghost use Rattle.gimli_lookup.specs.declared.path_error.PathError.TheVariants.{
 ghost use Rattle.gimli_lookup.specs.Strings.{string_at, HasNoStringEnd, IsStringAt};
 
 use crate::path_error::PathError;
+use crate::section_lookup::SectionLookup;
 use crate::string_sections::StringSections;
-use gimli_core::laws;
+use gimli_core::{Reader, laws};
 use gimli_line::laws::{one_decoding, one_list_of_units, one_unit_or_refusal};
 
 /// An address has no more than one first pair.
@@ -98,6 +100,15 @@ pub fn one_answer()
         AreRowsOfSequences n h rows → IsFirstFound a rows x → IsFoundInRun n h a y → x ≡ y }
 {
     one_decoding();
+}
+/// The addresses of the rows that are kept of a sequence never go down: of a section, and of any
+/// lookup.
+pub fn kept_rows_never_go_down<R: Reader>(lookup: &SectionLookup<R>)
+    ensures section { (section : Unread) (entry : UnitEntry) (lowest : ℕ) (units : List KeptUnit) →
+        AreUnitsOf section entry lowest units → NoneGoesDown (all_sequences units) }
+    ensures lookup { NoneGoesDown (all_sequences lookup.now) }
+{
+    lookup.never_goes_down();
 }
 /// The units of a section keep one list of sequences each. So `find_in_section` finds at an address
 /// what `SectionLookup::find` does, over a lookup of the same section.

@@ -9,6 +9,7 @@
 
 mod covering_pairs;
 mod directories;
+mod ended_strings;
 mod ends;
 mod kept_rows;
 pub mod laws;
@@ -16,10 +17,12 @@ mod lookup;
 mod path_error;
 mod path_files;
 mod paths;
+mod program_paths;
 mod ranges;
 mod row_counts;
 mod row_files;
 mod run;
+mod scan;
 mod search;
 mod section_addresses;
 mod section_lookup;
@@ -39,6 +42,7 @@ pub use directories::some_need_directory;
 pub use lookup::Lookup;
 pub use path_error::PathError;
 pub use paths::Paths;
+pub use program_paths::ProgramPaths;
 pub use ranges::{CoveredRange, Ranges};
 pub use run::find_in_run;
 pub use section_lookup::{CoveringRows, SectionLookup};

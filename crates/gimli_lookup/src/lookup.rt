@@ -9,14 +9,14 @@ ghost use Rattle.gimli_line.specs.run.Sequences.{HaveRuns};
 ghost use Rattle.gimli_lookup.specs.FirstPair.{HasNoPair, IsFirstPair};
 ghost use Rattle.gimli_lookup.specs.Kept.{AreRowsThroughLastEnd};
 ghost use Rattle.gimli_lookup.specs.Run.{AreRowsOfSequences};
-ghost use Rattle.gimli_lookup.specs.Covering.{covering_probes, scan_probes, IsLookedInto};
-ghost use Rattle.gimli_lookup.specs.Probes.{binary_digits, most_probes};
+ghost use Rattle.gimli_lookup.specs.Covering.{covering_probes};
+ghost use Rattle.gimli_lookup.specs.Probes.{binary_digits};
+ghost use Rattle.gimli_lookup.specs.Scan.{most_probes, scan_probes, IsLookedInto};
 ghost use Rattle.gimli_lookup.specs.Statements.{addresses_of, AreAddressesFrom};
 
 use crate::kept_rows::KeptRows;
-use crate::search;
+use crate::scan::{self, ScanTable};
 use crate::statements::{self, Addresses};
-use crate::step_table::StepTable;
 use gimli_core::{Error, Reader, Result};
 use gimli_line::{
     CompleteLineProgram, IncompleteLineProgram, LineProgramHeader, LineRow, LineSequence, RowList,
@@ -48,7 +48,7 @@ pub struct Lookup<R: Reader> {
     program: CompleteLineProgram<R>,
     sequences: Vec<LineSequence<R>>,
     rows: Vec<KeptRows>,
-    table: StepTable,
+    table: ScanTable,
 }
 
 impl<R: Reader> Model for Lookup<R> {
@@ -56,7 +56,7 @@ impl<R: Reader> Model for Lookup<R> {
     ghost use Rattle.gimli_line.specs.header.Orders.{source_of};
     ghost use Rattle.gimli_line.specs.run.Sequences.{sequence_of};
     ghost use Rattle.gimli_lookup.specs.Kept.{Kept};
-    ghost use Rattle.gimli_lookup.specs.Steps.{IsStepTableOf};
+    ghost use Rattle.gimli_lookup.specs.Scan.{IsScanTableOf};
 
     ghost Value = { Kept };
 
@@ -67,7 +67,7 @@ impl<R: Reader> Model for Lookup<R> {
       rows = a.rows.items;
     } };
 
-    ghost invariant = { λ a. IsStepTableOf a.table a.rows.items };
+    ghost invariant = { λ a. IsScanTableOf a.table a.rows.items };
 }
 
 impl<R: Reader> Lookup<R> {
@@ -90,7 +90,7 @@ impl<R: Reader> Lookup<R> {
     {
         let (program, sequences, rows) = program.sequences_with_rows()?;
         let rows = keep_each(*sequences.allocator(), rows)?;
-        let table = StepTable::new(*sequences.allocator(), rows.as_slice())?;
+        let table = ScanTable::new(*sequences.allocator(), rows.as_slice())?;
         Ok(Lookup {
             program,
             sequences,
@@ -153,7 +153,7 @@ impl<R: Reader> Lookup<R> {
     {
         let mut probes = 0;
         for rows in &self.rows {
-            if let Some(pair) = search::find(rows, a, &mut probes) {
+            if let Some(pair) = scan::find(rows, a, &mut probes) {
                 return (Some(pair), probes);
             }
         }

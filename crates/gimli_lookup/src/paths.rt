@@ -99,12 +99,7 @@ fn string_bytes<R: Reader>(
 /// none, as up to version 4, or an empty one, the directory that the caller knows. If that
 /// directory is relative or unknown, the path stays relative.
 ///
-/// <!-- part of crates/uses/src/where_is.rt -->
-/// ```rust
-/// let Some(directory) = self.compilations.directory_of(offset) else {
-///     return Paths::new(header, self.strings, None).of_row(alloc, row);
-/// };
-/// ```
+/// [`ProgramPaths`](crate::ProgramPaths) finds the directory of the compilation by itself.
 #[derive(Drop)]
 #[derive_where(Debug; R, R::Offset)]
 pub struct Paths<'a, R: Reader> {

@@ -4,7 +4,6 @@ ghost use Rattle.std.specs.Prelude.{◌≡◌, ◌<◌, Some, None, IfSome, Matc
 ghost use Rattle.gimli_lookup.specs.Ranges.{AreFoundIn};
 
 use crate::section_lookup::{CoveringRows, SectionLookup};
-use crate::step_table::Aside;
 use crate::walk::Stand;
 use gimli_core::{Reader, ReaderOffset};
 use std::marker::Model;
@@ -45,15 +44,10 @@ pub struct Ranges<'a, R: Reader> {
     lookup: &'a SectionLookup<R>,
     from: Option<u64>,
     stand: Stand,
-    /// What was found last in the sequences whose addresses go down.
-    aside: Aside,
 }
 
 impl<'a, R: Reader> Model for Ranges<'a, R> {
-    ghost use Rattle.std.specs.Prelude.{IfSome};
     ghost use Rattle.gimli_lookup.specs.Ranges.{RangesLeft};
-    ghost use Rattle.gimli_lookup.specs.Section.{all_sequences};
-    ghost use Rattle.gimli_lookup.specs.inside.Ends.{IsAside};
 
     ghost Value = { RangesLeft };
 
@@ -61,15 +55,11 @@ impl<'a, R: Reader> Model for Ranges<'a, R> {
       units = a.lookup.now;
       from = a.from;
     } };
-
-    ghost invariant = { λ a. IfSome a.from
-        (λ from. IsAside from (all_sequences a.lookup.now) a.aside) };
 }
 
 impl<'a, R: Reader> Ranges<'a, R> {
-    /// The next range. None once all have been given. All ranges together look at each row of the
-    /// sequences whose addresses never go down a few times, and search a sequence by halves where
-    /// another comes before. The others are read row by row, anew past each address of theirs.
+    /// The next range. None once all have been given. All ranges together look at each row a few
+    /// times, and search a sequence by halves where another comes before.
     pub fn next_range(&mut self) -> Option<CoveredRange>
         ensures start { MatchOption result (self.old.from ≡ None)
             (λ range. self.old.from ≡ Some range.start) }
@@ -79,9 +69,7 @@ impl<'a, R: Reader> Ranges<'a, R> {
         ensures units { self.new.units ≡ self.old.units }
     {
         let start = self.from?;
-        let range = self
-            .lookup
-            .range_from(start, &mut self.stand, &mut self.aside);
+        let range = self.lookup.range_from(start, &mut self.stand);
         self.from = range.end;
         Some(range)
     }
@@ -100,10 +88,6 @@ impl<R: Reader> SectionLookup<R> {
             lookup: self,
             from: Some(0),
             stand: Stand::default(),
-            aside: Aside {
-                found: None,
-                end: Some(0),
-            },
         }
     }
 }

@@ -4,7 +4,7 @@ ghost use Rattle.std.specs.Prelude.{◌≡◌, ◌≤◌, ◌<◌, ◌+◌, ◌^
 ghost use Rattle.std.specs.Prelude.{MatchOption};
 ghost use Rattle.gimli_line.specs.declared.run.row.LineRow.{LineRow};
 ghost use Rattle.gimli_lookup.specs.FirstPair.{HasNoPair, IsFirstPairOf};
-ghost use Rattle.gimli_lookup.specs.Probes.{never_go_down, binary_digits, most_probes};
+ghost use Rattle.gimli_lookup.specs.Probes.{never_go_down, binary_digits};
 
 use crate::kept_rows::KeptRows;
 use gimli_line::LineRow;
@@ -55,40 +55,4 @@ pub(crate) fn find_by_halves(
         return None;
     }
     Some(rows.pair(index))
-}
-
-/// The first rows that cover `a`, found row by row.
-pub(crate) fn find_by_scan(rows: &KeptRows, a: u64, probes: &mut u64) -> Option<(LineRow, LineRow)>
-    requires count { probes.old + length rows.now < 2 ^ 64 }
-    ensures pair { MatchOption result (HasNoPair a rows.now)
-        (λ pair. IsFirstPairOf a rows.now pair.0 pair.1) }
-    ensures grows { probes.old ≤ probes.new }
-    ensures at_least { 0 < length rows.now → probes.old < probes.new }
-    ensures at_most { probes.new ≤ probes.old + length rows.now }
-{
-    let mut is_from = false;
-    for index in 0..rows.len() {
-        let address = rows.address(index, probes);
-        if is_from && a < address {
-            return Some(rows.pair(index));
-        }
-        is_from = address <= a;
-    }
-    None
-}
-
-/// The first rows of a sequence that cover `a`; None where there are none. Counts its probes.
-pub(crate) fn find(rows: &KeptRows, a: u64, probes: &mut u64) -> Option<(LineRow, LineRow)>
-    requires count { probes.old + length rows.now < 2 ^ 64 }
-    ensures pair { MatchOption result (HasNoPair a rows.now)
-        (λ pair. IsFirstPairOf a rows.now pair.0 pair.1) }
-    ensures grows { probes.old ≤ probes.new }
-    ensures at_least { 0 < length rows.now → probes.old < probes.new }
-    ensures at_most { probes.new ≤ probes.old + most_probes rows.now }
-{
-    if rows.never_go_down() {
-        find_by_halves(rows, a, probes)
-    } else {
-        find_by_scan(rows, a, probes)
-    }
 }

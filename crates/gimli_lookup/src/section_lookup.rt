@@ -1,26 +1,25 @@
 //! The rows of all units of a section, kept so that those that cover an address are found.
 
 ghost use Rattle.std.specs.Prelude.{◌≡◌, ◌<◌, ◌≤◌, ◌+◌, ◌-◌, ◌*◌, ◌++◌, ◌∷◌, [], ℕ, length, map};
-ghost use Rattle.std.specs.Prelude.{drop, sum_by, take, slice_index_or, All, Any, IfErr, IfOk};
+ghost use Rattle.std.specs.Prelude.{drop, take, slice_index_or, All, Any, IfErr, IfOk};
 ghost use Rattle.std.specs.Prelude.{IfSome, IsTrue, MatchOption, None, true};
 ghost use Rattle.gimli_core.specs.Layout.{layout_of};
 ghost use Rattle.gimli_core.specs.Numbers.{is_address_size};
 ghost use Rattle.gimli_line.specs.Units.{AreUnits};
 ghost use Rattle.gimli_line.specs.header.Header.{unit_entry};
 ghost use Rattle.gimli_line.specs.run.Unread.{unread_of};
-ghost use Rattle.gimli_lookup.specs.Covering.{covering_probes, scan_probes, IsLookedInto};
+ghost use Rattle.gimli_lookup.specs.Covering.{covering_probes, CoversSome};
 ghost use Rattle.gimli_lookup.specs.FirstPair.{HasNoPair, IsFirstPair};
-ghost use Rattle.gimli_lookup.specs.Probes.{binary_digits};
+ghost use Rattle.gimli_lookup.specs.Probes.{binary_digits, NoneGoesDown};
 ghost use Rattle.gimli_lookup.specs.Ranges.{AreFoundIn};
 ghost use Rattle.gimli_lookup.specs.Section.{all_sequences, without_header, unit_without_header};
 ghost use Rattle.gimli_lookup.specs.Section.{AreAdjacent, IsFirstPairOfUnit, KeptUnit, ListedUnit};
 ghost use Rattle.gimli_lookup.specs.SectionUnits.{IsUnitOf};
-ghost use Rattle.gimli_lookup.specs.inside.Ends.{IsAside};
 
 use crate::kept_rows::KeptRows;
 use crate::ranges::CoveredRange;
 use crate::section_unit::UnitLookup;
-use crate::step_table::{Aside, StepTable};
+use crate::step_table::StepTable;
 use crate::walk::Stand;
 use gimli_core::{EndianSlice, Endianity, Error, Reader, ReaderOffset, Result};
 use gimli_line::{DebugLine, LineRow};
@@ -127,19 +126,20 @@ pub struct CoveringRows {
 /// let Some(found) = program.lookup.find(address) else {
 ///     return Ok(None);
 /// };
-/// let unit = program.lookup.units().get(found.unit);
 /// ```
 #[derive(Drop)]
 #[derive_where(Debug; R, R::Offset)]
 pub struct SectionLookup<R: Reader> {
     units: Vec<UnitLookup<R>>,
-    /// The parts of the sequences of all units, one unit after the other.
+    /// The parts of the sequences of all units, one unit after the other. Their addresses never go
+    /// down.
     sequences: Vec<KeptRows>,
     table: StepTable,
 }
 
 impl<R: Reader> Model for SectionLookup<R> {
     ghost use Rattle.std.specs.Prelude.{List, length, map};
+    ghost use Rattle.gimli_lookup.specs.Probes.{NoneGoesDown};
     ghost use Rattle.gimli_lookup.specs.Section.{KeptUnit, with_sequences, AreAdjacent};
     ghost use Rattle.gimli_lookup.specs.Steps.{IsStepTableOf};
 
@@ -148,7 +148,7 @@ impl<R: Reader> Model for SectionLookup<R> {
     ghost view = { λ a. map (with_sequences a.sequences.items) a.units.items };
 
     ghost invariant = { λ a. AreAdjacent 0 a.units.items (length a.sequences.items)
-        × IsStepTableOf a.table a.sequences.items };
+        × IsStepTableOf a.table a.sequences.items × NoneGoesDown a.sequences.items };
 }
 
 impl<R: Reader> SectionLookup<R> {
@@ -215,19 +215,17 @@ impl<R: Reader> SectionLookup<R> {
     }
 
     /// What `find` returns, and the number of probes that it takes: of stored addresses that are
-    /// looked at. Of the sequences whose addresses never go down, the one that covers the address
-    /// is found by halves, however many there are, and then its rows by halves; the others are
-    /// searched row by row.
+    /// looked at. The sequence that covers the address is found by halves, however many there are
+    /// and however they overlap, and then its rows by halves.
     #[inline(always)]
     pub fn find_counted(&self, a: u64) -> (Option<CoveringRows>, u64)
         ensures pair { MatchOption result.0 (All (HasNoPair a) (all_sequences self.now))
             (λ found. IsFirstPair a (all_sequences self.now) found.row found.next) }
         ensures unit { IfSome result.0
             (λ found. IsFirstPairOfUnit a self.now found.unit found.row found.next) }
-        ensures at_least { Any IsLookedInto (all_sequences self.now) → 1 ≤ result.1 }
-        ensures at_most { let sequences = all_sequences self.now in result.1
-            ≤ binary_digits (2 * length sequences) + covering_probes a sequences
-            + sum_by scan_probes sequences }
+        ensures at_least { Any CoversSome (all_sequences self.now) → 1 ≤ result.1 }
+        ensures at_most { let sequences = all_sequences self.now in
+            result.1 ≤ binary_digits (2 * length sequences) + covering_probes a sequences }
     {
         let (found, probes) = self.table.find(self.sequences.as_slice(), a);
         match found {
@@ -247,16 +245,14 @@ impl<R: Reader> SectionLookup<R> {
 
     /// What `find` returns at the address `a`, and up to where it returns the same. The search
     /// begins where a walk stands, which goes on to `a`.
-    pub(crate) fn range_from(&self, a: u64, stand: &mut Stand, aside: &mut Aside) -> CoveredRange
-        requires { IsAside a (all_sequences self.now) aside.old }
-        ensures aside { IsAside a (all_sequences self.now) aside.new }
+    pub(crate) fn range_from(&self, a: u64, stand: &mut Stand) -> CoveredRange
         ensures start { result.start ≡ a }
         ensures end { IfSome result.end (λ end. a < end) }
         ensures found { AreFoundIn self.now result }
     {
         let (found, end) = self
             .table
-            .find_with_end(self.sequences.as_slice(), a, stand, aside);
+            .find_with_end(self.sequences.as_slice(), a, stand);
         let rows = match found {
             None => None,
             Some(found) => {
@@ -274,6 +270,13 @@ impl<R: Reader> SectionLookup<R> {
             end,
             rows,
         }
+    }
+
+    /// For the prover alone: what is true of a lookup is known once a field is read.
+    pub(crate) fn never_goes_down(&self)
+        ensures { NoneGoesDown (all_sequences self.now) }
+    {
+        let _table = &self.table;
     }
 
     /// The allocator of what is kept.

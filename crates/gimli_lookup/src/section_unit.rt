@@ -15,14 +15,6 @@ use std::marker::Model;
 use std::ops::Range;
 
 /// A unit of a section, as a [`SectionLookup`](crate::SectionLookup) lists it.
-///
-/// <!-- part of crates/uses/src/where_is.rt -->
-/// ```rust
-/// let unit = program.lookup.units().get(found.unit);
-/// let Some(header) = unit.and_then(|unit| unit.header()) else {
-///     return Err(PathError::InvalidFileIndex(found.row.file_index()));
-/// };
-/// ```
 #[derive(Drop)]
 #[derive_where(Debug; R, R::Offset)]
 pub struct UnitLookup<R: Reader> {

@@ -13,10 +13,10 @@ use gimli_core::{AttributeValue, Reader};
 ///
 /// <!-- part of crates/uses/src/where_is.rt -->
 /// ```rust
-/// strings: StringSections {
+/// let strings = StringSections {
 ///     debug_line_str: sections.debug_line_str,
 ///     debug_str: sections.debug_str,
-/// },
+/// };
 /// ```
 #[derive(Clone, Copy, Debug)]
 pub struct StringSections<R> {

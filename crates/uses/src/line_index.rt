@@ -31,8 +31,7 @@ fn map_of(alloc: Global, file: &[u8]) -> Result<Vec<u8>> {
     write_index(
         alloc,
         &program.lookup,
-        &program.strings,
-        &program.compilations,
+        &program.paths,
         8,
         b"",
         usize::MAX,

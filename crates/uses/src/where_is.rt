@@ -8,9 +8,9 @@ ghost use Rattle.gimli_lookup.specs.Section.{all_sequences};
 use anyhow::bail;
 use elf_sections::{Elf, ElfError};
 use gimli_compilation::{CompilationSections, Compilations};
-use gimli_core::{EndianSlice, Error, LittleEndian, Reader, ReaderOffset};
-use gimli_line::{ColumnType, DebugLine, LineProgramHeader, LineRow};
-use gimli_lookup::{PathError, Paths, SectionLookup, StringSections};
+use gimli_core::{EndianSlice, Error, LittleEndian, Reader};
+use gimli_line::{ColumnType, DebugLine, LineRow};
+use gimli_lookup::{PathError, ProgramPaths, SectionLookup, StringSections};
 use std::alloc::Global;
 use std::fmt::Write;
 use std::fs;
@@ -66,13 +66,11 @@ fn section<'a>(elf: &Elf<'a>, name: &[u8]) -> Result<EndianSlice<'a, LittleEndia
     Ok(EndianSlice::new(bytes, LittleEndian))
 }
 
-/// What is kept of a program: the rows of its line programs, its texts, and the directories in
-/// which it was compiled.
+/// What is kept of a program: the rows of its line programs, and the whole paths of its files.
 #[derive(Drop)]
 pub struct Program<R: Reader> {
     pub lookup: SectionLookup<R>,
-    pub strings: StringSections<R>,
-    pub compilations: Compilations<R>,
+    pub paths: ProgramPaths<R>,
 }
 
 impl<R: Reader> Program<R> {
@@ -84,32 +82,23 @@ impl<R: Reader> Program<R> {
         sections: CompilationSections<R>,
         lowest: Option<u64>,
     ) -> Result<Self, Error> {
-        Ok(Program {
-            lookup: SectionLookup::new(&lines, alloc, 8, lowest.unwrap_or(0))?,
-            strings: StringSections {
-                debug_line_str: sections.debug_line_str,
-                debug_str: sections.debug_str,
-            },
-            compilations: Compilations::new(alloc, &sections)?,
-        })
+        let lookup = SectionLookup::new(&lines, alloc, 8, lowest.unwrap_or(0))?;
+        let paths = paths_of(alloc, sections)?;
+        Ok(Program { lookup, paths })
     }
+}
 
-    /// The whole path of a row's file.
-    fn path_of(
-        &self,
-        alloc: Global,
-        header: &LineProgramHeader<R>,
-        row: &LineRow,
-    ) -> Result<Vec<u8>, PathError> {
-        let offset = header.offset().0.into_u64();
-        let Some(directory) = self.compilations.directory_of(offset) else {
-            return Paths::new(header, self.strings, None).of_row(alloc, row);
-        };
-        let Ok(directory) = directory.to_slice() else {
-            return Err(PathError::OutOfMemory);
-        };
-        Paths::new(header, self.strings, Some(&directory)).of_row(alloc, row)
-    }
+/// The whole paths of the files of a program.
+fn paths_of<R: Reader>(
+    alloc: Global,
+    sections: CompilationSections<R>,
+) -> Result<ProgramPaths<R>, Error> {
+    let strings = StringSections {
+        debug_line_str: sections.debug_line_str,
+        debug_str: sections.debug_str,
+    };
+    let compilations = Compilations::new(alloc, &sections)?;
+    ProgramPaths::new(strings, compilations).map_err(|_| Error::OutOfMemory)
 }
 
 /// Adds the line of an address.
@@ -122,7 +111,18 @@ fn print_place<R: Reader>(
     let Some((path, row)) = source_at(alloc, program, address)? else {
         return Ok(writeln!(text, "{address:#x} ??")?);
     };
-    let path = String::from_utf8_lossy(alloc, &path)?;
+    print_source(alloc, address, &path, &row, text)
+}
+
+/// Adds the line of an address that a row covers.
+fn print_source(
+    alloc: Global,
+    address: u64,
+    path: &[u8],
+    row: &LineRow,
+    text: &mut String,
+) -> Result<(), PathError> {
+    let path = String::from_utf8_lossy(alloc, path)?;
     let line = row.line().map_or(0, |line| line.get());
     let column = match row.column() {
         ColumnType::LeftEdge => 0,
@@ -146,10 +146,7 @@ fn source_at<R: Reader>(
     let Some(found) = program.lookup.find(address) else {
         return Ok(None);
     };
-    let unit = program.lookup.units().get(found.unit);
-    let Some(header) = unit.and_then(|unit| unit.header()) else {
-        return Err(PathError::InvalidFileIndex(found.row.file_index()));
-    };
-    let path = program.path_of(alloc, header, &found.row)?;
+    let units = program.lookup.units();
+    let path = program.paths.of_found(alloc, units, &found)?;
     Ok(Some((path, found.row)))
 }

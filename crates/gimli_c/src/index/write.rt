@@ -20,7 +20,7 @@ use gimli_compilation::{CompilationSections, Compilations};
 use gimli_core::{EndianSlice, RunTimeEndian};
 use gimli_index::{MakeError, write_index};
 use gimli_line::DebugLine;
-use gimli_lookup::{SectionLookup, StringSections};
+use gimli_lookup::{ProgramPaths, SectionLookup, StringSections};
 use std::alloc::Global;
 
 /// A reader of a section that is handed over.
@@ -102,18 +102,13 @@ fn made_index<'s>(
     let Ok(compilations) = Compilations::new(alloc, sections) else {
         return Err(OUT_OF_MEMORY);
     };
+    let Ok(paths) = ProgramPaths::new(*texts, compilations) else {
+        return Err(OUT_OF_MEMORY);
+    };
     let mut bytes = Vec::new(alloc);
     let size = u16::from(options.address_size);
-    match write_index(
-        alloc,
-        &units,
-        texts,
-        &compilations,
-        size,
-        identity,
-        options.limit,
-        &mut bytes,
-    ) {
+    let limit = options.limit;
+    match write_index(alloc, &units, &paths, size, identity, limit, &mut bytes) {
         Ok(()) => Ok(bytes),
         Err(e) => Err(make_status(e)),
     }

@@ -5,7 +5,8 @@ use Rattle.std.specs.Prelude.{flat_map, length, slice_get}
 use Rattle.std.specs.Prelude.{if◌then◌else◌, Option, None, Some, Result}
 use Rattle.std.specs.Option.{option_map, option_map_or}
 use Rattle.gimli_index.specs.Contents.{path_at, statement_in}
-use Rattle.gimli_index.specs.Found.{Texts, file_path, is_one_path}
+use Rattle.gimli_index.specs.Found.{file_path, is_one_path}
+use Rattle.gimli_lookup.specs.ProgramPaths.{Texts}
 use Rattle.gimli_index.specs.Meaning.{Statement}
 use Rattle.gimli_index.specs.declared.contents.Statement.{Statement as Made}
 use Rattle.gimli_index.specs.declared.place.NoPath.{NoPath}

@@ -4,7 +4,8 @@ use Rattle.std.specs.Prelude.{map}
 use Rattle.std.specs.Prelude.{length, slice_get, Option, None, Some, All, AllPairs}
 use Rattle.std.specs.Option.{option_and_then}
 use Rattle.gimli_index.specs.Contents.{Contents, HasColumn, entry_start, line_place, source_path}
-use Rattle.gimli_index.specs.Found.{Texts, found_place, unit_path}
+use Rattle.gimli_index.specs.Found.{found_place, unit_path}
+use Rattle.gimli_lookup.specs.ProgramPaths.{Texts}
 use Rattle.gimli_index.specs.Made.{EntriesAscend}
 use Rattle.gimli_index.specs.Meaning.{Place, Start, place_at}
 use Rattle.gimli_index.specs.Refused.{HasLongPaths, HasManyFiles, IsFoundFile, IsFoundPath}

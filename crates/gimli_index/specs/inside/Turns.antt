@@ -4,7 +4,8 @@ use Rattle.std.specs.Prelude.{flat_map, if◌then◌else◌, slice_get, slice_in
 use Rattle.std.specs.Option.{option_map_or}
 use Rattle.std.specs.List.Sorted.{IsPermutation}
 use Rattle.gimli_index.specs.Contents.{HasColumn}
-use Rattle.gimli_index.specs.Found.{Texts, row_place}
+use Rattle.gimli_index.specs.Found.{row_place}
+use Rattle.gimli_lookup.specs.ProgramPaths.{Texts}
 use Rattle.gimli_index.specs.Made.{EntriesAscend}
 use Rattle.gimli_index.specs.Meaning.{Start, place_at}
 use Rattle.gimli_index.specs.Short.{IsShort}

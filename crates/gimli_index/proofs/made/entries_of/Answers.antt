@@ -3,7 +3,7 @@ use Rattle.std.specs.Prelude.{flat_map}
 use Rattle.std.proofs.lemmas.Bool.{false≢true}
 use Rattle.gimli_lookup.specs.Probes.{never_go_down}
 use Rattle.gimli_lookup.specs.Section.{KeptUnit}
-use Rattle.gimli_index.specs.Found.{texts_of}
+use Rattle.gimli_lookup.specs.ProgramPaths.{texts_seen}
 use Rattle.gimli_index.specs.declared.contents.Entry.{Entry}
 use Rattle.gimli_index.specs.declared.turns.Turn.{Turn}
 use Rattle.gimli_index.specs.inside.Turns.{Walked, end_after, rows_of_turns, starts_of_turn, turn_rows}
@@ -14,13 +14,13 @@ use Rattle.gimli_index.proofs.made.entries_of.Goals as goal
 
 pub take_ranges-requires-clause-entered : goal.take_ranges-requires-clause-entered
 take_ranges-requires-clause-entered g c =
-    let t = texts_of g.R.Reader.bytes c.args.origin.now.strings.now c.args.origin.now.compilations.now in
+    let t = texts_seen g.R.Reader.bytes c.args.origin.now.paths.now in
     rw (c.in_ok-entries.ensures, c.ranges-ranges.ensures)
     (none_entered t c.args.origin.now.lookup.now c.args.table.now c.requires)
 
 pub returns-then-are_in_turn-clause-entered : goal.returns-then-are_in_turn-clause-entered
 returns-then-are_in_turn-clause-entered g c =
-    let t = texts_of g.R.Reader.bytes c.args.origin.now.strings.now c.args.origin.now.compilations.now in
+    let t = texts_seen g.R.Reader.bytes c.args.origin.now.paths.now in
     let units : List KeptUnit = c.args.origin.now.lookup.now in
     let limit = c.args.origin.now.limit in
     let turns : List Turn = c.in_ok-turns.turns.items in

@@ -1,7 +1,7 @@
 use Rattle.std.proofs.Common.{◌∙◌, ℕ, List, Option, Some, subst, sym}
 use Rattle.gimli_lookup.specs.Ranges.{AreFoundIn}
 use Rattle.gimli_lookup.specs.Section.{KeptUnit}
-use Rattle.gimli_index.specs.Found.{texts_of}
+use Rattle.gimli_lookup.specs.ProgramPaths.{texts_seen}
 use Rattle.gimli_index.specs.declared.contents.Entry.{Entry}
 use Rattle.gimli_index.specs.declared.contents.Source.{Source}
 use Rattle.gimli_index.specs.inside.Table.{Entered, IsPushed}
@@ -10,7 +10,7 @@ use Rattle.gimli_index.proofs.made.take_ranges.Goals as goal
 
 pub ranges-2-preserved : goal.ranges-2-preserved
 ranges-2-preserved g c =
-    let t = texts_of g.R.Reader.bytes c.args.origin.now.strings.now c.args.origin.now.compilations.now in
+    let t = texts_seen g.R.Reader.bytes c.args.origin.now.paths.now in
     let units = c.args.origin.now.lookup.now in
     let old = c.ranges-2.table in
     let new = c.place_of.new.self in

@@ -2,7 +2,7 @@ use Rattle.std.proofs.Common.{◌≡◌, ◌++◌, ℕ, true, List, map, take}
 use Rattle.gimli_lookup.specs.Probes.{never_go_below}
 use Rattle.gimli_lookup.specs.Section.{KeptUnit}
 use Rattle.gimli_lookup.specs.SequenceRows.{rows_of}
-use Rattle.gimli_index.specs.Found.{texts_of}
+use Rattle.gimli_lookup.specs.ProgramPaths.{texts_seen}
 use Rattle.gimli_index.specs.Meaning.{Start}
 use Rattle.gimli_index.specs.inside.Table.{AreSources}
 use Rattle.gimli_index.specs.inside.Turns.{Walked, end_after, row_start, turn_rows}
@@ -10,7 +10,7 @@ use Rattle.gimli_index.proofs.made.take_rows.Given as goal
 
 abbrev pub invariant-loop-index : goal.invariant-loop-index
 invariant-loop-index g l =
-    let t = texts_of g.R.Reader.bytes l.origin.strings.now l.origin.compilations.now in
+    let t = texts_seen g.R.Reader.bytes l.origin.paths.now in
     let units = l.origin.lookup.now in
     let limit = l.origin.limit in
     let rows = rows_of l.turn.rows in

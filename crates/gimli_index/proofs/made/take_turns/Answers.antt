@@ -1,7 +1,7 @@
 use Rattle.std.proofs.Common.{◌∙◌, List, Some, ap, map, subst, sym}
 use Rattle.std.specs.Prelude.{flat_map}
 use Rattle.std.proofs.lemmas.List.{take_all}
-use Rattle.gimli_index.specs.Found.{texts_of}
+use Rattle.gimli_lookup.specs.ProgramPaths.{texts_seen}
 use Rattle.gimli_index.specs.declared.turns.Turn.{Turn}
 use Rattle.gimli_index.specs.inside.Turns.{Walked, end_after, rows_of_turns, starts_of_turn, turn_rows}
 use Rattle.gimli_index.proofs.TurnSteps.{here_at, turns_walked}
@@ -9,7 +9,7 @@ use Rattle.gimli_index.proofs.made.take_turns.Goals as goal
 
 pub loop-turn-preserved : goal.loop-turn-preserved
 loop-turn-preserved g c =
-    let t = texts_of g.R.Reader.bytes c.args.origin.now.strings.now c.args.origin.now.compilations.now in
+    let t = texts_seen g.R.Reader.bytes c.args.origin.now.paths.now in
     let units = c.args.origin.now.lookup.now in
     let turns = c.args.turns.now in
     let k = c.loop-turn.turn-index in
@@ -28,7 +28,7 @@ loop-turn-preserved g c =
 
 pub returns-clause-walked : goal.returns-clause-walked
 returns-clause-walked g c =
-    let t = texts_of g.R.Reader.bytes c.args.origin.now.strings.now c.args.origin.now.compilations.now in
+    let t = texts_seen g.R.Reader.bytes c.args.origin.now.paths.now in
     let units = c.args.origin.now.lookup.now in
     let limit = c.args.origin.now.limit in
     let turns = c.args.turns.now in

@@ -2,14 +2,14 @@ use Rattle.std.proofs.Common.{◌≡◌, true, [], map, take}
 use Rattle.std.specs.Prelude.{flat_map}
 use Rattle.gimli_lookup.specs.Probes.{never_go_down}
 use Rattle.gimli_lookup.specs.Section.{KeptUnit}
-use Rattle.gimli_index.specs.Found.{texts_of}
+use Rattle.gimli_lookup.specs.ProgramPaths.{texts_seen}
 use Rattle.gimli_index.specs.inside.Table.{AreSources}
 use Rattle.gimli_index.specs.inside.Turns.{Walked, end_after, rows_of_turns, starts_of_turn, turn_rows}
 use Rattle.gimli_index.proofs.made.take_turns.Given as goal
 
 abbrev pub invariant-loop-turn : goal.invariant-loop-turn
 invariant-loop-turn g l =
-    let t = texts_of g.R.Reader.bytes l.origin.strings.now l.origin.compilations.now in
+    let t = texts_seen g.R.Reader.bytes l.origin.paths.now in
     let units = l.origin.lookup.now in
     let limit = l.origin.limit in
     record {

@@ -1,6 +1,7 @@
 use Rattle.std.proofs.Common.{◌∙◌, ◌<◌, List, None, refl, sym, subst, ap, length}
 use Rattle.std.specs.Prelude.{IfSome, slice_get}
-use Rattle.gimli_index.specs.Found.{Given, texts_of, IsAppended}
+use Rattle.gimli_index.specs.Found.{Given, IsAppended}
+use Rattle.gimli_lookup.specs.ProgramPaths.{texts_seen}
 use Rattle.gimli_index.specs.Made.{IsMakeFault, contents_of}
 use Rattle.gimli_index.specs.Refused.{IsIndexFault}
 use Rattle.gimli_index.specs.declared.contents.Contents.{Contents as Parts}
@@ -15,7 +16,7 @@ use Rattle.gimli_index.proofs.made.write_entries.Goals as goal
 pub write_named-requires-clause-entries : goal.write_named-requires-clause-entries
 write_named-requires-clause-entries g c =
     let units = c.args.origin.now.lookup.now in
-    let t = texts_of g.R.Reader.bytes c.args.origin.now.strings.now c.args.origin.now.compilations.now in
+    let t = texts_seen g.R.Reader.bytes c.args.origin.now.paths.now in
     let table = c.statements_of.new.table in
     let said = c.in_ok-statements.ensures in
     let entered =
@@ -35,7 +36,7 @@ write_named-requires-clause-statements g c =
 pub returns-clause-bytes : goal.returns-clause-bytes
 returns-clause-bytes g c =
     let units = c.args.origin.now.lookup.now in
-    let t = texts_of g.R.Reader.bytes c.args.origin.now.strings.now c.args.origin.now.compilations.now in
+    let t = texts_seen g.R.Reader.bytes c.args.origin.now.paths.now in
     let given : Given = record { texts = t; units = units; size = c.args.address_size; name = c.args.identity.now } in
     let parts : Parts = record {
       address_size = c.args.address_size;
@@ -61,7 +62,7 @@ returns-clause-bytes g c =
 pub returns-clause-err : goal.returns-clause-err
 returns-clause-err g c =
     let units = c.args.origin.now.lookup.now in
-    let t = texts_of g.R.Reader.bytes c.args.origin.now.strings.now c.args.origin.now.compilations.now in
+    let t = texts_seen g.R.Reader.bytes c.args.origin.now.paths.now in
     let given : Given = record { texts = t; units = units; size = c.args.address_size; name = c.args.identity.now } in
     let parts : Parts = record {
       address_size = c.args.address_size;

@@ -6,7 +6,7 @@ use Rattle.std.proofs.lemmas.Option.{get_or_from_slice_get, slice_get_within}
 use Rattle.gimli_line.specs.declared.run.row.LineRow.{LineRow}
 use Rattle.gimli_lookup.specs.Section.{KeptUnit}
 use Rattle.gimli_lookup.specs.SequenceRows.{rows_of}
-use Rattle.gimli_index.specs.Found.{texts_of}
+use Rattle.gimli_lookup.specs.ProgramPaths.{texts_seen}
 use Rattle.gimli_index.specs.Meaning.{Statement}
 use Rattle.gimli_index.specs.inside.Begun.{begun, given_in, statements_in}
 use Rattle.gimli_index.proofs.BegunSteps.{keeps_on, keeps_self}
@@ -25,7 +25,7 @@ loop-index-init g c = record {
 
 pub loop-index-preserved : goal.loop-index-preserved
 loop-index-preserved g c =
-    let t = texts_of g.R.Reader.bytes c.args.origin.now.strings.now c.args.origin.now.compilations.now in
+    let t = texts_seen g.R.Reader.bytes c.args.origin.now.paths.now in
     let rows = rows_of c.args.rows in
     let k = c.loop-index.index in
     let old = c.loop-index.table in
@@ -68,7 +68,7 @@ take_row-requires-clause-found g c =
 
 pub returns-clause-said : goal.returns-clause-said
 returns-clause-said g c =
-    let t = texts_of g.R.Reader.bytes c.args.origin.now.strings.now c.args.origin.now.compilations.now in
+    let t = texts_seen g.R.Reader.bytes c.args.origin.now.paths.now in
     let rows = rows_of c.args.rows in
     let k = c.loop-index.index in
     let past : length rows ≤ k = omega (arith, c.loop-index-test.false, c.len-index-end.ensures) in

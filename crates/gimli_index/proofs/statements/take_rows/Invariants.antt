@@ -2,14 +2,14 @@ use Rattle.std.proofs.Common.{◌≡◌, ◌++◌, None, Some, drop}
 use Rattle.std.specs.Prelude.{slice_get}
 use Rattle.gimli_lookup.specs.Section.{KeptUnit}
 use Rattle.gimli_lookup.specs.SequenceRows.{rows_of}
-use Rattle.gimli_index.specs.Found.{texts_of}
+use Rattle.gimli_lookup.specs.ProgramPaths.{texts_seen}
 use Rattle.gimli_index.specs.inside.Begun.{AreInside, IsGiven, begun, given_in, statements_in}
 use Rattle.gimli_index.specs.inside.Table.{AreSources, Keeps}
 use Rattle.gimli_index.proofs.statements.take_rows.Given as goal
 
 abbrev pub invariant-loop-index : goal.invariant-loop-index
 invariant-loop-index g l =
-    let t = texts_of g.R.Reader.bytes l.origin.strings.now l.origin.compilations.now in
+    let t = texts_seen g.R.Reader.bytes l.origin.paths.now in
     let units = l.origin.lookup.now in
     record {
       are : AreSources t units l.origin.limit l.table;

@@ -7,7 +7,7 @@ use Rattle.std.proofs.lemmas.Option.{get_or_from_slice_get}
 use Rattle.gimli_line.specs.declared.run.row.LineRow.{LineRow}
 use Rattle.gimli_lookup.specs.Section.{KeptUnit}
 use Rattle.gimli_lookup.specs.SequenceRows.{rows_of}
-use Rattle.gimli_index.specs.Found.{texts_of}
+use Rattle.gimli_lookup.specs.ProgramPaths.{texts_seen}
 use Rattle.gimli_index.specs.Meaning.{Statement}
 use Rattle.gimli_index.specs.inside.Begun.{begun, statements_in}
 use Rattle.gimli_index.proofs.BegunSteps.{keeps_on, keeps_self, none_taken_of, one_taken_of}
@@ -17,7 +17,7 @@ use Rattle.gimli_index.proofs.statements.take_unit.Goals as goal
 
 pub loop-index-init : goal.loop-index-init
 loop-index-init g c =
-    let t = texts_of g.R.Reader.bytes c.args.origin.now.strings.now c.args.origin.now.compilations.now in
+    let t = texts_seen g.R.Reader.bytes c.args.origin.now.paths.now in
     record {
       are = c.requires.are;
       keeps = keeps_self c.args.table.now;
@@ -28,7 +28,7 @@ loop-index-init g c =
 
 pub loop-index-preserved : goal.loop-index-preserved
 loop-index-preserved g c =
-    let t = texts_of g.R.Reader.bytes c.args.origin.now.strings.now c.args.origin.now.compilations.now in
+    let t = texts_seen g.R.Reader.bytes c.args.origin.now.paths.now in
     let units : List KeptUnit = c.args.origin.now.lookup.now in
     let k : ℕ = c.loop-index.index in
     let known = get_inside units c.args.unit c.requires.unit in
@@ -65,7 +65,7 @@ loop-index-preserved g c =
 
 pub returns-clause-said : goal.returns-clause-said
 returns-clause-said g c =
-    let t = texts_of g.R.Reader.bytes c.args.origin.now.strings.now c.args.origin.now.compilations.now in
+    let t = texts_seen g.R.Reader.bytes c.args.origin.now.paths.now in
     let units : List KeptUnit = c.args.origin.now.lookup.now in
     λ u there.
     let same : slice_index_or units c.args.unit u ≡ u = get_or_from_slice_get units c.args.unit u u there in

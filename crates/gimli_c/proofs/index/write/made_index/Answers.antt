@@ -27,7 +27,7 @@ returns-in-Ok-write_index-clause-ok c =
           index_made source (λ line. option_map (λ s. s.slice.now) (directory_for c.in-Ok.compilations line))
           c.in_ok-units.units c.from-size.result
           c.new-bytes.result.items c.write_index.new.out.items (search rules) (search rules)
-          c.in-Ok-write_index.ensures.index;
+          (rw c.in-Ok-new.ensures at c.in-Ok-write_index.ensures.index);
     }
 
 pub returns-in_err-units-clause-err : goal.returns-in_err-units-clause-err
@@ -37,3 +37,6 @@ returns-in_err-units-clause-err c =
 
 pub returns-in_default-clause-err : goal.returns-in_default-clause-err
 returns-in_default-clause-err c = (OutOfMemory, refl)
+
+pub returns-in_default-new-clause-err : goal.returns-in_default-new-clause-err
+returns-in_default-new-clause-err c = (OutOfMemory, refl)

@@ -5,7 +5,8 @@ use Rattle.std.proofs.lemmas.Option.{slice_get_within}
 use Rattle.std.proofs.lemmas.Result.{err_from_is_err_and}
 use Rattle.gimli_lookup.specs.Section.{KeptUnit}
 use Rattle.gimli_lookup.specs.declared.section_lookup.CoveringRows.{CoveringRows}
-use Rattle.gimli_index.specs.Found.{found_place, row_place, texts_of}
+use Rattle.gimli_index.specs.Found.{found_place, row_place}
+use Rattle.gimli_lookup.specs.ProgramPaths.{texts_seen}
 use Rattle.gimli_index.specs.Refused.{AreFound}
 use Rattle.gimli_index.proofs.Lists.{get_inside}
 use Rattle.gimli_index.proofs.Sources.{place_known}
@@ -13,7 +14,7 @@ use Rattle.gimli_index.proofs.source_table.SourceTable.place_of.Goals as goal
 
 pub returns-clause-place : goal.returns-clause-place
 returns-clause-place g c =
-    let t = texts_of g.R.Reader.bytes c.args.origin.now.strings.now c.args.origin.now.compilations.now in
+    let t = texts_seen g.R.Reader.bytes c.args.origin.now.paths.now in
     let units = c.args.origin.now.lookup.now in
     let rows = c.in-Some.rows in
     let within : rows.unit

@@ -6,7 +6,7 @@ use Rattle.std.proofs.lemmas.List.Elements.{All-more}
 use Rattle.std.proofs.lemmas.List.Sums.{sum_by_more, sum_by_more_le_part}
 use Rattle.gimli_line.specs.declared.run.row.LineRow.{LineRow}
 use Rattle.gimli_lookup.specs.FirstPair.{HasNoPair}
-use Rattle.gimli_lookup.specs.Probes.{most_probes}
+use Rattle.gimli_lookup.specs.Scan.{most_probes}
 use Rattle.gimli_lookup.proofs.Digits.{probes_few}
 use Rattle.gimli_lookup.proofs.Pairs.{first_found}
 use Rattle.gimli_lookup.proofs.lookup.Lookup.find_counted.Goals as goal
@@ -19,7 +19,7 @@ find-requires g c =
     let total : sum_by length items
     < 2
     ^ 64 = subst (λ (xs : List (List LineRow)). sum_by length xs < 2 ^ 64) (sym c.deref-rows-items.ensures.value)
-    (omega (arith, c.self.invariant.countable)) in
+    (omega (arith, c.self.invariant.steps.countable)) in
     record {
       count = omega (
         arith,

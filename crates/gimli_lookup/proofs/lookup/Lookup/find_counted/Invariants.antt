@@ -1,7 +1,7 @@
 use Rattle.std.proofs.Common.{◌≤◌, ◌<◌, length, take}
 use Rattle.std.specs.Prelude.{All, sum_by}
 use Rattle.gimli_lookup.specs.FirstPair.{HasNoPair}
-use Rattle.gimli_lookup.specs.Probes.{most_probes}
+use Rattle.gimli_lookup.specs.Scan.{most_probes}
 use Rattle.gimli_lookup.proofs.lookup.Lookup.find_counted.Given as goal
 
 abbrev pub invariant-loop-rows : goal.invariant-loop-rows

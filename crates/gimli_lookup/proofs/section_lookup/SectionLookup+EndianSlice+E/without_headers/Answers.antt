@@ -6,8 +6,11 @@ use Rattle.gimli_lookup.proofs.section_lookup.SectionLookup+EndianSlice+E.withou
 pub invariant_of-result : goal.invariant_of-result
 invariant_of-result g c =
     let a = c.self.inside in
-    let bare = rw c.as_slice.ensures.value at c.in_ok-without_headers.ensures.ok in
-    (rw bare (headless_adjacent 0 a.units.items (length a.sequences.items) c.self.invariant.0), c.self.invariant.1)
+    let bare = rw c.as_slice.ensures.value at c.in_ok-without_headers.ensures.ok in (
+      rw bare (headless_adjacent 0 a.units.items (length a.sequences.items) c.self.invariant.0),
+      c.self.invariant.1,
+      c.self.invariant.2,
+    )
 
 pub returns-clause-ok : goal.returns-clause-ok
 returns-clause-ok g c =

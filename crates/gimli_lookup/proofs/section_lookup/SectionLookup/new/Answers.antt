@@ -2,6 +2,8 @@ use Rattle.std.proofs.Common.{ℕ, List, ◌++◌, map, ap, subst, ◌∙◌}
 use Rattle.gimli_core.specs.Layout.{layout_of}
 use Rattle.gimli_line.specs.Units.{AreUnits}
 use Rattle.gimli_lookup.specs.Section.{ListedUnit}
+use Rattle.gimli_lookup.specs.Steps.{IsStepTableOf}
+use Rattle.gimli_lookup.proofs.Ascents.{sequences_ascend}
 use Rattle.gimli_lookup.proofs.SectionUnits.{none_kept, one_kept, all_kept, IsGiven}
 use Rattle.gimli_lookup.proofs.section_lookup.SectionLookup.new.Goals as goal
 
@@ -39,3 +41,13 @@ returns-clause-offsets g c =
 
 pub returns-clause-units : goal.returns-clause-units
 returns-clause-units g c = rw (c.units-walk.ensures.section, c.units-walk.ensures.entry) at c.units.invariant.each
+
+pub invariant_of-result : goal.invariant_of-result
+invariant_of-result g c =
+    let kept = c.units.invariant in
+    let walk = c.units-walk.result in (
+      kept.adjacent,
+      subst (IsStepTableOf c.in_ok-table.table) c.as_slice.ensures.value c.in_ok-table.ensures.ok,
+      sequences_ascend walk.section walk.entry c.args.lowest c.units.sequences.items c.units.units.items kept.adjacent
+          kept.each,
+    )

@@ -1,12 +1,10 @@
-use Rattle.std.proofs.Common.{List, subst, sym, arith}
+use Rattle.std.proofs.Common.{arith}
 use Rattle.std.specs.Prelude.{All}
 use Rattle.std.proofs.lemmas.Option.{MatchOption-at_some, MatchOption-at_none}
-use Rattle.gimli_line.specs.declared.run.row.LineRow.{LineRow}
 use Rattle.gimli_lookup.specs.declared.step_table.Found.{Found}
 use Rattle.gimli_lookup.specs.FirstPair.{HasNoPair}
-use Rattle.gimli_lookup.specs.inside.Ends.{IsAside}
 use Rattle.gimli_lookup.specs.inside.FirstPair.{IsFirstPairIn}
-use Rattle.gimli_lookup.proofs.NearerEnds.{before_above}
+use Rattle.gimli_lookup.proofs.StillFound.{before_above}
 use Rattle.gimli_lookup.proofs.Sections.{all_are}
 use Rattle.gimli_lookup.proofs.SectionPairs.{index_within, unit_found}
 use Rattle.gimli_lookup.proofs.section_lookup.SectionLookup.range_from.Goals as goal
@@ -51,29 +49,3 @@ returns-in-Some-clause-found g c = λ b le before.
     c.self.invariant.0 c.self.view_is c.as_slice.ensures.value c.as_slice-in-Some.ensures.value
     c.unit_near-unit.ensures.unit c.unit_near-unit.ensures.first
     c.unit_near-unit.ensures.end first
-
-pub find_with_end-found-requires-clause-aside : goal.find_with_end-found-requires-clause-aside
-find_with_end-found-requires-clause-aside g c =
-    let same =
-    all_are c.self.inside.sequences.items c.self.inside.units.items c.as_slice.result.now c.args.self.now
-    c.self.invariant.0 c.self.view_is
-    c.as_slice.ensures.value in
-    subst (λ (sequences : List (List LineRow)). IsAside c.args.a sequences c.args.aside.now) (sym same) c.requires
-
-pub returns-in-None-clause-aside : goal.returns-in-None-clause-aside
-returns-in-None-clause-aside g c =
-    let same =
-    all_are c.self.inside.sequences.items c.self.inside.units.items c.as_slice.result.now c.args.self.now
-    c.self.invariant.0 c.self.view_is
-    c.as_slice.ensures.value in
-    subst (λ (sequences : List (List LineRow)). IsAside c.args.a sequences c.find_with_end-found.new.aside) same
-    c.find_with_end-found.ensures.aside
-
-pub returns-in-Some-clause-aside : goal.returns-in-Some-clause-aside
-returns-in-Some-clause-aside g c =
-    let same =
-    all_are c.self.inside.sequences.items c.self.inside.units.items c.as_slice.result.now c.args.self.now
-    c.self.invariant.0 c.self.view_is
-    c.as_slice.ensures.value in
-    subst (λ (sequences : List (List LineRow)). IsAside c.args.a sequences c.find_with_end-found.new.aside) same
-    c.find_with_end-found.ensures.aside

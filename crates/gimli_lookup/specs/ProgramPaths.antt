@@ -1,0 +1,44 @@
+-- The whole paths of the files of a program: of each unit by the directory of its compilation.
+use Rattle.std.specs.Prelude.{ℕ, List, Option, Result, Err, slice_get}
+use Rattle.std.specs.Option.{option_map, option_map_or}
+use Rattle.gimli_compilation.specs.Directories.{directory_for}
+use Rattle.gimli_line.specs.header.Header.{Header}
+use Rattle.gimli_lookup.specs.Paths.{Paths, row_path}
+use Rattle.gimli_lookup.specs.Section.{KeptHeader, ListedUnit}
+use Rattle.gimli_lookup.specs.Strings.{Strings, strings}
+use Rattle.gimli_lookup.specs.declared.path_error.PathError.{PathError}
+use Rattle.gimli_lookup.specs.declared.path_error.PathError.TheVariants.{InvalidFileIndex}
+use Rattle.gimli_lookup.specs.declared.section_lookup.CoveringRows.{CoveringRows}
+use Rattle.gimli_lookup.specs.declared.string_sections.StringSections.{StringSections}
+
+-- what the whole paths of a section are made of, beside the headers of its units
+pub record Texts : Type 0 where
+  pub strings : Strings
+  -- the directory of the compilation whose line program is at an offset
+  pub directory : ℕ → Option (List ℕ)
+
+-- those of the sections of strings, and of the directories of compilations
+abbrev pub texts_of : {R : Type 0} → (R → List ℕ) → StringSections R → List (ℕ × R) → Texts
+texts_of bytes sections compilations = record {
+  strings = strings bytes sections;
+  directory = λ offset. option_map bytes (directory_for compilations offset);
+}
+
+-- those of the paths of a program, which are both
+abbrev pub texts_seen : {R : Type 0} → (R → List ℕ) → StringSections R × List (ℕ × R) → Texts
+texts_seen bytes paths = texts_of bytes paths.0 paths.1
+
+-- the paths of the header of the unit at an offset
+abbrev pub unit_paths : Texts → ℕ → Header → Paths
+unit_paths t offset h = record { sections = t.strings; header = h; comp_dir = t.directory offset }
+
+-- the path of the file of rows that are found in a unit, whose header is known
+abbrev pub found_in : Texts → CoveringRows → ListedUnit → Result (List ℕ) PathError
+found_in t f u =
+    option_map_or (λ (h : KeptHeader). row_path (unit_paths t u.offset h.meaning) f.row) u.header
+    (Err (InvalidFileIndex f.row.file))
+
+-- the same in units
+abbrev pub found_path : Texts → List ListedUnit → CoveringRows → Result (List ℕ) PathError
+found_path t units f =
+    option_map_or (found_in t f) (slice_get units f.unit) (Err (InvalidFileIndex f.row.file))

@@ -1,0 +1,138 @@
+//! The whole paths of the files of a program.
+
+ghost use Rattle.std.specs.Prelude.{◌≡◌, ◌≢◌, Err, IfErr, IfOk, Ok};
+ghost use Rattle.gimli_line.specs.header.File.{file_seen};
+ghost use Rattle.gimli_lookup.specs.Paths.{file_path, row_path};
+ghost use Rattle.gimli_lookup.specs.ProgramPaths.{found_path, texts_seen, unit_paths};
+ghost use Rattle.gimli_lookup.specs.declared.path_error.PathError.TheVariants.{OutOfMemory};
+
+use crate::ended_strings::EndedStrings;
+use crate::path_error::PathError;
+use crate::section_lookup::CoveringRows;
+use crate::section_unit::UnitLookup;
+use crate::string_sections::StringSections;
+use gimli_compilation::Compilations;
+use gimli_core::{Reader, ReaderOffset};
+use gimli_line::{FileEntry, LineProgramHeader, LineRow};
+use std::alloc::{AllocError, Global};
+use std::marker::Model;
+
+/// The whole paths of the files of a program: what [`Paths`](crate::Paths) gives for the header of
+/// each of its units, by the directory of its compilation (`DW_AT_comp_dir`, DWARF 5, section
+/// 3.1.1).
+///
+/// <!-- part of crates/uses/src/where_is.rt -->
+/// ```rust
+/// let Some(found) = program.lookup.find(address) else {
+///     return Ok(None);
+/// };
+/// let units = program.lookup.units();
+/// let path = program.paths.of_found(alloc, units, &found)?;
+/// ```
+#[derive(Drop)]
+pub struct ProgramPaths<R: Reader> {
+    strings: EndedStrings<R>,
+    compilations: Compilations<R>,
+}
+
+impl<R: Reader> Model for ProgramPaths<R> {
+    ghost use Rattle.std.specs.Prelude.{ℕ, List};
+    ghost use Rattle.gimli_lookup.specs.declared.string_sections.StringSections.{StringSections};
+
+    ghost Value = { StringSections R × List (ℕ × R) };
+
+    ghost view = { λ a. (a.strings, a.compilations) };
+}
+
+impl<R: Reader> ProgramPaths<R> {
+    /// The paths by these sections of strings and these directories of compilations. Strings that
+    /// have no end cost no more than others: the sections are searched once for where the last one
+    /// ends. Fails only where memory is missing.
+    pub fn new(
+        strings: StringSections<R>,
+        compilations: Compilations<R>,
+    ) -> Result<Self, AllocError>
+        ensures { IfOk result (λ paths. paths ≡ (strings, compilations)) }
+    {
+        Ok(ProgramPaths {
+            strings: EndedStrings::new(strings)?,
+            compilations,
+        })
+    }
+
+    /// The whole path of a file of a header. Refused as `Paths::of_file` is.
+    pub fn of_file(
+        &self,
+        alloc: Global,
+        header: &LineProgramHeader<R>,
+        file: &FileEntry<R>,
+    ) -> Result<Vec<u8>, PathError>
+        ensures ok { let paths = unit_paths (texts_seen R.bytes self.now)
+            (R.Offset.number header.now.offset.0) header.now.meaning in
+            IfOk result (λ path. file_path paths (file_seen R.bytes R.Offset.number file.now)
+            ≡ Ok path.items) }
+        ensures err { let paths = unit_paths (texts_seen R.bytes self.now)
+            (R.Offset.number header.now.offset.0) header.now.meaning in
+            IfErr result (λ e. e ≢ OutOfMemory
+            → file_path paths (file_seen R.bytes R.Offset.number file.now) ≡ Err e) }
+    {
+        let offset = header.offset().0.into_u64();
+        let Some(directory) = self.compilations.directory_of(offset) else {
+            return self.strings.of_file(alloc, header, None, file);
+        };
+        let Ok(directory) = directory.to_slice() else {
+            return Err(PathError::OutOfMemory);
+        };
+        self.strings.of_file(alloc, header, Some(&directory), file)
+    }
+
+    /// The whole path of a row's file. Refused as `Paths::of_row` is.
+    pub fn of_row(
+        &self,
+        alloc: Global,
+        header: &LineProgramHeader<R>,
+        row: &LineRow,
+    ) -> Result<Vec<u8>, PathError>
+        ensures ok { let paths = unit_paths (texts_seen R.bytes self.now)
+            (R.Offset.number header.now.offset.0) header.now.meaning in IfOk result (λ path.
+            row_path paths row.now ≡ Ok path.items) }
+        ensures err { let paths = unit_paths (texts_seen R.bytes self.now)
+            (R.Offset.number header.now.offset.0) header.now.meaning in
+            IfErr result (λ e. e ≢ OutOfMemory → row_path paths row.now ≡ Err e) }
+    {
+        match row.file(header) {
+            Some(file) => self.of_file(alloc, header, file),
+            None => Err(PathError::InvalidFileIndex(row.file_index())),
+        }
+    }
+
+    /// The whole path of the file of rows that are found in these units, as `SectionLookup::units`
+    /// and `FoundRows::units` list them. Refused as `of_row` is, and by `InvalidFileIndex` where no
+    /// header of the unit is known.
+    pub fn of_found(
+        &self,
+        alloc: Global,
+        units: &[UnitLookup<R>],
+        found: &CoveringRows,
+    ) -> Result<Vec<u8>, PathError>
+        ensures ok { IfOk result (λ path.
+            found_path (texts_seen R.bytes self.now) units.now found.now ≡ Ok path.items) }
+        ensures err { IfErr result (λ e. e ≢ OutOfMemory
+            → found_path (texts_seen R.bytes self.now) units.now found.now ≡ Err e) }
+    {
+        let Some(unit) = units.get(found.unit) else {
+            return Err(PathError::InvalidFileIndex(found.row.file_index()));
+        };
+        let Some(header) = unit.header() else {
+            return Err(PathError::InvalidFileIndex(found.row.file_index()));
+        };
+        self.of_row(alloc, header, &found.row)
+    }
+
+    /// The directories of compilations that the paths are made of.
+    pub fn compilations(&self) -> &Compilations<R>
+        ensures { result.now ≡ self.now.1 }
+    {
+        &self.compilations
+    }
+}
