@@ -114,9 +114,19 @@ pub fn ask_traps(rt: &HostRuntime, version: &str, count: &str) -> io::Result<()>
 
 /// How many traps a program of so many rows has.
 fn count_of_traps(alloc: Global, version: u16, count: u64) -> Result<usize> {
+    let mut program = program_in_unit(alloc, version)?;
+    traps_of(&mut program, count)
+}
+
+/// A program whose names stand in the unit.
+fn program_in_unit(alloc: Global, version: u16) -> Result<LineProgram> {
     let mut names = Names::new(alloc, Place::Unit);
-    let mut program = program_of(alloc, version, &mut names)?;
-    add_rows(&mut program, count)?;
+    program_of(alloc, version, &mut names)
+}
+
+/// How many traps a program has after so many rows.
+fn traps_of(program: &mut LineProgram, count: u64) -> Result<usize> {
+    add_rows(program, count)?;
     if program.is_none() {
         return Err(Error::InvalidRange);
     }
@@ -141,8 +151,27 @@ pub fn ask_refused_file(rt: &HostRuntime, count: &str) -> io::Result<()> {
 /// The first file that is refused, of so many.
 fn refused_file(alloc: Global, count: u64) -> Result<Option<(usize, Error)>> {
     let mut names = Names::new(alloc, Place::LineStr);
-    let mut program = program_of(alloc, 5, &mut names)?;
-    add_files(alloc, &mut program, count, &mut names)?;
+    refused_file_with(alloc, count, &mut names)
+}
+
+/// The same with the names that the program has.
+fn refused_file_with(
+    alloc: Global,
+    count: u64,
+    names: &mut Names,
+) -> Result<Option<(usize, Error)>> {
+    let mut program = program_of(alloc, 5, names)?;
+    refused_file_of(alloc, &mut program, count, names)
+}
+
+/// The first file that is refused of a program to which so many are added.
+fn refused_file_of(
+    alloc: Global,
+    program: &mut LineProgram,
+    count: u64,
+    names: &mut Names,
+) -> Result<Option<(usize, Error)>> {
+    add_files(alloc, program, count, names)?;
     if !program.can_write(&names.line_strings, &names.strings) {
         return Err(Error::InvalidRange);
     }
@@ -158,12 +187,23 @@ fn build_and_write(
     names: &mut Names,
 ) -> Result<Vec<u8>> {
     let mut program = program_of(alloc, version, names)?;
+    fill_and_write(alloc, &mut program, kind, count, names)
+}
+
+/// Adds so many of a kind to a program, and returns its section.
+fn fill_and_write(
+    alloc: Global,
+    program: &mut LineProgram,
+    kind: Kind,
+    count: u64,
+    names: &mut Names,
+) -> Result<Vec<u8>> {
     match kind {
-        Kind::Files => add_files(alloc, &mut program, count, names)?,
-        Kind::Directories => add_directories(alloc, &mut program, count, names)?,
-        Kind::Rows => add_rows(&mut program, count)?,
+        Kind::Files => add_files(alloc, program, count, names)?,
+        Kind::Directories => add_directories(alloc, program, count, names)?,
+        Kind::Rows => add_rows(program, count)?,
     }
-    write(alloc, &program, names)
+    write(alloc, program, names)
 }
 
 /// A program of one directory and, in version 5, one file.
@@ -241,10 +281,10 @@ fn add_rows(program: &mut LineProgram, count: u64) -> Result<()> {
 
 /// The section of a program.
 fn write(alloc: Global, program: &LineProgram, names: &mut Names) -> Result<Vec<u8>> {
-    let mut section = DebugLine::from(EndianVec::new(alloc, LittleEndian));
     if !program.can_write(&names.line_strings, &names.strings) {
         return Err(Error::InvalidRange);
     }
+    let mut section = DebugLine::from(EndianVec::new(alloc, LittleEndian));
     let encoding = program.encoding();
     let line_strings = &mut names.line_strings;
     program.write(&mut section, encoding, line_strings, &mut names.strings)?;

@@ -48,9 +48,26 @@ fn convert_and_write<R: Reader>(
     from_program: IncompleteLineProgram<R>,
     no_texts: R,
 ) -> ConvertResult<Vec<u8>> {
-    converted_programs_can_be_written();
     let mut strings = StringTable::default(alloc);
     let mut line_strings = LineStringTable::default(alloc);
+    convert_and_write_with(
+        alloc,
+        from_program,
+        no_texts,
+        &mut line_strings,
+        &mut strings,
+    )
+}
+
+/// The same with tables of texts.
+fn convert_and_write_with<R: Reader>(
+    alloc: Global,
+    from_program: IncompleteLineProgram<R>,
+    no_texts: R,
+    line_strings: &mut LineStringTable,
+    strings: &mut StringTable,
+) -> ConvertResult<Vec<u8>> {
+    converted_programs_can_be_written();
     let (program, _files) = convert_program(
         no_texts,
         no_texts,
@@ -58,16 +75,11 @@ fn convert_and_write<R: Reader>(
         None,
         None,
         None,
-        &mut line_strings,
-        &mut strings,
+        line_strings,
+        strings,
         |address| Some(Address::Constant(address)),
     )?;
     let mut unit = gimli_write::DebugLine::from(EndianVec::new(alloc, OrderOf::<CONVERT>));
-    program.write(
-        &mut unit,
-        program.encoding(),
-        &mut line_strings,
-        &mut strings,
-    )?;
+    program.write(&mut unit, program.encoding(), line_strings, strings)?;
     Ok(unit.0.into_vec())
 }

@@ -14,7 +14,7 @@ use gimli_compilation::{CompilationSections, Compilations};
 use gimli_core::{EndianSlice, Reader};
 use gimli_index::{LineIndex, write_index};
 use gimli_line::DebugLine;
-use gimli_lookup::{SectionLookup, StringSections};
+use gimli_lookup::{ProgramPaths, SectionLookup, StringSections};
 use std::alloc::Global;
 use std::io::ErrorKind;
 use std::{fs, io};
@@ -67,18 +67,9 @@ fn index_of<R: Reader>(alloc: Global, lookup: &SectionLookup<R>, none: R) -> Opt
         debug_str_offsets: none,
     };
     let compilations = Compilations::new(alloc, &sections).ok()?;
+    let paths = ProgramPaths::new(strings, compilations).ok()?;
     let mut bytes = Vec::new(alloc);
-    write_index(
-        alloc,
-        lookup,
-        &strings,
-        &compilations,
-        8,
-        b"",
-        usize::MAX,
-        &mut bytes,
-    )
-    .ok()?;
+    write_index(alloc, lookup, &paths, 8, b"", usize::MAX, &mut bytes).ok()?;
     Some(bytes)
 }
 

@@ -41,10 +41,19 @@ fn build_and_write(alloc: Global, sequences: u64) -> Result<Vec<u8>> {
 fn write(alloc: Global, program: &LineProgram) -> Result<Vec<u8>> {
     let mut strings = StringTable::default(alloc);
     let mut line_strings = LineStringTable::default(alloc);
+    write_with(alloc, program, &mut line_strings, &mut strings)
+}
+
+/// The section of a program with the tables of texts that it has.
+fn write_with(
+    alloc: Global,
+    program: &LineProgram,
+    line_strings: &mut LineStringTable,
+    strings: &mut StringTable,
+) -> Result<Vec<u8>> {
     let mut section = DebugLine::from(EndianVec::new(alloc, LittleEndian));
-    if program.can_write(&line_strings, &strings) {
-        let encoding = program.encoding();
-        program.write(&mut section, encoding, &mut line_strings, &mut strings)?;
+    if program.can_write(line_strings, strings) {
+        program.write(&mut section, program.encoding(), line_strings, strings)?;
     }
     Ok(section.0.into_vec())
 }

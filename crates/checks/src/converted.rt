@@ -66,8 +66,17 @@ fn keeps_texts<R: Reader>(program: IncompleteLineProgram<R>, texts: &mut Texts) 
     ]))
 }
 
+/// The same of a unit.
+fn keeps_texts_of<R: Reader>(alloc: Global, unit: R, directory: R, texts: &mut Texts) -> Found {
+    keeps_texts(program(alloc, unit, Some(directory))?, texts)
+}
+
 /// The same of the unit with two addresses.
 pub fn refused(alloc: Global) -> Found {
-    let source = program(alloc, slice(TWO_ADDRESSES), Some(slice(b"/w")))?;
-    keeps_texts(source, &mut Texts::new(alloc))
+    keeps_texts_of(
+        alloc,
+        slice(TWO_ADDRESSES),
+        slice(b"/w"),
+        &mut Texts::new(alloc),
+    )
 }

@@ -43,13 +43,13 @@ const WIDE: [&[u8]; 2] = [
 ];
 
 /// Why a unit is refused.
-fn refusal(alloc: Global, unit: &[u8]) -> Option<Error> {
-    program(alloc, NarrowReader::new(unit), None).err()
+fn refusal<R: Reader>(alloc: Global, unit: R) -> Option<Error> {
+    program(alloc, unit, None).err()
 }
 
 /// The first unit that is refused otherwise.
 pub fn wide_numbers(alloc: Global) -> Found {
-    let refusals = WIDE.map(|unit| refusal(alloc, unit));
+    let refusals = WIDE.map(|unit| refusal(alloc, NarrowReader::new(unit)));
     Ok(first_false(&[refusals == [None, Some(Error::UnsupportedOffset)]]))
 }
 
@@ -112,14 +112,21 @@ fn has_unit<R: Reader>(lookup: &SectionLookup<R>) -> bool
     0 < count
 }
 
+/// Whether line 1 is found in a lookup of a section, by the number of its file and by its path. The
+/// reader has no bytes.
+fn finds_line<R: Reader>(lookup: &SectionLookup<R>, empty: R) -> [bool; 2] {
+    let sections = StringSections {
+        debug_line_str: empty,
+        debug_str: empty,
+    };
+    let of_file = has_unit(lookup) && are_all(lookup.addresses_of_file(0, 1, 1));
+    let of_path = are_all(lookup.addresses_of(&sections, b"\x01\x01\x01/\x01\x01\x01", 1));
+    [of_file, of_path]
+}
+
 /// What a lookup of a section has otherwise, from a line to addresses, or without its headers.
 fn of_section<E: Endianity>(lookup: SectionLookup<EndianSlice<'_, E>>, order: E) -> Option<usize> {
-    let sections = StringSections {
-        debug_line_str: EndianSlice::new(&[], order),
-        debug_str: EndianSlice::new(&[], order),
-    };
-    let of_file = has_unit(&lookup) && are_all(lookup.addresses_of_file(0, 1, 1));
-    let of_path = are_all(lookup.addresses_of(&sections, b"\x01\x01\x01/\x01\x01\x01", 1));
+    let [of_file, of_path] = finds_line(&lookup, EndianSlice::new(&[], order));
     let found = match lookup.without_headers() {
         Ok(bare) => bare.find(LAST).map(|found| found.row.address()),
         Err(_) => None,
@@ -127,12 +134,17 @@ fn of_section<E: Endianity>(lookup: SectionLookup<EndianSlice<'_, E>>, order: E)
     first_false(&[of_file, of_path, found == Some(LAST)])
 }
 
+/// What copies of a unit have otherwise, or a lookup of its program.
+fn of_programs<R: Reader>(alloc: Global, unit: R) -> Result<Option<usize>> {
+    let failed = copied(program(alloc, unit, None)?)?;
+    Ok(failed.or(of_program(program(alloc, unit, None)?)?))
+}
+
 /// What copies of a unit of many entries have otherwise, or a lookup of its program or of its
 /// section.
 pub fn many(alloc: Global) -> Found {
     let unit = many_entries(alloc, MANY, [3_080_050, 770_020])?;
-    let failed = copied(program(alloc, slice(&unit), None)?)?;
-    let failed = failed.or(of_program(program(alloc, slice(&unit), None)?)?);
+    let failed = of_programs(alloc, slice(&unit))?;
     let lookup = SectionLookup::new(&DebugLine::from(slice(&unit)), alloc, 4, 0)?;
     Ok(failed.or(of_section(lookup, LittleEndian)))
 }

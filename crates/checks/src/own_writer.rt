@@ -283,10 +283,32 @@ fn write_new(
     calls: usize,
 ) -> Result<(bool, bool)> {
     let mut texts = Texts::new(alloc);
-    let mut program = with_files(alloc, encoding, &mut texts)?;
-    add_file(&mut program, encoding, &mut texts)?;
-    add_rows(&mut program)?;
-    write_after(&program, due, calls, &mut texts)
+    write_with(alloc, encoding, due, calls, &mut texts)
+}
+
+/// The same of a new program, whose texts go to these tables.
+fn write_with(
+    alloc: Global,
+    encoding: Encoding,
+    due: &'static [u8],
+    calls: usize,
+    texts: &mut Texts,
+) -> Result<(bool, bool)> {
+    let mut program = with_files(alloc, encoding, texts)?;
+    fill_and_write(&mut program, encoding, due, calls, texts)
+}
+
+/// Adds the file and the rows to a program, and writes it.
+fn fill_and_write(
+    program: &mut LineProgram,
+    encoding: Encoding,
+    due: &'static [u8],
+    calls: usize,
+    texts: &mut Texts,
+) -> Result<(bool, bool)> {
+    add_file(program, encoding, texts)?;
+    add_rows(program)?;
+    write_after(program, due, calls, texts)
 }
 
 /// No unit here takes so many calls.

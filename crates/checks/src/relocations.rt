@@ -105,15 +105,19 @@ fn first_wrong_in(
 fn first_wrong(program: &LineProgram, texts: &mut Texts) -> Found {
     let alloc = *texts.line_strings.allocator();
     // Its texts aren't in other tables.
-    let others = Texts::new(alloc);
-    if program.can_write(&others.line_strings, &others.strings) {
+    if can_write(program, &Texts::new(alloc)) {
         return Ok(Some(0));
     }
     let mut unit = Section::from(RelocatableVec::new(alloc, LittleEndian, Addends::Listed));
     first_wrong_in(&mut unit, program, texts)
 }
 
-/// The same of a source that is converted to version 5: its texts stand in a table.
+/// Whether the texts of a program are in these tables.
+fn can_write(program: &LineProgram, texts: &Texts) -> bool {
+    program.can_write(&texts.line_strings, &texts.strings)
+}
+
+/// What is otherwise of a source that is converted to version 5: its texts stand in a table.
 fn first_wrong_of<R: Reader>(
     source: IncompleteLineProgram<R>,
     name: R,
@@ -124,8 +128,14 @@ fn first_wrong_of<R: Reader>(
     first_wrong(&program, texts)
 }
 
+/// The same of a unit, its directory and its name.
+fn first_wrong_of_unit<R: Reader>(alloc: Global, slices: [R; 3], texts: &mut Texts) -> Found {
+    let [unit, directory, name] = slices;
+    first_wrong_of(program(alloc, unit, Some(directory))?, name, texts)
+}
+
 /// The same of the unit with two addresses.
 pub fn unit(alloc: Global) -> Found {
-    let source = program(alloc, slice(TWO_ADDRESSES), Some(slice(b"/w")))?;
-    first_wrong_of(source, slice(b"q"), &mut Texts::new(alloc))
+    let slices = [slice(TWO_ADDRESSES), slice(b"/w"), slice(b"q")];
+    first_wrong_of_unit(alloc, slices, &mut Texts::new(alloc))
 }

@@ -135,7 +135,8 @@ impl Script {
         {
             return Err(Stop::Condition);
         }
-        self.program = LineProgram::new(alloc, encoding, lines, directory, source_dir, file, info)?;
+        let program = LineProgram::new(alloc, encoding, lines, directory, source_dir, file, info)?;
+        self.set_program(program);
         Ok(())
     }
 

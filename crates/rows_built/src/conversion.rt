@@ -7,6 +7,7 @@ use crate::built::{Tables, print_row, put_refused};
 use crate::script::Script;
 use gimli_core::{
     DebugLineOffset, Encoding, EndianSlice, Error, LineEncoding, Reader, ReaderOffset,
+    RunTimeEndian,
 };
 use gimli_line::{DebugLine, IncompleteLineProgram};
 use gimli_write::{
@@ -56,10 +57,7 @@ pub fn convert(
         unit_name: reader(&unit_name, order),
         target,
     };
-    let mut script = Script::new(alloc, attempts);
-    script.order = order;
-    script.reads_back = true;
-    conversion.print(&mut script, lines);
+    conversion.print_in_script(order, lines);
     Ok(())
 }
 
@@ -155,6 +153,14 @@ impl<R: Reader> Conversion<R> {
         }
     }
 
+    /// Prints it by a script that reads back what it writes in this order of bytes.
+    fn print_in_script(&self, order: RunTimeEndian, lines: &mut Lines) {
+        let mut script = Script::new(self.alloc, self.attempts);
+        script.order = order;
+        script.reads_back = true;
+        self.print(&mut script, lines);
+    }
+
     /// Prints why the unit isn't read, or what is converted of it. Where the target breaks a
     /// condition, no conversion can be asked for.
     fn print(&self, script: &mut Script, lines: &mut Lines) {
@@ -231,12 +237,18 @@ impl<R: Reader> Conversion<R> {
         requires { IsTaken self.now.target }
     {
         script.tables = Tables::new(self.alloc);
-        let tables = &mut script.tables;
+        let (program, files) = self.converted(&mut script.tables)?;
+        script.set_program(program);
+        Ok(files)
+    }
+
+    /// The program of one conversion, and its files.
+    fn converted(&self, tables: &mut Tables) -> ConvertResult<(LineProgram, Vec<FileId>)>
+        requires { IsTaken self.now.target }
+    {
         let header = self.begin(&mut tables.line_strings)?;
         let converter = header.converter(&mut tables.line_strings, &mut tables.strings);
-        let (program, files) = converter.convert(|address| Some(Address::Constant(address)))?;
-        script.program = program;
-        Ok(files)
+        converter.convert(|address| Some(Address::Constant(address)))
     }
 
     /// Begins a conversion.

@@ -106,26 +106,52 @@ impl Script {
 
     /// Takes the words of a line.
     fn take(&mut self, words: &[&str], lines: &mut Lines) -> Result<(), Stop> {
-        let mut rest = Arguments::new(self.alloc, words.get(1..).unwrap_or(&[]));
         match words {
-            [] => {}
-            ["next"] => {
-                self.finish(lines)?;
-                lines.print("--\n", &[]);
-                let (number, status, tells) = (self.number, self.status, self.tells_traps);
-                *self = Script::new(self.alloc, self.attempts);
-                self.number = number;
-                self.status = status;
-                self.tells_traps = tells;
+            [] => Ok(()),
+            ["next"] => self.take_next(lines),
+            ["back"] => {
+                self.reads_back = true;
+                Ok(())
             }
-            ["order", ..] => self.order = rest.order(),
-            ["writer", ..] => self.target = rest.target(),
-            ["prefix", ..] => self.prefix = rest.bytes(),
-            ["unit", ..] => self.unit = Some(rest.encoding()),
-            ["back"] => self.reads_back = true,
-            [name, ..] => return self.take_call(name, rest, lines),
+            [name @ ("order" | "writer" | "prefix" | "unit"), rest @ ..] => {
+                let mut rest = Arguments::new(self.alloc, rest);
+                self.set(name, &mut rest);
+                rest.end()
+            }
+            [name, rest @ ..] => self.take_call(name, Arguments::new(self.alloc, rest), lines),
         }
-        rest.end()
+    }
+
+    /// Ends a script, and begins the next one.
+    fn take_next(&mut self, lines: &mut Lines) -> Result<(), Stop> {
+        self.finish(lines)?;
+        lines.print("--\n", &[]);
+        self.begin_anew();
+        Ok(())
+    }
+
+    /// Forgets the script, but for its place and the status.
+    fn begin_anew(&mut self) {
+        let (number, status, tells) = (self.number, self.status, self.tells_traps);
+        *self = Script::new(self.alloc, self.attempts);
+        self.number = number;
+        self.status = status;
+        self.tells_traps = tells;
+    }
+
+    /// Sets the program.
+    pub fn set_program(&mut self, program: LineProgram) {
+        self.program = program;
+    }
+
+    /// Sets how the program is written.
+    fn set(&mut self, name: &str, words: &mut Arguments<'_>) {
+        match name {
+            "order" => self.order = words.order(),
+            "writer" => self.target = words.target(),
+            "prefix" => self.prefix = words.bytes(),
+            _ => self.unit = Some(words.encoding()),
+        }
     }
 
     /// Makes a call, and tells how it ends the script, if it does. The program is begun once, and

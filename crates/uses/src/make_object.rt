@@ -76,21 +76,42 @@ pub fn start(alloc: Global, text: &mut String) -> Result<()> {
 }
 
 /// Appends the object file: two functions, each in a section of its own, their lines, and a unit
-/// that leads to the lines. Beside the bytes of a section stand where its name is, with its kind;
-/// its flags; its link, with its info; and the size of an entry.
+/// that leads to the lines.
 fn make_object(alloc: Global, object: &mut Vec<u8>) -> Result<()> {
     let section = RelocatableVec::new(alloc, LittleEndian, Addends::Listed);
     let mut lines = DebugLine::from(section);
     let mut texts = DebugLineStr::from(EndianVec::new(alloc, LittleEndian));
-    write_unit(alloc, [symbol(6), symbol(7)], &mut lines, &mut texts)?;
+    make_with(alloc, &mut lines, &mut texts, object)
+}
+
+/// Writes the lines and their texts to empty sections, and appends the object file.
+fn make_with(
+    alloc: Global,
+    lines: &mut DebugLine<RelocatableVec<LittleEndian>>,
+    texts: &mut DebugLineStr<EndianVec<LittleEndian>>,
+    object: &mut Vec<u8>,
+) -> Result<()> {
+    write_unit(alloc, [symbol(6), symbol(7)], lines, texts)?;
     let mut relocations = Vec::new(alloc);
     add_relocations(&mut relocations, lines.0.relocations())?;
+    add_sections(lines.0.slice(), texts.0.slice(), &relocations, object)
+}
+
+/// Appends the sections of the object file, three of which are handed. Beside the bytes of a
+/// section stand where its name is, with its kind; its flags; its link, with its info; and the size
+/// of an entry.
+fn add_sections<'s>(
+    lines: &'s [u8],
+    texts: &'s [u8],
+    relocations: &'s [u8],
+    object: &mut Vec<u8>,
+) -> Result<()> {
     let sections = [
         ([0x1_0000_0001, 6, 0, 0], CODE[0]),
         ([0x1_0000_000d, 6, 0, 0], CODE[1]),
-        ([0x1_0000_001f, 0, 0, 0], lines.0.slice()),
-        ([0x4_0000_001a, 0x40, 0x3_0000_0009, 24], &relocations),
-        ([0x1_0000_002b, 0x30, 0, 1], texts.0.slice()),
+        ([0x1_0000_001f, 0, 0, 0], lines),
+        ([0x4_0000_001a, 0x40, 0x3_0000_0009, 24], relocations),
+        ([0x1_0000_002b, 0x30, 0, 1], texts),
         ([0x1_0000_0040, 0, 0, 0], UNIT),
         ([0x4_0000_003b, 0x40, 0x6_0000_0009, 24], UNIT_RELOCATIONS),
         ([0x1_0000_004c, 0, 0, 0], ABBREVIATION),

@@ -14,7 +14,17 @@ use std::fmt::Write;
 pub fn start(alloc: Global, text: &mut String) -> Result<()> {
     let mut lines = DebugLine::from(EndianVec::new(alloc, LittleEndian));
     let mut texts = DebugLineStr::from(EndianVec::new(alloc, LittleEndian));
-    write_unit(alloc, AT_0X1000, &mut lines, &mut texts)?;
+    print_unit(alloc, &mut lines, &mut texts, text)
+}
+
+/// Writes the unit to empty sections, and prints their bytes.
+fn print_unit(
+    alloc: Global,
+    lines: &mut DebugLine<EndianVec<LittleEndian>>,
+    texts: &mut DebugLineStr<EndianVec<LittleEndian>>,
+    text: &mut String,
+) -> Result<()> {
+    write_at_0x1000(alloc, lines, texts)?;
     print_bytes(".debug_line", lines.0.slice(), text)?;
     print_bytes(".debug_line_str", texts.0.slice(), text)
 }
@@ -29,7 +39,16 @@ pub fn print_bytes(name: &str, bytes: &[u8], text: &mut String) -> Result<()> {
 }
 
 /// Two functions of ten bytes, one after the other.
-pub const AT_0X1000: [Address; 2] = [Address::Constant(0x1000), Address::Constant(0x100a)];
+const AT_0X1000: [Address; 2] = [Address::Constant(0x1000), Address::Constant(0x100a)];
+
+/// Appends the unit of these two functions, and its texts.
+pub fn write_at_0x1000(
+    alloc: Global,
+    lines: &mut DebugLine<EndianVec<LittleEndian>>,
+    texts: &mut DebugLineStr<EndianVec<LittleEndian>>,
+) -> Result<()> {
+    write_unit(alloc, AT_0X1000, lines, texts)
+}
 
 /// Appends the unit of two functions of ten bytes at these addresses, and its texts.
 pub fn write_unit<W: Writer, T: Writer>(
@@ -54,8 +73,7 @@ fn write_built<W: Writer, T: Writer>(
     write_program(alloc, &mut program, functions, lines, texts, line_strings)
 }
 
-/// Adds to a program of one file the lines 3 and 4 of `a.c` for the first function, and the lines 8
-/// and 9 of `inc/a.h` for the second. Its texts are written last, since `write` may add one.
+/// Fills a program of one file, and appends it.
 fn write_program<W: Writer, T: Writer>(
     alloc: Global,
     program: &mut LineProgram,
@@ -64,15 +82,36 @@ fn write_program<W: Writer, T: Writer>(
     texts: &mut DebugLineStr<T>,
     line_strings: &mut LineStringTable,
 ) -> Result<()> {
+    add_functions(program, functions, line_strings)?;
+    let mut strings = StringTable::default(alloc);
+    write_filled(program, lines, texts, line_strings, &mut strings)
+}
+
+/// Adds to a program of one file the lines 3 and 4 of `a.c` for the first function, and the lines 8
+/// and 9 of `inc/a.h` for the second.
+fn add_functions(
+    program: &mut LineProgram,
+    functions: [Address; 2],
+    line_strings: &mut LineStringTable,
+) -> Result<()> {
     let source = with_digest(program, line_strings)?;
     let header = add_header(program, line_strings)?;
     add_function(program, source, functions[0], [3, 4])?;
-    add_function(program, header, functions[1], [8, 9])?;
-    let mut strings = StringTable::default(alloc);
-    if !program.can_write(line_strings, &strings) {
+    add_function(program, header, functions[1], [8, 9])
+}
+
+/// Appends a program and its texts. These come last, since `write` may add one.
+fn write_filled<W: Writer, T: Writer>(
+    program: &LineProgram,
+    lines: &mut DebugLine<W>,
+    texts: &mut DebugLineStr<T>,
+    line_strings: &mut LineStringTable,
+    strings: &mut StringTable,
+) -> Result<()> {
+    if !program.can_write(line_strings, strings) {
         return Err(Error::InvalidRange);
     }
-    program.write(lines, program.encoding(), line_strings, &mut strings)?;
+    program.write(lines, program.encoding(), line_strings, strings)?;
     line_strings.write(texts)?;
     Ok(())
 }
@@ -97,14 +136,14 @@ fn with_digest(program: &mut LineProgram, line_strings: &mut LineStringTable) ->
     if program.is_none() {
         return Err(Error::InvalidRange);
     }
+    let path = line_strings.add(b"a.c")?;
+    let directory = program.default_directory();
     let info = FileInfo {
         timestamp: 0,
         size: 0,
         md5: *b"\x90\x01\x50\x98\x3c\xd2\x4f\xb0\xd6\x96\x3f\x7d\x28\xe1\x7f\x72",
         source: None,
     };
-    let path = line_strings.add(b"a.c")?;
-    let directory = program.default_directory();
     program.add_file(LineString::LineStringRef(path), directory, Some(info))
 }
 
@@ -113,15 +152,15 @@ fn add_header(program: &mut LineProgram, line_strings: &mut LineStringTable) -> 
     if program.is_none() {
         return Err(Error::InvalidRange);
     }
+    let include = line_strings.add(b"inc")?;
+    let path = line_strings.add(b"a.h")?;
+    let directory = program.add_directory(LineString::LineStringRef(include))?;
     let info = FileInfo {
         timestamp: 0,
         size: 0,
         md5: *b"\xd4\x1d\x8c\xd9\x8f\0\xb2\x04\xe9\x80\x09\x98\xec\xf8\x42\x7e",
         source: None,
     };
-    let include = line_strings.add(b"inc")?;
-    let path = line_strings.add(b"a.h")?;
-    let directory = program.add_directory(LineString::LineStringRef(include))?;
     let file = program.add_file(LineString::LineStringRef(path), directory, Some(info))?;
     program.file_has_md5 = true;
     Ok(file)
@@ -156,31 +195,57 @@ fn add_function(
 /// first one is, and a symbol as address.
 pub fn start_refused(alloc: Global, text: &mut String) -> Result<()> {
     let mut line_strings = LineStringTable::default(alloc);
-    let mut program = with_source(alloc, &mut line_strings)?;
-    print_refused(alloc, &mut program, &line_strings, text)
+    print_refused(alloc, &mut line_strings, text)
 }
 
-/// Adds a line for the first directory, the first file and the first item that are refused.
+/// Makes the program, whose texts go to this table, and prints what is refused of it.
 fn print_refused(
+    alloc: Global,
+    line_strings: &mut LineStringTable,
+    text: &mut String,
+) -> Result<()> {
+    let mut program = with_source(alloc, line_strings)?;
+    print_refused_of(alloc, &mut program, line_strings, text)
+}
+
+/// Adds what `write` refuses, and prints it.
+fn print_refused_of(
     alloc: Global,
     program: &mut LineProgram,
     line_strings: &LineStringTable,
     text: &mut String,
 ) -> Result<()> {
+    add_refused(alloc, program)?;
+    print_parts(program, line_strings, &StringTable::default(alloc), text)
+}
+
+/// Adds to a program the file `b.c` and an address that is a symbol.
+fn add_refused(alloc: Global, program: &mut LineProgram) -> Result<()> {
     let path = LineString::String(b"b.c".to_vec(alloc)?);
-    let strings = StringTable::default(alloc);
     if program.is_none() || !path.has_no_zero() || program.version() < 5 {
         return Err(Error::InvalidRange);
     }
     program.add_file(path, program.default_directory(), None)?;
     let (symbol, addend) = (1, 0);
-    program.set_address(Address::Symbol { symbol, addend })?;
-    if !program.can_write(line_strings, &strings) {
+    program.set_address(Address::Symbol { symbol, addend })
+}
+
+/// Adds a line for the first directory, the first file and the first item that are refused.
+fn print_parts(
+    program: &LineProgram,
+    line_strings: &LineStringTable,
+    strings: &StringTable,
+    text: &mut String,
+) -> Result<()> {
+    if !program.can_write(line_strings, strings) {
         return Err(Error::InvalidRange);
     }
-    let directory = program.refused_directory(line_strings, &strings);
-    print_part("directory", directory, text)?;
-    print_part("file", program.refused_file(line_strings, &strings), text)?;
+    print_part(
+        "directory",
+        program.refused_directory(line_strings, strings),
+        text,
+    )?;
+    print_part("file", program.refused_file(line_strings, strings), text)?;
     print_part("item", program.refused_item(), text)
 }
 

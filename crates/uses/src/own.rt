@@ -3,7 +3,7 @@
 
 ghost use Rattle.std.specs.Prelude.{◌≡◌, false, nat_eq, position};
 
-use crate::make_unit::{AT_0X1000, write_unit};
+use crate::make_unit::write_at_0x1000;
 use crate::rows::print_units;
 use gimli_core::{Error as ReadError, LittleEndian, Reader, ReaderOffsetId};
 use gimli_write::{DebugLine, DebugLineStr, EndianVec};
@@ -14,7 +14,17 @@ use std::borrow::CowSlice;
 pub fn start(alloc: Global, text: &mut String) -> anyhow::Result<()> {
     let mut lines = DebugLine::from(EndianVec::new(alloc, LittleEndian));
     let mut texts = DebugLineStr::from(EndianVec::new(alloc, LittleEndian));
-    write_unit(alloc, AT_0X1000, &mut lines, &mut texts)?;
+    print_written(alloc, &mut lines, &mut texts, text)
+}
+
+/// Writes the unit to empty sections, and prints the rows that are read of it.
+fn print_written(
+    alloc: Global,
+    lines: &mut DebugLine<EndianVec<LittleEndian>>,
+    texts: &mut DebugLineStr<EndianVec<LittleEndian>>,
+    text: &mut String,
+) -> anyhow::Result<()> {
+    write_at_0x1000(alloc, lines, texts)?;
     let slice = lines.0.slice();
     Ok(print_units(alloc, OwnReader { slice }, text)?)
 }

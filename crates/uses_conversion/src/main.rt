@@ -79,11 +79,23 @@ fn print_converted<'i>(
     known: &'i [String],
     text: &mut String,
 ) -> ConvertResult<()> {
-    let directory = reader_of(known.first());
-    let name = reader_of(known.get(1));
+    let known = [reader_of(known.first()), reader_of(known.get(1))];
     let section = DebugLine::new(section, LittleEndian);
-    let source = section.program(alloc, DebugLineOffset(offset), 8, directory, None)?;
     let empty = EndianSlice::new(b"", LittleEndian);
+    print_converted_of(alloc, &section, DebugLineOffset(offset), known, empty, text)
+}
+
+/// The same for any reader. `known` are the directory and the name.
+fn print_converted_of<R: Reader>(
+    alloc: Global,
+    section: &DebugLine<R>,
+    offset: DebugLineOffset<R::Offset>,
+    known: [Option<R>; 2],
+    empty: R,
+    text: &mut String,
+) -> ConvertResult<()> {
+    let [directory, name] = known;
+    let source = section.program(alloc, offset, 8, directory, None)?;
     let converted = convert(alloc, source, name, empty, text)?;
     print_rows(&converted.rows, text)
 }
@@ -97,20 +109,45 @@ fn print_same(
     text: &mut String,
 ) -> ConvertResult<()> {
     let section = DebugLine::new(section, LittleEndian);
-    let source = section.program(alloc, DebugLineOffset(offset), 8, None, None)?;
     let empty = EndianSlice::new(b"", LittleEndian);
+    print_same_of(alloc, &section, DebugLineOffset(offset), empty, text)
+}
+
+/// The same for any reader.
+fn print_same_of<R: Reader>(
+    alloc: Global,
+    section: &DebugLine<R>,
+    offset: DebugLineOffset<R::Offset>,
+    empty: R,
+    text: &mut String,
+) -> ConvertResult<()> {
+    let source = section.program(alloc, offset, 8, None, None)?;
+    let converted = convert_same(alloc, source, empty)?;
+    print_rows(&converted.rows, text)
+}
+
+/// What is read of a unit after it was converted by its own encodings and written.
+fn convert_same<R: Reader>(
+    alloc: Global,
+    source: IncompleteLineProgram<R>,
+    empty: R,
+) -> ConvertResult<RoundTrip> {
     let mut strings = StringTable::default(alloc);
     let mut line_strings = LineStringTable::default(alloc);
+    convert_same_with(alloc, source, empty, &mut line_strings, &mut strings)
+}
+
+/// Converts with the tables of texts that a program has.
+fn convert_same_with<R: Reader>(
+    alloc: Global,
+    source: IncompleteLineProgram<R>,
+    empty: R,
+    line_strings: &mut LineStringTable,
+    strings: &mut StringTable,
+) -> ConvertResult<RoundTrip> {
     let mut lines = gimli_write::DebugLine::from(EndianVec::new(alloc, LittleEndian));
-    let (back, _files) = same_rows(
-        empty,
-        empty,
-        source,
-        &mut lines,
-        &mut line_strings,
-        &mut strings,
-    )?;
-    print_rows(&back.rows, text)
+    let (back, _files) = same_rows(empty, empty, source, &mut lines, line_strings, strings)?;
+    Ok(back)
 }
 
 /// Adds a line for each row.
@@ -174,8 +211,29 @@ fn convert_with<R: Reader>(
         strings,
         |address| Some(Address::Constant(address)),
     )?;
-    print_numbers(&program, &files, from.version, text)?;
-    read_back(alloc, &program, line_strings, strings)
+    print_and_read_back(
+        alloc,
+        &program,
+        &files,
+        from.version,
+        line_strings,
+        strings,
+        text,
+    )
+}
+
+/// Adds what became of the numbers of files, and returns what is read of a program.
+fn print_and_read_back(
+    alloc: Global,
+    program: &LineProgram,
+    files: &[FileId],
+    version: u16,
+    line_strings: &mut LineStringTable,
+    strings: &mut StringTable,
+    text: &mut String,
+) -> ConvertResult<RoundTrip> {
+    print_numbers(program, files, version, text)?;
+    read_back(alloc, program, line_strings, strings)
 }
 
 /// Adds whether each file of a source of this version has its old number, and the new number of

@@ -4,10 +4,12 @@
 #![tactic(auto)]
 
 use gimli_core::{DebugLineOffset, Error, Format, LittleEndian, Reader, Result};
-use gimli_line::{ColumnType, IncompleteLineProgram, LineProgramHeader, LineRow, OneShotLineRows};
+use gimli_line::{
+    ColumnType, IncompleteLineProgram, LineProgramHeader, LineRow, LineUnits, OneShotLineRows,
+};
 use gimli_write::{
     Address, ConvertError, ConvertResult, DebugLine, EndianVec, FileId, LineProgram, LineString,
-    LineStringTable, StringTable,
+    LineStringTable, StringTable, Writer,
 };
 use std::alloc::Global;
 
@@ -17,7 +19,17 @@ const OPERANDS: &[u8] = &[0, 1, 1, 1, 1, 0, 0, 0, 1, 0, 0, 1];
 /// Appends each unit of a section, with its rows written anew.
 pub fn rewrite(alloc: Global, section: &[u8], lines: &mut Vec<u8>) -> ConvertResult<()> {
     let reader = gimli_line::DebugLine::new(section, LittleEndian);
-    let mut units = reader.units(alloc, 8);
+    add_units(alloc, reader.units(alloc, 8), section, lines)
+}
+
+/// Appends the units that are still to come.
+fn add_units<R: Reader<Offset = usize>>(
+    alloc: Global,
+    units: LineUnits<R>,
+    section: &[u8],
+    lines: &mut Vec<u8>,
+) -> ConvertResult<()> {
+    let mut units = units;
     'units: loop {
         let unit = match units.next() {
             Ok(Some(unit)) => unit,
@@ -25,21 +37,45 @@ pub fn rewrite(alloc: Global, section: &[u8], lines: &mut Vec<u8>) -> ConvertRes
             Err(refusal) => return Err(ConvertError::Read(refusal)),
         };
         let source = unit.program.map_err(ConvertError::Read)?;
-        let Some(end) = source.header().next_unit_offset() else {
-            return Err(ConvertError::InvalidLineRef);
-        };
-        let rows = source.header().raw_program_buf().len();
-        let Some(header) = section.get(lines.len()..end.0.saturating_sub(rows)) else {
-            return Err(ConvertError::InvalidLineRef);
-        };
-        lines.extend_from_slice(header)?;
-        add_rows_anew(alloc, source, lines)?;
-        if lines.len() > end.0 {
-            return Err(ConvertError::UnsupportedUnitType);
-        }
-        // DW_LNS_set_basic_block says nothing if no row comes after it.
-        lines.resize(end.0, 7)?;
+        add_unit(alloc, source, section, lines)?;
     }
+}
+
+/// Appends a unit: the header as it is, and its rows, which take as many bytes as before.
+fn add_unit<R: Reader<Offset = usize>>(
+    alloc: Global,
+    source: IncompleteLineProgram<R>,
+    section: &[u8],
+    lines: &mut Vec<u8>,
+) -> ConvertResult<()> {
+    let end = add_header(source.header(), section, lines)?;
+    add_rows_anew(alloc, source, lines)?;
+    pad(lines, end)
+}
+
+/// Appends what stands before the rows of a unit, and returns where the unit ends.
+fn add_header<R: Reader<Offset = usize>>(
+    header: &LineProgramHeader<R>,
+    section: &[u8],
+    lines: &mut Vec<u8>,
+) -> ConvertResult<usize> {
+    let Some(end) = header.next_unit_offset() else {
+        return Err(ConvertError::InvalidLineRef);
+    };
+    let rows = header.raw_program_buf().len();
+    let Some(bytes) = section.get(lines.len()..end.0.saturating_sub(rows)) else {
+        return Err(ConvertError::InvalidLineRef);
+    };
+    lines.extend_from_slice(bytes)?;
+    Ok(end.0)
+}
+
+/// Fills a unit up to its end. DW_LNS_set_basic_block says nothing if no row comes after it.
+fn pad(lines: &mut Vec<u8>, end: usize) -> ConvertResult<()> {
+    if lines.len() > end {
+        return Err(ConvertError::UnsupportedUnitType);
+    }
+    Ok(lines.resize(end, 7)?)
 }
 
 /// Appends the instructions of the rows of a source, as they are written with its encodings.
@@ -48,25 +84,24 @@ fn add_rows_anew<R: Reader>(
     source: IncompleteLineProgram<R>,
     lines: &mut Vec<u8>,
 ) -> ConvertResult<()> {
-    let header = source.header();
-    let operands = header.standard_opcode_lengths().to_slice();
-    if operands.map_err(ConvertError::Read)?.as_slice() != OPERANDS {
-        return Err(ConvertError::UnsupportedLineInstruction);
-    }
-    let mut program = started(alloc, header)?;
-    let files = add_files(alloc, &mut program, header.file_names().len())?;
-    let rows = rows_of(alloc, source.rows()).map_err(ConvertError::Read)?;
-    add_rows(&mut program, &files, &rows)?;
-    let unit = written(alloc, &program)?;
-    let unit = gimli_line::DebugLine::new(unit.0.slice(), LittleEndian);
-    let unit = unit.program(alloc, DebugLineOffset(0), 8, None, None);
-    let bytes = unit.map_err(ConvertError::Read)?.header().raw_program_buf();
-    lines.extend_from_slice(bytes.slice())?;
-    Ok(())
+    let mut program = started(alloc, source.header())?;
+    add_built(alloc, source, &mut program, lines)
+}
+
+/// Builds the rows of a source in a program without rows, and appends their instructions.
+fn add_built<R: Reader>(
+    alloc: Global,
+    source: IncompleteLineProgram<R>,
+    program: &mut LineProgram,
+    lines: &mut Vec<u8>,
+) -> ConvertResult<()> {
+    build(alloc, source, program)?;
+    add_program(alloc, program, lines)
 }
 
 /// A program without rows, by the encodings of a source. Its texts are thrown away.
 fn started<R: Reader>(alloc: Global, header: &LineProgramHeader<R>) -> ConvertResult<LineProgram> {
+    check_operands(header.standard_opcode_lengths())?;
     let encoding = header.encoding();
     let line_encoding = header.line_encoding();
     if encoding.format != Format::Dwarf32 || !LineProgram::accepts(encoding, line_encoding) {
@@ -76,6 +111,26 @@ fn started<R: Reader>(alloc: Global, header: &LineProgramHeader<R>) -> ConvertRe
     let path = LineString::String(Vec::new(alloc));
     let program = LineProgram::new(alloc, encoding, line_encoding, directory, None, path, None);
     program.map_err(ConvertError::Write)
+}
+
+/// Refuses opcodes with other operands than those of a builder.
+fn check_operands<R: Reader>(operands: &R) -> ConvertResult<()> {
+    let operands = operands.to_slice().map_err(ConvertError::Read)?;
+    if operands.as_slice() != OPERANDS {
+        return Err(ConvertError::UnsupportedLineInstruction);
+    }
+    Ok(())
+}
+
+/// Adds the files and the rows of a source to a program.
+fn build<R: Reader>(
+    alloc: Global,
+    source: IncompleteLineProgram<R>,
+    program: &mut LineProgram,
+) -> ConvertResult<()> {
+    let files = add_files(alloc, program, source.header().file_names().len())?;
+    let rows = rows_of(alloc, source.rows()).map_err(ConvertError::Read)?;
+    add_rows(program, &files, &rows)
 }
 
 /// Adds so many files, with names of their own, so that each has the number that it has in the
@@ -187,20 +242,49 @@ fn built_row(row: &LineRow, file: FileId, address_offset: u64) -> gimli_write::L
     }
 }
 
-/// The unit of a program whose texts all stand in it.
-fn written(
+/// Appends the instructions of a program, as they stand in a unit.
+fn add_program(alloc: Global, program: &LineProgram, lines: &mut Vec<u8>) -> ConvertResult<()> {
+    let mut unit = DebugLine::from(EndianVec::new(alloc, LittleEndian));
+    write_alone(alloc, program, &mut unit)?;
+    let section = gimli_line::DebugLine::new(unit.0.slice(), LittleEndian);
+    add_instructions(alloc, &section, lines)
+}
+
+/// Writes a program whose texts all stand in it.
+fn write_alone<W: Writer>(
     alloc: Global,
     program: &LineProgram,
-) -> ConvertResult<DebugLine<EndianVec<LittleEndian>>> {
-    let mut lines = DebugLine::from(EndianVec::new(alloc, LittleEndian));
+    unit: &mut DebugLine<W>,
+) -> ConvertResult<()> {
     let mut line_strings = LineStringTable::default(alloc);
     let mut strings = StringTable::default(alloc);
-    if !program.can_write(&line_strings, &strings) {
+    write_with(program, unit, &mut line_strings, &mut strings)
+}
+
+/// Writes a program with the tables of texts that it has.
+fn write_with<W: Writer>(
+    program: &LineProgram,
+    unit: &mut DebugLine<W>,
+    line_strings: &mut LineStringTable,
+    strings: &mut StringTable,
+) -> ConvertResult<()> {
+    if !program.can_write(line_strings, strings) {
         return Err(ConvertError::UnsupportedUnitType);
     }
-    let of = program.encoding();
-    match program.write(&mut lines, of, &mut line_strings, &mut strings) {
-        Ok(_) => Ok(lines),
+    match program.write(unit, program.encoding(), line_strings, strings) {
+        Ok(_) => Ok(()),
         Err(e) => Err(ConvertError::Write(e)),
     }
+}
+
+/// Appends the instructions of the first unit of a section.
+fn add_instructions<R: Reader<Offset = usize>>(
+    alloc: Global,
+    section: &gimli_line::DebugLine<R>,
+    lines: &mut Vec<u8>,
+) -> ConvertResult<()> {
+    let unit = section.program(alloc, DebugLineOffset(0), 8, None, None);
+    let instructions = unit.map_err(ConvertError::Read)?.header().raw_program_buf();
+    let bytes = instructions.to_slice().map_err(ConvertError::Read)?;
+    Ok(lines.extend_from_slice(bytes.as_slice())?)
 }

@@ -6,7 +6,7 @@ use Rattle.gimli_bytes.specs.declared.address.Address.TheVariants.{Constant}
 use Rattle.gimli_write.specs.convert.Conversion.{outcome_with}
 use Rattle.gimli_write.specs.convert.DoneConversions.{DoneConversion}
 use Rattle.gimli_write.specs.convert.Sources.{ToConvert, to_convert}
-use Rattle.bench.proofs.convert.convert_and_write.Goals as goal
+use Rattle.bench.proofs.convert.convert_and_write_with.Goals as goal
 
 abbrev itself : ℕ → Option Address
 itself a = Some (Constant a)
@@ -18,7 +18,7 @@ write-requires g c =
     let done : DoneConversion = record {
       convert_address = itself;
       source = source;
-      line_strings = c.default-line_strings.result;
+      line_strings = c.args.line_strings.now;
       outcome = outcome_with (c.in_ok-program.program, c.in_ok-program._files) c.convert_program.new.line_strings;
       is = c.in_ok-program.ensures.outcome.converts itself (λ a r post. search rules);
     } in
