@@ -13,14 +13,14 @@ _lines() {
         --address-size) COMPREPLY=($(compgen -W "1 2 4 8" -- "$word")); return ;;
         --deny | --allow) COMPREPLY=($(compgen -W "$kinds" -- "$word")); return ;;
         --index | --output | -o | --exe | -e) COMPREPLY=($(compgen -f -- "$word")); return ;;
-        --relative-to | --indexes) COMPREPLY=($(compgen -d -- "$word")); return ;;
+        --relative-to | --indexes | --source-dir) COMPREPLY=($(compgen -d -- "$word")); return ;;
         --bias | --context | -C | --memory-limit) return ;;
     esac
     case $command in
-        where) options="$of_file --addresses --exe --basenames --relative-to --bias --functions --pretty --source --index --indexes --files --json" ;;
+        where) options="$of_file --addresses --exe --basenames --relative-to --bias --functions --pretty --source --source-dir --map --index --indexes --files --json" ;;
         index) options="$of_file --output" ;;
         at) options="$of_file --after-prologue --columns --range --json" ;;
-        source) options="$of_file --context --source --json" ;;
+        source) options="$of_file --context --source --source-dir --map --json" ;;
         rows) options="$of_file --whole-paths --json" ;;
         check) options="$of_file --deny --allow --all --json" ;;
         units | files | stat | diff) options="$of_file --json" ;;

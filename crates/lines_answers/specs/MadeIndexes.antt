@@ -3,7 +3,8 @@ use Rattle.std.specs.Prelude.{ℕ, Bool, List, []}
 use Rattle.std.specs.Option.{option_map}
 use Rattle.gimli_compilation.specs.Directories.{TellsDirectories, directory_for}
 use Rattle.gimli_compilation.specs.Sections.{sections_of}
-use Rattle.gimli_index.specs.Found.{IsIndexAppended, texts_of}
+use Rattle.gimli_index.specs.Found.{IsIndexAppended}
+use Rattle.gimli_lookup.specs.ProgramPaths.{texts_of}
 use Rattle.gimli_lookup.specs.Section.{KeptUnit}
 use Rattle.lines_inputs.specs.Lookups.{AreUnitsIn}
 use Rattle.lines_inputs.specs.declared.input.Input.{Input}

@@ -1,8 +1,9 @@
 //! The command `at`: the addresses to break at for a line or for a function.
 
+use crate::components::components_of;
 use crate::counted_rows::{WholeRun, units_of};
 use crate::covering::{Covering, CoveringRow};
-use crate::line_search::{LineRows, RowCounts, count_rows};
+use crate::line_search::{LineRows, RowCounts};
 use crate::meant_files::MeantFiles;
 use crate::path_rows::column_at;
 use crate::written_path::WrittenPaths;
@@ -10,8 +11,11 @@ use gimli_core::Reader;
 use lines_inputs::{Functions, Input, PathBudget, column_of, line_of};
 use lines_pieces::{Piece, Result, add, note};
 use lines_words::{Json, Output, Request, SourcePlace, bytes_of_word};
-use std::alloc::{AllocError, Global};
+use std::alloc::Global;
 use std::collections::BTreeSet;
+
+/// Of how many functions the rows are looked for without keeping all rows.
+const FEW: usize = 8;
 
 /// The addresses to break at for a line, in each file whose whole path ends with the components
 /// that are asked for, each path once. Where none of its rows is a statement, these are the
@@ -34,6 +38,8 @@ pub struct Addresses<'s, R: Reader> {
     last: Option<u64>,
     /// The addresses of statements that were printed.
     printed: BTreeSet<u64>,
+    /// Where the functions begin that are asked for.
+    starts: Vec<u64>,
     /// Whether a path had addresses.
     is_found: bool,
 }
@@ -47,11 +53,13 @@ enum Stage {
     Others,
     /// Those of the statements of a line.
     Statements(u64),
+    /// Where the functions begin.
+    Starts,
 }
 
 impl<'s, R: Reader> Addresses<'s, R> {
-    /// Finds the addresses of a place, and prints where a function begins. None where nothing is
-    /// left to be printed. Where there is no address, the command ends as refused.
+    /// Finds the addresses of a place: those of a line, or where the functions of a name begin.
+    /// None where there is none, which is reported; the command ends as refused then.
     pub fn new(
         alloc: Global,
         input: &'s Input<R>,
@@ -66,18 +74,73 @@ impl<'s, R: Reader> Addresses<'s, R> {
             functions,
             request,
         };
-        let mut found = None;
-        let has_address = match place {
-            SourcePlace::Line { path, line } => {
-                found = reading.find_line(path, line, output)?;
-                found.is_some()
-            }
-            SourcePlace::Function(name) => reading.print_function(name, output)?,
-        };
-        if !has_address {
-            output.refuse();
+        match place {
+            SourcePlace::Line { path, line } => reading.find_line(path, line, output),
+            SourcePlace::Function(name) => reading.find_functions(name, output),
         }
-        Ok(found)
+    }
+
+    /// Finds the addresses of the line in the files whose path ends so. False where no file has
+    /// such a path, and where more bytes of paths were read than may be, which is reported.
+    fn find(&mut self, path: &str, output: &mut Output<'_>) -> Result<bool> {
+        self.search.add_files(path, output)?;
+        if !self.search.has_files(path, output) {
+            output.refuse();
+            return Ok(false);
+        }
+        self.search.find_rows(&mut self.rows, self.line, output)?;
+        let addresses = self.asked_addresses(output)?;
+        self.search.cover(addresses)?;
+        Ok(true)
+    }
+
+    /// Finds where the functions of a name begin. False where no function has the name, and where
+    /// no row covers its code, which is reported.
+    fn find_functions(&mut self, name: &str, output: &mut Output<'_>) -> Result<bool> {
+        self.search.count_rows(None, output)?;
+        self.starts = self.search.reading.starts_of(name)?;
+        self.search.cover_starts(&self.starts)?;
+        self.stage = Stage::Starts;
+        let text = match self.starts.as_slice() {
+            [] => "no function has the name %",
+            starts if self.search.covers_none(starts) => "no rows have the code of %",
+            _ => return Ok(true),
+        };
+        note(text, &[Piece::Name(name)], output);
+        output.refuse();
+        Ok(false)
+    }
+
+    /// Prints where the next function begins; false where there is none left. One whose code no row
+    /// covers is passed over.
+    fn print_start(&mut self, output: &mut Output<'_>) -> Result<bool> {
+        let Some(start) = self.starts.get(self.seen).copied() else {
+            return Ok(false);
+        };
+        self.seen = self.seen.saturating_add(1);
+        self.is_found |= self.search.print_start(start, output)?;
+        Ok(true)
+    }
+
+    /// The addresses of which it is asked which rows cover them.
+    fn asked_addresses(&self, output: &Output<'_>) -> Result<Vec<u64>> {
+        let mut addresses = Vec::new(self.search.reading.alloc);
+        self.add_addresses(&mut addresses, output)?;
+        Ok(addresses)
+    }
+
+    /// Adds the addresses of which it is asked which rows cover them: none where that is known of
+    /// any address.
+    fn add_addresses(&self, addresses: &mut Vec<u64>, output: &Output<'_>) -> Result<()> {
+        let request = self.search.reading.request;
+        if request.is_after_prologue {
+            return Ok(());
+        }
+        self.rows.others.add_addresses(addresses)?;
+        if request.has_range || output.is_json() {
+            self.rows.addresses.add_addresses(addresses)?;
+        }
+        Ok(())
     }
 
     /// Prints addresses until the output is full, and returns whether more may follow. Where there
@@ -95,6 +158,11 @@ impl<'s, R: Reader> Addresses<'s, R> {
                 }
                 Stage::Others => self.print_other(output)?,
                 Stage::Statements(line) => self.print_statement(line, output)?,
+                Stage::Starts => {
+                    if !self.print_start(output)? {
+                        break;
+                    }
+                }
             }
         }
         if !self.is_found {
@@ -182,11 +250,21 @@ impl<'s, R: Reader> Addresses<'s, R> {
     /// Prints the address of the next statement of a line, each address of the path once.
     fn print_statement(&mut self, line: u64, output: &mut Output<'_>) -> Result<()> {
         let rows = self.rows.addresses.of_path(self.number);
-        let Some(address) = rows.get(self.seen).map(|row| row.address) else {
-            self.end_path(true);
-            return Ok(());
-        };
-        self.seen = self.seen.saturating_add(1);
+        match rows.get(self.seen) {
+            Some(row) => {
+                let address = row.address;
+                self.seen = self.seen.saturating_add(1);
+                self.print_breakpoint(line, address, output)
+            }
+            None => {
+                self.end_path(true);
+                Ok(())
+            }
+        }
+    }
+
+    /// Prints where to break for a statement at an address, unless that was printed.
+    fn print_breakpoint(&mut self, line: u64, address: u64, output: &mut Output<'_>) -> Result<()> {
         let breakpoint = self.search.breakpoint(address);
         if !self.printed.insert(breakpoint)? {
             return Ok(());
@@ -196,8 +274,8 @@ impl<'s, R: Reader> Addresses<'s, R> {
         }
         self.make_path()?;
         let column = column_at(self.rows.columns.of_path(self.number), address);
-        let search = &self.search;
-        search.print_address(&self.path, line, true, address, column, output);
+        self.search
+            .print_address(&self.path, line, true, address, column, output);
         Ok(())
     }
 }
@@ -212,93 +290,49 @@ struct Reading<'s, R: Reader> {
 }
 
 impl<'s, R: Reader> Reading<'s, R> {
-    /// The files whose paths are searched for, none yet.
-    fn files(&self, output: &Output<'_>) -> Result<MeantFiles<R>> {
+    /// A search for addresses, in which no file is meant yet.
+    fn search(&self, output: &Output<'_>) -> Result<Search<'s, R>> {
         let (alloc, input) = (self.alloc, self.input);
         let written = WrittenPaths::new(alloc, input)?;
         let budget = PathBudget::new(input, output.memory_limit());
         // Past a prologue may be a row of another file, which is printed instead.
         let are_printed = !self.request.is_after_prologue;
-        Ok(MeantFiles::new(alloc, written, budget, are_printed))
+        Ok(Search {
+            reading: *self,
+            files: MeantFiles::new(alloc, written, budget, are_printed),
+            counts: RowCounts::new(alloc),
+            covering: Covering::nothing(alloc),
+        })
     }
 
-    /// Finds the addresses of a line in the files whose path ends so. None where no file has such a
-    /// path, and where more bytes of paths were read than may be, which is reported.
+    /// Finds the addresses of a line in the files whose path ends so. None where there is none,
+    /// which is reported.
     fn find_line(
         &self,
         path: &str,
         line: u64,
         output: &mut Output<'_>,
     ) -> Result<Option<Addresses<'s, R>>> {
-        let (alloc, input) = (self.alloc, self.input);
-        let end = bytes_of_word(alloc, path)?;
-        let mut files = self.files(output)?;
-        let counts = count_rows(alloc, input, Some(&end), &mut files, output)?;
-        if files.budget.is_spent() {
-            output.clear();
-            output.tell(files.budget);
-            return Ok(None);
-        }
-        if files.paths.is_empty() {
-            note("no file's path ends with %", &[Piece::Name(path)], output);
-            return Ok(None);
-        }
-        let has_column = self.request.has_column || output.is_json();
-        let rows = LineRows::find(alloc, input, &files, &counts, line, has_column)?;
-        let has_range = self.request.has_range || output.is_json();
-        let covering = self.cover(&counts, &rows, has_range)?;
-        let search = Search {
-            reading: *self,
-            files,
-            covering,
-        };
-        Ok(Some(search.begin(rows, line)))
+        let mut addresses = self.search(output)?.begin(line);
+        let is_found = addresses.find(path, output)?;
+        Ok(is_found.then_some(addresses))
     }
 
-    /// What covers the addresses that are asked for.
-    fn cover(&self, counts: &RowCounts, rows: &LineRows, has_range: bool) -> Result<Covering<R>> {
-        if self.request.is_after_prologue {
-            return Covering::of_any(self.alloc, self.input);
-        }
-        let mut addresses = Vec::new(self.alloc);
-        for row in rows.others.all() {
-            addresses.push(row.address)?;
-        }
-        if has_range {
-            for row in rows.addresses.all() {
-                addresses.push(row.address)?;
-            }
-        }
-        Covering::of_some(self.alloc, self.input, &counts.all, addresses)
+    /// Finds where the functions of a name begin. None where there is none, which is reported.
+    fn find_functions(
+        &self,
+        name: &str,
+        output: &mut Output<'_>,
+    ) -> Result<Option<Addresses<'s, R>>> {
+        let mut addresses = self.search(output)?.begin(0);
+        let is_found = addresses.find_functions(name, output)?;
+        Ok(is_found.then_some(addresses))
     }
 
-    /// Prints where the code of a function begins, and returns whether a row covers it.
-    fn print_function(&self, name: &str, output: &mut Output<'_>) -> Result<bool> {
-        let (alloc, input) = (self.alloc, self.input);
-        let mut files = self.files(output)?;
-        let counts = count_rows(alloc, input, None, &mut files, output)?;
-        let word = bytes_of_word(alloc, name)?;
-        let Some((start, _)) = self.functions.range_of(&word) else {
-            note("no function has the name %", &[Piece::Name(name)], output);
-            return Ok(false);
-        };
-        let covering = if self.request.is_after_prologue {
-            Covering::of_any(alloc, input)?
-        } else {
-            let asked = Vec::from_slice(alloc, &[start])?;
-            Covering::of_some(alloc, input, &counts.all, asked)?
-        };
-        let mut search = Search {
-            reading: *self,
-            files,
-            covering,
-        };
-        let breakpoint = search.breakpoint(start);
-        let is_covered = search.print_row(breakpoint, output)?;
-        if !is_covered {
-            note("no rows have the code of %", &[Piece::Name(name)], output);
-        }
-        Ok(is_covered)
+    /// Where the code of the functions of a name begins.
+    fn starts_of(&self, name: &str) -> Result<Vec<u64>> {
+        let word = bytes_of_word(self.alloc, name)?;
+        self.functions.starts_of(self.alloc, &word)
     }
 }
 
@@ -308,16 +342,17 @@ struct Search<'s, R: Reader> {
     reading: Reading<'s, R>,
     /// The files whose paths are searched for.
     files: MeantFiles<R>,
+    counts: RowCounts,
     covering: Covering<R>,
 }
 
 impl<'s, R: Reader> Search<'s, R> {
-    /// The addresses of a line by its rows, of which none is printed.
-    fn begin(self, rows: LineRows, line: u64) -> Addresses<'s, R> {
+    /// The addresses of a line, of which none is found.
+    fn begin(self, line: u64) -> Addresses<'s, R> {
         let alloc = self.reading.alloc;
         Addresses {
             search: self,
-            rows,
+            rows: LineRows::new(alloc),
             line,
             number: 0,
             stage: Stage::Path,
@@ -325,8 +360,103 @@ impl<'s, R: Reader> Search<'s, R> {
             path: Vec::new(alloc),
             last: None,
             printed: BTreeSet::new(alloc),
+            starts: Vec::new(alloc),
             is_found: false,
         }
+    }
+
+    /// Counts the rows of all units, and adds the files whose path ends so.
+    fn add_files(&mut self, path: &str, output: &mut Output<'_>) -> Result<()> {
+        let end = bytes_of_word(self.reading.alloc, path)?;
+        self.add_files_of(&end, output)
+    }
+
+    /// Counts the rows of all units, and adds the files whose path ends with these bytes.
+    fn add_files_of(&mut self, end: &[u8], output: &mut Output<'_>) -> Result<()> {
+        let components = components_of(self.reading.alloc, end)?;
+        self.count_rows(Some(&components), output)
+    }
+
+    /// Counts the rows of all units, and adds the files whose path ends with some components.
+    fn count_rows(&mut self, end: Option<&[&[u8]]>, output: &mut Output<'_>) -> Result<()> {
+        let mut units = units_of(self.reading.alloc, self.reading.input);
+        self.counts
+            .add_units(&mut units, end, &mut self.files, output)
+    }
+
+    /// Whether files are meant. That there is none whose path ends so, and that more bytes of paths
+    /// were read than may be, is reported.
+    fn has_files(&self, path: &str, output: &mut Output<'_>) -> bool {
+        if self.files.budget.is_spent() {
+            output.clear();
+            output.tell(self.files.budget);
+            return false;
+        }
+        if self.files.paths.is_empty() {
+            note("no file's path ends with %", &[Piece::Name(path)], output);
+            return false;
+        }
+        true
+    }
+
+    /// Finds the rows of a line in the files that are meant.
+    fn find_rows(&self, rows: &mut LineRows, line: u64, output: &Output<'_>) -> Result<()> {
+        let Reading {
+            alloc,
+            input,
+            request,
+            ..
+        } = self.reading;
+        let has_column = request.has_column || output.is_json();
+        rows.find(alloc, input, &self.files, &self.counts, line, has_column)
+    }
+
+    /// Finds which rows cover addresses: any where those after prologues are asked for.
+    fn cover(&mut self, addresses: Vec<u64>) -> Result<()> {
+        let Reading {
+            alloc,
+            input,
+            request,
+            ..
+        } = self.reading;
+        let covering = if request.is_after_prologue {
+            Covering::of_any(alloc, input)
+        } else {
+            Covering::of_some(alloc, input, &self.counts.all, addresses)
+        };
+        self.covering = covering?;
+        Ok(())
+    }
+
+    /// Finds which rows cover the beginnings of functions: any rows where there are many functions,
+    /// since a unit is run again for each row that isn't kept.
+    fn cover_starts(&mut self, starts: &[u64]) -> Result<()> {
+        let Reading { alloc, input, .. } = self.reading;
+        if starts.len() > FEW {
+            self.covering = Covering::of_any(alloc, input)?;
+            return Ok(());
+        }
+        let asked = Vec::from_slice(alloc, starts)?;
+        self.cover(asked)
+    }
+
+    /// Whether no row covers any of some addresses.
+    fn covers_none(&self, addresses: &[u64]) -> bool {
+        for address in addresses {
+            if self.covering.find(*address).is_some() {
+                return false;
+            }
+        }
+        true
+    }
+
+    /// Prints where code begins that starts at an address, and returns whether a row covers it.
+    fn print_start(&mut self, start: u64, output: &mut Output<'_>) -> Result<bool> {
+        let breakpoint = self.breakpoint(start);
+        if self.print_row(breakpoint, output)? {
+            return Ok(true);
+        }
+        self.print_row(start, output)
     }
 
     /// An address, or that after the prologue where it is the beginning of a function, if that is
@@ -366,32 +496,29 @@ impl<'s, R: Reader> Search<'s, R> {
     /// The whole path of the file of a row that covers an address; None where it can't be told.
     /// Where no rows are kept, its unit is run again.
     fn path_of(&mut self, found: &CoveringRow) -> Result<Option<Vec<u8>>> {
-        let (alloc, number) = (self.reading.alloc, found.row.file_index());
-        let written = &mut self.files.written;
-        if let Covering::Kept(lookup) = &self.covering {
-            let unit = lookup.units().get(found.unit);
-            return match unit.and_then(|unit| unit.header()) {
-                Some(header) => written.whole_path(alloc, header, number),
-                None => Ok(None),
-            };
-        }
-        let mut units = units_of(alloc, self.reading.input);
-        for index in 0..usize::MAX {
-            let Ok(next) = units.next() else {
-                return Err(AllocError);
-            };
-            let Some(unit) = next else {
-                break;
-            };
-            match unit.program {
-                Ok(program) if index == found.unit => {
-                    let run = WholeRun::new(program)?;
-                    return written.whole_path(alloc, run.rows.header(), number);
-                }
-                _ => {}
+        let Covering::Kept(lookup) = &self.covering else {
+            return self.path_in_run(found);
+        };
+        let unit = lookup.units().get(found.unit);
+        match unit.and_then(|unit| unit.header()) {
+            Some(header) => {
+                let (alloc, number) = (self.reading.alloc, found.row.file_index());
+                self.files.written.whole_path(alloc, header, number)
             }
+            None => Ok(None),
         }
-        Ok(None)
+    }
+
+    /// The whole path of the file of a row, as `path_of` has it, whose unit is run again.
+    fn path_in_run(&mut self, found: &CoveringRow) -> Result<Option<Vec<u8>>> {
+        let (alloc, number) = (self.reading.alloc, found.row.file_index());
+        match WholeRun::at(alloc, self.reading.input, found.unit)? {
+            Some(run) => self
+                .files
+                .written
+                .whole_path(alloc, run.rows.header(), number),
+            None => Ok(None),
+        }
     }
 
     /// The column of the row that covers an address, if it begins there, and is one of a line of a

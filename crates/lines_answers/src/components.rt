@@ -8,9 +8,17 @@ use crate::written_path::is_separator;
 use lines_pieces::Result;
 use std::alloc::Global;
 
+/// Whether a path begins at the root.
+pub(crate) fn begins_with_root(path: &[u8]) -> bool {
+    match path.first() {
+        Some(byte) => is_separator(*byte),
+        None => false,
+    }
+}
+
 /// The components of a path in order.
 pub(crate) fn components_of(alloc: Global, path: &[u8]) -> Result<Vec<&[u8]>> {
-    let is_whole = matches!(path, [b'/' | b'\\', ..]);
+    let is_whole = begins_with_root(path);
     let mut components: Vec<&[u8]> = Vec::new(alloc);
     if is_whole {
         components.push(b"")?;
@@ -82,7 +90,7 @@ impl<'p> PathLeft<'p> {
             text,
             rest: [directory, base],
             ups: 0,
-            is_whole: matches!(first, [b'/' | b'\\', ..]),
+            is_whole: begins_with_root(first),
             dropped: 0,
         }
     }

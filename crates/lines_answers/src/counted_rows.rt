@@ -2,9 +2,10 @@
 //! the first fault of their unit. None is kept.
 
 use gimli_core::{Error, Reader};
-use gimli_line::{IncompleteLineProgram, LineRow, LineUnits, OneShotLineRows};
+use gimli_line::{IncompleteLineProgram, LineRow, LineUnit, LineUnits, OneShotLineRows};
 use lines_inputs::Input;
 use lines_pieces::Result;
+use lines_words::Output;
 use std::alloc::{AllocError, Global};
 
 /// The units of a section of line programs.
@@ -20,7 +21,7 @@ pub(crate) struct WholeRun<R: Reader> {
     pub(crate) rows: OneShotLineRows<R>,
     /// How many rows count.
     pub(crate) count: u64,
-    pub(crate) fault: Option<Error>,
+    fault: Option<Error>,
 }
 
 impl<R: Reader> WholeRun<R> {
@@ -31,24 +32,67 @@ impl<R: Reader> WholeRun<R> {
             count: 0,
             fault: None,
         };
+        run.run()?;
+        Ok(run)
+    }
+
+    /// Runs the unit of an index. None where there is none, or its header is refused.
+    pub(crate) fn at(alloc: Global, input: &Input<R>, index: usize) -> Result<Option<WholeRun<R>>> {
+        let mut units = units_of(alloc, input);
+        run_at(&mut units, index)
+    }
+
+    /// Runs through all rows.
+    fn run(&mut self) -> Result<()> {
         let mut made: u64 = 0;
         for _ in 0..u64::MAX {
-            match run.rows.next_any_row() {
+            match self.rows.next_any_row() {
                 Ok(Some((_, row))) => {
                     made = made.saturating_add(1);
                     if row.end_sequence() {
-                        run.count = made;
+                        self.count = made;
                     }
                 }
                 Ok(None) => break,
                 Err(Error::OutOfMemory) => return Err(AllocError),
                 Err(fault) => {
-                    run.fault = Some(fault);
+                    self.fault = Some(fault);
                     break;
                 }
             }
         }
-        Ok(run)
+        Ok(())
+    }
+
+    /// Reports the fault of the unit at an offset, where there is one.
+    pub(crate) fn tell_fault(&self, offset: u64, output: &mut Output<'_>) {
+        if let Some(fault) = self.fault {
+            output.tell_of_unit(offset, format_args!("in its rows: {fault}"));
+        }
+    }
+}
+
+/// Runs the unit of an index, as `WholeRun::at` does.
+fn run_at<R: Reader>(units: &mut LineUnits<R>, index: usize) -> Result<Option<WholeRun<R>>> {
+    for number in 0..usize::MAX {
+        match units.next() {
+            Ok(Some(unit)) if number == index => return run_of(unit),
+            Ok(Some(_)) => {}
+            Ok(None) => break,
+            Err(_) => return Err(AllocError),
+        }
+    }
+    Ok(None)
+}
+
+/// Runs a unit. None where its header is refused.
+fn run_of<R: Reader>(unit: LineUnit<R>) -> Result<Option<WholeRun<R>>> {
+    match unit.program {
+        Ok(program) => {
+            let run = WholeRun::new(program)?;
+            Ok(Some(run))
+        }
+        Err(_) => Ok(None),
     }
 }
 
@@ -92,19 +136,24 @@ impl<'c, R: Reader> CountedRows<'c, R> {
 
     /// Begins the next unit; false where there is none.
     fn begin_unit(&mut self) -> Result<bool> {
-        let Ok(next) = self.units.next() else {
-            return Err(AllocError);
-        };
-        let Some(unit) = next else {
-            return Ok(false);
-        };
+        match self.units.next() {
+            Ok(Some(unit)) => {
+                self.begin(unit);
+                Ok(true)
+            }
+            Ok(None) => Ok(false),
+            Err(_) => Err(AllocError),
+        }
+    }
+
+    /// Begins a unit.
+    fn begin(&mut self, unit: LineUnit<R>) {
         self.left = 0;
         if let Ok(program) = unit.program {
             self.left = self.counts.get(self.begun).copied().unwrap_or(0);
             self.rows = Some(program.rows());
         }
         self.begun = self.begun.saturating_add(1);
-        Ok(true)
     }
 
     /// The next row of the unit; None where it has no more that count.

@@ -38,18 +38,36 @@ pub(crate) struct FoundRows {
 }
 
 impl FoundRows {
+    /// No row is found, of no address.
+    fn nothing(alloc: Global) -> FoundRows {
+        FoundRows {
+            addresses: Vec::new(alloc),
+            rows: Vec::new(alloc),
+            next: Vec::new(alloc),
+        }
+    }
+
     /// No row is found of these addresses.
-    fn new(alloc: Global, mut addresses: Vec<u64>) -> Result<FoundRows> {
-        addresses.sort_unstable();
-        addresses.dedup();
-        let mut rows = Vec::new(alloc);
-        rows.resize(addresses.len(), None)?;
-        let next = (0..addresses.len()).collect(alloc)?;
-        Ok(FoundRows {
+    fn new(alloc: Global, addresses: Vec<u64>) -> Result<FoundRows> {
+        let mut found = FoundRows {
             addresses,
-            rows,
-            next,
-        })
+            rows: Vec::new(alloc),
+            next: Vec::new(alloc),
+        };
+        found.begin()?;
+        Ok(found)
+    }
+
+    /// Puts the addresses in order. No row is found of them.
+    fn begin(&mut self) -> Result<()> {
+        self.addresses.sort_unstable();
+        self.addresses.dedup();
+        let count = self.addresses.len();
+        self.rows.resize(count, None)?;
+        for index in 0..count {
+            self.next.push(index)?;
+        }
+        Ok(())
     }
 
     /// The index of the first address from that of an index on that has no row.
@@ -92,6 +110,37 @@ impl FoundRows {
         }
     }
 
+    /// Finds the rows in one run over the rows that count, unless there is no address.
+    fn run<R: Reader>(&mut self, alloc: Global, input: &Input<R>, counts: &[u64]) -> Result<()> {
+        if self.addresses.is_empty() {
+            return Ok(());
+        }
+        let mut rows = CountedRows::new(alloc, input, counts);
+        self.take_all(&mut rows)
+    }
+
+    /// Takes rows for the addresses that they cover.
+    fn take_all<R: Reader>(&mut self, rows: &mut CountedRows<'_, R>) -> Result<()> {
+        let mut last: Option<LineRow> = None;
+        for _ in 0..u64::MAX {
+            let Some(CountedRow { unit, row, stands }) = rows.next_row()? else {
+                break;
+            };
+            match last {
+                Some(last) if stands && last.address() < row.address() => {
+                    self.take(unit, last, row.address());
+                }
+                _ => {}
+            }
+            last = if stands && !row.end_sequence() {
+                Some(row)
+            } else {
+                None
+            };
+        }
+        Ok(())
+    }
+
     /// The row that covers an address; None at one that isn't among these.
     fn find(&self, address: u64) -> Option<CoveringRow> {
         let index = self.addresses.partition_point(|other| *other < address);
@@ -103,6 +152,11 @@ impl FoundRows {
 }
 
 impl<R: Reader> Covering<R> {
+    /// For no address.
+    pub(crate) fn nothing(alloc: Global) -> Covering<R> {
+        Covering::Found(FoundRows::nothing(alloc))
+    }
+
     /// Keeps the rows of all units.
     pub(crate) fn of_any(alloc: Global, input: &Input<R>) -> Result<Covering<R>> {
         let (size, lowest) = (input.notation.address_size.bytes(), input.notation.lowest);
@@ -120,27 +174,7 @@ impl<R: Reader> Covering<R> {
         addresses: Vec<u64>,
     ) -> Result<Covering<R>> {
         let mut found = FoundRows::new(alloc, addresses)?;
-        if found.addresses.is_empty() {
-            return Ok(Covering::Found(found));
-        }
-        let mut rows = CountedRows::new(alloc, input, counts);
-        let mut last: Option<LineRow> = None;
-        for _ in 0..u64::MAX {
-            let Some(CountedRow { unit, row, stands }) = rows.next_row()? else {
-                break;
-            };
-            match last {
-                Some(last) if stands && last.address() < row.address() => {
-                    found.take(unit, last, row.address());
-                }
-                _ => {}
-            }
-            last = if stands && !row.end_sequence() {
-                Some(row)
-            } else {
-                None
-            };
-        }
+        found.run(alloc, input, counts)?;
         Ok(Covering::Found(found))
     }
 

@@ -1,11 +1,10 @@
 //! The search for the rows of a line in the files that a path names.
 
-use crate::components::components_of;
-use crate::counted_rows::{CountedRow, CountedRows, WholeRun, units_of};
+use crate::counted_rows::{CountedRow, CountedRows, WholeRun};
 use crate::meant_files::MeantFiles;
 use crate::path_rows::{PathRow, PathRows};
 use gimli_core::{Error, Reader, ReaderOffset};
-use gimli_line::LineUnit;
+use gimli_line::{LineUnit, LineUnits};
 use lines_inputs::{Input, column_of, line_of};
 use lines_pieces::Result;
 use lines_words::Output;
@@ -19,62 +18,83 @@ pub(crate) struct RowCounts {
     pub(crate) meant: Vec<u64>,
 }
 
-/// Counts the rows of all units, and adds their files whose paths end with some bytes, where files
-/// are meant, up to the unit with which more bytes of paths were read than may be. The fault of
-/// each unit is reported.
-pub(crate) fn count_rows<R: Reader>(
-    alloc: Global,
-    input: &Input<R>,
-    end: Option<&[u8]>,
-    files: &mut MeantFiles<R>,
-    output: &mut Output<'_>,
-) -> Result<RowCounts> {
-    let mut counts = RowCounts {
-        all: Vec::new(alloc),
-        meant: Vec::new(alloc),
-    };
-    let mut units = units_of(alloc, input);
-    for index in 0..usize::MAX {
-        if files.budget.is_spent() {
-            break;
+impl RowCounts {
+    /// No unit was counted.
+    pub(crate) fn new(alloc: Global) -> RowCounts {
+        RowCounts {
+            all: Vec::new(alloc),
+            meant: Vec::new(alloc),
         }
-        let Ok(next) = units.next() else {
-            return Err(AllocError);
-        };
-        let Some(unit) = next else {
-            break;
-        };
-        let run = run_unit(unit, output)?;
-        let (mut count, mut is_meant) = (0, false);
-        if let Some(run) = &run {
-            count = run.count;
-            if let Some(end) = end {
-                let components = components_of(alloc, end)?;
-                is_meant = files.add_unit(alloc, index, run.rows.header(), &components)?;
+    }
+
+    /// Counts the rows of all units, and adds their files whose paths end with some components,
+    /// where files are meant, up to the unit with which more bytes of paths were read than may be.
+    /// The fault of each unit is reported.
+    pub(crate) fn add_units<R: Reader>(
+        &mut self,
+        units: &mut LineUnits<R>,
+        end: Option<&[&[u8]]>,
+        files: &mut MeantFiles<R>,
+        output: &mut Output<'_>,
+    ) -> Result<()> {
+        for index in 0..usize::MAX {
+            if files.budget.is_spent() {
+                break;
+            }
+            match units.next() {
+                Ok(Some(unit)) => self.add_unit(index, unit, end, files, output)?,
+                Ok(None) => break,
+                Err(_) => return Err(AllocError),
             }
         }
-        counts.all.push(count)?;
-        counts.meant.push(if is_meant { count } else { 0 })?;
+        Ok(())
     }
-    Ok(counts)
-}
 
-/// Runs a unit. Its fault is reported. None where its header is refused.
-fn run_unit<R: Reader>(unit: LineUnit<R>, output: &mut Output<'_>) -> Result<Option<WholeRun<R>>> {
-    let offset = unit.offset.0.into_u64();
-    let program = match unit.program {
-        Ok(program) => program,
-        Err(Error::OutOfMemory) => return Err(AllocError),
-        Err(refusal) => {
-            output.tell_of_unit(offset, refusal);
-            return Ok(None);
+    /// Counts the rows of a unit: none where its header is refused, which is reported.
+    fn add_unit<R: Reader>(
+        &mut self,
+        index: usize,
+        unit: LineUnit<R>,
+        end: Option<&[&[u8]]>,
+        files: &mut MeantFiles<R>,
+        output: &mut Output<'_>,
+    ) -> Result<()> {
+        let offset = unit.offset.0.into_u64();
+        match unit.program {
+            Ok(program) => {
+                let run = WholeRun::new(program)?;
+                run.tell_fault(offset, output);
+                self.add_run(index, &run, end, files)
+            }
+            Err(Error::OutOfMemory) => Err(AllocError),
+            Err(refusal) => {
+                output.tell_of_unit(offset, refusal);
+                self.push(0, false)
+            }
         }
-    };
-    let run = WholeRun::new(program)?;
-    if let Some(fault) = run.fault {
-        output.tell_of_unit(offset, format_args!("in its rows: {fault}"));
     }
-    Ok(Some(run))
+
+    /// Counts the rows of a run of a unit, and adds its files.
+    fn add_run<R: Reader>(
+        &mut self,
+        index: usize,
+        run: &WholeRun<R>,
+        end: Option<&[&[u8]]>,
+        files: &mut MeantFiles<R>,
+    ) -> Result<()> {
+        let is_meant = match end {
+            Some(end) => files.add_unit(index, run.rows.header(), end)?,
+            None => false,
+        };
+        self.push(run.count, is_meant)
+    }
+
+    /// Adds the count of a unit.
+    fn push(&mut self, count: u64, is_meant: bool) -> Result<()> {
+        self.all.push(count)?;
+        self.meant.push(if is_meant { count } else { 0 })?;
+        Ok(())
+    }
 }
 
 /// The rows of a line in files.
@@ -91,34 +111,62 @@ pub(crate) struct LineRows {
 }
 
 impl LineRows {
-    /// Finds the rows of a line.
+    /// No row was found.
+    pub(crate) fn new(alloc: Global) -> LineRows {
+        LineRows {
+            lines: Vec::new(alloc),
+            addresses: PathRows::new(alloc),
+            columns: PathRows::new(alloc),
+            others: PathRows::new(alloc),
+        }
+    }
+
+    /// Finds the rows of a line among the rows that count of units.
     pub(crate) fn find<R: Reader>(
+        &mut self,
         alloc: Global,
         input: &Input<R>,
         files: &MeantFiles<R>,
         counts: &RowCounts,
         line: u64,
         has_column: bool,
-    ) -> Result<LineRows> {
-        let mut found = LineRows {
-            lines: Vec::new(alloc),
-            addresses: PathRows::new(alloc),
-            columns: PathRows::new(alloc),
-            others: PathRows::new(alloc),
-        };
-        found.lines.resize(files.paths.len(), None)?;
+    ) -> Result<()> {
         let mut rows = CountedRows::new(alloc, input, &counts.meant);
+        let mut again = CountedRows::new(alloc, input, &counts.meant);
+        self.find_among(&mut rows, &mut again, files, line, has_column)
+    }
+
+    /// Finds the rows of a line among rows that are run twice.
+    fn find_among<R: Reader>(
+        &mut self,
+        rows: &mut CountedRows<'_, R>,
+        again: &mut CountedRows<'_, R>,
+        files: &MeantFiles<R>,
+        line: u64,
+        has_column: bool,
+    ) -> Result<()> {
+        self.lines.resize(files.paths.len(), None)?;
+        self.see_all(rows, files, line)?;
+        self.collect(again, files, line, has_column)?;
+        self.addresses.put_in_order()?;
+        self.columns.put_in_order()?;
+        self.others.put_in_order()
+    }
+
+    /// Sees the line of each row.
+    fn see_all<R: Reader>(
+        &mut self,
+        rows: &mut CountedRows<'_, R>,
+        files: &MeantFiles<R>,
+        asked: u64,
+    ) -> Result<()> {
         for _ in 0..u64::MAX {
-            let Some(row) = rows.next_row()? else {
-                break;
-            };
-            found.see(files, &row, line);
+            match rows.next_row()? {
+                Some(row) => self.see(files, &row, asked),
+                None => break,
+            }
         }
-        found.collect(alloc, input, files, counts, line, has_column)?;
-        found.addresses.put_in_order()?;
-        found.columns.put_in_order()?;
-        found.others.put_in_order()?;
-        Ok(found)
+        Ok(())
     }
 
     /// Sees the line of a row, if it is a statement from the asked line on.
@@ -148,14 +196,11 @@ impl LineRows {
     /// Collects the rows of the lines that were seen.
     fn collect<R: Reader>(
         &mut self,
-        alloc: Global,
-        input: &Input<R>,
+        rows: &mut CountedRows<'_, R>,
         files: &MeantFiles<R>,
-        counts: &RowCounts,
         asked: u64,
         has_column: bool,
     ) -> Result<()> {
-        let mut rows = CountedRows::new(alloc, input, &counts.meant);
         // The group whose rows of the line stand side by side, and have an address already.
         let mut begun: Option<usize> = None;
         for _ in 0..u64::MAX {

@@ -86,19 +86,8 @@ fn index_of_input<R: Reader>(
     let lookup = look_up(alloc, input, output)?;
     let mut bytes = Vec::new(alloc);
     let size = u16::from(input.notation.address_size.bytes());
-    let strings = sources.strings();
-    let compilations = sources.compilations();
-    let out = &mut bytes;
-    match write_index(
-        alloc,
-        &lookup,
-        strings,
-        compilations,
-        size,
-        identity,
-        limit,
-        out,
-    ) {
+    let paths = sources.paths();
+    match write_index(alloc, &lookup, paths, size, identity, limit, &mut bytes) {
         Ok(()) => Ok(Some(bytes)),
         Err(MakeError::OutOfMemory) => Err(AllocError),
         Err(refusal) => {

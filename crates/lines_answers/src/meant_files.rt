@@ -34,6 +34,7 @@ struct Spelling {
 /// as one file.
 #[derive(Drop)]
 pub(crate) struct MeantFiles<R: Reader> {
+    alloc: Global,
     /// What paths are read from.
     pub(crate) written: WrittenPaths<R>,
     /// Each path by its first spelling, in the order in which they are found.
@@ -63,6 +64,7 @@ impl<R: Reader> MeantFiles<R> {
         are_printed: bool,
     ) -> MeantFiles<R> {
         MeantFiles {
+            alloc,
             written,
             paths: Vec::new(alloc),
             files: Vec::new(alloc),
@@ -81,33 +83,42 @@ impl<R: Reader> MeantFiles<R> {
     /// path is skipped. Returns whether there is any.
     pub(crate) fn add_unit(
         &mut self,
-        alloc: Global,
         unit: usize,
         header: &LineProgramHeader<R>,
         end: &[&[u8]],
     ) -> Result<bool> {
         let before = self.files.len();
-        self.of_unit = BTreeMap::new(alloc);
+        self.of_unit = BTreeMap::new(self.alloc);
         for number in 0..=header.file_names().len() as u64 {
             if self.budget.is_spent() {
                 break;
             }
-            let Some(path) = self.written.of_file(header, number)? else {
-                continue;
-            };
-            if !path.ends_with(end, &mut self.budget)? {
-                continue;
-            }
-            if let Some(file) = header.file(number) {
-                let group = self.group_of(unit, file, path)?;
-                self.files.push(MeantFile {
-                    unit,
-                    number,
-                    group,
-                })?;
+            match (self.written.of_file(header, number)?, header.file(number)) {
+                (Some(path), Some(file)) => self.add_file(unit, number, file, path, end)?,
+                _ => {}
             }
         }
         Ok(self.files.len() > before)
+    }
+
+    /// Adds a file of a unit, if its path ends with these components.
+    fn add_file(
+        &mut self,
+        unit: usize,
+        number: u64,
+        file: &FileEntry<R>,
+        path: WrittenPath<R>,
+        end: &[&[u8]],
+    ) -> Result<()> {
+        if path.ends_with(end, &mut self.budget)? {
+            let group = self.group_of(unit, file, path)?;
+            self.files.push(MeantFile {
+                unit,
+                number,
+                group,
+            })?;
+        }
+        Ok(())
     }
 
     /// The group of a file, by what its header says of it.

@@ -4,6 +4,7 @@
 //! the paths of a file can't be chosen so that their keys collide. What comes of the directory of a
 //! compilation is kept for the files that follow in it.
 
+use crate::components::begins_with_root;
 use crate::written_path::{WrittenPath, append_piece, bytes_in, is_separator};
 use gimli_core::{AttributeValue, Reader, ReaderOffset};
 use gimli_line::FileEntry;
@@ -30,7 +31,13 @@ fn with_component(before: Sum, component: &[u8]) -> Sum {
 pub(crate) fn sum_of_entry<R: Reader>(file: &FileEntry<R>) -> Result<Sum> {
     let mut hasher = Sha256::new();
     hasher.update(file.directory_index().to_le_bytes().as_slice());
-    match file.path_name() {
+    add_name(file.path_name(), &mut hasher)?;
+    Ok(hasher.finalize())
+}
+
+/// Adds to a digest what a header says of the name of a file.
+fn add_name<R: Reader>(name: AttributeValue<R>, hasher: &mut Sha256) -> Result<()> {
+    match name {
         AttributeValue::DebugLineStrRef(offset) => {
             hasher.update(b"l");
             hasher.update(offset.0.into_u64().to_le_bytes().as_slice());
@@ -47,7 +54,7 @@ pub(crate) fn sum_of_entry<R: Reader>(file: &FileEntry<R>) -> Result<Sum> {
         }
         _ => {}
     }
-    Ok(hasher.finalize())
+    Ok(())
 }
 
 /// Components of a path from its first one on, each by the digest of those up to it.
@@ -75,7 +82,7 @@ impl Levels {
 #[derive(Drop)]
 struct Way<'l> {
     before: &'l [Sum],
-    own: Levels,
+    own: &'l mut Levels,
 }
 
 impl Way<'_> {
@@ -119,7 +126,7 @@ impl Way<'_> {
     /// Goes along a piece of the path, which begins at the root where it is its first one and
     /// begins with a separator.
     fn go_along(&mut self, piece: &[u8]) -> Result<()> {
-        if self.count() == 0 && matches!(piece, [b'/' | b'\\', ..]) {
+        if self.count() == 0 && begins_with_root(piece) {
             self.go_down(b"")?;
             self.own.is_whole = true;
             self.own.fixed = 1;
@@ -132,6 +139,13 @@ impl Way<'_> {
             }
         }
         Ok(())
+    }
+
+    /// Goes along the directory and the name of a path, and returns the digest of all components.
+    fn go_along_path<R: Reader>(&mut self, path: &WrittenPath<R>) -> Result<Sum> {
+        self.go_along(&bytes_in(&path.directory)?)?;
+        self.go_along(&bytes_in(&path.name)?)?;
+        Ok(self.sum())
     }
 }
 
@@ -192,23 +206,25 @@ impl<R: Reader> PathDigests<R> {
             return Ok(());
         }
         self.base = None;
-        let bytes = bytes_in(base)?;
-        let mut hasher = Sha256::new();
-        let whole: &[u8] = &bytes;
-        hasher.update(whole);
-        match whole.last() {
-            Some(byte) if !is_separator(*byte) => hasher.update(b"/"),
-            _ => {}
-        }
-        let mut way = Way {
-            before: &[],
-            own: Levels::new(self.alloc),
-        };
-        way.go_along(whole)?;
-        self.bytes = hasher;
-        self.levels = way.own;
+        self.begin_bytes(&bytes_in(base)?)?;
         self.base = Some(*base);
         Ok(())
+    }
+
+    /// Goes on to paths in a directory with these bytes.
+    fn begin_bytes(&mut self, base: &[u8]) -> Result<()> {
+        self.bytes = Sha256::new();
+        self.bytes.update(base);
+        match base.last() {
+            Some(byte) if !is_separator(*byte) => self.bytes.update(b"/"),
+            _ => {}
+        }
+        self.levels = Levels::new(self.alloc);
+        let mut way = Way {
+            before: &[],
+            own: &mut self.levels,
+        };
+        way.go_along(base)
     }
 
     /// The digest of the bytes of a path in the directory that was begun last, or in none.
@@ -216,11 +232,17 @@ impl<R: Reader> PathDigests<R> {
         let mut own = Vec::new(self.alloc);
         append_piece(&mut own, &path.directory)?;
         append_piece(&mut own, &path.name)?;
-        let mut hasher = Sha256::new();
-        if !path.base.is_empty() {
-            hasher = self.bytes.clone()?;
-        }
-        hasher.update(own.as_slice());
+        self.with_bytes(&own, path.base.is_empty())
+    }
+
+    /// The digest of bytes in the directory that was begun last, or in none.
+    fn with_bytes(&self, own: &[u8], is_in_none: bool) -> Result<Sum> {
+        let mut hasher = if is_in_none {
+            Sha256::new()
+        } else {
+            self.bytes.clone()?
+        };
+        hasher.update(own);
         Ok(hasher.finalize())
     }
 
@@ -233,9 +255,10 @@ impl<R: Reader> PathDigests<R> {
             own.fixed = self.levels.fixed;
             own.is_whole = self.levels.is_whole;
         }
-        let mut way = Way { before, own };
-        way.go_along(&bytes_in(&path.directory)?)?;
-        way.go_along(&bytes_in(&path.name)?)?;
-        Ok(way.sum())
+        let mut way = Way {
+            before,
+            own: &mut own,
+        };
+        way.go_along_path(path)
     }
 }

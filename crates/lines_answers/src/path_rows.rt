@@ -71,9 +71,12 @@ impl PathRows {
         self.rows.get(start..end).unwrap_or(&[])
     }
 
-    /// All rows.
-    pub(crate) fn all(&self) -> &[PathRow] {
-        &self.rows
+    /// Adds the addresses of all rows to others.
+    pub(crate) fn add_addresses(&self, addresses: &mut Vec<u64>) -> Result<()> {
+        for row in &self.rows {
+            addresses.push(row.address)?;
+        }
+        Ok(())
     }
 }
 

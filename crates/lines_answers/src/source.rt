@@ -6,7 +6,7 @@ use crate::written_path::{WrittenPath, WrittenPaths};
 use gimli_core::{Reader, ReaderOffset};
 use gimli_line::{FileEntry, LineProgramHeader, LineRow};
 use lines_inputs::{Functions, Input, PathBudget, Printing, UnitRows, Walk, line_of};
-use lines_pieces::{Piece, Result, tell};
+use lines_pieces::{Piece, Result, note, tell};
 use lines_places::SourceRow;
 use lines_words::{Output, SourcePlace, UnitChoice, bytes_of_word};
 use std::alloc::{AllocError, Global};
@@ -69,16 +69,8 @@ impl<'w, R: Reader> SourceRows<'w, R> {
         context: u64,
         output: &mut Output<'_>,
     ) -> Result<Option<SourceRows<'w, R>>> {
-        let (end, code) = match place {
-            SourcePlace::Line { path, .. } => (bytes_of_word(alloc, path)?, (0, 0)),
-            SourcePlace::Function(name) => {
-                let word = bytes_of_word(alloc, name)?;
-                let Some(code) = functions.range_of(&word) else {
-                    tell("no function has the name %", &[Piece::Name(name)], output);
-                    return Ok(None);
-                };
-                (word, code)
-            }
+        let Some((end, code)) = searched_of(alloc, functions, place, output)? else {
+            return Ok(None);
         };
         let written = WrittenPaths::new(alloc, input)?;
         Ok(Some(SourceRows {
@@ -113,18 +105,31 @@ impl<'w, R: Reader> SourceRows<'w, R> {
     }
 
     /// Adds the rows of a unit that are wanted, up to the one with which more bytes of paths were
-    /// read than may be. The fault of the unit is reported.
-    fn add_unit(&mut self, unit: &mut UnitRows<R>, output: &mut Output<'_>) -> Result<()> {
+    /// read than may be, and returns whether more may follow. The fault of the unit is reported.
+    fn add_unit(&mut self, unit: &mut UnitRows<R>, output: &mut Output<'_>) -> Result<bool> {
         self.of_unit = BTreeMap::new(self.alloc);
         self.files.clear();
         if matches!(self.place, SourcePlace::Line { .. }) {
-            for index in 0..=unit.header().file_names().len() as u64 {
-                if self.budget.is_spent() {
-                    break;
-                }
-                self.number_of(unit.header(), index)?;
-            }
+            self.add_files(unit.header())?;
         }
+        self.add_rows(unit)?;
+        unit.tell_fault(output);
+        Ok(!self.is_refused(output))
+    }
+
+    /// Adds the files of a unit that are wanted.
+    fn add_files(&mut self, header: &LineProgramHeader<R>) -> Result<()> {
+        for index in 0..=header.file_names().len() as u64 {
+            if self.budget.is_spent() {
+                break;
+            }
+            self.number_of(header, index)?;
+        }
+        Ok(())
+    }
+
+    /// Adds the rows of a unit that are wanted.
+    fn add_rows(&mut self, unit: &mut UnitRows<R>) -> Result<()> {
         for _ in 0..u64::MAX {
             if self.budget.is_spent() {
                 break;
@@ -136,7 +141,6 @@ impl<'w, R: Reader> SourceRows<'w, R> {
                 self.add_row(unit.header(), &row)?;
             }
         }
-        unit.tell_fault(output);
         Ok(())
     }
 
@@ -209,11 +213,8 @@ impl<'w, R: Reader> SourceRows<'w, R> {
         let Some(path) = self.written.of_file(header, index)? else {
             return Ok(None);
         };
-        if matches!(self.place, SourcePlace::Line { .. }) {
-            let components = components_of(self.alloc, &self.end)?;
-            if !path.ends_with(&components, &mut self.budget)? {
-                return Ok(None);
-            }
+        if !self.is_named(&path)? {
+            return Ok(None);
         }
         let entry = sum_of_entry(file)?;
         if let Some(number) = self.of_unit.get(&entry).copied() {
@@ -224,6 +225,15 @@ impl<'w, R: Reader> SourceRows<'w, R> {
         let number = self.number_of_path(path)?;
         self.of_unit.insert(entry, number)?;
         Ok(Some(number))
+    }
+
+    /// Whether a path ends with the components that are asked for, where a line is.
+    fn is_named(&mut self, path: &WrittenPath<R>) -> Result<bool> {
+        if !matches!(self.place, SourcePlace::Line { .. }) {
+            return Ok(true);
+        }
+        let components = components_of(self.alloc, &self.end)?;
+        path.ends_with(&components, &mut self.budget)
     }
 
     /// The number of a path in the directory that was begun last, or in none. It is appended where
@@ -270,10 +280,7 @@ impl<'w, R: Reader> SourceRows<'w, R> {
     /// reported. There are none where more bytes of paths were read than may be, which is reported.
     pub fn add_next(&mut self, output: &mut Output<'_>) -> Result<bool> {
         match self.walk.next_rows(output)? {
-            Some(mut unit) => {
-                self.add_unit(&mut unit, output)?;
-                Ok(!self.is_refused(output))
-            }
+            Some(mut unit) => self.add_unit(&mut unit, output),
             None => self.finish(output),
         }
     }
@@ -303,5 +310,34 @@ impl<'w, R: Reader> SourceRows<'w, R> {
             tell(text, &[Piece::Name(name)], output);
         }
         Ok(false)
+    }
+}
+
+/// What is searched for: the end of paths where a line is asked for, and the addresses of a
+/// function where one is. None where no function has the name, which is reported.
+fn searched_of(
+    alloc: Global,
+    functions: &Functions<'_>,
+    place: SourcePlace<'_>,
+    output: &mut Output<'_>,
+) -> Result<Option<(Vec<u8>, (u64, u64))>> {
+    match place {
+        SourcePlace::Line { path, .. } => {
+            let end = bytes_of_word(alloc, path)?;
+            Ok(Some((end, (0, 0))))
+        }
+        SourcePlace::Function(name) => {
+            let word = bytes_of_word(alloc, name)?;
+            let Some(code) = functions.range_of(&word) else {
+                tell("no function has the name %", &[Piece::Name(name)], output);
+                return Ok(None);
+            };
+            let count = functions.starts_of(alloc, &word)?.len() as u64;
+            if count > 1 {
+                let pieces = [Piece::Number(count), Piece::Name(name)];
+                note("the first of % functions of the name %", &pieces, output);
+            }
+            Ok(Some((word, code)))
+        }
     }
 }

@@ -9,7 +9,9 @@ use elf_sections::ElfError;
 use gimli_core::Reader;
 use lines_answers::{Addresses, SourceRows};
 use lines_inputs::{Functions, Input, InputError, InputSections, tell_refusal};
-use lines_places::{Answered, Asked, PlacePrinter, Places, print_below, print_lines};
+use lines_places::{
+    Answered, Asked, PlacePrinter, Places, SourceLine, SourceRow, print_below, print_lines,
+};
 use lines_reports::{Diff, Report};
 use lines_words::{CodeAddress, Command, Files, InputKind, PathText, Request, SourcePlace};
 use std::io::ErrorKind;
@@ -57,42 +59,68 @@ impl<'r> Session<'r> {
         input: &Input<R>,
         files: Files<'_>,
     ) -> io::Result<()> {
-        let Run { rt, request } = self.run;
-        let alloc = rt.alloc();
-        let output = &mut self.output;
-        match request.command {
+        match self.run.request.command {
             Command::Where { .. } if !input.is_linked && !input.is_split => {
                 self.locate_in_sections(files)
             }
             Command::Where { .. } | Command::At(_) | Command::Source(_) if !input.is_linked => {
-                output.tell(input.refusal());
+                self.output.tell(input.refusal());
                 Ok(())
             }
-            Command::Where { .. } => {
-                if !self.begin_lookup(input.length(), files.limit)? {
-                    return Ok(());
-                }
-                let mut questions = Questions::new(rt, &request.addresses)?;
-                self.locate(program, input, None, &mut questions)?;
-                Ok(())
-            }
-            Command::At(place) => {
-                if self.begin_lookup(input.length(), files.limit)? {
-                    self.print_addresses(program, input, place)?;
-                }
-                Ok(())
-            }
-            Command::Source(place) => {
-                let functions = program.functions(alloc)?;
-                match SourceRows::new(alloc, input, &functions, place, request.context, output)? {
-                    Some(mut found) => self.print_found(place, &mut found),
-                    None => Ok(()),
-                }
-            }
-            _ => match Report::new(alloc, input, request, output)? {
-                Some(mut report) => self.print_steps(|output| report.print_next(output)),
-                None => Ok(()),
-            },
+            Command::Where { .. } => self.locate_all(program, input, files.limit),
+            Command::At(place) => self.print_addresses(program, input, files.limit, place),
+            Command::Source(place) => self.print_source(program, input, place),
+            _ => self.print_report(input),
+        }
+    }
+
+    /// Prints the places of addresses by the rows of a program.
+    fn locate_all<R: Reader>(
+        &mut self,
+        program: &InputSections<'_>,
+        input: &Input<R>,
+        limit: u64,
+    ) -> io::Result<()> {
+        let Run { rt, request } = self.run;
+        if self.begin_lookup(input.length(), limit)? {
+            let mut questions = Questions::new(rt, &request.addresses)?;
+            self.locate(program, input, None, &mut questions)?;
+        }
+        Ok(())
+    }
+
+    /// Prints the lines of a place or of a function.
+    fn print_source<R: Reader>(
+        &mut self,
+        program: &InputSections<'_>,
+        input: &Input<R>,
+        place: SourcePlace<'_>,
+    ) -> io::Result<()> {
+        let functions = program.functions(self.run.rt.alloc())?;
+        self.print_source_by(input, &functions, place)
+    }
+
+    /// Prints the lines of a place or of one of these functions.
+    fn print_source_by<R: Reader>(
+        &mut self,
+        input: &Input<R>,
+        functions: &Functions<'_>,
+        place: SourcePlace<'_>,
+    ) -> io::Result<()> {
+        let Run { rt, request } = self.run;
+        let output = &mut self.output;
+        match SourceRows::new(rt.alloc(), input, functions, place, request.context, output)? {
+            Some(mut found) => self.print_found(place, &mut found),
+            None => Ok(()),
+        }
+    }
+
+    /// Prints what line programs hold.
+    fn print_report<R: Reader>(&mut self, input: &Input<R>) -> io::Result<()> {
+        let Run { rt, request } = self.run;
+        match Report::new(rt.alloc(), input, request, &mut self.output)? {
+            Some(mut report) => self.print_steps(|output| report.print_next(output)),
+            None => Ok(()),
         }
     }
 
@@ -106,6 +134,11 @@ impl<'r> Session<'r> {
         let Run { rt, request } = self.run;
         self.output.turn_to(request.file);
         let mut diff = Diff::new(rt.alloc(), old, new, &mut self.output)?;
+        self.print_diff(&mut diff, new_name)
+    }
+
+    /// Reads both programs, of which the new one has this name, and prints how they differ.
+    fn print_diff<R: Reader>(&mut self, diff: &mut Diff<R>, new_name: &'r str) -> io::Result<()> {
         self.print_steps(|output| diff.print_next(output))?;
         self.output.turn_to(new_name);
         diff.begin_new();
@@ -118,23 +151,66 @@ impl<'r> Session<'r> {
         let Run { rt, request } = self.run;
         let printer = PlacePrinter::new(rt.alloc(), request)?;
         let mut questions = Questions::new(rt, &request.addresses)?;
+        self.locate_each(files, &printer, &mut questions)
+    }
+
+    /// Prints the place of each address that is asked in an object file.
+    fn locate_each(
+        &mut self,
+        files: Files<'_>,
+        printer: &PlacePrinter<'_>,
+        questions: &mut Questions<'_>,
+    ) -> io::Result<()> {
         for _ in 0..u64::MAX {
-            let Some(asked) = questions.current()? else {
+            if !self.locate_next(files, printer, questions)? {
                 break;
-            };
-            if let Asked::Address(CodeAddress::InSection { section, .. }) = asked {
-                let name = Vec::from_slice(rt.alloc(), section.as_bytes())?;
-                if self.locate_in_section(files, &name, &mut questions)? {
-                    continue;
-                }
-                printer.print(None, None, None, &mut self.output);
-            } else {
-                printer.print_other(asked, &mut self.output);
             }
-            self.hand_on()?;
-            questions.go_on();
         }
         Ok(())
+    }
+
+    /// Prints the place of the address that is asked now, and of those that follow it in its
+    /// section. False at the end.
+    fn locate_next(
+        &mut self,
+        files: Files<'_>,
+        printer: &PlacePrinter<'_>,
+        questions: &mut Questions<'_>,
+    ) -> io::Result<bool> {
+        match questions.current()? {
+            Some(Asked::Address(CodeAddress::InSection { section, .. })) => {
+                let name = Vec::from_slice(self.run.rt.alloc(), section.as_bytes())?;
+                self.locate_named(files, &name, printer, questions)
+            }
+            Some(asked) => {
+                printer.print_other(asked, &mut self.output);
+                self.go_on(questions)
+            }
+            None => Ok(false),
+        }
+    }
+
+    /// Prints the places of the addresses that follow each other in the section or in the function
+    /// of a name, or that the one that is asked now has none.
+    fn locate_named(
+        &mut self,
+        files: Files<'_>,
+        name: &[u8],
+        printer: &PlacePrinter<'_>,
+        questions: &mut Questions<'_>,
+    ) -> io::Result<bool> {
+        if self.locate_in_section(files, name, questions)? {
+            return Ok(true);
+        }
+        printer.print(None, None, None, &mut self.output);
+        self.go_on(questions)
+    }
+
+    /// Hands on what was printed, and goes on to the next question.
+    fn go_on(&mut self, questions: &mut Questions<'_>) -> io::Result<bool> {
+        self.hand_on()?;
+        questions.go_on();
+        Ok(true)
     }
 
     /// Prints the places of the addresses that follow each other in the section of a name, or in
@@ -151,19 +227,36 @@ impl<'r> Session<'r> {
             found => (found, name),
         };
         match found {
-            Ok(Some(program)) => {
-                if !self.begin_lookup(program.lines().len() as u64, files.limit)? {
-                    return Ok(false);
-                }
-                if self.locate(&program, &program.input(), Some(section), questions)? {
-                    return Ok(true);
-                }
+            Ok(Some(program)) => self.locate_in(&program, files.limit, name, section, questions),
+            Ok(None) => {
                 self.tell_of_none(name);
+                Ok(false)
             }
-            Ok(None) => self.tell_of_none(name),
-            Err(refusal) => tell_refusal(refusal, &mut self.output)?,
+            Err(refusal) => {
+                tell_refusal(refusal, &mut self.output)?;
+                Ok(false)
+            }
         }
-        Ok(false)
+    }
+
+    /// Prints the places of the addresses that follow each other in a section of an object file.
+    /// False where none can be printed, which is reported: then the file has nothing of the name.
+    fn locate_in(
+        &mut self,
+        program: &InputSections<'_>,
+        limit: u64,
+        name: &[u8],
+        section: &[u8],
+        questions: &mut Questions<'_>,
+    ) -> io::Result<bool> {
+        if !self.begin_lookup(program.lines().len() as u64, limit)? {
+            return Ok(false);
+        }
+        let is_any = self.locate(program, &program.input(), Some(section), questions)?;
+        if !is_any {
+            self.tell_of_none(name);
+        }
+        Ok(is_any)
     }
 
     /// Reports that an object file has nothing of a name.
@@ -199,23 +292,38 @@ impl<'r> Session<'r> {
     ) -> io::Result<bool> {
         let mut is_any = false;
         for _ in 0..u64::MAX {
-            let Some(asked) = questions.current()? else {
+            if !self.answer_next(places, questions)? {
                 break;
-            };
-            match places.answer(asked, &mut self.output)? {
-                Answered::Elsewhere => break,
-                Answered::Whole => {}
-                Answered::Above(place) => {
-                    if let Some(file) = self.read_source(&place.path)? {
-                        print_below(self.run.rt.alloc(), &place, &file, &mut self.output)?;
-                    }
-                }
             }
             is_any = true;
-            self.hand_on()?;
-            questions.go_on();
         }
         Ok(is_any)
+    }
+
+    /// Answers the question that is asked now. False where none is, or it is asked of another
+    /// section.
+    fn answer_next<R: Reader>(
+        &mut self,
+        places: &Places<'_, '_, R>,
+        questions: &mut Questions<'_>,
+    ) -> io::Result<bool> {
+        let Some(asked) = questions.current()? else {
+            return Ok(false);
+        };
+        match places.answer(asked, &mut self.output)? {
+            Answered::Elsewhere => return Ok(false),
+            Answered::Whole => {}
+            Answered::Above(place) => self.print_line(&place)?,
+        }
+        self.go_on(questions)
+    }
+
+    /// Prints a line of source below its place, where the source can be read.
+    fn print_line(&mut self, place: &SourceLine) -> io::Result<()> {
+        if let Some(file) = self.read_source(&place.path)? {
+            print_below(self.run.rt.alloc(), place, &file, &mut self.output)?;
+        }
+        Ok(())
     }
 
     /// Prints the addresses of a place or of a function.
@@ -223,8 +331,12 @@ impl<'r> Session<'r> {
         &mut self,
         program: &InputSections<'_>,
         input: &Input<R>,
+        limit: u64,
         place: SourcePlace<'_>,
     ) -> io::Result<()> {
+        if !self.begin_lookup(input.length(), limit)? {
+            return Ok(());
+        }
         let Run { rt, request } = self.run;
         let functions = program.functions(rt.alloc())?;
         self.print_all_addresses(input, &functions, request, place)
@@ -255,27 +367,46 @@ impl<'r> Session<'r> {
         found: &mut SourceRows<'_, R>,
     ) -> io::Result<()> {
         self.print_steps(|output| found.add_next(output))?;
-        let Run { rt, request } = self.run;
         for number in 0..usize::MAX {
-            let Some((path, rows)) = found.get(number) else {
-                break;
-            };
-            let file = self.read_source(path)?;
-            let output = &mut self.output;
-            print_lines(rt.alloc(), path, file, rows, place, request.context, output)?;
-            self.hand_on()?;
+            match found.get(number) {
+                Some((path, rows)) => self.print_lines_of(path, rows, place)?,
+                None => break,
+            }
         }
         Ok(())
     }
 
-    /// The bytes of the source file of a path, or of the one that the request names in its place.
-    /// None where it can't be read.
+    /// Prints the lines of a source file with the addresses of their rows.
+    fn print_lines_of(
+        &mut self,
+        path: &[u8],
+        rows: &[SourceRow],
+        place: SourcePlace<'_>,
+    ) -> io::Result<()> {
+        let Run { rt, request } = self.run;
+        let file = self.read_source(path)?;
+        let output = &mut self.output;
+        print_lines(rt.alloc(), path, file, rows, place, request.context, output)?;
+        self.hand_on()
+    }
+
+    /// The bytes of the source file of a path, from where the request has such files. None where it
+    /// can't be read.
     fn read_source(&self, path: &[u8]) -> io::Result<Option<Vec<u8>>> {
-        let name = match (self.run.request.source, str::from_utf8(path)) {
-            (Some(name), _) => name,
-            (None, Ok(name)) => name,
-            (None, Err(_)) => return Ok(None),
-        };
+        let Run { rt, request } = self.run;
+        let source = request.source;
+        match (source.file, str::from_utf8(path)) {
+            (Some(file), _) => self.read_file(file),
+            (None, Ok(path)) => {
+                let name = source.name_of(rt.alloc(), path)?;
+                self.read_file(name.as_str())
+            }
+            (None, Err(_)) => Ok(None),
+        }
+    }
+
+    /// The bytes of a file. None where it can't be read.
+    fn read_file(&self, name: &str) -> io::Result<Option<Vec<u8>>> {
         match fs::read(self.run.rt, name) {
             Ok(bytes) => Ok(Some(bytes)),
             Err(error) if error.kind() == ErrorKind::OutOfMemory => Err(error),

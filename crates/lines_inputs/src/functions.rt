@@ -2,6 +2,7 @@
 
 use elf_sections::{CodeSymbol, SymbolTable};
 use std::alloc::{AllocError, Global};
+use std::collections::BTreeMap;
 
 /// A symbol that is a function (`STT_FUNC`).
 const FUNCTION: u8 = 2;
@@ -144,6 +145,35 @@ impl<'n> Functions<'n> {
             }
         }
         None
+    }
+
+    /// Where the functions of a name begin, in ascending order, each address once.
+    pub fn starts_of(&self, alloc: Global, name: &[u8]) -> Result<Vec<u64>, AllocError> {
+        // Symbols may share a name, whose bytes are compared once.
+        let mut known = BTreeMap::new(alloc);
+        let mut starts = Vec::new(alloc);
+        for range in &self.ranges {
+            if self.has_name(range, name, &mut known)? && starts.last() != Some(&range.start) {
+                starts.push(range.start)?;
+            }
+        }
+        Ok(starts)
+    }
+
+    /// Whether a function has a name. For each place of the table of names it is known whether this
+    /// name stands there.
+    fn has_name(
+        &self,
+        range: &CodeRange,
+        name: &[u8],
+        known: &mut BTreeMap<u32, bool>,
+    ) -> Result<bool, AllocError> {
+        if let Some(is_name) = known.get(&range.name) {
+            return Ok(*is_name);
+        }
+        let is_name = self.table.is_name(range.name, name);
+        known.insert(range.name, is_name)?;
+        Ok(is_name)
     }
 
     /// The addresses of the first function of a name: where it begins, and where it ends.

@@ -9,16 +9,15 @@ ghost use Rattle.gimli_compilation.specs.Directories.{TellsDirectories, director
 ghost use Rattle.gimli_compilation.specs.Sections.{sections_of};
 ghost use Rattle.gimli_line.specs.header.File.{file_seen};
 ghost use Rattle.gimli_lookup.specs.Paths.{file_path, row_path};
-ghost use Rattle.gimli_lookup.specs.Strings.{strings};
+ghost use Rattle.gimli_lookup.specs.ProgramPaths.{texts_seen, unit_paths};
 ghost use Rattle.gimli_lookup.specs.declared.path_error.PathError.TheVariants.{OutOfMemory};
-ghost use Rattle.lines_inputs.specs.WholePaths.{paths_by};
 
 use crate::input::Input;
 use crate::path_budget::PathBudget;
 use gimli_compilation::Compilations;
 use gimli_core::{AttributeValue, Reader, ReaderOffset};
 use gimli_line::{FileEntry, LineProgramHeader, LineRow};
-use gimli_lookup::{CoveringRows, PathError, Paths, StringSections, UnitLookup};
+use gimli_lookup::{PathError, ProgramPaths, StringSections};
 use std::alloc::{AllocError, Global};
 use std::fmt;
 
@@ -27,8 +26,8 @@ use std::fmt;
 pub struct PathSources<R: Reader> {
     /// The sections of texts.
     strings: StringSections<R>,
-    /// The directories of compilations, by the offsets of their line programs.
-    compilations: Compilations<R>,
+    /// The paths by these and by the directories of compilations.
+    paths: ProgramPaths<R>,
 }
 
 impl<R: Reader> PathSources<R> {
@@ -36,13 +35,14 @@ impl<R: Reader> PathSources<R> {
     pub fn new(alloc: Global, input: &Input<R>) -> Result<PathSources<R>, AllocError>
         ensures directories { IfOk result (λ sources.
             TellsDirectories (sections_of R.bytes R.is_big R.Offset.limit input.now.compilations)
-            (λ line. option_map R.bytes (directory_for sources.compilations line))) }
-        ensures strings { IfOk result (λ sources. sources.strings ≡ input.now.strings) }
+            (λ line. option_map R.bytes (directory_for sources.paths.1 line))) }
+        ensures strings { IfOk result (λ sources. sources.paths.0 ≡ input.now.strings) }
     {
+        let strings = input.strings;
         match Compilations::new(alloc, &input.compilations) {
             Ok(compilations) => Ok(PathSources {
-                strings: input.strings,
-                compilations,
+                strings,
+                paths: ProgramPaths::new(strings, compilations)?,
             }),
             Err(_) => Err(AllocError),
         }
@@ -63,40 +63,31 @@ impl<R: Reader> PathSources<R> {
         &self.strings
     }
 
-    /// The directories of compilations.
-    pub fn compilations(&self) -> &Compilations<R>
-        ensures { result.now ≡ self.now.compilations }
+    /// The whole paths.
+    pub fn paths(&self) -> &ProgramPaths<R>
+        ensures { result.now ≡ self.now.paths }
     {
-        &self.compilations
+        &self.paths
     }
 
-    /// The whole path of a file of a header, by the directory of the compilation whose line program
-    /// this is. Where none is known, the path stays as `Paths` has it. Refused as `PathError` says.
+    /// The whole path of a file of a header. Where no directory of its compilation is known, the
+    /// path stays as `Paths` has it. Refused as `PathError` says.
     pub fn of_file(
         &self,
         alloc: Global,
         header: &LineProgramHeader<R>,
         file: &FileEntry<R>,
     ) -> Result<Vec<u8>, PathError>
-        ensures ok { let directory = directory_for self.now.compilations
-            (R.Offset.number header.now.offset.0) in
-            IfOk result (λ path. file_path
-            (paths_by R.bytes self.now.strings header.now.meaning directory)
-            (file_seen R.bytes R.Offset.number file.now) ≡ Ok path.items) }
-        ensures err { let directory = directory_for self.now.compilations
-            (R.Offset.number header.now.offset.0) in
+        ensures ok { let paths = unit_paths (texts_seen R.bytes self.now.paths)
+            (R.Offset.number header.now.offset.0) header.now.meaning in
+            IfOk result (λ path. file_path paths (file_seen R.bytes R.Offset.number file.now)
+            ≡ Ok path.items) }
+        ensures err { let paths = unit_paths (texts_seen R.bytes self.now.paths)
+            (R.Offset.number header.now.offset.0) header.now.meaning in
             IfErr result (λ e. e ≢ OutOfMemory
-            → file_path (paths_by R.bytes self.now.strings header.now.meaning directory)
-            (file_seen R.bytes R.Offset.number file.now) ≡ Err e) }
+            → file_path paths (file_seen R.bytes R.Offset.number file.now) ≡ Err e) }
     {
-        let offset = header.offset().0.into_u64();
-        let Some(directory) = self.compilations.directory_of(offset) else {
-            return Paths::new(header, self.strings, None).of_file(alloc, file);
-        };
-        let Ok(directory) = directory.to_slice() else {
-            return Err(PathError::OutOfMemory);
-        };
-        Paths::new(header, self.strings, Some(&directory)).of_file(alloc, file)
+        self.paths.of_file(alloc, header, file)
     }
 
     /// The whole path of a row's file. Refused as `of_file` is, and by `InvalidFileIndex` where the
@@ -107,21 +98,14 @@ impl<R: Reader> PathSources<R> {
         header: &LineProgramHeader<R>,
         row: &LineRow,
     ) -> Result<Vec<u8>, PathError>
-        ensures ok { let directory = directory_for self.now.compilations
-            (R.Offset.number header.now.offset.0) in
-            IfOk result (λ path. row_path
-            (paths_by R.bytes self.now.strings header.now.meaning directory) row.now
-            ≡ Ok path.items) }
-        ensures err { let directory = directory_for self.now.compilations
-            (R.Offset.number header.now.offset.0) in
-            IfErr result (λ e. e ≢ OutOfMemory
-            → row_path (paths_by R.bytes self.now.strings header.now.meaning directory) row.now
-            ≡ Err e) }
+        ensures ok { let paths = unit_paths (texts_seen R.bytes self.now.paths)
+            (R.Offset.number header.now.offset.0) header.now.meaning in
+            IfOk result (λ path. row_path paths row.now ≡ Ok path.items) }
+        ensures err { let paths = unit_paths (texts_seen R.bytes self.now.paths)
+            (R.Offset.number header.now.offset.0) header.now.meaning in
+            IfErr result (λ e. e ≢ OutOfMemory → row_path paths row.now ≡ Err e) }
     {
-        match row.file(header) {
-            Some(file) => self.of_file(alloc, header, file),
-            None => Err(PathError::InvalidFileIndex(row.file_index())),
-        }
+        self.paths.of_row(alloc, header, row)
     }
 
     /// The whole path of the file of an index, as `of_row` tells it, whose bytes are counted; where
@@ -172,19 +156,6 @@ impl<R: Reader> PathSources<R> {
         };
         let length = section.len().into_u64();
         length.saturating_sub(offset.into_u64())
-    }
-
-    /// The whole path of the file of rows that are found in units. Refused as `of_row` is.
-    pub fn of_found(
-        &self,
-        alloc: Global,
-        units: &[UnitLookup<R>],
-        found: &CoveringRows,
-    ) -> Result<Vec<u8>, PathError> {
-        match units.get(found.unit).and_then(|unit| unit.header()) {
-            Some(header) => self.of_row(alloc, header, &found.row),
-            None => Err(PathError::InvalidFileIndex(found.row.file_index())),
-        }
     }
 
     /// The whole path of the file of an index; None where there is none, or it can't be told.

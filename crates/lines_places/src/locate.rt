@@ -136,7 +136,7 @@ impl<'r, 'n, R: Reader> Places<'r, 'n, R> {
             return Ok(Answered::Whole);
         };
         let units = self.lookup.units();
-        let path = self.sources.of_found(self.alloc, units, &found);
+        let path = self.sources.paths().of_found(self.alloc, units, &found);
         let (path, fault) = path_or_fault(&self.sources, path)?;
         let (line, column) = (line_of(&found.row), column_of(&found.row));
         let start = found.row.address().saturating_add(request.bias);

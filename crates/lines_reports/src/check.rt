@@ -7,6 +7,7 @@ use crate::report::Reading;
 use crate::row_check::{RowCheck, Sequence};
 use crate::unit_check::UnitCheck;
 use gimli_core::{Reader, ReaderOffset};
+use gimli_line::LineUnit;
 use lines_pieces::{Piece, Result};
 use lines_words::{FindingKind, Output};
 use std::alloc::Global;
@@ -47,44 +48,54 @@ impl<R: Reader> Check<R> {
         output: &mut Output<'_>,
     ) -> Result<bool> {
         if self.unit.is_some() {
-            self.look_at_some(reading, output)?;
-            return Ok(true);
+            self.look_at_some(reading, output)
+        } else if self.overlaps.is_none() {
+            self.begin_unit(reading, output)
+        } else {
+            Ok(self.finish(reading.input.is_linked, output))
         }
-        if self.overlaps.is_none() {
-            if self.begin_unit(reading, output)? {
-                return Ok(true);
-            }
-            self.sequences.sort()?;
-            self.overlaps = Some(Overlaps::new());
-        }
-        // In an object file each section stands at 0, and so do its sequences.
-        if reading.input.is_linked && self.print_overlaps(output) {
-            return Ok(true);
-        }
-        self.findings.print_counts(self.units, output);
-        Ok(false)
     }
 
     /// Looks at some instructions or files of the unit.
-    fn look_at_some(&mut self, reading: &mut Reading<R>, output: &mut Output<'_>) -> Result<()> {
-        let Some(unit) = &mut self.unit else {
-            return Ok(());
-        };
-        match &mut self.files {
-            None => {
-                if !unit.run_some(&mut self.sequences, output)? {
-                    self.findings = unit.rows.findings;
-                    self.files = Some(FileCheck::new(reading.alloc));
-                }
-            }
-            Some(files) => {
-                if !files.look_at_some(reading, unit.header(), &mut self.findings, output)? {
-                    self.files = None;
-                    self.unit = None;
-                }
+    fn look_at_some(&mut self, reading: &mut Reading<R>, output: &mut Output<'_>) -> Result<bool> {
+        if self.files.is_some() {
+            self.look_at_files(reading, output)
+        } else {
+            self.run_some(reading.alloc, output)
+        }
+    }
+
+    /// Looks at some instructions of the unit, and after the last one begins its files.
+    fn run_some(&mut self, alloc: Global, output: &mut Output<'_>) -> Result<bool> {
+        if let Some(unit) = &mut self.unit {
+            if !unit.run_some(&mut self.sequences, output)? {
+                self.findings = unit.rows.findings;
+                self.files = Some(FileCheck::new(alloc));
             }
         }
-        Ok(())
+        Ok(true)
+    }
+
+    /// Looks at some files of the unit, and after the last one ends it.
+    fn look_at_files(&mut self, reading: &mut Reading<R>, output: &mut Output<'_>) -> Result<bool> {
+        let (Some(unit), Some(files)) = (&self.unit, &mut self.files) else {
+            return Ok(true);
+        };
+        if !files.look_at_some(reading, unit.header(), &mut self.findings, output)? {
+            self.files = None;
+            self.unit = None;
+        }
+        Ok(true)
+    }
+
+    /// Prints what is known after the last unit. False after the last line.
+    fn finish(&mut self, is_linked: bool, output: &mut Output<'_>) -> bool {
+        // In an object file each section stands at 0, and so do its sequences.
+        if is_linked && self.print_overlaps(output) {
+            return true;
+        }
+        self.findings.print_counts(self.units, output);
+        false
     }
 
     /// Prints sequences that overlap until the output is full. False after the last one.
@@ -95,11 +106,23 @@ impl<R: Reader> Check<R> {
         }
     }
 
-    /// Goes on to the next unit. False where there is none.
+    /// Goes on to the next unit, and after the last one puts the sequences in order.
     fn begin_unit(&mut self, reading: &mut Reading<R>, output: &mut Output<'_>) -> Result<bool> {
-        let Some(unit) = reading.walk.next_unit(output)? else {
-            return Ok(false);
-        };
+        match reading.walk.next_unit(output)? {
+            Some(unit) => {
+                self.begin(unit, reading, output);
+                Ok(true)
+            }
+            None => {
+                self.sequences.sort()?;
+                self.overlaps = Some(Overlaps::new());
+                Ok(self.finish(reading.input.is_linked, output))
+            }
+        }
+    }
+
+    /// Begins a unit. That its header is refused is reported.
+    fn begin(&mut self, unit: LineUnit<R>, reading: &Reading<R>, output: &mut Output<'_>) {
         self.units = self.units.saturating_add(1);
         let offset = unit.offset.0.into_u64();
         self.findings.unit = offset;
@@ -114,6 +137,5 @@ impl<R: Reader> Check<R> {
                     .find(kind, byte, "%", &[Piece::Error(refusal)], output);
             }
         }
-        Ok(true)
     }
 }

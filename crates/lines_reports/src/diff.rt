@@ -87,29 +87,44 @@ impl<R: Reader> Diff<R> {
             if output.is_full() {
                 break;
             }
-            let Some((place, change)) = self.differences.pop_first() else {
-                self.print_counts(count, output);
+            if !self.print_next_difference(count, output)? {
                 return Ok(false);
-            };
-            self.turn_to(place.path)?;
-            self.print_change(place.line, change, output);
+            }
         }
         Ok(true)
     }
 
-    /// Makes the path of a number once more, unless it is the one that was printed last.
-    fn turn_to(&mut self, number: usize) -> Result<()> {
-        if matches!(&self.printed, Some((printed, _)) if *printed == number) {
-            return Ok(());
+    /// Prints the next line that differs, or else how many there are. False after these.
+    fn print_next_difference(&mut self, count: usize, output: &mut Output<'_>) -> Result<bool> {
+        let Some((place, change)) = self.differences.pop_first() else {
+            self.print_counts(count, output);
+            return Ok(false);
+        };
+        if !self.is_printed(place.path) {
+            self.turn_to(place.path)?;
         }
+        self.print_change(place.line, change, output);
+        Ok(true)
+    }
+
+    /// Whether the path of a number is the one that was printed last.
+    fn is_printed(&self, number: usize) -> bool {
+        match &self.printed {
+            Some((printed, _)) => *printed == number,
+            None => false,
+        }
+    }
+
+    /// Makes the path of a number once more.
+    fn turn_to(&mut self, number: usize) -> Result<()> {
         self.printed = None;
-        if let Some(home) = self.paths.home(number) {
-            let path = if home.is_new {
-                self.paths.path_at(home, &self.new.reading)
-            } else {
-                self.paths.path_at(home, &self.old.reading)
-            };
-            self.printed = path?.map(|path| (number, path));
+        let path = match self.paths.home(number) {
+            Some(home) if home.is_new => self.paths.path_at(home, &self.new.reading),
+            Some(home) => self.paths.path_at(home, &self.old.reading),
+            None => Ok(None),
+        };
+        if let Some(path) = path? {
+            self.printed = Some((number, path));
         }
         Ok(())
     }
@@ -141,17 +156,15 @@ impl<R: Reader> Diff<R> {
             ];
             return output.print_object(&fields);
         }
-        let pieces = [Piece::Path(path), Piece::Number(line)];
-        add("%:%  ", &pieces, output);
-        match (change.old, change.new) {
-            (Some(old), Some(new)) => {
-                let pieces = [Piece::Number(old), Piece::Number(new)];
-                print("% bytes, now %", &pieces, output);
-            },
-            (Some(old), None) => print("% bytes, now no code", &[Piece::Number(old)], output),
-            (None, Some(new)) => print("no code, now % bytes", &[Piece::Number(new)], output),
-            (None, None) => output.print("no code"),
-        }
+        let none = Piece::Word("no code");
+        let (text, old, new) = match (change.old, change.new) {
+            (Some(old), Some(new)) => ("% bytes, now %", Piece::Number(old), Piece::Number(new)),
+            (Some(old), None) => ("% bytes, now %", Piece::Number(old), none),
+            (None, Some(new)) => ("%, now % bytes", none, Piece::Number(new)),
+            (None, None) => ("%%", none, Piece::Word("")),
+        };
+        add("%:%  ", &[Piece::Path(path), Piece::Number(line)], output);
+        print(text, &[old, new], output);
     }
 
     /// Adds the code of the next unit. After the last one of the new program follow the lines that
@@ -165,17 +178,22 @@ impl<R: Reader> Diff<R> {
             }
             Stage::New => {
                 let may_follow = self.new.add_next(&mut self.paths, output)?;
-                if self.is_refused(output) {
-                    return Ok(false);
-                }
-                if !may_follow {
-                    self.compare(output)?;
-                }
-                Ok(true)
+                self.go_on(may_follow, output)
             }
             Stage::Differences(count) => self.print_differences(count, output),
             Stage::Nothing => Ok(false),
         }
+    }
+
+    /// Compares the programs after the last unit. False where nothing follows.
+    fn go_on(&mut self, may_follow: bool, output: &mut Output<'_>) -> Result<bool> {
+        if self.is_refused(output) {
+            return Ok(false);
+        }
+        if !may_follow {
+            self.compare(output)?;
+        }
+        Ok(true)
     }
 
     /// Whether more bytes of paths were made than there may be, which is reported. Then nothing

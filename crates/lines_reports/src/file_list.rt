@@ -21,23 +21,25 @@ impl FileList {
         FileList { count: 0 }
     }
 
-    /// Prints the heading of a unit, and goes on to the files that its program defines before its
-    /// first fault. The fault is reported.
-    pub(crate) fn begin<R: Reader>(
+    /// Prints the heading of a unit that is new, or else some of its directories and files, and
+    /// returns whether more follows.
+    pub(crate) fn print_unit<R: Reader>(
         &mut self,
+        reading: &mut Reading<R>,
         unit: &mut UnitRows<R>,
+        is_new: bool,
         output: &mut Output<'_>,
-    ) -> Result<()> {
-        output.print_unit_heading(unit.offset, unit.header().version());
-        unit.run()?;
-        unit.tell_fault(output);
-        self.count = 0;
-        Ok(())
+    ) -> Result<bool> {
+        if is_new {
+            self.count = 0;
+            return begin(unit, output);
+        }
+        self.print_some(reading, unit, output)
     }
 
     /// Prints directories of a unit, as they are written, and files with their whole paths, until
     /// the output is full. False after the last one.
-    pub(crate) fn print_some<R: Reader>(
+    fn print_some<R: Reader>(
         &mut self,
         reading: &mut Reading<R>,
         unit: &UnitRows<R>,
@@ -52,16 +54,36 @@ impl FileList {
                 return Ok(true);
             }
             self.count = number.saturating_add(1);
-            match number.checked_sub(directories) {
-                Some(file) => reading.print_file(unit, file, output)?,
-                None => reading.print_directory(unit, number, output)?,
-            }
+            reading.print_entry(unit, number, directories, output)?;
         }
         Ok(false)
     }
 }
 
+/// Prints the heading of a unit, and goes on to the files that its program defines before its first
+/// fault. The fault is reported.
+fn begin<R: Reader>(unit: &mut UnitRows<R>, output: &mut Output<'_>) -> Result<bool> {
+    output.print_unit_heading(unit.offset, unit.header().version());
+    unit.run()?;
+    unit.tell_fault(output);
+    Ok(true)
+}
+
 impl<R: Reader> Reading<R> {
+    /// Prints one of so many directories, or a file after them.
+    fn print_entry(
+        &mut self,
+        unit: &UnitRows<R>,
+        number: u64,
+        directories: u64,
+        output: &mut Output<'_>,
+    ) -> Result<()> {
+        match number.checked_sub(directories) {
+            Some(file) => self.print_file(unit, file, output),
+            None => self.print_directory(unit, number, output),
+        }
+    }
+
     /// Prints the directory of an index, where there is one.
     fn print_directory(
         &mut self,
@@ -118,23 +140,19 @@ impl<R: Reader> Reading<R> {
         file: &FileEntry<R>,
         output: &mut Output<'_>,
     ) {
-        let (time, size) = (file.timestamp(), file.size());
         let md5 = header.file_has_md5().then_some(file.md5().as_slice());
         let source = self.source_length(file);
         if output.is_json() {
             let fields = [
-                ("time", Json::Number(time)),
-                ("size", Json::Number(size)),
+                ("time", Json::Number(file.timestamp())),
+                ("size", Json::Number(file.size())),
                 ("md5", Json::Digits(md5)),
                 ("source_bytes", Json::Count(source)),
             ];
             return output.add_fields(",", &fields);
         }
-        for (text, number) in [("  time %", time), ("  size %", size)] {
-            if number != 0 {
-                add(text, &[Piece::Number(number)], output);
-            }
-        }
+        add_number("  time %", file.timestamp(), output);
+        add_number("  size %", file.size(), output);
         if let Some(md5) = md5 {
             add("  md5 %", &[Piece::Digits(md5)], output);
         }
@@ -152,6 +170,13 @@ impl<R: Reader> Reading<R> {
             .attr_line_string(file.source()?)
             .ok()?;
         Some(source.len().into_u64())
+    }
+}
+
+/// Prints a number of a file, unless it is 0.
+fn add_number(text: &str, number: u64, output: &mut Output<'_>) {
+    if number != 0 {
+        add(text, &[Piece::Number(number)], output);
     }
 }
 

@@ -67,13 +67,7 @@ impl<R: Reader> PathNumbers<R> {
         if let Some(number) = self.of_unit.get(&file).copied() {
             return Ok(number);
         }
-        let (path, _) = reading.path_of(header, file, false)?;
-        let home = Home {
-            is_new,
-            unit: header.offset().0.into_u64(),
-            file: path.is_some().then_some(file),
-        };
-        let digest = Sha256::digest(path.as_deref().unwrap_or(NO_PATH));
+        let (digest, home) = met(header, file, is_new, reading)?;
         let number = self.number_at(digest, home)?;
         self.of_unit.insert(file, number)?;
         Ok(number)
@@ -95,31 +89,84 @@ impl<R: Reader> PathNumbers<R> {
         self.homes.get(number).copied()
     }
 
+    /// The path of a number, as `path_at` makes it once more.
+    pub(crate) fn path_of(
+        &mut self,
+        number: usize,
+        reading: &Reading<R>,
+    ) -> Result<Option<Vec<u8>>> {
+        match self.home(number) {
+            Some(home) => self.path_at(home, reading),
+            None => Ok(None),
+        }
+    }
+
     /// The path that was met first at a place, made once more. Where paths are asked for in the
     /// order of their numbers, each unit is read once.
     pub(crate) fn path_at(&mut self, home: Home, reading: &Reading<R>) -> Result<Option<Vec<u8>>> {
-        let Some(file) = home.file else {
-            return Ok(Some(Vec::from_slice(self.alloc, NO_PATH)?));
-        };
-        self.turn_to(home, reading)?;
-        let Some((_, unit)) = &mut self.again else {
-            return Ok(None);
-        };
-        unit.run_to_file(file)?;
-        reading.sources.known_path(self.alloc, unit.header(), file)
+        match home.file {
+            Some(file) => {
+                self.turn_to(home, reading)?;
+                self.path_again(file, reading)
+            }
+            None => {
+                let path = Vec::from_slice(self.alloc, NO_PATH)?;
+                Ok(Some(path))
+            }
+        }
+    }
+
+    /// The path of a file of the unit that was read last.
+    fn path_again(&mut self, file: u64, reading: &Reading<R>) -> Result<Option<Vec<u8>>> {
+        match &mut self.again {
+            Some((_, unit)) => path_in(unit, file, self.alloc, reading),
+            None => Ok(None),
+        }
     }
 
     /// Reads the unit of a place once more, unless it is the one that was read last.
     fn turn_to(&mut self, home: Home, reading: &Reading<R>) -> Result<()> {
-        if let Some((is_new, unit)) = &self.again {
-            if *is_new == home.is_new && unit.offset == home.unit {
-                return Ok(());
+        if !self.is_at(home) {
+            self.again = None;
+            if let Some(unit) = UnitRows::at(self.alloc, &reading.input, home.unit)? {
+                self.again = Some((home.is_new, unit));
             }
-        }
-        self.again = None;
-        if let Some(unit) = UnitRows::at(self.alloc, &reading.input, home.unit)? {
-            self.again = Some((home.is_new, unit));
         }
         Ok(())
     }
+
+    /// Whether the unit that was read last is that of a place.
+    fn is_at(&self, home: Home) -> bool {
+        match &self.again {
+            Some((is_new, unit)) => *is_new == home.is_new && unit.offset == home.unit,
+            None => false,
+        }
+    }
+}
+
+/// The digest of the path of a file, and where it is met.
+fn met<R: Reader>(
+    header: &LineProgramHeader<R>,
+    file: u64,
+    is_new: bool,
+    reading: &mut Reading<R>,
+) -> Result<([u8; 32], Home)> {
+    let (path, _) = reading.path_of(header, file, false)?;
+    let home = Home {
+        is_new,
+        unit: header.offset().0.into_u64(),
+        file: path.is_some().then_some(file),
+    };
+    Ok((Sha256::digest(path.as_deref().unwrap_or(NO_PATH)), home))
+}
+
+/// The path of a file of a unit that is read once more.
+fn path_in<R: Reader>(
+    unit: &mut UnitRows<R>,
+    file: u64,
+    alloc: Global,
+    reading: &Reading<R>,
+) -> Result<Option<Vec<u8>>> {
+    unit.run_to_file(file)?;
+    reading.sources.known_path(alloc, unit.header(), file)
 }

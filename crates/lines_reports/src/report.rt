@@ -103,20 +103,10 @@ impl<R: Reader> Report<R> {
             _ => return Ok(None),
         };
         let reading = Reading::new(alloc, input, request.units, printing, output)?;
-        let task = match request.command {
-            Command::Files => Task::Files(FileList::new()),
-            Command::Rows(form) => Task::Rows(RowList::new(alloc, form)),
-            Command::Check => Task::Check(Check::new(alloc)),
-            Command::Stat => Task::Stat(Stat::new(alloc)),
-            _ => {
-                print_heading(output);
-                Task::Units
-            }
-        };
         Ok(Some(Report {
             reading,
             unit: None,
-            task,
+            task: Task::new(alloc, request.command, output),
         }))
     }
 
@@ -133,23 +123,37 @@ impl<R: Reader> Report<R> {
         if is_new {
             self.unit = self.reading.walk.next_rows(output)?;
         }
-        match (&mut self.unit, &mut self.task) {
-            (Some(unit), task) => {
-                if !task.print_unit(&mut self.reading, unit, is_new, output)? {
-                    self.unit = None;
-                }
-                Ok(true)
-            }
-            (None, Task::Stat(stat)) => {
-                stat.finish(&self.reading, output)?;
-                Ok(false)
-            }
-            (None, _) => Ok(false),
+        self.print_unit(is_new, output)
+    }
+
+    /// Prints the next piece of the unit, and what follows the last one.
+    fn print_unit(&mut self, is_new: bool, output: &mut Output<'_>) -> Result<bool> {
+        let Some(unit) = &mut self.unit else {
+            return self.task.finish(&self.reading, output);
+        };
+        let task = &mut self.task;
+        if !task.print_unit(&mut self.reading, unit, is_new, output)? {
+            self.unit = None;
         }
+        Ok(true)
     }
 }
 
 impl<R: Reader> Task<R> {
+    /// What a command prints, of which headings are printed.
+    fn new(alloc: Global, command: Command<'_>, output: &mut Output<'_>) -> Task<R> {
+        match command {
+            Command::Files => Task::Files(FileList::new()),
+            Command::Rows(form) => Task::Rows(RowList::new(alloc, form)),
+            Command::Check => Task::Check(Check::new(alloc)),
+            Command::Stat => Task::Stat(Stat::new(alloc)),
+            _ => {
+                print_heading(output);
+                Task::Units
+            }
+        }
+    }
+
     /// Prints the next piece of a unit, whose fault is reported, and returns whether more of it
     /// follows.
     fn print_unit(
@@ -160,20 +164,19 @@ impl<R: Reader> Task<R> {
         output: &mut Output<'_>,
     ) -> Result<bool> {
         match self {
-            Task::Rows(list) if is_new => {
-                list.begin(reading.alloc, unit, output);
-                return Ok(true);
-            }
-            Task::Files(list) if is_new => {
-                list.begin(unit, output)?;
-                return Ok(true);
-            }
-            Task::Rows(list) => return list.print_some(reading, unit, output),
-            Task::Files(list) => return list.print_some(reading, unit, output),
-            Task::Units => print_unit(unit, output)?,
-            Task::Stat(stat) => stat.add_unit(reading, unit, output)?,
-            Task::Check(_) => {}
+            Task::Rows(list) => list.print_unit(reading, unit, is_new, output),
+            Task::Files(list) => list.print_unit(reading, unit, is_new, output),
+            Task::Units => print_unit(unit, output),
+            Task::Stat(stat) => stat.add_unit(reading, unit, output),
+            Task::Check(_) => Ok(false),
         }
-        Ok(false)
+    }
+
+    /// Prints what follows the last unit. Nothing follows that.
+    fn finish(&mut self, reading: &Reading<R>, output: &mut Output<'_>) -> Result<bool> {
+        match self {
+            Task::Stat(stat) => stat.finish(reading, output),
+            _ => Ok(false),
+        }
     }
 }

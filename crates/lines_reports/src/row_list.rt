@@ -45,13 +45,24 @@ impl RowList {
         }
     }
 
-    /// Prints the headings of a unit.
-    pub(crate) fn begin<R: Reader>(
+    /// Prints the headings of a unit that is new, or else some of its rows, and returns whether
+    /// more follows.
+    pub(crate) fn print_unit<R: Reader>(
         &mut self,
-        alloc: Global,
-        unit: &UnitRows<R>,
+        reading: &mut Reading<R>,
+        unit: &mut UnitRows<R>,
+        is_new: bool,
         output: &mut Output<'_>,
-    ) {
+    ) -> Result<bool> {
+        if is_new {
+            self.begin(reading.alloc, unit, output);
+            return Ok(true);
+        }
+        self.print_some(reading, unit, output)
+    }
+
+    /// Prints the headings of a unit.
+    fn begin<R: Reader>(&mut self, alloc: Global, unit: &UnitRows<R>, output: &mut Output<'_>) {
         output.print_unit_heading(unit.offset, unit.header().version());
         output.print_heading("           address     line  column  discr  isa  flags  file");
         self.file = None;
@@ -65,7 +76,7 @@ impl RowList {
     }
 
     /// Prints some rows of a unit. False after the last one, and after a fault, which is reported.
-    pub(crate) fn print_some<R: Reader>(
+    fn print_some<R: Reader>(
         &mut self,
         reading: &mut Reading<R>,
         unit: &mut UnitRows<R>,
@@ -75,19 +86,50 @@ impl RowList {
             if output.is_full() || reading.budget.is_spent() {
                 break;
             }
-            let Some(row) = unit.next_row()? else {
-                unit.tell_fault(output);
+            if !self.print_next(reading, unit, output)? {
                 return Ok(false);
-            };
-            if self.file != Some(row.file_index()) {
-                self.turn_to(row.file_index(), reading, unit, output)?;
-            }
-            match self.form {
-                Form::Json => print_json(unit.offset, &row, &self.path, output),
-                _ => print_text(&row, &self.path, output),
             }
         }
         Ok(true)
+    }
+
+    /// Prints the next row of a unit. False where there is none, and at a fault, which is reported.
+    fn print_next<R: Reader>(
+        &mut self,
+        reading: &mut Reading<R>,
+        unit: &mut UnitRows<R>,
+        output: &mut Output<'_>,
+    ) -> Result<bool> {
+        match unit.next_row()? {
+            Some(row) => self.print_row(&row, reading, unit, output),
+            None => {
+                unit.tell_fault(output);
+                Ok(false)
+            }
+        }
+    }
+
+    /// Prints a row of a unit.
+    fn print_row<R: Reader>(
+        &mut self,
+        row: &LineRow,
+        reading: &mut Reading<R>,
+        unit: &UnitRows<R>,
+        output: &mut Output<'_>,
+    ) -> Result<bool> {
+        if self.file != Some(row.file_index()) {
+            self.turn_to(row.file_index(), reading, unit, output)?;
+        }
+        self.print(row, unit.offset, output);
+        Ok(true)
+    }
+
+    /// Prints a row of the unit at an offset, whose file is known.
+    fn print(&self, row: &LineRow, unit: u64, output: &mut Output<'_>) {
+        match self.form {
+            Form::Json => print_json(unit, row, &self.path, output),
+            _ => print_text(row, &self.path, output),
+        }
     }
 
     /// Goes on to rows of another file.

@@ -4,8 +4,8 @@ use crate::path_numbers::PathNumbers;
 use crate::report::Reading;
 use crate::unit_list::unit_bytes;
 use gimli_core::Reader;
-use gimli_line::LineRow;
-use lines_counts::{Spent, Tally};
+use gimli_line::{LineProgramHeader, LineRow};
+use lines_counts::{Share, Spent, Tally};
 use lines_inputs::UnitRows;
 use lines_pieces::{Piece, Result, print, print_fields};
 use lines_words::Output;
@@ -51,35 +51,47 @@ impl<R: Reader> Stat<R> {
         }
     }
 
-    /// Counts a unit, whose fault is reported.
+    /// Counts a unit, whose fault is reported. Nothing of it follows.
     pub(crate) fn add_unit(
         &mut self,
         reading: &mut Reading<R>,
         unit: &mut UnitRows<R>,
         output: &mut Output<'_>,
-    ) -> Result<()> {
+    ) -> Result<bool> {
         let bytes = unit_bytes(unit.header());
         self.bytes = self.bytes.saturating_add(bytes);
         self.units.push((bytes, unit.offset))?;
         self.tally.add_unit(unit.header(), bytes);
         self.of_unit = BTreeMap::new(reading.alloc);
-        for _ in 0..u64::MAX {
-            let Some(row) = unit.next_row()? else {
-                break;
-            };
-            self.add_row(&row)?;
-        }
+        self.add_rows(unit)?;
         self.rows = self.rows.saturating_add(unit.count);
         self.ends = self.ends.saturating_add(unit.ends);
+        self.add_files(unit.header(), reading)?;
+        unit.tell_fault(output);
+        Ok(false)
+    }
+
+    /// Counts the rows of a unit by their files.
+    fn add_rows(&mut self, unit: &mut UnitRows<R>) -> Result<()> {
+        for _ in 0..u64::MAX {
+            match unit.next_row()? {
+                Some(row) => self.add_row(&row)?,
+                None => break,
+            }
+        }
+        Ok(())
+    }
+
+    /// Adds the rows of the files of a unit to those of their paths.
+    fn add_files(&mut self, header: &LineProgramHeader<R>, reading: &mut Reading<R>) -> Result<()> {
         self.paths.begin_unit();
         for (file, count) in &self.of_unit {
             if reading.budget.is_spent() {
                 break;
             }
-            let number = self.paths.number_of(unit.header(), *file, false, reading)?;
+            let number = self.paths.number_of(header, *file, false, reading)?;
             count_more(&mut self.files, number, *count)?;
         }
-        unit.tell_fault(output);
         Ok(())
     }
 
@@ -93,14 +105,20 @@ impl<R: Reader> Stat<R> {
         count_more(&mut self.of_unit, row.file_index(), 1)
     }
 
-    /// Prints what was counted in a section.
-    pub(crate) fn finish(&mut self, reading: &Reading<R>, output: &mut Output<'_>) -> Result<()> {
+    /// Prints what was counted in a section. Nothing follows.
+    pub(crate) fn finish(&mut self, reading: &Reading<R>, output: &mut Output<'_>) -> Result<bool> {
         let all = reading.input.length();
         self.tally.add_unread(all.saturating_sub(self.bytes));
         self.print_shares(all, output);
         self.units.sort()?;
         self.print_units(all, output);
         self.print_files(reading, output)?;
+        self.print_sums(all, output);
+        Ok(false)
+    }
+
+    /// Prints the sums of what was counted.
+    fn print_sums(&self, all: u64, output: &mut Output<'_>) {
         let whole = all.checked_div(self.rows).unwrap_or(0);
         let rest = all.checked_rem(self.rows).unwrap_or(0);
         let tenths = rest.saturating_mul(10).checked_div(self.rows).unwrap_or(0);
@@ -115,24 +133,15 @@ impl<R: Reader> Stat<R> {
         ];
         let text = "units: %, rows: %, ends: %, not statements: %, bytes: %, a row: %.%";
         print_fields(text, &fields, output);
-        Ok(())
     }
 
     /// Prints what the bytes are spent on.
     fn print_shares(&self, all: u64, output: &mut Output<'_>) {
         output.print_heading("what                   times     bytes  operands   share");
         for (name, share) in Spent::NAMES.split(' ').zip(&self.tally.shares) {
-            if share.times == 0 {
-                continue;
+            if share.times > 0 {
+                print_share(name, share, all, output);
             }
-            let fields = [
-                ("what", Piece::WideWord(name)),
-                ("times", Piece::WideNumber(share.times, 8)),
-                ("bytes", Piece::WideNumber(share.bytes, 8)),
-                ("operands", Piece::WideNumber(share.operands, 8)),
-                ("", Piece::Share(share.all_bytes(), all)),
-            ];
-            print_fields("%  %  %  %  %", &fields, output);
         }
     }
 
@@ -140,30 +149,55 @@ impl<R: Reader> Stat<R> {
     fn print_units(&self, all: u64, output: &mut Output<'_>) {
         output.print_heading("largest units                 bytes             share");
         for (bytes, offset) in self.units.iter().rev().take(LARGEST) {
-            let fields = [
-                ("unit", Piece::Unit(*offset)),
-                ("bytes", Piece::WideNumber(*bytes, 12)),
-                ("", Piece::Share(*bytes, all)),
-            ];
-            print_fields("%                %            %", &fields, output);
+            print_unit(*offset, *bytes, all, output);
         }
     }
 
     /// Prints the files with the most rows.
     fn print_files(&mut self, reading: &Reading<R>, output: &mut Output<'_>) -> Result<()> {
         output.print_heading("most rows");
-        let mut largest = Vec::new(reading.alloc);
+        let largest = self.largest_files(reading.alloc)?;
+        self.print_largest(&largest, reading, output)
+    }
+
+    /// The numbers of rows of all paths, and the paths' numbers, in ascending order.
+    fn largest_files(&self, alloc: Global) -> Result<Vec<(u64, usize)>> {
+        let mut largest = Vec::new(alloc);
+        self.add_largest(&mut largest)?;
+        Ok(largest)
+    }
+
+    /// Adds the numbers of rows of all paths, and the paths' numbers, in ascending order.
+    fn add_largest(&self, largest: &mut Vec<(u64, usize)>) -> Result<()> {
         for (number, count) in &self.files {
             largest.push((*count, *number))?;
         }
-        largest.sort()?;
+        largest.sort()
+    }
+
+    /// Prints the last of some files, the last one first.
+    fn print_largest(
+        &mut self,
+        largest: &[(u64, usize)],
+        reading: &Reading<R>,
+        output: &mut Output<'_>,
+    ) -> Result<()> {
         for (count, number) in largest.iter().rev().take(LARGEST) {
-            let path = match self.paths.home(*number) {
-                Some(home) => self.paths.path_at(home, reading)?,
-                None => None,
-            };
-            self.print_file(path.as_deref(), *count, output);
+            self.print_path(*number, *count, reading, output)?;
         }
+        Ok(())
+    }
+
+    /// Prints how many rows the path of a number has.
+    fn print_path(
+        &mut self,
+        number: usize,
+        count: u64,
+        reading: &Reading<R>,
+        output: &mut Output<'_>,
+    ) -> Result<()> {
+        let path = self.paths.path_of(number, reading)?;
+        self.print_file(path.as_deref(), count, output);
         Ok(())
     }
 
@@ -181,6 +215,28 @@ impl<R: Reader> Stat<R> {
             output,
         );
     }
+}
+
+/// Prints a share of the bytes of a section.
+fn print_share(name: &str, share: &Share, all: u64, output: &mut Output<'_>) {
+    let fields = [
+        ("what", Piece::WideWord(name)),
+        ("times", Piece::WideNumber(share.times, 8)),
+        ("bytes", Piece::WideNumber(share.bytes, 8)),
+        ("operands", Piece::WideNumber(share.operands, 8)),
+        ("", Piece::Share(share.all_bytes(), all)),
+    ];
+    print_fields("%  %  %  %  %", &fields, output);
+}
+
+/// Prints how many of the bytes of a section the unit at an offset has.
+fn print_unit(offset: u64, bytes: u64, all: u64, output: &mut Output<'_>) {
+    let fields = [
+        ("unit", Piece::Unit(offset)),
+        ("bytes", Piece::WideNumber(bytes, 12)),
+        ("", Piece::Share(bytes, all)),
+    ];
+    print_fields("%                %            %", &fields, output);
 }
 
 /// Counts so many more of a key.

@@ -50,29 +50,49 @@ impl<R: Reader> UnitCheck<R> {
         output: &mut Output<'_>,
     ) -> Result<bool> {
         for _ in 0..SOME {
-            match self.execute_next(output) {
-                Ok(Some(true)) => {
-                    if let Some(sequence) = self.take_row(output) {
-                        sequences.push(sequence)?;
-                    }
-                    self.row.reset(self.program.header());
-                }
-                Ok(Some(false)) => {}
-                Ok(None) => {
-                    self.rows.finish(output);
-                    return Ok(false);
-                }
-                Err(Error::OutOfMemory) => return Err(AllocError),
-                Err(fault) => {
-                    let start = instruction_start(self.program.header(), self.executed);
-                    let byte = start.unwrap_or(self.rows.findings.unit);
-                    self.rows.stop(byte, fault, output);
-                    return Ok(false);
-                }
+            if !self.run_next(sequences, output)? {
+                return Ok(false);
             }
-            self.executed = self.executed.saturating_add(1);
         }
         Ok(true)
+    }
+
+    /// Executes the next instruction, as `run_some` does.
+    fn run_next(&mut self, sequences: &mut Vec<Sequence>, output: &mut Output<'_>) -> Result<bool> {
+        match self.execute_next(output) {
+            Ok(Some(is_made)) => {
+                self.executed = self.executed.saturating_add(1);
+                if is_made {
+                    self.add_row(sequences, output)?;
+                }
+                Ok(true)
+            }
+            Ok(None) => {
+                self.rows.finish(output);
+                Ok(false)
+            }
+            Err(Error::OutOfMemory) => Err(AllocError),
+            Err(fault) => {
+                self.stop(fault, output);
+                Ok(false)
+            }
+        }
+    }
+
+    /// Looks at the row that is made, adds the sequence that it ends, and goes on to the next row.
+    fn add_row(&mut self, sequences: &mut Vec<Sequence>, output: &mut Output<'_>) -> Result<()> {
+        if let Some(sequence) = self.take_row(output) {
+            sequences.push(sequence)?;
+        }
+        self.row.reset(self.program.header());
+        Ok(())
+    }
+
+    /// Prints the fault of the instruction that comes next.
+    fn stop(&mut self, fault: Error, output: &mut Output<'_>) {
+        let start = instruction_start(self.program.header(), self.executed);
+        let byte = start.unwrap_or(self.rows.findings.unit);
+        self.rows.stop(byte, fault, output);
     }
 
     /// Executes the next instruction, and returns whether it makes a row; None at the end.
@@ -86,13 +106,17 @@ impl<R: Reader> UnitCheck<R> {
         };
         let before = self.row.address();
         let is_made = self.row.execute(instruction, &mut self.program)?;
-        match set {
-            Some(address) if self.row.is_under_tombstone() => {
-                self.rows.look_at_address(address, before, output);
-            }
-            _ => {}
+        if let Some(address) = set {
+            self.look_at_address(address, before, output);
         }
         Ok(Some(is_made))
+    }
+
+    /// Looks at an address that was set after another one, if it is a tombstone.
+    fn look_at_address(&mut self, address: u64, before: u64, output: &mut Output<'_>) {
+        if self.row.is_under_tombstone() {
+            self.rows.look_at_address(address, before, output);
+        }
     }
 
     /// Looks at the row that is made, and returns the sequence that it ends.

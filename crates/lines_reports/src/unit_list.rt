@@ -14,9 +14,19 @@ pub(crate) fn print_heading(output: &mut Output<'_>) {
 }
 
 /// Prints the line of a unit, with the files that are defined before the first fault of its
-/// program, which is reported.
-pub(crate) fn print_unit<R: Reader>(unit: &mut UnitRows<R>, output: &mut Output<'_>) -> Result<()> {
+/// program, which is reported. Nothing of it follows.
+pub(crate) fn print_unit<R: Reader>(
+    unit: &mut UnitRows<R>,
+    output: &mut Output<'_>,
+) -> Result<bool> {
     unit.run()?;
+    print_line(unit, output);
+    unit.tell_fault(output);
+    Ok(false)
+}
+
+/// Prints the line of a unit that was run.
+fn print_line<R: Reader>(unit: &UnitRows<R>, output: &mut Output<'_>) {
     let header = unit.header();
     let format = match header.format() {
         Format::Dwarf32 => 32,
@@ -40,8 +50,6 @@ pub(crate) fn print_unit<R: Reader>(unit: &mut UnitRows<R>, output: &mut Output<
         ("bytes", Piece::WideNumber(unit_bytes(header), 8)),
     ];
     print_fields("%  %  %-bit  %  %  %  %  %", &fields, output);
-    unit.tell_fault(output);
-    Ok(())
 }
 
 /// The bytes of a unit, those of its length among them.

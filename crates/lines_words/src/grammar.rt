@@ -18,6 +18,8 @@ addresses a flag Prints the address before the answer
 functions f flag Prints the name of the function that holds the address, before the path
 pretty - flag Prints the line of source below each answer, with a mark at the column
 source - SOURCE Reads this source file in the place of those that paths name
+source-dir - DIR Reads source files of relative paths below this directory
+map - OLD=NEW Reads source files below the directory OLD in NEW
 basenames s flag Prints the last component of each path
 relative-to - DIR Prints paths that begin with this directory without it
 bias - ADDRESS Subtracts this from each address, for a program that was loaded elsewhere
@@ -41,6 +43,8 @@ PLACE - needed A line of each file whose path ends so, PATH:LINE, or else the na
     as its symbol has it
 context C N Prints so many lines before it and after it (3 if unsaid)
 source - SOURCE Reads this source file in the place of those that paths name
+source-dir - DIR Reads source files of relative paths below this directory
+map - OLD=NEW Reads source files below the directory OLD in NEW
 >Example: lines source -C 5 a.out src/main.c:12",
     "units Prints a line for each unit
 >Example: lines units a.out",
@@ -163,7 +167,7 @@ fn argument<'a>(alloc: Global, command: &str, row: &'static str) -> Result<Arg<'
             .required_unless_present_any(&["exe", "index", "indexes", "files"])?
             .conflicts_with_all(&["indexes", "files"]),
         "address-size" => word.requires_arg("raw"),
-        "source" if command == "where" => word.requires_arg("pretty"),
+        "source" | "source-dir" | "map" if command == "where" => word.requires_arg("pretty"),
         _ => word.conflicts_with_all(conflicts_of(name)),
     }
 }

@@ -23,6 +23,6 @@ pub use output::{Json, Output, Screen, Style};
 pub use path_text::{ColumnMark, JsonBytes, NameText, PathText, SourceText, last_part, shown_path};
 pub use request::{
     CodeAddress, Command, Files, Form, InputKind, LineNames, Notation, PathForm, Request,
-    SourcePlace, UnitChoice, UnitFiles,
+    SourceFiles, SourcePlace, UnitChoice, UnitFiles,
 };
 pub use words::{message_of, parse};

@@ -5,6 +5,7 @@ ghost use Rattle.std.specs.Prelude.{◌≡◌, ◌⊎◌, ◌↔◌, IsTrue};
 use crate::kinds::CheckChoice;
 use gimli_core::RunTimeEndian;
 use line_text::AddressSize;
+use std::alloc::{AllocError, Global};
 
 /// What the words ask for: a command over a file, and how it is done. What a command doesn't take
 /// is as if it weren't said.
@@ -23,8 +24,8 @@ pub struct Request<'w> {
     /// The most bytes of a compressed section once it is made whole; None where it goes by the
     /// size of its file.
     pub memory_limit: Option<u64>,
-    /// The source file that is read in the place of those that paths name.
-    pub source: Option<&'w str>,
+    /// Where source files are.
+    pub source: SourceFiles<'w>,
     /// The addresses that are asked; those of standard input where there is none.
     pub addresses: Vec<CodeAddress<'w>>,
     /// What is subtracted from each address.
@@ -51,6 +52,41 @@ pub struct Request<'w> {
     pub units: UnitChoice,
     /// What a check tells.
     pub check: CheckChoice,
+}
+
+/// Where the source files are that paths name.
+#[derive(Clone, Copy)]
+pub struct SourceFiles<'w> {
+    /// The file that is read in the place of all.
+    pub file: Option<&'w str>,
+    /// A directory, and the one that stands in its place.
+    pub map: Option<(&'w str, &'w str)>,
+    /// The directory below which relative paths are.
+    pub directory: Option<&'w str>,
+}
+
+impl SourceFiles<'_> {
+    /// The name of the file that is read for a path, unless one is read in the place of all.
+    pub fn name_of(&self, alloc: Global, path: &str) -> Result<String, AllocError> {
+        let name = self.mapped(alloc, path)?;
+        match self.directory {
+            Some(directory) if !name.starts_with('/') => format!(in alloc; "{directory}/{name}"),
+            _ => Ok(name),
+        }
+    }
+
+    /// A path whose directory is replaced, if it begins with the one that is mapped.
+    fn mapped(&self, alloc: Global, path: &str) -> Result<String, AllocError> {
+        let Some((old, new)) = self.map else {
+            return String::from_str(alloc, path);
+        };
+        match path.strip_prefix(old) {
+            Some(rest) if rest.is_empty() || rest.starts_with('/') || old.ends_with('/') => {
+                format!(in alloc; "{new}{rest}")
+            }
+            _ => String::from_str(alloc, path),
+        }
+    }
 }
 
 /// What is done over a file.

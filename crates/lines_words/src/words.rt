@@ -8,8 +8,8 @@ use crate::kinds::{CheckChoice, add_kinds};
 use crate::numbers::{parse_address, parse_code_address, parse_offset, parse_target};
 use crate::path_text::{MessageText, NameText};
 use crate::request::{
-    CodeAddress, Command, Form, InputKind, LineNames, Notation, PathForm, Request, SourcePlace,
-    UnitChoice,
+    CodeAddress, Command, Form, InputKind, LineNames, Notation, PathForm, Request, SourceFiles,
+    SourcePlace, UnitChoice,
 };
 use clap::error::ErrorKind;
 use clap::{ArgMatches, Error};
@@ -56,6 +56,7 @@ fn wanted_of(name: &str) -> &'static str {
         "PLACE" => "a path, a colon and a line, or the name of a function",
         "context" => "a number of lines up to 100000",
         "memory-limit" => "a number of bytes, decimal and with K, M or G after it or none",
+        "map" => "OLD=NEW, two directories",
         "UNIT" => "an offset, decimal or hexadecimal after 0x",
         "deny" | "allow" => "a kind of findings, or fault, lost, odd or usual",
         _ => "a command",
@@ -149,7 +150,11 @@ fn request_of<'w>(alloc: Global, matches: &ArgMatches<'w>) -> Result<Request<'w>
         line_str: matches.get_str("line-str"),
         strings: matches.get_str("str"),
         memory_limit: said!(matches, "memory-limit", parse_bytes),
-        source: matches.get_str("source"),
+        source: SourceFiles {
+            file: matches.get_str("source"),
+            map: said!(matches, "map", parse_map),
+            directory: matches.get_str("source-dir"),
+        },
         form: form_of(matches),
         paths: path_form_of(matches),
         has_address: matches.get_flag("addresses"),
@@ -284,6 +289,14 @@ fn parse_bytes(word: &str) -> Option<u64> {
         }
     }
     parse_digits(word, 10)
+}
+
+/// A directory, `=`, and the one that stands in its place.
+fn parse_map(word: &str) -> Option<(&str, &str)> {
+    match word.split_once('=') {
+        Some(("", _)) => None,
+        map => map,
+    }
 }
 
 /// How much of a path is printed.

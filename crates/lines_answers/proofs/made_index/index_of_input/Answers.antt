@@ -4,13 +4,12 @@ pub returns-in-Ok : goal.returns-in-Ok
 returns-in-Ok g c = record {
   kept = c.in_ok-lookup.lookup;
   are = c.in_ok-lookup.ensures;
-  directories = c.in_ok-sources.sources.compilations;
+  directories = c.in_ok-sources.sources.paths.1;
   tell = c.in_ok-sources.ensures.directories;
   is_index =
       rw c.new-bytes.ensures.items at
       (rw c.bytes.ensures.number at
       (rw c.from-size.ensures at
       (rw c.in_ok-sources.ensures.strings at
-      (rw c.strings-strings.ensures at
-      (rw c.compilations-compilations.ensures at c.in-Ok.ensures.index)))));
+      (rw c.paths-paths.ensures at c.in-Ok.ensures.index))));
 }
