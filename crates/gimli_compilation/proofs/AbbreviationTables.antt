@@ -9,11 +9,12 @@ use Rattle.gimli_core.specs.Reading.{Read, split_at}
 use Rattle.gimli_core.specs.declared.error.Error.{Error}
 use Rattle.gimli_compilation.specs.declared.abbreviation.Abbreviations.{Abbreviations}
 use Rattle.gimli_compilation.specs.declared.abbreviation.Specification.{Specification}
-use Rattle.gimli_compilation.specs.Abbreviation.{Declaration, ends_search}
+use Rattle.gimli_compilation.specs.Abbreviation.{Declaration, ends_search, declaration_production}
+use Rattle.gimli_compilation.specs.Abbreviation.{abbreviation_production}
+use Rattle.gimli_compilation.specs.Unit.{table_production}
 use Rattle.gimli_compilation.specs.Directories.{directory_in, first_of}
-use Rattle.gimli_compilation.specs.inside.AbbreviationReading.{IsListed, listed, declaration_at, abbreviation_at}
+use Rattle.gimli_compilation.specs.inside.AbbreviationReading.{IsListed, listed}
 use Rattle.gimli_compilation.specs.inside.AbbreviationTable.{answer_to, IsTable, size_left}
-use Rattle.gimli_compilation.specs.inside.UnitReading.{table_at}
 use Rattle.gimli_compilation.proofs.Declarations.{declaration_smaller, search_refused, search_last, search_more}
 
 abbrev Answer : Type 0
@@ -24,7 +25,7 @@ module _ {R : Type 0} (view : R → List ℕ) where
 
   module _ (code : ℕ) (input : R) where
     more_answers : (kept : Option R) (declared : ℕ) (part rest : R) → declared ≢ 0
-        → (Ok (declared, listed (view part)), view rest) ≡ declaration_at (view input)
+        → (Ok (declared, listed (view part)), view rest) ≡ declaration_production.read (view input)
         → answer_to view code (first_of kept (directory_in code (Some (declared, part)))) (Ok (Some rest))
         ≡ answer_to view code kept (Ok (Some input))
     more_answers (Some found) declared part rest some read = refl
@@ -32,7 +33,7 @@ module _ {R : Type 0} (view : R → List ℕ) where
       where
         at_test : (test : Bool) → nat_eq declared code ≡ test
             → answer_to view code (if test then Some part else None) (Ok (Some rest))
-            ≡ (abbreviation_at code (view input)).0
+            ≡ ((abbreviation_production code).read (view input)).0
         at_test true is =
             let last : ends_search code (declared, listed (view part)) ≡ true = rw (ne_eqb declared 0 some) is in
             rw
@@ -42,12 +43,13 @@ module _ {R : Type 0} (view : R → List ℕ) where
             let more : ends_search code (declared, listed (view part)) ≡ false = rw (ne_eqb declared 0 some) is in
             rw (search_more code (view input) (view rest) (declared, listed (view part)) read more) refl
 
-    end_answers : (kept : Option R) (left : List ℕ) → (Ok (0, []), left) ≡ declaration_at (view input)
+    end_answers : (kept : Option R) (left : List ℕ) → (Ok (0, []), left) ≡ declaration_production.read (view input)
         → answer_to view code kept (Ok None) ≡ answer_to view code kept (Ok (Some input))
     end_answers (Some found) left read = refl
     end_answers None left read = sym (ap (λ (r : Answer). r.0) (search_last code (view input) left (0, []) read refl))
 
-    refusal_answers : (kept : Option R) (e : Error) (left : List ℕ) → (Err e, left) ≡ declaration_at (view input)
+    refusal_answers : (kept : Option R) (e : Error) (left : List ℕ)
+        → (Err e, left) ≡ declaration_production.read (view input)
         → answer_to view code kept (Err e) ≡ answer_to view code kept (Ok (Some input))
     refusal_answers (Some found) e left is = refl
     refusal_answers None e left is = sym (ap (λ (r : Answer). r.0) (search_refused code (view input) left e is))
@@ -69,13 +71,13 @@ module _ {R : Type 0} (view : R → List ℕ) where
     pub table_new : (part : List ℕ) (rest : R) → (Ok part, view rest) ≡ split_at offset section
         → IsTable view section
         (record { offset = offset; is_asked = false; specifications = kept; next = Ok (Some rest) })
-    unfolding table_at
+    unfolding table_production
     table_new part rest read = record { answers = λ code. rw (none, ← read) refl; whole = λ code. rw none tt }
 
     pub table_outside : (e : Error) (left : List ℕ) → (Err e, left) ≡ split_at offset section
         → IsTable view section
         (record { offset = offset; is_asked = false; specifications = kept; next = Err e })
-    unfolding table_at
+    unfolding table_production
     table_outside e left read = record { answers = λ code. rw (none, ← read) refl; whole = λ code. rw none tt }
 
   -- of which one more declaration was read
@@ -87,7 +89,7 @@ module _ {R : Type 0} (view : R → List ℕ) where
 
     next_answers : (kept : BTreeMap ℕ R) (next : Result (Option R) Error) → Same kept next → IsTable view section table
         → (code : ℕ)
-        → answer_to view code (get nat_cmp kept code) next ≡ (table_at table.offset code section).0
+        → answer_to view code (get nat_cmp kept code) next ≡ ((table_production table.offset code).read section).0
     next_answers kept next same is code =
         same code
         ∙ ap (λ (n : Result (Option R) Error). answer_to view code (get nat_cmp table.specifications code) n)
@@ -95,7 +97,7 @@ module _ {R : Type 0} (view : R → List ℕ) where
         ∙ is.answers code
 
     pub table_more : (kept : BTreeMap ℕ R) (declared : ℕ) (part rest : R) → (declared ≢ 0) × IsListed (view part)
-        → (Ok (declared, listed (view part)), view rest) ≡ declaration_at (view input)
+        → (Ok (declared, listed (view part)), view rest) ≡ declaration_production.read (view input)
         → ((code : ℕ)
         → get nat_cmp kept code
         ≡ first_of (get nat_cmp table.specifications code) (directory_in code (Some (declared, part))))
@@ -108,14 +110,15 @@ module _ {R : Type 0} (view : R → List ℕ) where
       whole = λ code. rw (keeps code) (first_whole code declared _ part known.1 (is.whole code));
     }
 
-    pub table_end : (left : List ℕ) → (Ok (0, []), left) ≡ declaration_at (view input) → IsTable view section table
+    pub table_end : (left : List ℕ) → (Ok (0, []), left) ≡ declaration_production.read (view input)
+        → IsTable view section table
         → IsTable view section (record table { next = Ok None })
     table_end left read is = record {
       answers = next_answers table.specifications (Ok None) (λ code. end_answers code input _ left read) is;
       whole = is.whole;
     }
 
-    pub table_refused : (e : Error) (left : List ℕ) → (Err e, left) ≡ declaration_at (view input)
+    pub table_refused : (e : Error) (left : List ℕ) → (Err e, left) ≡ declaration_production.read (view input)
         → IsTable view section table
         → IsTable view section (record table { next = Err e })
     table_refused e left read is = record {
@@ -129,7 +132,7 @@ module _ {R : Type 0} (view : R → List ℕ) where
   table_asked section table is_asked is = record { answers = is.answers; whole = is.whole }
 
   pub smaller_more : (next : Result (Option R) Error) (input rest : R) (d : Declaration) → next ≡ Ok (Some input)
-      → (Ok d, view rest) ≡ declaration_at (view input)
+      → (Ok d, view rest) ≡ declaration_production.read (view input)
       → size_left view (Ok (Some rest)) < size_left view next
   smaller_more next input rest d is read =
       let less = declaration_smaller (view input) d (view rest) read in rw is (omega arith)

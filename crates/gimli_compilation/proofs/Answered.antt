@@ -11,20 +11,20 @@ use Rattle.gimli_compilation.specs.declared.sections.Outcome.TheVariants.{
   MissingAbbreviation as missing_abbreviation,
 }
 use Rattle.gimli_compilation.specs.Sections.{Sections}
-use Rattle.gimli_compilation.specs.Unit.{BeginsWithOutcome, HasCompilationAt, HasRefusalAt}
-use Rattle.gimli_compilation.specs.inside.UnitReading.{unit_at, answer_of}
+use Rattle.gimli_compilation.specs.Unit.{unit_production, BeginsWithOutcome, HasCompilationAt, HasRefusalAt}
+use Rattle.gimli_compilation.specs.inside.Unit.{answer_of}
 use Rattle.gimli_compilation.proofs.UnitLaws.{reads_unit}
 
 module _ (sections : Sections) where
   begun : (bytes : List ℕ) (outcome : Outcome (List ℕ)) → BeginsWithOutcome sections bytes outcome
-      → (unit_at sections bytes).0 ≡ Ok outcome
+      → ((unit_production sections).read bytes).0 ≡ Ok outcome
   begun bytes outcome s =
-      ap (λ (xs : List ℕ). (unit_at sections xs).0) s.2
+      ap (λ (xs : List ℕ). ((unit_production sections).read xs).0) s.2
       ∙ ap (λ (r : Read (Outcome (List ℕ))). r.0) ((reads_unit sections).only s.0 outcome s.1 s.3)
 
   -- what is read at an offset
   abbrev answer_at : ℕ → Result (Compilation (List ℕ)) Refusal
-  answer_at offset = answer_of (unit_at sections (drop offset sections.info)).0
+  answer_at offset = answer_of ((unit_production sections).read (drop offset sections.info)).0
 
   has_compilation : (offset : ℕ) (compilation : Compilation (List ℕ)) → HasCompilationAt sections offset compilation
       → answer_at offset ≡ Ok compilation
@@ -40,9 +40,9 @@ module _ (sections : Sections) where
   pub some_answer : (offset : ℕ)
       → ((compilation : Compilation (List ℕ)) × HasCompilationAt sections offset compilation)
       ⊎ ((refusal : Refusal) × HasRefusalAt sections offset refusal)
-  some_answer offset = at_read (unit_at sections (drop offset sections.info)) refl
+  some_answer offset = at_read ((unit_production sections).read (drop offset sections.info)) refl
     where
-      at_read : (r : Read (Outcome (List ℕ))) → unit_at sections (drop offset sections.info) ≡ r
+      at_read : (r : Read (Outcome (List ℕ))) → (unit_production sections).read (drop offset sections.info) ≡ r
           → ((compilation : Compilation (List ℕ)) × HasCompilationAt sections offset compilation)
           ⊎ ((refusal : Refusal) × HasRefusalAt sections offset refusal)
       at_read (Ok (Found compilation), rest) is =

@@ -1,14 +1,14 @@
 -- Keeping the directories of units, one after the other.
 use Rattle.std.proofs.Common.{◌≡◌, ◌≢◌, ℕ, ◌<◌, ◌≤◌, Bool, true, false, if◌then◌else◌, List, [], ◌∷◌, ◌++◌, length}
-use Rattle.std.proofs.Common.{drop, Option, Some, None, Result, Ok}
-use Rattle.std.proofs.Common.{Err, refl, sym, ap, subst, ◌∙◌, inl, inr, arith, append_assoc}
+use Rattle.std.proofs.Common.{drop, Option, Some, None, Result, Ok, Err, refl, sym, ap, subst, ◌∙◌, inl, inr, arith}
+use Rattle.std.proofs.Common.{append_assoc}
 use Rattle.std.specs.Prelude.{IfOk, IfErr, nat_eq, option_map}
 use Rattle.std.proofs.lemmas.List.{append-nil, length-drop}
 use Rattle.gimli_compilation.specs.declared.refusal.Refusal.{Refusal}
 use Rattle.gimli_compilation.specs.declared.sections.Compilation.{Compilation}
 use Rattle.gimli_compilation.specs.Directories.{paired, directory_in, first_of, directory_among, Gives, Give}
 use Rattle.gimli_compilation.specs.Directories.{TellsDirectories}
-use Rattle.gimli_compilation.specs.inside.Directories.{given_by}
+use Rattle.gimli_compilation.specs.inside.Unit.{given_by}
 use Rattle.gimli_compilation.specs.Sections.{Sections, compilation_seen}
 use Rattle.gimli_compilation.specs.Unit.{HasCompilationAt, HasRefusalAt, IsNextOffset}
 

@@ -9,7 +9,7 @@ use Rattle.gimli_core.specs.declared.common.Format.{Format}
 use Rattle.gimli_core.specs.declared.common.Format.TheVariants.{Dwarf32, Dwarf64}
 use Rattle.gimli_compilation.specs.declared.form.Shape.{Shape}
 use Rattle.gimli_compilation.specs.Form.{reference_size, shape_among, shapes}
-use Rattle.gimli_compilation.specs.inside.FormReading.{IsReadable}
+use Rattle.gimli_compilation.specs.inside.Value.{IsReadable}
 
 abbrev AreReadable : List (ℕ × Shape) → Type 0
 AreReadable [] = Unit {0}

@@ -3,9 +3,8 @@ use Rattle.std.proofs.Common.{◌≡◌, ℕ, ◌<◌, true, false, List, [], �
 use Rattle.gimli_core.specs.Reading.{Read, ◌>>=◌}
 use Rattle.gimli_core.specs.declared.error.Error.{Error}
 use Rattle.gimli_compilation.specs.declared.abbreviation.Specification.{Specification}
-use Rattle.gimli_compilation.specs.Abbreviation.{is_end, specification_production}
-use Rattle.gimli_compilation.specs.inside.AbbreviationReading.{until_at, specification_at, specifications_at, passed_of}
-use Rattle.gimli_compilation.specs.inside.AbbreviationReading.{specifications_passed, list_of, listed}
+use Rattle.gimli_compilation.specs.Abbreviation.{is_end, specification_production, specifications_production, until_at}
+use Rattle.gimli_compilation.specs.inside.AbbreviationReading.{passed_of, specifications_passed, list_of, listed}
 use Rattle.gimli_compilation.specs.inside.AbbreviationReading.{IsListed}
 use Rattle.gimli_compilation.proofs.Until.{shrinks, until_more, until_last, until_refused}
 use Rattle.gimli_compilation.proofs.AbbreviationLaws.{reads_specification, specification_takes}
@@ -24,32 +23,35 @@ first_put : (s : Specification) (r : Read Values)
 first_put s (Ok v, rest) = refl
 first_put s (Err e, rest) = refl
 
-module _ (bytes : List ℕ) (s : Specification) (left : List ℕ) (read : (Ok s, left) ≡ specification_at bytes) where
+module _ (bytes : List ℕ) (s : Specification) (left : List ℕ)
+    (read : (Ok s, left) ≡ specification_production.read bytes) where
   pub specification_smaller : length left < length bytes
   specification_smaller =
-      shrinks specification_production specification_at reads_specification specification_takes bytes s left (sym read)
+      shrinks specification_production reads_specification specification_takes bytes s left (sym read)
 
-  pub specifications_more : is_end s ≡ false → specifications_at bytes ≡ put_first s (specifications_at left)
-  unfolding specifications_at
+  pub specifications_more : is_end s ≡ false
+      → specifications_production.read bytes ≡ put_first s (specifications_production.read left)
+  unfolding specifications_production
   specifications_more is =
-      rw (until_more is_end specification_production specification_at reads_specification specification_takes bytes s
+      rw (until_more is_end specification_production reads_specification specification_takes bytes s
       left (sym read) is)
-      (first_put s (until_at is_end specification_at left))
+      (first_put s (until_at is_end specification_production.read left))
 
-  pub specifications_last : is_end s ≡ true → specifications_at bytes ≡ (Ok [], left)
-  unfolding specifications_at
+  pub specifications_last : is_end s ≡ true → specifications_production.read bytes ≡ (Ok [], left)
+  unfolding specifications_production
   specifications_last is =
       rw
-      (until_last is_end specification_production specification_at reads_specification specification_takes bytes s left
+      (until_last is_end specification_production reads_specification specification_takes bytes s left
       (sym read) is)
       refl
 
-pub specifications_refused : (bytes : List ℕ) (e : Error) (left : List ℕ) → (Err e, left) ≡ specification_at bytes
-    → specifications_at bytes ≡ (Err e, left)
-unfolding specifications_at
+pub specifications_refused : (bytes : List ℕ) (e : Error) (left : List ℕ)
+    → (Err e, left) ≡ specification_production.read bytes
+    → specifications_production.read bytes ≡ (Err e, left)
+unfolding specifications_production
 specifications_refused bytes e left is =
     rw
-    (until_refused is_end specification_production specification_at reads_specification specification_takes bytes e left
+    (until_refused is_end specification_production reads_specification specification_takes bytes e left
     (sym is))
     refl
 
@@ -59,18 +61,20 @@ passed_put : (s : Specification) (r : Read (List Specification)) → passed_of (
 passed_put s (Ok xs, rest) = refl
 passed_put s (Err e, rest) = refl
 
-pub passed_more : (bytes : List ℕ) (s : Specification) (left : List ℕ) → (Ok s, left) ≡ specification_at bytes
+pub passed_more : (bytes : List ℕ) (s : Specification) (left : List ℕ)
+    → (Ok s, left) ≡ specification_production.read bytes
     → is_end s ≡ false
     → specifications_passed bytes ≡ specifications_passed left
 passed_more bytes s left read is =
-    ap passed_of (specifications_more bytes s left read is) ∙ passed_put s (specifications_at left)
+    ap passed_of (specifications_more bytes s left read is) ∙ passed_put s (specifications_production.read left)
 
-pub passed_last : (bytes : List ℕ) (s : Specification) (left : List ℕ) → (Ok s, left) ≡ specification_at bytes
+pub passed_last : (bytes : List ℕ) (s : Specification) (left : List ℕ)
+    → (Ok s, left) ≡ specification_production.read bytes
     → is_end s ≡ true
     → specifications_passed bytes ≡ (Ok tt, left)
 passed_last bytes s left read is = ap passed_of (specifications_last bytes s left read is)
 
-pub passed_refused : (bytes : List ℕ) (e : Error) (left : List ℕ) → (Err e, left) ≡ specification_at bytes
+pub passed_refused : (bytes : List ℕ) (e : Error) (left : List ℕ) → (Err e, left) ≡ specification_production.read bytes
     → specifications_passed bytes ≡ (Err e, left)
 passed_refused bytes e left is = ap passed_of (specifications_refused bytes e left is)
 
@@ -90,8 +94,8 @@ refused_of {A} (Err d, rest) e left is =
     ∙ ap (λ (s : Read (Unit {0})). let t : Read (List A) = (Err e, s.1) in t) (sym is)
 
 pub passed_listed : (bytes left : List ℕ) → (Ok tt, left) ≡ specifications_passed bytes
-    → specifications_at bytes ≡ (Ok (listed bytes), left)
-passed_listed bytes left e = listed_of (specifications_at bytes) left e
+    → specifications_production.read bytes ≡ (Ok (listed bytes), left)
+passed_listed bytes left e = listed_of (specifications_production.read bytes) left e
 
 pub passed_is_listed : (bytes left : List ℕ) → (Ok tt, left) ≡ specifications_passed bytes → IsListed bytes
 passed_is_listed bytes left e = record {
@@ -101,8 +105,8 @@ passed_is_listed bytes left e = record {
 }
 
 pub passed_fault : (bytes : List ℕ) (e : Error) (left : List ℕ) → (Err e, left) ≡ specifications_passed bytes
-    → specifications_at bytes ≡ (Err e, left)
-passed_fault bytes e left is = refused_of (specifications_at bytes) e left is
+    → specifications_production.read bytes ≡ (Err e, left)
+passed_fault bytes e left is = refused_of (specifications_production.read bytes) e left is
 
 -- ---- a list that was closed, read once more
 
@@ -118,11 +122,11 @@ list_put : (s : Specification) (r : Read (List Specification)) (ys : List Specif
 list_put s r ys end is = rw is refl
 
 module _ (bytes : List ℕ) (s : Specification) (left : List ℕ) (closed : IsListed bytes)
-    (read : (Ok s, left) ≡ specification_at bytes) where
+    (read : (Ok s, left) ≡ specification_production.read bytes) where
   pub still_listed : is_end s ≡ false → IsListed left
   still_listed is =
       let p =
-      put_listed s (specifications_at left) closed.specifications closed.rest
+      put_listed s (specifications_production.read left) closed.specifications closed.rest
       (sym (specifications_more bytes s left read is) ∙ closed.parts) in
       record { specifications = p.0; rest = p.1; parts = p.2 }
 
@@ -130,14 +134,15 @@ module _ (bytes : List ℕ) (s : Specification) (left : List ℕ) (closed : IsLi
   listed_more is =
       let more = still_listed is in
       ap list_of (specifications_more bytes s left read is)
-      ∙ list_put s (specifications_at left) more.specifications more.rest more.parts
+      ∙ list_put s (specifications_production.read left) more.specifications more.rest more.parts
 
-pub listed_last : (bytes : List ℕ) (s : Specification) (left : List ℕ) → (Ok s, left) ≡ specification_at bytes
+pub listed_last : (bytes : List ℕ) (s : Specification) (left : List ℕ)
+    → (Ok s, left) ≡ specification_production.read bytes
     → is_end s ≡ true → listed bytes ≡ []
 listed_last bytes s left read is = ap list_of (specifications_last bytes s left read is)
 
 pub never_refused : (bytes : List ℕ) (e : Error) (left : List ℕ) → IsListed bytes
-    → (Err e, left) ≡ specification_at bytes → ⊥
+    → (Err e, left) ≡ specification_production.read bytes → ⊥
 never_refused bytes e left closed is =
     let p =
     ap (λ (t : Read (List Specification)). t.0) (sym closed.parts ∙ specifications_refused bytes e left is) in

@@ -1,22 +1,19 @@
 -- Reading the first entry of a unit.
-use Rattle.std.proofs.Common.{◌≡◌, ℕ, ◌+◌, ◌*◌, ◌<◌, ◌≤◌, ◌^◌, Bool, true, false, if◌then◌else◌, List, [], ◌∷◌, ◌++◌}
-use Rattle.std.proofs.Common.{length, drop, take, Option, Some, None}
+use Rattle.std.proofs.Common.{◌≡◌, ℕ, ◌+◌, ◌<◌, ◌≤◌, Bool, List, [], ◌∷◌, ◌++◌, length, drop, take, Option, Some, None}
 use Rattle.std.proofs.Common.{Result, Ok, Err, refl, sym, ap, ◌∙◌, inl, inr, arith, append_assoc}
-use Rattle.std.specs.Prelude.{nat_lt, IfOk, IfErr}
+use Rattle.std.specs.Prelude.{IfOk, IfErr}
 use Rattle.std.proofs.lemmas.Bool.{cases_lt}
 use Rattle.std.proofs.lemmas.List.{append-nil, drop_all, length-append, length-drop, take-append-drop}
 use Rattle.gimli_core.specs.Layout.{OrderAndLimit}
-use Rattle.gimli_core.specs.Numbers.{word_size, SpellsInitialLength}
-use Rattle.gimli_core.specs.Reading.{Read, ◌>>=◌, text_at, number_at, result_map}
-use Rattle.gimli_core.specs.Production.{done, number, text, unsigned, some_bytes, initial_length, unit_length, Reads}
+use Rattle.gimli_core.specs.Numbers.{SpellsInitialLength}
+use Rattle.gimli_core.specs.Reading.{Read, result_map}
+use Rattle.gimli_core.specs.Production.{initial_length, unit_length, Reads}
 use Rattle.gimli_core.specs.declared.common.Encoding.{Encoding}
 use Rattle.gimli_core.specs.declared.common.Format.{Format}
 use Rattle.gimli_core.specs.declared.common.Format.TheVariants.{Dwarf32, Dwarf64}
 use Rattle.gimli_core.specs.declared.error.Error.{Error}
-use Rattle.gimli_core.specs.declared.error.Error.TheVariants.{UnsupportedOffset}
-use Rattle.gimli_core.proofs.Productions.{reads_both, reads_done, reads_if, reads_same}
-use Rattle.gimli_core.proofs.ProductionLaws.{reads_number, reads_text, reads_some_bytes}
-use Rattle.gimli_core.proofs.UnsignedLeb.{reads_unsigned}
+use Rattle.gimli_core.proofs.Productions.{reads_both, reads_done}
+use Rattle.gimli_core.proofs.Readers.{readers}
 use Rattle.gimli_compilation.specs.declared.abbreviation.Specification.{Specification}
 use Rattle.gimli_compilation.specs.declared.attributes.Attributes.{Attributes}
 use Rattle.gimli_compilation.specs.declared.form.NumberKind.{NumberKind}
@@ -29,23 +26,16 @@ use Rattle.gimli_compilation.specs.declared.refusal.Refusal.TheVariants.{Bytes}
 use Rattle.gimli_compilation.specs.declared.sections.Compilation.{Compilation}
 use Rattle.gimli_compilation.specs.declared.sections.Outcome.{Outcome}
 use Rattle.gimli_compilation.specs.declared.sections.Outcome.TheVariants.{Found, UnknownUnitType, MissingAbbreviation}
-use Rattle.gimli_compilation.specs.Form.{form_production}
-use Rattle.gimli_compilation.specs.Header.{Header, frame_production, header_production, is_unit_type}
+use Rattle.gimli_compilation.specs.Header.{Header, frame_production}
 use Rattle.gimli_compilation.specs.Sections.{Sections}
-use Rattle.gimli_compilation.specs.Unit.{apart, from_offset, attributes_production, string_offset_production, text_from}
-use Rattle.gimli_compilation.specs.Unit.{text_by, text_of}
-use Rattle.gimli_compilation.specs.Unit.{compilation_production, table_production, declared_entry, entry_production}
-use Rattle.gimli_compilation.specs.Unit.{content_production, unit_production}
+use Rattle.gimli_compilation.specs.Unit.{attributes_production, string_offset_production, text_from, text_production}
+use Rattle.gimli_compilation.specs.Unit.{text_by, text_of, compilation_production, table_production, declared_entry}
+use Rattle.gimli_compilation.specs.Unit.{found_entry, entry_production, content_production, unit_production}
 use Rattle.gimli_compilation.specs.Unit.{BeginsWithOutcome, FollowsUnit, HasCompilationAt, HasRefusalAt}
-use Rattle.gimli_compilation.specs.Value.{attributes_with, no_attributes, section_offset}
+use Rattle.gimli_compilation.specs.Value.{attributes_with, section_offset}
 use Rattle.gimli_compilation.specs.inside.Value.{value_seen}
-use Rattle.gimli_compilation.specs.inside.AttributesReading.{attributes_at}
-use Rattle.gimli_compilation.specs.inside.HeaderReading.{frame_at, after_frame}
-use Rattle.gimli_compilation.specs.inside.UnitReading.{from_offset_at, text_from_at, place_of, string_offset_at}
-use Rattle.gimli_compilation.specs.inside.UnitReading.{text_by_at, text_of_at, compilation_at}
-use Rattle.gimli_compilation.specs.inside.UnitReading.{table_at, found_entry_at, declared_entry_at, entry_at}
-use Rattle.gimli_compilation.specs.inside.UnitReading.{content_at, unit_at, outcome_seen, answer_of}
-use Rattle.gimli_compilation.proofs.Guards.{reads_guard, reads_from_offset, reads_apart}
+use Rattle.gimli_compilation.specs.inside.Unit.{after_frame, outcome_seen, answer_of}
+use Rattle.gimli_compilation.proofs.Guards.{reads_from_offset, reads_apart}
 use Rattle.gimli_compilation.proofs.FormLaws.{reads_form}
 use Rattle.gimli_compilation.proofs.AbbreviationLaws.{reads_abbreviation}
 use Rattle.gimli_compilation.proofs.HeaderLaws.{reads_frame, reads_header}
@@ -56,93 +46,52 @@ use Rattle.gimli_compilation.proofs.Until.{TakesBytes, takes_both}
 reads_attributes : (layout : OrderAndLimit) (encoding : Encoding) (specifications : List Specification)
     (before : Attributes (List ℕ))
     → Reads (attributes_production layout encoding before specifications)
-    (attributes_at layout encoding before specifications)
-unfolding attributes_at
+unfolding attributes_production
 reads_attributes layout encoding [] before = reads_done before
-reads_attributes layout encoding (s ∷ specifications) before =
-    reads_both (form_production layout encoding s.form.0) _ _ _ (reads_form layout encoding s.form.0)
+reads_attributes layout encoding (s ∷ specifications) before = reads_both (reads_form layout encoding s.form.0)
     (λ value. reads_attributes layout encoding specifications (attributes_with before s.name.0 value))
 
 -- ---- texts
 
-reads_text_from : (layout : OrderAndLimit) (offset : ℕ)
-    → Reads (from_offset layout offset text) (text_from_at layout.limit offset)
-unfolding text_from_at
-reads_text_from layout offset = reads_from_offset layout offset text text_at reads_text
-
-place_known : (limit base index size : ℕ) (read : List ℕ → Read ℕ) (bytes : List ℕ)
-    → (if nat_lt (base + index * size) (2 ^ 64) then from_offset_at limit (base + index * size) read bytes
-    else (Err UnsupportedOffset, bytes))
-    ≡ ((place_of base index size, bytes) >>= λ place rest. from_offset_at limit place read rest)
-place_known limit base index size read bytes = at_test (nat_lt (base + index * size) (2 ^ 64))
-  where
-    at_test : (test : Bool)
-        → (if test then from_offset_at limit (base + index * size) read bytes else (Err UnsupportedOffset, bytes))
-        ≡ ((let r : Read ℕ = (if test then Ok (base + index * size) else Err UnsupportedOffset, bytes) in r)
-        >>= λ place rest.
-        from_offset_at limit place read rest)
-    at_test true = refl
-    at_test false = refl
+reads_text_from : (limit offset : ℕ) → Reads (text_production limit offset)
+unfolding text_production
+reads_text_from limit offset = search (readers, reads_from_offset)
 
 reads_string_offset : (layout : OrderAndLimit) (format : Format) (base index : ℕ)
-    → Reads (string_offset_production layout format base index) (string_offset_at layout format base index)
-unfolding string_offset_at
-reads_string_offset layout format base index =
-    let place = base + index * word_size format in
-    reads_same (string_offset_production layout format base index) _ _
-    (place_known layout.limit base index (word_size format) (number_at layout.is_big (word_size format)))
-    (reads_guard (nat_lt place (2 ^ 64)) UnsupportedOffset
-    (from_offset layout place (number layout.is_big (word_size format))) _
-    (reads_from_offset layout place (number layout.is_big (word_size format)) _
-    (reads_number layout.is_big (word_size format))))
+    → Reads (string_offset_production layout format base index)
+unfolding string_offset_production
+reads_string_offset layout format base index = search (readers, reads_from_offset)
+
+reads_named : (limit : ℕ) (section : List ℕ) (offset : ℕ) → Reads (text_from limit section offset)
+reads_named limit section offset = search (readers, reads_apart, reads_text_from)
 
 module _ (sections : Sections) where
-  reads_named : (section : List ℕ) (offset : ℕ)
-      → Reads (text_from sections section offset) (λ bytes.
-      ((text_from_at sections.layout.limit offset section).0, bytes) >>= λ name rest.
-      (Ok (Some name), rest))
-  reads_named section offset =
-      reads_both (apart section (from_offset sections.layout offset text)) _ _ _
-      (reads_apart section _ _ (reads_text_from sections.layout offset)) (λ name.
-      reads_done (Some name))
-
   reads_text_by : (format : Format) (base : Option ℕ) (kind : NumberKind) (n : ℕ)
-      → Reads (text_by sections format base kind n) (text_by_at sections format base kind n)
-  unfolding text_by_at
-  reads_text_by format base StringOffset n = reads_named sections.strings n
-  reads_text_by format base LineStringOffset n = reads_named sections.line_strings n
-  reads_text_by format (Some base) StringIndex n =
-      reads_both (apart sections.string_offsets (string_offset_production sections.offsets_layout format base n)) _ _
-      _
-      (reads_apart sections.string_offsets _ _ (reads_string_offset sections.offsets_layout format base n)) (λ offset.
-      reads_named sections.strings offset)
+      → Reads (text_by sections format base kind n)
+  unfolding text_by
+  reads_text_by format base StringOffset n = reads_named sections.layout.limit sections.strings n
+  reads_text_by format base LineStringOffset n = reads_named sections.layout.limit sections.line_strings n
+  reads_text_by format (Some base) StringIndex n = search (readers, reads_apart, reads_string_offset, reads_named)
   reads_text_by format None StringIndex n = reads_done None
   reads_text_by format base SectionOffset n = reads_done None
   reads_text_by format base Other n = reads_done None
 
   reads_text_of : (format : Format) (base : Option ℕ) (value : Value (List ℕ))
-      → Reads (text_of sections format base value) (text_of_at sections format base value)
+      → Reads (text_of sections format base value)
   reads_text_of format base (Number kind n) = reads_text_by format base kind n
   reads_text_of format base (Text name) = reads_done (Some name)
   reads_text_of format base Passed = reads_done None
 
   reads_compilation : (encoding : Encoding) (attributes : Attributes (List ℕ))
-      → Reads (compilation_production sections encoding attributes) (compilation_at sections encoding attributes)
-  unfolding compilation_at
-  reads_compilation encoding attributes =
-      let base = section_offset attributes.str_offsets_base in
-      reads_both (text_of sections encoding.format base attributes.comp_dir) _ _ _
-      (reads_text_of encoding.format base attributes.comp_dir)
-      (λ comp_dir. reads_both (text_of sections encoding.format base attributes.name) _ _ _
-      (reads_text_of encoding.format base attributes.name) (λ name.
-      reads_done _))
+      → Reads (compilation_production sections encoding attributes)
+  unfolding compilation_production
+  reads_compilation encoding attributes = search (readers, reads_text_of)
 
 -- ---- entries and units
 
-reads_table : (offset code : ℕ) → Reads (table_production offset code) (table_at offset code)
-unfolding table_at
-reads_table offset code =
-    reads_both (some_bytes offset) _ _ _ (reads_some_bytes offset) (λ before. reads_abbreviation code)
+reads_table : (offset code : ℕ) → Reads (table_production offset code)
+unfolding table_production
+reads_table offset code = search (readers, reads_abbreviation)
 
 -- what a value says, seen by its bytes
 pub section_offset_seen : {R : Type 0} (view : R → List ℕ) (value : Value R)
@@ -160,80 +109,65 @@ pub compilation_done : (sections : Sections) (encoding : Encoding) (attributes :
     (base lines : Option ℕ) (comp_dir name : Option (List ℕ))
     (bytes : List ℕ)
     → base ≡ section_offset attributes.str_offsets_base → lines ≡ section_offset attributes.stmt_list
-    → (Ok comp_dir, bytes) ≡ text_of_at sections encoding.format base attributes.comp_dir bytes
-    → (Ok name, bytes) ≡ text_of_at sections encoding.format base attributes.name bytes
+    → (Ok comp_dir, bytes) ≡ (text_of sections encoding.format base attributes.comp_dir).read bytes
+    → (Ok name, bytes) ≡ (text_of sections encoding.format base attributes.name).read bytes
     → (Ok (record { version = encoding.version; stmt_list = lines; comp_dir = comp_dir; name = name }), bytes)
-    ≡ compilation_at sections encoding attributes bytes
-unfolding compilation_at
+    ≡ (compilation_production sections encoding attributes).read bytes
+unfolding compilation_production
 compilation_done sections encoding attributes base lines comp_dir name bytes based lined first second =
     let one : (Ok comp_dir, bytes)
-    ≡ text_of_at sections encoding.format (section_offset attributes.str_offsets_base) attributes.comp_dir bytes =
-    first ∙ ap (λ (b : Option ℕ). text_of_at sections encoding.format b attributes.comp_dir bytes) based in
+    ≡ (text_of sections encoding.format (section_offset attributes.str_offsets_base) attributes.comp_dir).read bytes =
+    first ∙ ap (λ (b : Option ℕ). (text_of sections encoding.format b attributes.comp_dir).read bytes) based in
     let two : (Ok name, bytes)
-    ≡ text_of_at sections encoding.format (section_offset attributes.str_offsets_base) attributes.name bytes =
-    second ∙ ap (λ (b : Option ℕ). text_of_at sections encoding.format b attributes.name bytes) based in
+    ≡ (text_of sections encoding.format (section_offset attributes.str_offsets_base) attributes.name).read bytes =
+    second ∙ ap (λ (b : Option ℕ). (text_of sections encoding.format b attributes.name).read bytes) based in
     rw (← one, ← two, lined) refl
 
 module _ (sections : Sections) where
   reads_declared_entry : (encoding : Encoding) (code : ℕ) (found : Option (List Specification))
-      → Reads (declared_entry sections encoding code found) (declared_entry_at sections encoding code found)
-  unfolding found_entry_at
-  reads_declared_entry encoding code None = reads_done (MissingAbbreviation code)
-  reads_declared_entry encoding code (Some specifications) =
-      reads_both (attributes_production sections.layout encoding no_attributes specifications) _ _ _
-      (reads_attributes sections.layout encoding specifications no_attributes)
-      (λ attributes. reads_both (compilation_production sections encoding attributes) _ _ _
-      (reads_compilation sections encoding attributes) (λ compilation.
-      reads_done (Found compilation)))
+      → Reads (declared_entry sections encoding code found)
+  unfolding found_entry
+  reads_declared_entry encoding code None = search readers
+  reads_declared_entry encoding code (Some specifications) = search (readers, reads_attributes, reads_compilation)
 
-  reads_entry : (header : Header) → Reads (entry_production sections header) (entry_at sections header)
-  unfolding entry_at
-  reads_entry header =
-      reads_both unsigned _ _ _ reads_unsigned
-      (λ code. reads_both (apart sections.abbreviations (table_production header.abbreviations code)) _ _ _
-      (reads_apart sections.abbreviations _ _ (reads_table header.abbreviations code))
-      (λ found. reads_declared_entry header.encoding code found))
+  reads_entry : (header : Header) → Reads (entry_production sections header)
+  unfolding entry_production
+  reads_entry header = search (readers, reads_apart, reads_table, reads_declared_entry)
 
-  reads_content : (format : Format) → Reads (content_production sections format) (content_at sections format)
-  unfolding content_at
-  reads_content format =
-      reads_both (header_production sections.layout format) _ _ _ (reads_header sections.layout format)
-      (λ header. reads_if (is_unit_type header.unit_type) (entry_production sections header)
-      (done (UnknownUnitType header.unit_type)) _ _ (reads_entry header)
-      (reads_done (UnknownUnitType header.unit_type)))
+  reads_content : (format : Format) → Reads (content_production sections format)
+  unfolding content_production
+  reads_content format = search (readers, reads_header, reads_entry)
 
-  pub reads_unit : Reads (unit_production sections) (unit_at sections)
-  unfolding unit_at
-  reads_unit =
-      reads_both (frame_production sections.layout) _ _ _ (reads_frame sections.layout)
-      (λ unit. reads_apart unit.0 (content_production sections unit.1) (content_at sections unit.1)
-      (reads_content unit.1))
+  pub reads_unit : Reads (unit_production sections)
+  unfolding unit_production
+  reads_unit = search (readers, reads_frame, reads_apart, reads_content)
 
   -- ---- an answer
 
   pub content_done : (bytes rest left : List ℕ) (unit : List ℕ × Format) (outcome : Result (Outcome (List ℕ)) Error)
-      → (Ok unit, rest) ≡ frame_at sections.layout bytes
-      → (outcome, left) ≡ content_at sections unit.1 unit.0 → (outcome, rest) ≡ unit_at sections bytes
-  unfolding unit_at
+      → (Ok unit, rest) ≡ (frame_production sections.layout).read bytes
+      → (outcome, left) ≡ (content_production sections unit.1).read unit.0
+      → (outcome, rest) ≡ (unit_production sections).read bytes
+  unfolding unit_production
   content_done bytes rest left unit outcome frame content =
       rw (← frame) (ap (λ (r : Read (Outcome (List ℕ))). let s : Read (Outcome (List ℕ)) = (r.0, rest) in s) content)
 
   pub frame_refused : (offset : ℕ) (bytes : List ℕ) (e : Error) (left : List ℕ) → bytes ≡ drop offset sections.info
-      → (Err e, left) ≡ frame_at sections.layout bytes → HasRefusalAt sections offset (Bytes e)
-  unfolding unit_at
+      → (Err e, left) ≡ (frame_production sections.layout).read bytes → HasRefusalAt sections offset (Bytes e)
+  unfolding unit_production
   frame_refused offset bytes e left from is =
-      let refused : (unit_at sections bytes).0
+      let refused : ((unit_production sections).read bytes).0
       ≡ Err e = rw (← is) refl in rw (← from) (reads_unit.fault bytes e refused)
 
   -- a user has what the unit says
   module _ {R : Type 0} (view : Compilation R → Compilation (List ℕ)) (offset : ℕ) (bytes left : List ℕ)
       (from : bytes ≡ drop offset sections.info) where
-    begins : (outcome : Outcome (List ℕ)) → (Ok outcome, left) ≡ unit_at sections bytes
+    begins : (outcome : Outcome (List ℕ)) → (Ok outcome, left) ≡ (unit_production sections).read bytes
         → BeginsWithOutcome sections (drop offset sections.info) outcome
     begins outcome e = let f = reads_unit.found bytes outcome left (sym e) in (f.0, left, sym from ∙ f.1, f.2)
 
     pub compilation_is : (outcome : Result (Outcome R) Error) (answer : Result (Compilation R) Refusal)
-        → (result_map (outcome_seen view) outcome, left) ≡ unit_at sections bytes
+        → (result_map (outcome_seen view) outcome, left) ≡ (unit_production sections).read bytes
         → answer ≡ answer_of outcome → IfOk answer (λ compilation. HasCompilationAt sections offset (view compilation))
     compilation_is (Ok (Found compilation)) answer e is = rw is (begins (Found (view compilation)) e)
     compilation_is (Ok (UnknownUnitType unit_type)) answer e is = rw is tt
@@ -241,8 +175,9 @@ module _ (sections : Sections) where
     compilation_is (Err error) answer e is = rw is tt
 
     pub refusal_is : (outcome : Result (Outcome R) Error) (answer : Result (Compilation R) Refusal)
-        → (result_map (outcome_seen view) outcome, left) ≡ unit_at sections bytes
+        → (result_map (outcome_seen view) outcome, left) ≡ (unit_production sections).read bytes
         → answer ≡ answer_of outcome → IfErr answer (HasRefusalAt sections offset)
+    unfolding unit_production
     refusal_is (Ok (Found compilation)) answer e is = rw is tt
     refusal_is (Ok (UnknownUnitType unit_type)) answer e is = rw is (begins (UnknownUnitType unit_type) e)
     refusal_is (Ok (MissingAbbreviation code)) answer e is = rw is (begins (MissingAbbreviation code) e)
@@ -257,6 +192,7 @@ length_takes is_big n Dwarf32 s = absurd (omega (arith, s.0.size_is))
 length_takes is_big n Dwarf64 s = absurd (omega (arith, ap length s.2, length-append s.0 s.1, s.3.size_is))
 
 frame_takes : (layout : OrderAndLimit) → TakesBytes (frame_production layout)
+unfolding frame_production unit_length
 frame_takes layout =
     takes_both (unit_length layout) _
     (takes_both (initial_length layout.is_big) _
@@ -270,10 +206,10 @@ some_front layout (b ∷ front) unit s = omega arith
 -- what is left after a unit is an end of its section
 pub rest_is_end : (layout : OrderAndLimit) (section : List ℕ) (offset : ℕ) (bytes after : List ℕ)
     → bytes ≡ drop offset section
-    → after ≡ after_frame (frame_at layout bytes) → (front : List ℕ) × (section ≡ front ++ after)
-rest_is_end layout section offset bytes after from is = at_read (frame_at layout bytes) refl is
+    → after ≡ after_frame ((frame_production layout).read bytes) → (front : List ℕ) × (section ≡ front ++ after)
+rest_is_end layout section offset bytes after from is = at_read ((frame_production layout).read bytes) refl is
   where
-    at_read : (r : Read (List ℕ × Format)) → frame_at layout bytes ≡ r → after ≡ after_frame r
+    at_read : (r : Read (List ℕ × Format)) → (frame_production layout).read bytes ≡ r → after ≡ after_frame r
         → (front : List ℕ) × (section ≡ front ++ after)
     at_read (Ok unit, rest) same left =
         let f = (reads_frame layout).found bytes unit rest same in
@@ -293,14 +229,14 @@ pub record Steps (layout : OrderAndLimit) (section : List ℕ) (offset next : �
 
 pub next_offset : (layout : OrderAndLimit) (section : List ℕ) (offset next : ℕ) (bytes after : List ℕ)
     → bytes ≡ drop offset section → (bytes ≡ [] → ⊥)
-    → after ≡ after_frame (frame_at layout bytes)
+    → after ≡ after_frame ((frame_production layout).read bytes)
     → next + length after ≡ length section → Steps layout section offset next
 next_offset layout section offset next bytes after from some is ends =
-    at_read (frame_at layout bytes) refl is
+    at_read ((frame_production layout).read bytes) refl is
     (elim (cases_lt offset (length section))
     [ inl lt ↦ lt | inr le ↦ absurd (some (from ∙ drop_all offset section le)) ])
   where
-    at_read : (r : Read (List ℕ × Format)) → frame_at layout bytes ≡ r → after ≡ after_frame r
+    at_read : (r : Read (List ℕ × Format)) → (frame_production layout).read bytes ≡ r → after ≡ after_frame r
         → offset < length section → Steps layout section offset next
     at_read (Ok unit, rest) same left before =
         let f = (reads_frame layout).found bytes unit rest same in

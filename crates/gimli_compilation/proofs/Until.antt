@@ -1,14 +1,12 @@
 -- Reading values up to the one that ends them.
 use Rattle.std.proofs.Common.{◌≡◌, ℕ, zero, suc, ◌<◌, Bool, true, false, if◌then◌else◌, List, [], ◌∷◌, ◌++◌, length, Ok}
-use Rattle.std.proofs.Common.{Err, refl, sym, ap, subst, ◌∙◌}
-use Rattle.std.proofs.Common.{append_assoc, inl, inr, arith, IsTrue, IsFalse}
+use Rattle.std.proofs.Common.{Err, refl, sym, ap, subst, ◌∙◌, append_assoc, inl, inr, arith, IsTrue, IsFalse}
 use Rattle.std.proofs.lemmas.List.{length-append}
 use Rattle.gimli_core.specs.declared.error.Error.{Error}
 use Rattle.gimli_core.specs.Reading.{Read, ◌>>=◌}
 use Rattle.gimli_core.specs.Production.{Production, ◌>>=◌ as ◌>>>◌, Each, Reads}
 use Rattle.gimli_core.proofs.Productions.{bind_ok, bind_fault, bind_refused, ok_parts}
-use Rattle.gimli_compilation.specs.Abbreviation.{until}
-use Rattle.gimli_compilation.specs.inside.AbbreviationReading.{until_below, until_at}
+use Rattle.gimli_compilation.specs.Abbreviation.{until, until_below, until_at}
 
 -- ---- productions that take bytes
 
@@ -32,15 +30,17 @@ longer : {A : Type 0} (l : Production A) (x : A) (front rest bytes : List ℕ) �
 longer l x [] rest bytes takes whole s = absurd (takes.none x s)
 longer l x (b ∷ front) rest bytes takes whole s = omega (arith, ap length whole, length-append (b ∷ front) rest)
 
-pub shrinks : {A : Type 0} (l : Production A) (read : List ℕ → Read A) → Reads l read → TakesBytes l
+pub shrinks : {A : Type 0} (l : Production A) → Reads l → TakesBytes l
     → (bytes : List ℕ) (x : A) (rest : List ℕ)
-    → read bytes ≡ (Ok x, rest) → length rest < length bytes
-shrinks l read r takes bytes x rest e = let f = r.found bytes x rest e in longer l x f.0 rest bytes takes f.1 f.2
+    → l.read bytes ≡ (Ok x, rest) → length rest < length bytes
+shrinks l r takes bytes x rest e = let f = r.found bytes x rest e in longer l x f.0 rest bytes takes f.1 f.2
 
 -- ---- values up to the one that ends them
 
-module _ {A : Type 0} (ends : A → Bool) (l : Production A) (read : List ℕ → Read A) (r : Reads l read)
-    (takes : TakesBytes l) where
+module _ {A : Type 0} (ends : A → Bool) (l : Production A) (r : Reads l) (takes : TakesBytes l) where
+  abbrev pub read : List ℕ → Read A
+  read = l.read
+
   abbrev Values : Type 0
   Values = List A × A
 
@@ -69,7 +69,7 @@ module _ {A : Type 0} (ends : A → Bool) (l : Production A) (read : List ℕ �
           → until_below n ends read rest ≡ until_below m ends read rest)
           → until_below (suc n) ends read bytes ≡ until_below (suc m) ends read bytes
       at_read (Ok x, rest) same others =
-          let fewer = shrinks l read r takes bytes x rest same in
+          let fewer = shrinks l r takes bytes x rest same in
           rw same (step_same n m x rest (others rest (omega arith) (omega arith)))
       at_read (Err e, rest) same others = rw same refl
 
@@ -77,7 +77,7 @@ module _ {A : Type 0} (ends : A → Bool) (l : Production A) (read : List ℕ �
       → until_at ends read bytes ≡ put x (until_at ends read rest)
   unfolding until_below
   until_more bytes x rest e is =
-      let fewer = shrinks l read r takes bytes x rest e in
+      let fewer = shrinks l r takes bytes x rest e in
       rw (e, is) (ap (put x) (enough (length bytes) (suc (length rest)) rest (omega arith) (omega arith)))
 
   pub until_last : (bytes : List ℕ) (x : A) (rest : List ℕ) → read bytes ≡ (Ok x, rest) → ends x ≡ true
@@ -148,7 +148,7 @@ module _ {A : Type 0} (ends : A → Bool) (l : Production A) (read : List ℕ �
       ≡ each.0 ++ (each.1 ++ (last ++ rest)) = ap (λ (v : List ℕ). v ++ (last ++ rest)) each.2
       ∙ append_assoc each.0 each.1 (last ++ rest) in
       let first = r.only each.0 y (each.1 ++ (last ++ rest)) each.3.0 in
-      let fewer = shrinks l read r takes (each.0 ++ (each.1 ++ (last ++ rest))) y (each.1 ++ (last ++ rest)) first in
+      let fewer = shrinks l r takes (each.0 ++ (each.1 ++ (last ++ rest))) y (each.1 ++ (last ++ rest)) first in
       let others = until_only ys x each.1 last rest more (omega (arith, ap length regrouped)) each.4 s is in
       ap (until_below (suc more) ends read) regrouped ∙ rw (first, each.3.1, others) refl
 
@@ -181,7 +181,7 @@ module _ {A : Type 0} (ends : A → Bool) (l : Production A) (read : List ℕ �
     | inl p ↦ ([], [], bytes, refl, refl, r.fault bytes e p)
     | inr a ↦
         let f = r.found bytes a.0 a.1 a.2 in
-        let fewer = shrinks l read r takes bytes a.0 a.1 a.2 in
+        let fewer = shrinks l r takes bytes a.0 a.1 a.2 in
         let g =
         one_fault more a.0 a.1 f.0 e f.2 (λ failed. until_fault more a.1 e (omega arith) failed) (ends a.0) refl
         a.3 in
@@ -199,14 +199,14 @@ module _ {A : Type 0} (ends : A → Bool) (l : Production A) (read : List ℕ �
       let regrouped : front ++ rest ≡ each.0 ++ (each.1 ++ rest) = ap (λ (v : List ℕ). v ++ rest) each.2
       ∙ append_assoc each.0 each.1 rest in
       let first = r.only each.0 y (each.1 ++ rest) each.3.0 in
-      let fewer = shrinks l read r takes (each.0 ++ (each.1 ++ rest)) y (each.1 ++ rest) first in
+      let fewer = shrinks l r takes (each.0 ++ (each.1 ++ rest)) y (each.1 ++ rest) first in
       let others = until_refuses ys each.1 rest e more (omega (arith, ap length regrouped)) each.4 f in
       ap (λ (v : List ℕ). (until_below (suc more) ends read v).0) regrouped
       ∙ rw (first, each.3.1)
       (bind_refused (until_below more ends read (each.1 ++ rest))
       (λ v end. (let s : Read Values = (Ok (y ∷ v.0, v.1), end) in s)) e others)
 
-  pub reads_until : Reads (until ends l) (until_at ends read)
+  pub reads_until : Reads (until ends l)
   reads_until = record {
     found = λ bytes values rest e. until_found (suc (length bytes)) bytes values rest e;
     only = λ front values rest s.

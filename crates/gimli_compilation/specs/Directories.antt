@@ -9,12 +9,13 @@ use Rattle.gimli_compilation.specs.declared.sections.Compilation.{Compilation}
 use Rattle.gimli_compilation.specs.Sections.{Sections}
 use Rattle.gimli_compilation.specs.Unit.{HasCompilationAt, HasRefusalAt, IsNextOffset}
 
--- the line program and the directory of a compilation that has both
+-- a line program and a directory where there are both
 abbrev pub paired : {D : Type 0} → Option ℕ → Option D → Option (ℕ × D)
 paired (Some line) (Some directory) = Some (line, directory)
 paired (Some line) None = None
 paired None directory = None
 
+-- those of a compilation
 abbrev pub line_directory : {D : Type 0} → Compilation D → Option (ℕ × D)
 line_directory compilation = paired compilation.stmt_list compilation.comp_dir
 
@@ -23,6 +24,7 @@ abbrev pub directory_in : {D : Type 0} → ℕ → Option (ℕ × D) → Option 
 directory_in line None = None
 directory_in line (Some given) = if nat_eq given.0 line then Some given.1 else None
 
+-- the first that there is
 abbrev pub first_of : {D : Type 0} → Option D → Option D → Option D
 first_of (Some d) other = Some d
 first_of None other = other

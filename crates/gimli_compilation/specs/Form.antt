@@ -13,8 +13,8 @@ use Rattle.gimli_core.specs.FormNumbers.{DW_FORM_GNU_str_index, DW_FORM_GNU_strp
 use Rattle.gimli_core.specs.Layout.{OrderAndLimit}
 use Rattle.gimli_core.specs.Numbers.{word_size}
 use Rattle.gimli_core.specs.Production.{Production, ◌>>=◌, ◌>>◌, done, refuse, choose, number}
-use Rattle.gimli_core.specs.Production.{unsigned}
-use Rattle.gimli_core.specs.Production.{unsigned_16, signed, text, some_bytes, below_limit}
+use Rattle.gimli_core.specs.Production.{unsigned, unsigned_16, signed, text, some_bytes}
+use Rattle.gimli_core.specs.Production.{below_limit}
 use Rattle.gimli_core.specs.declared.common.Encoding.{Encoding}
 use Rattle.gimli_core.specs.declared.error.Error.TheVariants.{UnknownForm}
 use Rattle.gimli_compilation.specs.DwarfNumbers.{DW_FORM_addr, DW_FORM_ref_addr, DW_FORM_ref1}
@@ -106,6 +106,7 @@ block_shapes =
 abbrev pub shapes : Encoding → List (ℕ × Shape)
 shapes encoding = unit_shapes encoding ++ (number_shapes ++ (leb_shapes ++ block_shapes))
 
+-- the shape of the first row that has the number of the form
 abbrev pub shape_among : ℕ → List (ℕ × Shape) → Option Shape
 shape_among form [] = None
 shape_among form (row ∷ rows) = if nat_eq form row.0 then Some row.1 else shape_among form rows
@@ -118,6 +119,7 @@ module _ (layout : OrderAndLimit) where
     some_bytes count
     done Passed
 
+  -- a value of a shape; only numbers that may be offsets, and texts, are kept
   abbrev pub shape_production : Shape → Production (Value (List ℕ))
   shape_production (Fixed size kind) = do
     n ← number layout.is_big size
@@ -140,7 +142,7 @@ module _ (layout : OrderAndLimit) where
     done (Text name)
 
 -- a value in a form of the table; a form that isn't there is refused, whatever comes
-abbrev pub known_form_production : OrderAndLimit → Encoding → ℕ → Production (Value (List ℕ))
+unfoldable pub known_form_production : OrderAndLimit → Encoding → ℕ → Production (Value (List ℕ))
 known_form_production layout encoding form = elim (shape_among form (shapes encoding)) [
   | Some shape ↦ shape_production layout shape
   | None ↦ refuse (UnknownForm (record { 0 = form }))
@@ -148,7 +150,7 @@ known_form_production layout encoding form = elim (shape_among form (shapes enco
 
 -- a value in a form. A value of DW_FORM_implicit_const takes no bytes here, since it stands in the
 -- declaration; one of DW_FORM_indirect begins with its form, which is one of the table
-abbrev pub form_production : OrderAndLimit → Encoding → ℕ → Production (Value (List ℕ))
+unfoldable pub form_production : OrderAndLimit → Encoding → ℕ → Production (Value (List ℕ))
 form_production layout encoding form =
     choose (nat_eq form DW_FORM_implicit_const) (done Passed)
     (choose (nat_eq form DW_FORM_indirect) (unsigned_16 >>= known_form_production layout encoding)

@@ -12,14 +12,14 @@ use Rattle.gimli_compilation.specs.DwarfNumbers.{DW_UT_split_compile, DW_UT_spli
 
 -- the frame of a unit: its length, and as many bytes as that says; the format goes with these
 -- (section 7.4)
-abbrev pub frame_production : OrderAndLimit → Production (List ℕ × Format)
+unfoldable pub frame_production : OrderAndLimit → Production (List ℕ × Format)
 frame_production layout = do
   unit ← unit_length layout
   content ← some_bytes unit.0
   done (content, unit.1)
 
 -- from version 2 to version 5
-abbrev pub version_production : Bool → Production ℕ
+unfoldable pub version_production : Bool → Production ℕ
 version_production is_big = do
   version ← number is_big 2
   check (nat_le 2 version && nat_le version 5) (UnknownVersion version)
@@ -36,6 +36,7 @@ type_fields_size unit_type format =
     if nat_eq unit_type DW_UT_type || nat_eq unit_type DW_UT_split_type then 8 + word_size format
     else (if nat_eq unit_type DW_UT_skeleton || nat_eq unit_type DW_UT_split_compile then 8 else 0)
 
+-- what a header says
 pub record Header : Type 0 where
   pub encoding : Encoding
   -- up to version 4 that of a full compilation
@@ -43,6 +44,7 @@ pub record Header : Type 0 where
   -- where the declarations of the unit begin in `.debug_abbrev`
   pub abbreviations : ℕ
 
+-- a header by its fields
 abbrev pub header_of : Format → ℕ → ℕ → ℕ → ℕ → Header
 header_of format version unit_type abbreviations size = record {
   encoding = record { address_size = size; format = format; version = version };
@@ -51,14 +53,15 @@ header_of format version unit_type abbreviations size = record {
 }
 
 module _ (layout : OrderAndLimit) (format : Format) where
-  -- the fields after the version, up to version 4 and in version 5
-  abbrev pub old_fields_production : ℕ → Production Header
+  -- the fields after the version up to version 4
+  unfoldable pub old_fields_production : ℕ → Production Header
   old_fields_production version = do
     abbreviations ← offset_word layout format
     size ← address_size
     done (header_of format version DW_UT_compile abbreviations size)
 
-  abbrev pub new_fields_production : ℕ → Production Header
+  -- those of version 5
+  unfoldable pub new_fields_production : ℕ → Production Header
   new_fields_production version = do
     unit_type ← byte
     size ← address_size
@@ -66,7 +69,8 @@ module _ (layout : OrderAndLimit) (format : Format) where
     type_fields ← some_bytes (type_fields_size unit_type format)
     done (header_of format version unit_type abbreviations size)
 
-  abbrev pub header_production : Production Header
+  -- the header, after the length of the unit
+  unfoldable pub header_production : Production Header
   header_production = do
     version ← version_production layout.is_big
     choose (nat_le version 4) (old_fields_production version) (new_fields_production version)

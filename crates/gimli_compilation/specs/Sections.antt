@@ -4,6 +4,7 @@ use Rattle.gimli_core.specs.Layout.{OrderAndLimit, layout_of}
 use Rattle.gimli_compilation.specs.declared.sections.Compilation.{Compilation}
 use Rattle.gimli_compilation.specs.declared.sections.CompilationSections.{CompilationSections}
 
+-- the sections, by their bytes
 pub record Sections : Type 0 where
   -- `.debug_info` and `.debug_abbrev`
   pub info : List ℕ

@@ -4,9 +4,8 @@ use Rattle.std.specs.Prelude.{◌≡◌, ◌⊎◌, ℕ, ◌+◌, ◌*◌, ◌^�
 use Rattle.std.specs.Prelude.{Some, None, nat_lt}
 use Rattle.gimli_core.specs.Layout.{OrderAndLimit}
 use Rattle.gimli_core.specs.Numbers.{word_size}
-use Rattle.gimli_core.specs.Production.{Production, ◌>>=◌, ◌>>◌, done, check, choose, within}
-use Rattle.gimli_core.specs.Production.{number}
-use Rattle.gimli_core.specs.Production.{unsigned, text, some_bytes, below_limit}
+use Rattle.gimli_core.specs.Production.{Production, ◌>>=◌, ◌>>◌, done, check, choose, number}
+use Rattle.gimli_core.specs.Production.{unsigned, text, some_bytes}
 use Rattle.gimli_core.specs.declared.common.Encoding.{Encoding}
 use Rattle.gimli_core.specs.declared.common.Format.{Format}
 use Rattle.gimli_core.specs.declared.error.Error.{Error}
@@ -43,20 +42,34 @@ use Rattle.gimli_compilation.specs.Value.{attributes_with, no_attributes, sectio
 
 -- a production at the front of other bytes, which may go on after it; none of the bytes themselves
 abbrev pub apart : {A : Type 0} → List ℕ → Production A → Production A
-apart others l = do
-  x ← within others l
-  done x.0
+apart others l = record {
+  Spells = λ bytes x.
+      (bytes ≡ [])
+      × ((front : List ℕ) × (rest : List ℕ) × (others ≡ front ++ rest) × l.Spells front x);
+  Fault = λ bytes e. l.Fault others e;
+  read = λ bytes. ((l.read others).0, bytes);
+}
 
 -- a production from an offset of a section on
-abbrev pub from_offset : {A : Type 0} → OrderAndLimit → ℕ → Production A → Production A
-from_offset layout offset l = do
-  count ← below_limit layout (done offset)
-  some_bytes count
+abbrev pub from_offset : {A : Type 0} → ℕ → ℕ → Production A → Production A
+from_offset limit offset l = do
+  check (nat_lt offset limit) UnsupportedOffset
+  some_bytes offset
   l
+
+-- the text at an offset of a section
+unfoldable pub text_production : ℕ → ℕ → Production (List ℕ)
+text_production limit offset = from_offset limit offset text
+
+-- the text at an offset of another section
+abbrev pub text_from : ℕ → List ℕ → ℕ → Production (Option (List ℕ))
+text_from limit section offset = do
+  name ← apart section (text_production limit offset)
+  done (Some name)
 
 -- the values of an entry, in the order of its specifications; each takes the place of what stood
 -- before for its attribute
-abbrev pub attributes_production : OrderAndLimit → Encoding → Attributes (List ℕ)
+unfoldable pub attributes_production : OrderAndLimit → Encoding → Attributes (List ℕ)
     → List Specification
     → Production (Attributes (List ℕ))
 attributes_production layout encoding before [] = done before
@@ -65,13 +78,14 @@ attributes_production layout encoding before (s ∷ specifications) = do
   attributes_production layout encoding (attributes_with before s.name.0 value) specifications
 
 -- the string offset of an index: a word in the table that begins at a base (section 7.26)
-abbrev pub string_offset_production : OrderAndLimit → Format → ℕ → ℕ → Production ℕ
+unfoldable pub string_offset_production : OrderAndLimit → Format → ℕ → ℕ → Production ℕ
 string_offset_production layout format base index = do
   check (nat_lt (base + index * word_size format) (2 ^ 64)) UnsupportedOffset
-  from_offset layout (base + index * word_size format) (number layout.is_big (word_size format))
+  from_offset layout.limit (base + index * word_size format)
+      (number layout.is_big (word_size format))
 
 -- the specifications of a code in the table at an offset
-abbrev pub table_production : ℕ → ℕ → Production (Option (List Specification))
+unfoldable pub table_production : ℕ → ℕ → Production (Option (List Specification))
 table_production offset code = do
   some_bytes offset
   abbreviation_production code
@@ -87,22 +101,16 @@ FollowsUnit layout section offset next =
     × (next ≡ length section))
 
 module _ (sections : Sections) where
-  -- the text at an offset of a section
-  abbrev pub text_from : List ℕ → ℕ → Production (Option (List ℕ))
-  text_from section offset = do
-    name ← apart section (from_offset sections.layout offset text)
-    done (Some name)
-
   -- the text that a number refers to: by its offset, or by its index in the table of the unit,
   -- whose base is known. None where the unit has no base, or where the number is no such reference
-  abbrev pub text_by : Format → Option ℕ → NumberKind → ℕ → Production (Option (List ℕ))
-  text_by format base StringOffset n = text_from sections.strings n
-  text_by format base LineStringOffset n = text_from sections.line_strings n
+  unfoldable pub text_by : Format → Option ℕ → NumberKind → ℕ → Production (Option (List ℕ))
+  text_by format base StringOffset n = text_from sections.layout.limit sections.strings n
+  text_by format base LineStringOffset n = text_from sections.layout.limit sections.line_strings n
   text_by format (Some base) StringIndex n = do
     offset ←
         apart sections.string_offsets
         (string_offset_production sections.offsets_layout format base n)
-    text_from sections.strings offset
+    text_from sections.layout.limit sections.strings offset
   text_by format None StringIndex n = done None
   text_by format base kind n = done None
 
@@ -113,7 +121,7 @@ module _ (sections : Sections) where
   text_of format base Passed = done None
 
   -- what the attributes of an entry say
-  abbrev pub compilation_production : Encoding → Attributes (List ℕ)
+  unfoldable pub compilation_production : Encoding → Attributes (List ℕ)
       → Production (Compilation (List ℕ))
   compilation_production encoding attributes = do
     comp_dir ←
@@ -126,32 +134,36 @@ module _ (sections : Sections) where
       name = name;
     })
 
-  -- an entry whose code is known: with a declaration its values, else none of its bytes
-  abbrev pub declared_entry : Encoding → ℕ → Option (List Specification)
-      → Production (Outcome (List ℕ))
-  declared_entry encoding code None = done (missing_abbreviation code)
-  declared_entry encoding code (Some specifications) = do
+  -- an entry whose specifications are known
+  unfoldable pub found_entry : Encoding → List Specification → Production (Outcome (List ℕ))
+  found_entry encoding specifications = do
     attributes ← attributes_production sections.layout encoding no_attributes specifications
     compilation ← compilation_production encoding attributes
     done (Found compilation)
 
+  -- an entry whose code is known: with a declaration its values, else none of its bytes
+  abbrev pub declared_entry : Encoding → ℕ → Option (List Specification)
+      → Production (Outcome (List ℕ))
+  declared_entry encoding code None = done (missing_abbreviation code)
+  declared_entry encoding code (Some specifications) = found_entry encoding specifications
+
   -- the first entry of a unit: its code, and a value for each attribute that the declaration of the
   -- code has
-  abbrev pub entry_production : Header → Production (Outcome (List ℕ))
+  unfoldable pub entry_production : Header → Production (Outcome (List ℕ))
   entry_production header = do
     code ← unsigned
     specifications ← apart sections.abbreviations (table_production header.abbreviations code)
     declared_entry header.encoding code specifications
 
   -- the content of a unit up to its first entry, if its type is known
-  abbrev pub content_production : Format → Production (Outcome (List ℕ))
+  unfoldable pub content_production : Format → Production (Outcome (List ℕ))
   content_production format = do
     header ← header_production sections.layout format
     choose (is_unit_type header.unit_type) (entry_production header)
         (done (unknown_unit_type header.unit_type))
 
   -- a unit: its frame, and what stands at the front of its content
-  abbrev pub unit_production : Production (Outcome (List ℕ))
+  unfoldable pub unit_production : Production (Outcome (List ℕ))
   unit_production = do
     unit ← frame_production sections.layout
     apart unit.0 (content_production unit.1)

@@ -5,10 +5,11 @@ ghost use Rattle.std.specs.BTreeMap.{get};
 ghost use Rattle.std.specs.Ordering.{nat_cmp};
 ghost use Rattle.gimli_core.specs.Reading.{result_map};
 ghost use Rattle.gimli_compilation.specs.Directories.{directory_in, first_of};
-ghost use Rattle.gimli_compilation.specs.inside.AbbreviationReading.{IsListed, abbreviation_at};
-ghost use Rattle.gimli_compilation.specs.inside.AbbreviationReading.{constant_at};
-ghost use Rattle.gimli_compilation.specs.inside.AbbreviationReading.{declaration_at, declared_at};
-ghost use Rattle.gimli_compilation.specs.inside.AbbreviationReading.{listed, specification_at};
+ghost use Rattle.gimli_compilation.specs.Abbreviation.{abbreviation_production};
+ghost use Rattle.gimli_compilation.specs.Abbreviation.{constant_production, declaration_production};
+ghost use Rattle.gimli_compilation.specs.Abbreviation.{declared_production};
+ghost use Rattle.gimli_compilation.specs.Abbreviation.{specification_production};
+ghost use Rattle.gimli_compilation.specs.inside.AbbreviationReading.{IsListed, listed};
 ghost use Rattle.gimli_compilation.specs.inside.AbbreviationReading.{specifications_passed};
 ghost use Rattle.gimli_compilation.specs.inside.Seen.{declaration_seen};
 
@@ -42,7 +43,7 @@ impl Specification {
 /// Takes the number that stands in the declaration in one form alone.
 fn pass_constant<R: Reader>(input: &mut R, form: DwForm) -> Result<()>
     ensures read { (result_map (λ _. tt) result, R.bytes input.new)
-        ≡ constant_at form.0 (R.bytes input.old) }
+        ≡ (constant_production form.0).read (R.bytes input.old) }
 {
     if form == constants::DW_FORM_implicit_const {
         input.read_sleb128()?;
@@ -51,9 +52,9 @@ fn pass_constant<R: Reader>(input: &mut R, form: DwForm) -> Result<()>
 }
 
 /// Takes the specification of an attribute, with the number that stands there in one form.
-#[tactic(auto, unfolding(crate::specs::inside::AbbreviationReading::specification_at))]
+#[tactic(auto, unfolding(crate::specs::Abbreviation::specification_production))]
 pub(crate) fn parse_specification<R: Reader>(input: &mut R) -> Result<Specification>
-    ensures read { (result, R.bytes input.new) ≡ specification_at (R.bytes input.old) }
+    ensures read { (result, R.bytes input.new) ≡ specification_production.read (R.bytes input.old) }
 {
     let name = DwAt(input.read_uleb128_u16()?);
     let form = DwForm(input.read_uleb128_u16()?);
@@ -76,10 +77,10 @@ fn pass_specifications<R: Reader>(input: &mut R) -> Result<()>
 
 /// Takes a declaration whose code was taken already. Returns a reader that begins at its
 /// specifications.
-#[tactic(auto, unfolding(crate::specs::inside::AbbreviationReading::declared_at))]
+#[tactic(auto, unfolding(crate::specs::Abbreviation::declared_production))]
 fn parse_declaration<R: Reader>(input: &mut R) -> Result<R>
     ensures read { (result_map (λ found. listed (R.bytes found)) result, R.bytes input.new)
-        ≡ declared_at (R.bytes input.old) }
+        ≡ declared_production.read (R.bytes input.old) }
     ensures listed { IfOk result (λ found. IsListed (R.bytes found)) }
 {
     input.read_uleb128()?;
@@ -91,10 +92,10 @@ fn parse_declaration<R: Reader>(input: &mut R) -> Result<R>
 
 /// Takes a declaration: its code, and a reader that begins at its specifications. None where the
 /// table ends.
-#[tactic(auto, unfolding(crate::specs::inside::AbbreviationReading::declaration_at))]
+#[tactic(auto, unfolding(crate::specs::Abbreviation::declaration_production))]
 fn next_declaration<R: Reader>(input: &mut R) -> Result<Option<(u64, R)>>
     ensures read { (result_map (declaration_seen R.bytes) result, R.bytes input.new)
-        ≡ declaration_at (R.bytes input.old) }
+        ≡ declaration_production.read (R.bytes input.old) }
     ensures declared { IfOk result
         (λ found. IfSome found (λ pair. (pair.0 ≢ 0) × IsListed (R.bytes pair.1))) }
 {
@@ -113,7 +114,7 @@ fn find_abbreviation<R: Reader>(input: &mut R, code: u64) -> Result<Option<R>>
       result_map (option_map (λ part. listed (R.bytes part))) result,
       R.bytes input.new,
     )
-        ≡ abbreviation_at code (R.bytes input.old) }
+        ≡ (abbreviation_production code).read (R.bytes input.old) }
     ensures listed { IfOk result (λ found. IfSome found (λ part. IsListed (R.bytes part))) }
 {
     loop {
@@ -180,7 +181,7 @@ impl<R: Reader> Abbreviations<R> {
     ghost use Rattle.gimli_compilation.specs.inside.AbbreviationReading.{IsListed, listed};
     ghost use Rattle.gimli_compilation.specs.inside.AbbreviationTable.{IsTable, answer_to};
     ghost use Rattle.gimli_compilation.specs.inside.AbbreviationTable.{size_left};
-    ghost use Rattle.gimli_compilation.specs.inside.UnitReading.{table_at};
+    ghost use Rattle.gimli_compilation.specs.Unit.{table_production};
 
     /// The table at an offset of a section, of which nothing was read.
     fn new(alloc: Global, section: &R, offset: R::Offset) -> Self
@@ -266,7 +267,7 @@ impl<R: Reader> Abbreviations<R> {
         ensures found { IfOk result (λ found. (section : List ℕ)
             → IsTable R.bytes section self.old
             → result_map (option_map (λ part. listed (R.bytes part))) found
-            ≡ (table_at self.old.offset code section).0) }
+            ≡ ((table_production self.old.offset code).read section).0) }
         ensures listed { IfOk result (λ found. (section : List ℕ)
             → IsTable R.bytes section self.old
             → IfOk found (λ found. IfSome found (λ part. IsListed (R.bytes part)))) }
@@ -303,7 +304,7 @@ impl<R: Reader> Tables<R> {
     ghost use Rattle.gimli_core.specs.Reading.{result_map};
     ghost use Rattle.gimli_compilation.specs.inside.AbbreviationReading.{IsListed, listed};
     ghost use Rattle.gimli_compilation.specs.inside.AbbreviationTable.{AreTables};
-    ghost use Rattle.gimli_compilation.specs.inside.UnitReading.{table_at};
+    ghost use Rattle.gimli_compilation.specs.Unit.{table_production};
 
     /// The tables of a section, of which nothing was read.
     pub(crate) fn new(alloc: Global, section: &R) -> Self
@@ -349,7 +350,7 @@ impl<R: Reader> Tables<R> {
         ensures tables { AreTables R.bytes (R.bytes section.now) self.new }
         ensures found { IfOk result
             (λ found. result_map (option_map (λ part. listed (R.bytes part))) found
-            ≡ (table_at (R.Offset.number offset) code (R.bytes section.now)).0) }
+            ≡ ((table_production (R.Offset.number offset) code).read (R.bytes section.now)).0) }
         ensures listed { IfOk result (λ found. IfOk found
             (λ found. IfSome found (λ part. IsListed (R.bytes part)))) }
     {

@@ -8,7 +8,7 @@ ghost use Rattle.gimli_core.specs.Reading.{result_map};
 ghost use Rattle.gimli_compilation.specs.Value.{no_attributes};
 ghost use Rattle.gimli_compilation.specs.inside.Value.{attributes_seen};
 ghost use Rattle.gimli_compilation.specs.inside.AbbreviationReading.{listed, IsListed};
-ghost use Rattle.gimli_compilation.specs.inside.AttributesReading.{attributes_at};
+ghost use Rattle.gimli_compilation.specs.Unit.{attributes_production};
 
 use crate::abbreviation::parse_specification;
 use crate::constants::{self, DwAt};
@@ -67,8 +67,8 @@ pub(crate) fn parse_attributes<R: Reader>(
     requires size { IsTrue (is_address_size encoding.address_size) }
     requires closed { IsListed (R.bytes specifications.old) }
     ensures read { (result_map (attributes_seen R.bytes) result, R.bytes input.new)
-        ≡ attributes_at (layout_of (R.is_big input.old) R.Offset.limit) encoding no_attributes
-        (listed (R.bytes specifications.old)) (R.bytes input.old) }
+        ≡ (attributes_production (layout_of (R.is_big input.old) R.Offset.limit) encoding
+        no_attributes (listed (R.bytes specifications.old))).read (R.bytes input.old) }
 {
     let mut attributes = Attributes::none();
     loop {

@@ -5,7 +5,7 @@ ghost use Rattle.std.specs.BTreeMap.{get};
 ghost use Rattle.std.specs.Ordering.{nat_cmp};
 ghost use Rattle.gimli_compilation.specs.Directories.{TellsDirectories, directory_for};
 ghost use Rattle.gimli_compilation.specs.Directories.{directory_in, first_of};
-ghost use Rattle.gimli_compilation.specs.inside.Directories.{given_by};
+ghost use Rattle.gimli_compilation.specs.inside.Unit.{given_by};
 ghost use Rattle.gimli_compilation.specs.Sections.{sections_of};
 
 use crate::abbreviation::keep_first;

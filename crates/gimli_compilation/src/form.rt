@@ -1,14 +1,15 @@
 //! Values of attributes, by their forms (DWARF 5, sections 7.5.5 and 7.5.6).
 
-ghost use Rattle.std.specs.Prelude.{◌≡◌, ◌++◌, IfSome, IsTrue};
+ghost use Rattle.std.specs.Prelude.{◌≡◌, ◌++◌, IsTrue};
 ghost use Rattle.gimli_core.specs.Layout.{layout_of};
 ghost use Rattle.gimli_core.specs.Numbers.{is_address_size};
 ghost use Rattle.gimli_core.specs.Reading.{result_map};
 ghost use Rattle.gimli_compilation.specs.Form.{block_shapes, data_kind, leb_shapes, number_shapes};
 ghost use Rattle.gimli_compilation.specs.Form.{reference_size, shape_among, shapes};
 ghost use Rattle.gimli_compilation.specs.inside.Value.{value_seen};
-ghost use Rattle.gimli_compilation.specs.inside.FormReading.{IsReadable, form_at, known_form_at};
-ghost use Rattle.gimli_compilation.specs.inside.FormReading.{passed_at, shape_at};
+ghost use Rattle.gimli_compilation.specs.Form.{form_production, known_form_production};
+ghost use Rattle.gimli_compilation.specs.Form.{passed_production, shape_production};
+ghost use Rattle.gimli_compilation.specs.inside.Value.{IsReadable};
 
 use crate::constants;
 use gimli_core::{DwForm, Encoding, Error, Reader, ReaderOffset, Result, constants as shared};
@@ -169,7 +170,8 @@ fn block_shape(form: DwForm) -> Option<Shape>
 /// Lets so many bytes go. Refused by `UnsupportedOffset` where the offset type is too narrow.
 fn pass_bytes<R: Reader>(input: &mut R, count: u64) -> Result<Value<R>>
     ensures read { (result_map (value_seen R.bytes) result, R.bytes input.new)
-        ≡ passed_at R.Offset.limit count (R.bytes input.old) }
+        ≡ (passed_production (layout_of (R.is_big input.old) R.Offset.limit) count).read
+        (R.bytes input.old) }
     ensures order { R.is_big input.new ≡ R.is_big input.old }
 {
     let count = R::Offset::from_u64(count)?;
@@ -181,7 +183,8 @@ fn pass_bytes<R: Reader>(input: &mut R, count: u64) -> Result<Value<R>>
 fn parse_shape<R: Reader>(input: &mut R, shape: Shape) -> Result<Value<R>>
     requires { IsReadable shape }
     ensures read { (result_map (value_seen R.bytes) result, R.bytes input.new)
-        ≡ shape_at (layout_of (R.is_big input.old) R.Offset.limit) shape (R.bytes input.old) }
+        ≡ (shape_production (layout_of (R.is_big input.old) R.Offset.limit) shape).read
+        (R.bytes input.old) }
     ensures order { R.is_big input.new ≡ R.is_big input.old }
 {
     match shape {
@@ -215,11 +218,12 @@ fn parse_shape<R: Reader>(input: &mut R, shape: Shape) -> Result<Value<R>>
 
 /// Takes a value in a form that isn't of its own kind. Refused by `UnknownForm` at a form that
 /// isn't known.
-#[tactic(auto, unfolding(crate::specs::inside::FormReading::known_form_at))]
+#[tactic(auto, unfolding(crate::specs::Form::known_form_production))]
 fn parse_known_form<R: Reader>(input: &mut R, encoding: Encoding, form: DwForm) -> Result<Value<R>>
     requires { IsTrue (is_address_size encoding.address_size) }
     ensures read { (result_map (value_seen R.bytes) result, R.bytes input.new)
-        ≡ known_form_at (layout_of (R.is_big input.old) R.Offset.limit) encoding form.0
+        ≡ (known_form_production (layout_of (R.is_big input.old) R.Offset.limit) encoding
+        form.0).read
         (R.bytes input.old) }
     ensures order { R.is_big input.new ≡ R.is_big input.old }
 {
@@ -232,7 +236,7 @@ fn parse_known_form<R: Reader>(input: &mut R, encoding: Encoding, form: DwForm) 
 /// Takes a value in a form. The value of `DW_FORM_implicit_const` stands in the declaration; that
 /// of `DW_FORM_indirect` has its form in front. Refused by `UnknownForm` at a form that isn't
 /// known.
-#[tactic(auto, unfolding(crate::specs::inside::FormReading::form_at))]
+#[tactic(auto, unfolding(crate::specs::Form::form_production))]
 pub(crate) fn parse_form<R: Reader>(
     input: &mut R,
     encoding: Encoding,
@@ -240,7 +244,7 @@ pub(crate) fn parse_form<R: Reader>(
 ) -> Result<Value<R>>
     requires { IsTrue (is_address_size encoding.address_size) }
     ensures read { (result_map (value_seen R.bytes) result, R.bytes input.new)
-        ≡ form_at (layout_of (R.is_big input.old) R.Offset.limit) encoding form.0
+        ≡ (form_production (layout_of (R.is_big input.old) R.Offset.limit) encoding form.0).read
         (R.bytes input.old) }
     ensures order { R.is_big input.new ≡ R.is_big input.old }
 {

@@ -4,7 +4,7 @@ ghost use Rattle.std.specs.Prelude.{◌≡◌, IfOk, IsTrue};
 ghost use Rattle.gimli_core.specs.Layout.{layout_of};
 ghost use Rattle.gimli_core.specs.Numbers.{is_address_size};
 ghost use Rattle.gimli_core.specs.Reading.{result_map};
-ghost use Rattle.gimli_compilation.specs.inside.HeaderReading.{frame_at, version_at};
+ghost use Rattle.gimli_compilation.specs.Header.{frame_production, version_production};
 ghost use Rattle.gimli_compilation.specs.inside.Seen.{frame_seen};
 
 use crate::constants::{self, DwUt};
@@ -12,10 +12,11 @@ use gimli_core::{Encoding, Error, Format, Reader, ReaderOffset, Result};
 
 /// Takes the frame of a unit: its length, and as many bytes as that says. Returns the latter, and
 /// the format.
-#[tactic(auto, unfolding(crate::specs::inside::HeaderReading::frame_at))]
+#[tactic(auto, unfolding(crate::specs::Header::frame_production))]
 pub(crate) fn split_unit<R: Reader>(input: &mut R) -> Result<(R, Format)>
     ensures read { (result_map (frame_seen R.bytes) result, R.bytes input.new)
-        ≡ frame_at (layout_of (R.is_big input.old) R.Offset.limit) (R.bytes input.old) }
+        ≡ (frame_production (layout_of (R.is_big input.old) R.Offset.limit)).read
+        (R.bytes input.old) }
     ensures order { R.is_big input.new ≡ R.is_big input.old }
     ensures part { IfOk result (λ unit. R.is_big unit.0 ≡ R.is_big input.old) }
 {
@@ -25,10 +26,10 @@ pub(crate) fn split_unit<R: Reader>(input: &mut R) -> Result<(R, Format)>
 }
 
 /// Takes a version, from 2 to 5. Refused by `UnknownVersion` at any other.
-#[tactic(auto, unfolding(crate::specs::inside::HeaderReading::version_at))]
+#[tactic(auto, unfolding(crate::specs::Header::version_production))]
 fn parse_version<R: Reader>(input: &mut R) -> Result<u16>
     ensures read { (result, R.bytes input.new)
-        ≡ version_at (R.is_big input.old) (R.bytes input.old) }
+        ≡ (version_production (R.is_big input.old)).read (R.bytes input.old) }
     ensures order { R.is_big input.new ≡ R.is_big input.old }
 {
     let version = input.read_u16()?;
@@ -39,9 +40,8 @@ fn parse_version<R: Reader>(input: &mut R) -> Result<u16>
 }
 
 impl DwUt {
-    ghost use Rattle.std.specs.Prelude.{◌↔◌, IsTrue};
-    ghost use Rattle.gimli_compilation.specs.Header.{is_unit_type, type_fields_size};
     ghost use Rattle.std.specs.Prelude.{◌≡◌};
+    ghost use Rattle.gimli_compilation.specs.Header.{is_unit_type, type_fields_size};
 
     /// Whether it is a type that the standard defines.
     pub(crate) fn is_known(self) -> bool
@@ -74,15 +74,16 @@ pub(crate) struct UnitHeader<R: Reader> {
 }
 
 impl<R: Reader> UnitHeader<R> {
-    ghost use Rattle.gimli_compilation.specs.inside.HeaderReading.{header_at, new_fields_at};
-    ghost use Rattle.gimli_compilation.specs.inside.HeaderReading.{old_fields_at};
+    ghost use Rattle.gimli_compilation.specs.Header.{header_production, new_fields_production};
+    ghost use Rattle.gimli_compilation.specs.Header.{old_fields_production};
     ghost use Rattle.gimli_compilation.specs.inside.Seen.{header_seen};
 
     /// Takes the fields after the length of a unit.
-    #[tactic(auto, unfolding(crate::specs::inside::HeaderReading::header_at))]
+    #[tactic(auto, unfolding(crate::specs::Header::header_production))]
     pub(crate) fn parse(input: &mut R, format: Format) -> Result<Self>
         ensures read { (result_map (header_seen R.Offset.number) result, R.bytes input.new)
-            ≡ header_at (layout_of (R.is_big input.old) R.Offset.limit) format (R.bytes input.old) }
+            ≡ (header_production (layout_of (R.is_big input.old) R.Offset.limit) format).read
+            (R.bytes input.old) }
         ensures order { R.is_big input.new ≡ R.is_big input.old }
         ensures size { IfOk result
             (λ header. IsTrue (is_address_size header.encoding.address_size)) }
@@ -96,10 +97,11 @@ impl<R: Reader> UnitHeader<R> {
     }
 
     /// The fields after the version, up to version 4.
-    #[tactic(auto, unfolding(crate::specs::inside::HeaderReading::old_fields_at))]
+    #[tactic(auto, unfolding(crate::specs::Header::old_fields_production))]
     fn parse_old(input: &mut R, format: Format, version: u16) -> Result<Self>
         ensures read { (result_map (header_seen R.Offset.number) result, R.bytes input.new)
-            ≡ old_fields_at (layout_of (R.is_big input.old) R.Offset.limit) format version
+            ≡ (old_fields_production (layout_of (R.is_big input.old) R.Offset.limit) format
+            version).read
             (R.bytes input.old) }
         ensures order { R.is_big input.new ≡ R.is_big input.old }
         ensures size { IfOk result
@@ -119,10 +121,11 @@ impl<R: Reader> UnitHeader<R> {
     }
 
     /// The fields after the version, in version 5.
-    #[tactic(auto, unfolding(crate::specs::inside::HeaderReading::new_fields_at))]
+    #[tactic(auto, unfolding(crate::specs::Header::new_fields_production))]
     fn parse_new(input: &mut R, format: Format, version: u16) -> Result<Self>
         ensures read { (result_map (header_seen R.Offset.number) result, R.bytes input.new)
-            ≡ new_fields_at (layout_of (R.is_big input.old) R.Offset.limit) format version
+            ≡ (new_fields_production (layout_of (R.is_big input.old) R.Offset.limit) format
+            version).read
             (R.bytes input.old) }
         ensures order { R.is_big input.new ≡ R.is_big input.old }
         ensures size { IfOk result

@@ -6,8 +6,8 @@ ghost use Rattle.gimli_core.specs.Numbers.{is_address_size};
 ghost use Rattle.gimli_core.specs.Reading.{result_map};
 ghost use Rattle.gimli_compilation.specs.inside.AbbreviationReading.{IsListed, listed};
 ghost use Rattle.gimli_compilation.specs.inside.AbbreviationTable.{AreTables};
-ghost use Rattle.gimli_compilation.specs.inside.UnitReading.{place_of, string_offset_at};
-ghost use Rattle.gimli_compilation.specs.inside.UnitReading.{some_text_at};
+ghost use Rattle.gimli_compilation.specs.Unit.{string_offset_production, text_from};
+ghost use Rattle.gimli_compilation.specs.inside.Unit.{place_of};
 
 use crate::abbreviation::{MemoryResult, Tables, charge};
 use crate::attributes::{Attributes, parse_attributes};
@@ -94,7 +94,7 @@ impl<R> Value<R> {
 }
 
 impl<R> Outcome<R> {
-    ghost use Rattle.gimli_compilation.specs.inside.UnitReading.{answer_of};
+    ghost use Rattle.gimli_compilation.specs.inside.Unit.{answer_of};
 
     /// What a user has of an outcome.
     fn answer(outcome: Result<Outcome<R>>) -> std::result::Result<Compilation<R>, Refusal>
@@ -114,7 +114,7 @@ fn some_text<R: Reader>(texts: &mut Texts<R>, offset: u64) -> MemoryResult<Resul
     ensures same { texts.new ≡ texts.old }
     ensures read { IfOk result (λ text. (bytes : List ℕ)
         → (result_map (option_map R.bytes) text, bytes)
-        ≡ some_text_at R.Offset.limit offset texts.old bytes) }
+        ≡ (text_from R.Offset.limit texts.old offset).read bytes) }
 {
     match texts.text(offset)? {
         Ok(text) => Ok(Ok(Some(text))),
@@ -137,10 +137,10 @@ fn place_of(base: u64, index: u64, size: u8) -> Result<u64>
 }
 
 /// The string offset of an index.
-#[tactic(auto, unfolding(crate::specs::inside::UnitReading::string_offset_at))]
+#[tactic(auto, unfolding(crate::specs::Unit::string_offset_production))]
 fn string_offset<R: Reader>(section: &R, format: Format, base: u64, index: u64) -> Result<u64>
-    ensures { result ≡ (string_offset_at (layout_of (R.is_big section.now) R.Offset.limit) format
-        base index (R.bytes section.now)).0 }
+    ensures { result ≡ ((string_offset_production (layout_of (R.is_big section.now) R.Offset.limit)
+        format base index).read (R.bytes section.now)).0 }
 {
     let size = format.word_size();
     let place = R::Offset::from_u64(place_of(base, index, size)?)?;
@@ -154,10 +154,9 @@ impl<R: Reader> CompilationSections<R> {
     ghost use Rattle.gimli_compilation.specs.Unit.{HasCompilationAt, HasRefusalAt};
     ghost use Rattle.gimli_compilation.specs.inside.Value.{attributes_seen, value_seen};
     ghost use Rattle.gimli_compilation.specs.inside.Seen.{header_seen};
-    ghost use Rattle.gimli_compilation.specs.inside.UnitReading.{compilation_at, content_at};
-    ghost use Rattle.gimli_compilation.specs.inside.UnitReading.{entry_at, found_entry_at};
-    ghost use Rattle.gimli_compilation.specs.inside.UnitReading.{outcome_seen, text_by_at};
-    ghost use Rattle.gimli_compilation.specs.inside.UnitReading.{text_of_at};
+    ghost use Rattle.gimli_compilation.specs.Unit.{compilation_production, content_production};
+    ghost use Rattle.gimli_compilation.specs.Unit.{entry_production, found_entry, text_by, text_of};
+    ghost use Rattle.gimli_compilation.specs.inside.Unit.{outcome_seen};
 
     /// What is kept of no unit.
     pub(crate) fn nothing_kept(&self, alloc: Global) -> Kept<R>
@@ -222,7 +221,7 @@ impl<R: Reader> CompilationSections<R> {
     }
 
     /// Takes the content of a unit up to its first entry.
-    #[tactic(auto, unfolding(crate::specs::inside::UnitReading::content_at))]
+    #[tactic(auto, unfolding(crate::specs::Unit::content_production))]
     fn parse_content(
         &self,
         unit: &mut R,
@@ -238,8 +237,8 @@ impl<R: Reader> CompilationSections<R> {
         ensures line_strings { kept.new.line_strings ≡ kept.old.line_strings }
         ensures read { IfOk result (λ outcome.
             (result_map (outcome_seen (compilation_seen R.bytes)) outcome, R.bytes unit.new)
-            ≡ content_at (sections_of R.bytes R.is_big R.Offset.limit self.now) format
-            (R.bytes unit.old)) }
+            ≡ (content_production (sections_of R.bytes R.is_big R.Offset.limit self.now)
+            format).read (R.bytes unit.old)) }
     {
         let header = match UnitHeader::parse(unit, format) {
             Ok(header) => header,
@@ -252,7 +251,7 @@ impl<R: Reader> CompilationSections<R> {
     }
 
     /// Takes the first entry of a unit.
-    #[tactic(auto, unfolding(crate::specs::inside::UnitReading::entry_at))]
+    #[tactic(auto, unfolding(crate::specs::Unit::entry_production))]
     fn parse_entry(
         &self,
         unit: &mut R,
@@ -269,8 +268,8 @@ impl<R: Reader> CompilationSections<R> {
         ensures line_strings { kept.new.line_strings ≡ kept.old.line_strings }
         ensures read { IfOk result (λ outcome.
             (result_map (outcome_seen (compilation_seen R.bytes)) outcome, R.bytes unit.new)
-            ≡ entry_at (sections_of R.bytes R.is_big R.Offset.limit self.now)
-            (header_seen R.Offset.number header) (R.bytes unit.old)) }
+            ≡ (entry_production (sections_of R.bytes R.is_big R.Offset.limit self.now)
+            (header_seen R.Offset.number header)).read (R.bytes unit.old)) }
     {
         let code = match unit.read_uleb128() {
             Ok(code) => code,
@@ -286,7 +285,7 @@ impl<R: Reader> CompilationSections<R> {
 
     /// Takes an entry whose specifications are known. Fails where no memory is left, or where more
     /// bytes of specifications would be read than may be.
-    #[tactic(auto, unfolding(crate::specs::inside::UnitReading::found_entry_at))]
+    #[tactic(auto, unfolding(crate::specs::Unit::found_entry))]
     fn parse_found(
         &self,
         unit: &mut R,
@@ -304,8 +303,8 @@ impl<R: Reader> CompilationSections<R> {
         ensures line_strings { kept.new.line_strings ≡ kept.old.line_strings }
         ensures read { IfOk result (λ outcome.
             (result_map (outcome_seen (compilation_seen R.bytes)) outcome, R.bytes unit.new)
-            ≡ found_entry_at (sections_of R.bytes R.is_big R.Offset.limit self.now) encoding
-            (listed (R.bytes specifications)) (R.bytes unit.old)) }
+            ≡ (found_entry (sections_of R.bytes R.is_big R.Offset.limit self.now) encoding
+            (listed (R.bytes specifications))).read (R.bytes unit.old)) }
     {
         let before = specifications.len().into_u64();
         let parsed = parse_attributes(unit, encoding, &mut specifications);
@@ -323,7 +322,7 @@ impl<R: Reader> CompilationSections<R> {
     }
 
     /// What the attributes of an entry say.
-    #[tactic(auto, unfolding(crate::specs::inside::UnitReading::compilation_at))]
+    #[tactic(auto, unfolding(crate::specs::Unit::compilation_production))]
     fn compilation_of(
         &self,
         encoding: Encoding,
@@ -335,8 +334,8 @@ impl<R: Reader> CompilationSections<R> {
         ensures kept { kept.new ≡ kept.old }
         ensures read { IfOk result (λ compilation.
             (bytes : List ℕ) → (result_map (compilation_seen R.bytes) compilation, bytes)
-            ≡ compilation_at (sections_of R.bytes R.is_big R.Offset.limit self.now) encoding
-            (attributes_seen R.bytes attributes.now) bytes) }
+            ≡ (compilation_production (sections_of R.bytes R.is_big R.Offset.limit self.now)
+            encoding (attributes_seen R.bytes attributes.now)).read bytes) }
     {
         let base = attributes.str_offsets_base.section_offset();
         let comp_dir = match self.text_of(encoding.format, base, &attributes.comp_dir, kept)? {
@@ -368,8 +367,8 @@ impl<R: Reader> CompilationSections<R> {
         ensures kept { kept.new ≡ kept.old }
         ensures read { IfOk result (λ text.
             (bytes : List ℕ) → (result_map (option_map R.bytes) text, bytes)
-            ≡ text_of_at (sections_of R.bytes R.is_big R.Offset.limit self.now) format base
-            (value_seen R.bytes value.now) bytes) }
+            ≡ (text_of (sections_of R.bytes R.is_big R.Offset.limit self.now) format base
+            (value_seen R.bytes value.now)).read bytes) }
     {
         match *value {
             Value::Text(text) => Ok(Ok(Some(text))),
@@ -379,7 +378,7 @@ impl<R: Reader> CompilationSections<R> {
     }
 
     /// The text that a number refers to.
-    #[tactic(auto, unfolding(crate::specs::inside::UnitReading::text_by_at))]
+    #[tactic(auto, unfolding(crate::specs::Unit::text_by))]
     fn text_by(
         &self,
         format: Format,
@@ -393,8 +392,8 @@ impl<R: Reader> CompilationSections<R> {
         ensures kept { kept.new ≡ kept.old }
         ensures read { IfOk result (λ text.
             (bytes : List ℕ) → (result_map (option_map R.bytes) text, bytes)
-            ≡ text_by_at (sections_of R.bytes R.is_big R.Offset.limit self.now) format base kind
-            number bytes) }
+            ≡ (text_by (sections_of R.bytes R.is_big R.Offset.limit self.now) format base kind
+            number).read bytes) }
     {
         match kind {
             NumberKind::StringOffset => some_text(&mut kept.strings, number),

@@ -1,13 +1,13 @@
 //! The texts of a section, and where they end: each byte of the section is searched for an end
 //! once.
 
-ghost use Rattle.std.specs.Prelude.{◌+◌, ◌≡◌, ◌≤◌, ℕ, IfErr, IfOk, IfSome, OnErr, OnOk, Some};
-ghost use Rattle.std.specs.Prelude.{drop, if◌then◌else◌, length, nat_eq, take};
+ghost use Rattle.std.specs.Prelude.{◌+◌, ◌≡◌, ◌≤◌, ℕ, IfErr, IfOk, IfSome, OnErr, OnOk, Some, drop};
+ghost use Rattle.std.specs.Prelude.{if◌then◌else◌, length, nat_eq, take};
 ghost use Rattle.std.specs.BTreeMap.{get};
 ghost use Rattle.std.specs.Ordering.{nat_cmp};
 ghost use Rattle.gimli_core.specs.Reading.{result_map, text_at};
 ghost use Rattle.gimli_compilation.specs.inside.TextEnds.{AreEnds, text_size};
-ghost use Rattle.gimli_compilation.specs.inside.UnitReading.{text_from_at};
+ghost use Rattle.gimli_compilation.specs.Unit.{text_production};
 
 use crate::abbreviation::MemoryResult;
 use gimli_core::{Error, Reader, ReaderOffset, ReaderOffsetId, Result};
@@ -18,13 +18,13 @@ use std::marker::Model;
 /// The bytes of a section from an offset on, where a text begins. Refused by `UnexpectedEof` where
 /// the section ends before the offset, and by `UnsupportedOffset` where the offset type is too
 /// narrow.
-#[tactic(auto, unfolding(crate::specs::inside::UnitReading::text_from_at))]
+#[tactic(auto, unfolding(crate::specs::Unit::text_production))]
 fn text_start<R: Reader>(section: &R, offset: u64) -> Result<R>
     ensures ok { IfOk result (λ input. (text_at (R.bytes input)).0
-        ≡ (text_from_at R.Offset.limit offset (R.bytes section.now)).0) }
+        ≡ ((text_production R.Offset.limit offset).read (R.bytes section.now)).0) }
     ensures rest { IfOk result (λ input. R.bytes input ≡ drop offset (R.bytes section.now)) }
     ensures err { IfErr result (λ e. Err e
-        ≡ (text_from_at R.Offset.limit offset (R.bytes section.now)).0) }
+        ≡ ((text_production R.Offset.limit offset).read (R.bytes section.now)).0) }
 {
     let mut input = *section;
     let offset = R::Offset::from_u64(offset)?;
@@ -139,7 +139,7 @@ impl<R: Reader> Texts<R> {
     ghost use Rattle.std.specs.Prelude.{◌≡◌, drop, IfOk};
     ghost use Rattle.gimli_core.specs.Reading.{result_map};
     ghost use Rattle.gimli_compilation.specs.inside.TextEnds.{text_size};
-    ghost use Rattle.gimli_compilation.specs.inside.UnitReading.{text_from_at};
+    ghost use Rattle.gimli_compilation.specs.Unit.{text_production};
 
     /// The texts of a section, of which none was read.
     pub(crate) fn new(alloc: Global, section: &R) -> Self
@@ -157,7 +157,7 @@ impl<R: Reader> Texts<R> {
     pub(crate) fn text(&mut self, offset: u64) -> MemoryResult<Result<R>>
         ensures same { self.new ≡ self.old }
         ensures read { IfOk result (λ text. result_map R.bytes text
-            ≡ (text_from_at R.Offset.limit offset self.old).0) }
+            ≡ ((text_production R.Offset.limit offset).read self.old).0) }
     {
         let input = match text_start(&self.section, offset) {
             Ok(input) => input,

@@ -2,7 +2,8 @@
 
 ghost use Rattle.std.specs.Prelude.{◌≡◌};
 ghost use Rattle.gimli_core.specs.Layout.{layout_of};
-ghost use Rattle.gimli_compilation.specs.inside.HeaderReading.{after_frame, frame_at};
+ghost use Rattle.gimli_compilation.specs.Header.{frame_production};
+ghost use Rattle.gimli_compilation.specs.inside.Unit.{after_frame};
 
 use crate::header::split_unit;
 use crate::refusal::Refusal;
@@ -14,7 +15,7 @@ use std::marker::Model;
 /// Lets the unit in front go; all bytes where they begin with no unit.
 fn skip_unit<R: Reader>(input: &mut R)
     ensures { R.bytes input.new
-        ≡ after_frame (frame_at (layout_of (R.is_big input.old) R.Offset.limit)
+        ≡ after_frame ((frame_production (layout_of (R.is_big input.old) R.Offset.limit)).read
         (R.bytes input.old)) }
 {
     if split_unit(input).is_err() {

@@ -10,3 +10,4 @@ pub mod Written
 pub mod OffsetClones
 pub mod Variants
 pub mod Worked
+pub mod Readers

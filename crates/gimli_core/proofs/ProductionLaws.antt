@@ -4,27 +4,21 @@ use Rattle.std.proofs.Common.{length, take, drop, Ok, Err, refl, sym}
 use Rattle.std.proofs.Common.{ap, subst, ◌∙◌, arith, append_assoc, inl, inr, ◌⊎◌}
 use Rattle.std.specs.Prelude.{nat_eq, nat_lt}
 use Rattle.std.specs.List.{AllByRecursion, position_or_len}
-use Rattle.std.proofs.lemmas.Bool.{cases_lt, le-ltb, lt-ltb, ne_eqb, le-leb, lt-leb}
+use Rattle.std.proofs.lemmas.Bool.{cases_lt, le-ltb, lt-ltb, ne_eqb}
 use Rattle.std.proofs.lemmas.Bool.Decides.{eqb_tells}
 use Rattle.std.proofs.lemmas.List.{append-nil, take_at, drop_at, take-append-drop, length-append, length-take-le}
 use Rattle.gimli_core.specs
 use specs.declared.common.Format.{Format}
 use specs.declared.common.Format.TheVariants.{Dwarf32, Dwarf64}
 use specs.declared.error.Error.{Error}
-use specs.declared.error.Error.TheVariants.{
-  UnknownReservedLength,
-  UnsupportedAddressSize,
-  UnsupportedOffset,
-}
+use specs.declared.error.Error.TheVariants.{UnknownReservedLength}
 use specs.Layout.{OrderAndLimit}
-use specs.Numbers.{SpellsNumber, SpellsInitialLength, is_address_size}
-use specs.Reading.{Read, ◌>>=◌, result_map, eof, byte_at, signed_byte_at, number_at, split_at, text_at, word_at}
-use specs.Reading.{initial_length_at, address_size_at, offset_of}
-use specs.inside.Reading.{check_at, below_at}
-use specs.Production.{Production, check, byte, signed_byte, number, some_bytes, text, address_size, below_limit}
-use specs.Production.{fits_offset, offset_word, initial_length, unit_length, IsWanting, Reads}
+use specs.Numbers.{SpellsNumber, SpellsInitialLength, word_size}
+use specs.Reading.{Read, eof, byte_at, number_at, text_at, long_or_short_at}
+use specs.Production.{Production, byte, signed_byte, number, some_bytes, text, address_size, below_limit}
+use specs.Production.{offset_word, initial_length, unit_length, IsWanting, Reads}
 use Rattle.gimli_core.proofs
-use proofs.Productions.{ok_parts, bind_ok, bind_fault, bind_refused, reads_both, reads_done, reads_check, reads_same}
+use proofs.Productions.{ok_parts, bind_ok, bind_fault, bind_refused, reads_both, reads_done, reads_check}
 use proofs.Padded.{split_ok}
 
 -- ---- bytes
@@ -41,10 +35,10 @@ want_fault : {A : Type 0} (n : ℕ) (bytes : List ℕ) (x : A) (left : List ℕ)
     → IsWanting n bytes e
 want_fault {A} n bytes x left e is = grind (arith, cases_lt, lt-ltb, le-ltb)
 
-pub reads_some_bytes : (n : ℕ) → Reads (some_bytes n) (split_at n)
+pub reads_some_bytes : (n : ℕ) → Reads (some_bytes n)
 reads_some_bytes n = grind (arith, split_ok, take-append-drop, length-take-le, front_split, le-ltb, want_fault, lt-ltb)
 
-pub reads_byte : Reads byte byte_at
+pub reads_byte : Reads byte
 reads_byte = grind arith
   where
     byte_found : (bytes : List ℕ) (b : ℕ) (rest : List ℕ) → byte_at bytes ≡ (Ok b, rest)
@@ -60,12 +54,12 @@ reads_byte = grind arith
     byte_refused [] e f = rw f.1 refl
     byte_refused _ e f = absurd (omega (arith, f.0))
 
-pub reads_signed_byte : Reads signed_byte signed_byte_at
+pub reads_signed_byte : Reads signed_byte
 reads_signed_byte = search (arith, reads_both, reads_byte, reads_done)
 
 -- ---- numbers
 
-pub reads_number : (is_big : Bool) (size : ℕ) → Reads (number is_big size) (number_at is_big size)
+pub reads_number : (is_big : Bool) (size : ℕ) → Reads (number is_big size)
 reads_number is_big size = record {
   found = λ bytes n rest e. number_found bytes n rest e;
   only = grind (arith, front_split, le-ltb);
@@ -155,91 +149,31 @@ text_refused : (bytes : List ℕ) (e : Error) → text.Fault bytes e → (text_a
 text_refused bytes e f =
     grind (arith, place_none, le-ltb)
 
-pub reads_text : Reads text text_at
+pub reads_text : Reads text
 reads_text = search (arith, text_found, text_only, text_fault, text_refused)
 
--- ---- steps that come to the same
+-- ---- sizes of addresses, offsets and words
 
-bind_same : {A B : Type 0} (r : Read A) (f g : A → List ℕ → Read B) → ((x : A) (rest : List ℕ) → f x rest ≡ g x rest)
-    → (r >>= f) ≡ (r >>= g)
-bind_same (Ok x, rest) f g same = same x rest
-bind_same _ f g same = refl
+pub reads_address_size : Reads address_size
+unfolding address_size
+reads_address_size = reads_both reads_byte (λ n. reads_both (reads_check _ _) (λ fits. reads_done n))
 
-bind_done : {A : Type 0} (r : Read A) → (r >>= λ x rest. (Ok x, rest)) ≡ r
-bind_done (Ok x, rest) = refl
-bind_done _ = refl
+pub reads_below_limit : (layout : OrderAndLimit) (l : Production ℕ) → Reads l → Reads (below_limit layout l)
+reads_below_limit layout l r = reads_both r (λ n. reads_both (reads_check _ _) (λ fits. reads_done n))
 
-bind_assoc : {A B C : Type 0} (r : Read A) (f : A → List ℕ → Read B) (g : B → List ℕ → Read C)
-    → ((r >>= f) >>= g) ≡ (r >>= λ x rest. f x rest >>= g)
-bind_assoc (Ok x, rest) f g = refl
-bind_assoc _ f g = refl
-
--- ---- sizes of addresses
-
-tested_size : (allowed : Bool) (n : ℕ) (d : Error) (rest : List ℕ)
-    → (check_at allowed d rest >>= λ fits left. (let r : Read ℕ = (Ok n, left) in r))
-    ≡ (if allowed then Ok n else Err d, rest)
-tested_size true n d rest = refl
-tested_size false n d rest = refl
-
-pub reads_address_size : Reads address_size address_size_at
-unfolding address_size_at
-reads_address_size =
-    reads_same address_size _ address_size_at
-    (λ bytes. bind_same (byte_at bytes) _ _ (λ n rest.
-    tested_size (is_address_size n) n (UnsupportedAddressSize n) rest))
-    (reads_both byte _ byte_at _ reads_byte (λ n.
-    reads_both (check (is_address_size n) (UnsupportedAddressSize n)) _
-    (check_at (is_address_size n) (UnsupportedAddressSize n)) _
-    (reads_check (is_address_size n) (UnsupportedAddressSize n)) (λ fits. reads_done n)))
-
--- ---- offsets, words and lengths
-
--- the test of a number
-test_of : (limit n : ℕ) (rest : List ℕ)
-    → (check_at (nat_lt n limit) UnsupportedOffset rest >>= λ fits left. (let r : Read ℕ = (Ok n, left) in r))
-    ≡ (offset_of limit n, rest)
-test_of limit n rest = grind (arith, cases_lt, lt-ltb, lt-leb, le-ltb, le-leb)
-
-pub reads_below_limit : (layout : OrderAndLimit) (l : Production ℕ) (read : List ℕ → Read ℕ) → Reads l read
-    → Reads (below_limit layout l) (below_at layout.limit read)
-reads_below_limit layout l read r =
-    reads_same _ _ _
-    (λ bytes. bind_same _ _ _ (test_of layout.limit))
-    (reads_both l _ read _ r (λ n.
-    reads_both _ _
-    _ _
-    (reads_check _ UnsupportedOffset) (λ fits. reads_done n)))
-
--- a word that is an offset
-pub reads_offset_word : (layout : OrderAndLimit) (format : Format)
-    → Reads (offset_word layout format) (word_at layout.is_big layout.limit format)
-unfolding word_at
-reads_offset_word layout Dwarf32 =
-    reads_same (offset_word layout Dwarf32) _ (word_at layout.is_big layout.limit Dwarf32)
-    (λ bytes. bind_done (number_at layout.is_big 4 bytes))
-    (reads_both (number layout.is_big 4) _ (number_at layout.is_big 4) _ (reads_number layout.is_big 4) (λ n.
-    reads_both (check true UnsupportedOffset) _ (check_at true UnsupportedOffset) _ (reads_check true UnsupportedOffset)
-    (λ fits. reads_done n)))
-reads_offset_word layout Dwarf64 =
-    reads_same (offset_word layout Dwarf64) _ (word_at layout.is_big layout.limit Dwarf64)
-    (λ bytes. bind_same (number_at layout.is_big 8 bytes) _ _ (test_of layout.limit))
-    (reads_both (number layout.is_big 8) _ (number_at layout.is_big 8) _ (reads_number layout.is_big 8) (λ n.
-    reads_both (check (nat_lt n layout.limit) UnsupportedOffset) _
-    (check_at (nat_lt n layout.limit) UnsupportedOffset) _
-    (reads_check (nat_lt n layout.limit) UnsupportedOffset) (λ fits. reads_done n)))
+pub reads_offset_word : (layout : OrderAndLimit) (format : Format) → Reads (offset_word layout format)
+unfolding offset_word
+reads_offset_word layout format =
+    reads_both (reads_number layout.is_big (word_size format)) (λ n.
+    reads_both (reads_check _ _) (λ fits. reads_done n))
 
 -- ---- initial lengths
 
--- after the first word
-abbrev after_first : Bool → ℕ → List ℕ → Read (ℕ × Format)
-after_first is_big n rest =
-    if nat_lt n 0xffff_fff0 then (Ok (n, Dwarf32), rest)
-    else (if nat_eq n 0xffff_ffff then (number_at is_big 8 rest >>= λ m left. (Ok (m, Dwarf64), left))
-    else (Err UnknownReservedLength, rest))
+abbrev after_word : Bool → ℕ → List ℕ → Read (ℕ × Format)
+after_word = long_or_short_at
 
 abbrev length_at : Bool → List ℕ → Read (ℕ × Format)
-length_at is_big bytes = number_at is_big 4 bytes >>= after_first is_big
+length_at is_big = (initial_length is_big).read
 
 -- which of the three it is
 data First (n : ℕ) : Type 0 where
@@ -257,7 +191,7 @@ module _ (is_big : Bool) where
 
   after_found : (n : ℕ) → First n → (rest : List ℕ) (u : ℕ × Format) (left first : List ℕ)
       → SpellsNumber is_big 4 first n
-      → after_first is_big n rest ≡ (Ok u, left)
+      → after_word is_big n rest ≡ (Ok u, left)
       → (tail : List ℕ) × (rest ≡ tail ++ left) × SpellsInitialLength is_big (first ++ tail) u.1 u.0
   after_found n (short lt is) rest u left first spelled e =
       grind (arith, ok_parts, append-nil)
@@ -294,7 +228,7 @@ module _ (is_big : Bool) where
       let second = (reads_number is_big 8).only s.1 n rest s.4 in
       ap (length_at is_big) whole ∙ rw (first, second) refl
 
-  after_fault : (n : ℕ) → First n → (rest : List ℕ) (e : Error) → (after_first is_big n rest).0 ≡ Err e
+  after_fault : (n : ℕ) → First n → (rest : List ℕ) (e : Error) → (after_word is_big n rest).0 ≡ Err e
       → ((0xffff_fff0 ≤ n) × (n ≢ 0xffff_ffff) × (e ≡ UnknownReservedLength)) ⊎ ((n ≡ 0xffff_ffff) × IsWanting 8 rest e)
   after_fault n (short lt is) rest e f = cc
   after_fault n (long same not_short is) rest e f =
@@ -312,7 +246,7 @@ module _ (is_big : Bool) where
 
   after_refused : (n : ℕ) (rest : List ℕ) (e : Error)
       → ((0xffff_fff0 ≤ n) × (n ≢ 0xffff_ffff) × (e ≡ UnknownReservedLength)) ⊎ ((n ≡ 0xffff_ffff) × IsWanting 8 rest e)
-      → (after_first is_big n rest).0 ≡ Err e
+      → (after_word is_big n rest).0 ≡ Err e
   after_refused n rest e (inl f) = grind (arith, le-ltb, ne_eqb)
   after_refused n rest e (inr f) =
       grind (arith, bind_refused, reads_number)
@@ -325,47 +259,12 @@ module _ (is_big : Bool) where
       let first = (reads_number is_big 4).only f.0 f.2 f.1 f.4 in
       rw (f.3, first) (after_refused f.2 f.1 e f.5)
 
-  reads_initial_length : Reads (initial_length is_big) (length_at is_big)
+  reads_initial_length : Reads (initial_length is_big)
   reads_initial_length = search (arith, length_found, length_only, length_fault, length_refused)
 
 -- ---- the length of a unit, and that an offset holds it
 
-module _ (layout : OrderAndLimit) where
-  abbrev with_test : ℕ × Format → List ℕ → Read (ℕ × Format)
-  with_test u rest = check_at (fits_offset layout u.1 u.0) UnsupportedOffset rest >>= λ fits left. (Ok u, left)
-
-  abbrev as_offset : ℕ → List ℕ → Read (ℕ × Format)
-  as_offset m left = (result_map (λ n. (n, Dwarf64)) (offset_of layout.limit m), left)
-
-  test_long : (m : ℕ) (left : List ℕ) → with_test (m, Dwarf64) left ≡ as_offset m left
-  test_long m left = grind (arith, cases_lt, lt-ltb, lt-leb, le-ltb, le-leb)
-
-  abbrev after_tested : ℕ → List ℕ → Read (ℕ × Format)
-  after_tested n rest =
-      if nat_lt n 0xffff_fff0 then (Ok (n, Dwarf32), rest)
-      else (if nat_eq n 0xffff_ffff then (number_at layout.is_big 8 rest >>= as_offset)
-      else (Err UnknownReservedLength, rest))
-
-  after_same : (n : ℕ) → First n → (rest : List ℕ)
-      → (after_first layout.is_big n rest >>= with_test) ≡ after_tested n rest
-  after_same n (short lt is) rest = rw is refl
-  after_same n (long same not_short is) rest =
-      grind (arith, bind_assoc, bind_same, test_long)
-  after_same n (reserved le other not_short is) rest = cc
-
-  unit_same : (bytes : List ℕ)
-      → (length_at layout.is_big bytes >>= with_test) ≡ initial_length_at layout.is_big layout.limit bytes
-  unfolding initial_length_at
-  unit_same bytes =
-      bind_assoc (number_at layout.is_big 4 bytes) (after_first layout.is_big) with_test
-      ∙ bind_same (number_at layout.is_big 4 bytes) (λ n rest. after_first layout.is_big n rest >>= with_test)
-      after_tested (λ n rest.
-      after_same n (first_of n) rest)
-
-  pub reads_unit_length : Reads (unit_length layout) (initial_length_at layout.is_big layout.limit)
-  reads_unit_length =
-      reads_same _ _ _ unit_same
-      (reads_both _ _ _ _ (reads_initial_length layout.is_big) (λ u.
-      reads_both _ _
-      _ _
-      (reads_check _ UnsupportedOffset) (λ fits. reads_done u)))
+pub reads_unit_length : (layout : OrderAndLimit) → Reads (unit_length layout)
+unfolding unit_length
+reads_unit_length layout =
+    reads_both (reads_initial_length layout.is_big) (λ u. reads_both (reads_check _ _) (λ fits. reads_done u))

@@ -1,10 +1,9 @@
 -- Reading one production after another: what reads the productions reads what is put together of them.
-use Rattle.std.proofs.Common.{◌≡◌, ℕ, zero, suc, Bool, true, false, if◌then◌else◌, List, [], ◌∷◌, ◌++◌, Ok, Err, refl}
+use Rattle.std.proofs.Common.{◌≡◌, ℕ, zero, suc, Bool, true, false, List, [], ◌++◌, Ok, Err, refl}
 use Rattle.std.proofs.Common.{sym, ap, ◌∙◌, append_assoc, ◌⊎◌, inl, inr}
 use Rattle.gimli_core.specs
 use specs.declared.error.Error.{Error}
-use specs.Reading.{Read, ◌>>=◌, times_at, with_rest, within_at}
-use specs.inside.Reading.{check_at}
+use specs.Reading.{Read, ◌>>=◌, with_rest}
 use specs.Production.{Production, ◌>>=◌ as ◌>>>◌, done, refuse, check, choose, times, within, Reads}
 
 -- ---- steps that may fail
@@ -31,11 +30,13 @@ ok_parts {A} x y a b e = let p = ap (λ r. r.0) e in let q = ap (λ r. r.1) e in
 
 -- ---- a production, and after it the next
 
-module _ {A B : Type 0} (l : Production A) (next : A → Production B) (read : List ℕ → Read A)
-    (after : A → List ℕ → Read B) (first : Reads l read)
-    (second : (x : A) → Reads (next x) (after x)) where
+module _ {A B : Type 0} {l : Production A} {next : A → Production B} (first : Reads l)
+    (second : (x : A) → Reads (next x)) where
   abbrev both : List ℕ → Read B
-  both bytes = read bytes >>= after
+  both = (l >>> next).read
+
+  abbrev after : A → List ℕ → Read B
+  after x = (next x).read
 
   reads_both_found : (bytes : List ℕ) (y : B) (rest : List ℕ) → both bytes ≡ (Ok y, rest)
       → (front : List ℕ) × (bytes ≡ front ++ rest) × (l >>> next).Spells front y
@@ -65,7 +66,7 @@ module _ {A B : Type 0} (l : Production A) (next : A → Production B) (read : L
   reads_both_refused bytes e (inl p) = bind_refused _ after e (first.refused bytes e p)
   reads_both_refused bytes e (inr s) = rw (s.3, first.only s.1 s.0 s.2 s.4) ((second s.0).refused s.2 e s.5)
 
-  pub reads_both : Reads (l >>> next) both
+  pub reads_both : Reads (l >>> next)
   reads_both = record {
     found = reads_both_found;
     only = reads_both_only;
@@ -75,7 +76,7 @@ module _ {A B : Type 0} (l : Production A) (next : A → Production B) (read : L
 
 -- ---- no bytes
 
-pub reads_done : {A : Type 0} (x : A) → Reads (done x) (λ bytes. (Ok x, bytes))
+pub reads_done : {A : Type 0} (x : A) → Reads (done x)
 reads_done {A} x = record {
   found = λ bytes y rest e. let p = ok_parts x y bytes rest e in ([], p.1, (refl, sym p.0));
   only = λ front y rest s. rw (s.0, s.1) refl;
@@ -83,7 +84,7 @@ reads_done {A} x = record {
   refused = λ bytes e f. absurd f;
 }
 
-pub reads_refuse : {A : Type 0} (d : Error) → Reads (refuse {A = A} d) (λ bytes. (Err d, bytes))
+pub reads_refuse : {A : Type 0} (d : Error) → Reads (refuse {A = A} d)
 reads_refuse {A} d = record {
   found = λ bytes y rest e. let p = ap (λ r. r.0) e in absurd cc;
   only = λ front y rest s. absurd s;
@@ -91,7 +92,7 @@ reads_refuse {A} d = record {
   refused = λ bytes e f. rw f refl;
 }
 
-pub reads_check : (b : Bool) (d : Error) → Reads (check b d) (check_at b d)
+pub reads_check : (b : Bool) (d : Error) → Reads (check b d)
 reads_check true d = record {
   found = λ bytes x rest e. let p = ok_parts tt x bytes rest e in ([], p.1, (refl, refl));
   only = λ front x rest s. rw s.0 refl;
@@ -107,19 +108,15 @@ reads_check false d = record {
 
 -- ---- one production or another
 
-pub reads_if : {A : Type 0} (b : Bool) (l m : Production A) (r s : List ℕ → Read A) → Reads l r → Reads m s
-    → Reads (choose b l m) (λ bytes. if b then r bytes else s bytes)
-reads_if true l m r s p q = p
-reads_if false l m r s p q = q
+pub reads_if : {A : Type 0} (b : Bool) (l m : Production A) → Reads l → Reads m → Reads (choose b l m)
+reads_if true l m p q = p
+reads_if false l m p q = q
 
 -- ---- so many of a production
 
-pub reads_times : {A : Type 0} (n : ℕ) (l : Production A) (read : List ℕ → Read A) → Reads l read
-    → Reads (times n l) (times_at n read)
-reads_times zero l read r = reads_done []
-reads_times (suc n) l read r =
-    reads_both l _ read _ r (λ x.
-    reads_both _ _ _ _ (reads_times n l read r) (λ xs. reads_done _))
+pub reads_times : {A : Type 0} (n : ℕ) (l : Production A) → Reads l → Reads (times n l)
+reads_times zero l r = reads_done []
+reads_times (suc n) l r = reads_both r (λ x. reads_both (reads_times n l r) (λ xs. reads_done _))
 
 -- ---- a production within bytes that were taken before
 
@@ -136,9 +133,8 @@ with_rest_refused : {A : Type 0} (r : Read A) (e : Error) → r.0 ≡ Err e → 
 with_rest_refused (Ok y, rest) e is = absurd cc
 with_rest_refused (Err d, rest) e is = cc
 
-pub reads_within : {A : Type 0} (inside : List ℕ) (l : Production A) (read : List ℕ → Read A) → Reads l read
-    → Reads (within inside l) (within_at inside read)
-reads_within {A} inside l read r = record {
+pub reads_within : {A : Type 0} (inside : List ℕ) (l : Production A) → Reads l → Reads (within inside l)
+reads_within {A} inside l r = record {
   found = λ bytes x rest e.
       let value = with_rest_ok _ x (ap (λ y. y.0) e) in
       let left = ap (λ y. y.1) e in
@@ -149,15 +145,4 @@ reads_within {A} inside l read r = record {
       rw (s.0, s.1.1, inner) refl;
   fault = λ bytes e is. r.fault inside e (with_rest_fault _ e is);
   refused = λ bytes e f. with_rest_refused _ e (r.refused inside e f);
-}
-
--- ---- the same function in other words
-
-pub reads_same : {A : Type 0} (l : Production A) (read other : List ℕ → Read A)
-    → ((bytes : List ℕ) → read bytes ≡ other bytes) → Reads l read → Reads l other
-reads_same {A} l read other same r = record {
-  found = λ bytes x rest e. r.found bytes x rest (same bytes ∙ e);
-  only = λ front x rest s. sym (same _) ∙ r.only front x rest s;
-  fault = λ bytes e is. r.fault bytes e (ap (λ y. y.0) (same bytes) ∙ is);
-  refused = λ bytes e f. ap (λ y. y.0) (sym (same bytes)) ∙ r.refused bytes e f;
 }

@@ -254,5 +254,5 @@ signed_refused bytes e f =
     let after : Difference → List ℕ → Read ℤ = λ d left. _ in
     bind_refused _ after e (sleb_refused 9 bytes e f)
 
-pub reads_signed : Reads signed signed_at
+pub reads_signed : Reads signed
 reads_signed = search (arith, signed_found, signed_only, signed_fault, signed_refused)

@@ -165,7 +165,7 @@ uleb_refused top (suc more) (b ∷ bytes) e (inr f) =
 
 -- ---- the two widths
 
-pub reads_unsigned : Reads unsigned (uleb_at 9 1)
+pub reads_unsigned : Reads unsigned
 reads_unsigned = record {
   found =
       λ bytes n rest e. let f = uleb_found 9 1 bytes n rest (omega arith) e in
@@ -175,7 +175,7 @@ reads_unsigned = record {
   refused = uleb_refused 1 9;
 }
 
-pub reads_unsigned_16 : Reads unsigned_16 (uleb_at 2 3)
+pub reads_unsigned_16 : Reads unsigned_16
 reads_unsigned_16 = record {
   found =
       λ bytes n rest e. let f = uleb_found 2 3 bytes n rest (omega arith) e in

@@ -1,7 +1,7 @@
 -- Two of an enum are equal exactly where they are of one variant and agree in its parts: the sum of
 -- its variants' parts.
 use Rattle.std.proofs.Common.{◌≡◌, Bool, true, false, refl, ap}
-use Rattle.std.specs.Prelude.{◌&&◌, ◌⊎◌, Decides}
+use Rattle.std.specs.Prelude.{◌⊎◌, Decides}
 use mathlib.Core.Logic.{inl, inr, ⊎_elim}
 
 abbrev Left : {A B : Type 0} → A ⊎ B → Bool

@@ -4,9 +4,11 @@ use Rattle.std.proofs.Common.{◌≡◌, ℕ, true, false, List, [], ◌∷◌, 
 use Rattle.std.specs.Prelude.{pos, negsuc, map, replicate, codes, not, nat_eq}
 use Rattle.gimli_core.specs
 use specs.Numbers.{value_of, number_bytes, word_size, initial_length_size}
-use specs.Reading.{split_at, skip_at, truncate_at, find_at, text_at, byte_at, signed_byte_at}
+use specs.Layout.{layout_of}
+use specs.Production.{signed_byte, offset_word, unit_length, address_size}
+use specs.Reading.{split_at, skip_at, truncate_at, find_at, text_at, byte_at}
 use specs.Reading.{number_at, uleb_at, unsigned_at, unsigned_16_at}
-use specs.Reading.{sleb_at, signed_at, word_at, initial_length_at, address_size_at, sized_sum}
+use specs.Reading.{sleb_at, signed_at, sized_sum}
 use specs.Order.{is_big_endian}
 use specs.Values.{Value, udata_value}
 use specs.Form.{Shape, fixed, three_bytes, word_offset, leb, signed_leb, leb_offset, block, counted, leb_counted}
@@ -45,7 +47,7 @@ pub bytes : map byte_at ((0xfe ∷ 1 ∷ []) ∷ (0 ∷ []) ∷ [] ∷ [])
     ≡ (Ok 254, 1 ∷ []) ∷ (Ok 0, []) ∷ (Err (missing 0), []) ∷ []
 bytes = refl
 
-pub signed_bytes : map signed_byte_at ((0x7f ∷ []) ∷ (0x80 ∷ []) ∷ (0xfe ∷ 1 ∷ []) ∷ [] ∷ [])
+pub signed_bytes : map signed_byte.read ((0x7f ∷ []) ∷ (0x80 ∷ []) ∷ (0xfe ∷ 1 ∷ []) ∷ [] ∷ [])
     ≡ (Ok (pos 127), []) ∷ (Ok (negsuc 127), []) ∷ (Ok (negsuc 1), 1 ∷ []) ∷ (Err (missing 0), []) ∷ []
 signed_bytes = refl
 
@@ -207,66 +209,70 @@ sizes_of_words = refl
 pub sizes_of_lengths : map initial_length_size (Dwarf32 ∷ Dwarf64 ∷ []) ≡ 4 ∷ 12 ∷ []
 sizes_of_lengths = refl
 
-pub words : word_at false wide Dwarf32 (1 ∷ 2 ∷ 3 ∷ 4 ∷ 5 ∷ []) ∷ word_at true wide Dwarf32 (replicate 4 0xff)
-    ∷ word_at true wide Dwarf64 (run 4 0 (1 ∷ 2 ∷ 3 ∷ 4 ∷ [])) ∷ []
+pub words : (offset_word (layout_of false wide) Dwarf32).read (1 ∷ 2 ∷ 3 ∷ 4 ∷ 5 ∷ [])
+    ∷ (offset_word (layout_of true wide) Dwarf32).read (replicate 4 0xff)
+    ∷ (offset_word (layout_of true wide) Dwarf64).read (run 4 0 (1 ∷ 2 ∷ 3 ∷ 4 ∷ [])) ∷ []
     ≡ (Ok 0x0403_0201, 5 ∷ []) ∷ (Ok 0xffff_ffff, []) ∷ (Ok 0x0102_0304, []) ∷ []
-unfolding word_at
+unfolding offset_word
 words = refl
 
-pub words_cut : word_at true wide Dwarf32 (1 ∷ 2 ∷ 3 ∷ []) ∷ word_at true wide Dwarf64 (replicate 7 1) ∷ []
+pub words_cut : (offset_word (layout_of true wide) Dwarf32).read (1 ∷ 2 ∷ 3 ∷ [])
+    ∷ (offset_word (layout_of true wide) Dwarf64).read (replicate 7 1) ∷ []
     ≡ (Err (missing 3), 1 ∷ 2 ∷ 3 ∷ []) ∷ (Err (missing 7), replicate 7 1) ∷ []
-unfolding word_at
+unfolding offset_word
 words_cut = refl
 
 -- an offset of 32 bits holds no more; the bytes are taken
-pub words_of_32_bits : map (λ limit. word_at true limit Dwarf64 (0 ∷ 0 ∷ 0 ∷ 1 ∷ run 4 0 (9 ∷ []))) (wide ∷ narrow ∷ [])
+pub words_of_32_bits : map
+    (λ limit. (offset_word (layout_of true limit) Dwarf64).read (0 ∷ 0 ∷ 0 ∷ 1 ∷ run 4 0 (9 ∷ []))) (wide ∷ narrow ∷ [])
     ≡ (Ok 0x1_0000_0000, 9 ∷ []) ∷ (Err UnsupportedOffset, 9 ∷ []) ∷ []
-unfolding word_at
+unfolding offset_word
 words_of_32_bits = refl
 
-pub lengths : initial_length_at false wide (0x2f ∷ 0 ∷ 0 ∷ 0 ∷ 9 ∷ [])
-    ∷ initial_length_at true wide (0 ∷ 0 ∷ 0 ∷ 0x2f ∷ [])
-    ∷ initial_length_at false wide (0xef ∷ replicate 3 0xff) ∷ []
+pub lengths : (unit_length (layout_of false wide)).read (0x2f ∷ 0 ∷ 0 ∷ 0 ∷ 9 ∷ [])
+    ∷ (unit_length (layout_of true wide)).read (0 ∷ 0 ∷ 0 ∷ 0x2f ∷ [])
+    ∷ (unit_length (layout_of false wide)).read (0xef ∷ replicate 3 0xff) ∷ []
     ≡ (Ok (0x2f, Dwarf32), 9 ∷ []) ∷ (Ok (0x2f, Dwarf32), []) ∷ (Ok (0xffff_ffef, Dwarf32), []) ∷ []
-unfolding initial_length_at
+unfolding unit_length
 lengths = refl
 
-pub lengths_of_64_bits : initial_length_at false wide (run 4 0xff (0x1d ∷ run 7 0 (7 ∷ [])))
-    ∷ initial_length_at true wide (run 4 0xff (run 3 0 (1 ∷ replicate 4 0))) ∷ []
+pub lengths_of_64_bits : (unit_length (layout_of false wide)).read (run 4 0xff (0x1d ∷ run 7 0 (7 ∷ [])))
+    ∷ (unit_length (layout_of true wide)).read (run 4 0xff (run 3 0 (1 ∷ replicate 4 0))) ∷ []
     ≡ (Ok (0x1d, Dwarf64), 7 ∷ []) ∷ (Ok (0x1_0000_0000, Dwarf64), []) ∷ []
-unfolding initial_length_at
+unfolding unit_length
 lengths_of_64_bits = refl
 
 -- the words from 0xffff_fff0 to 0xffff_fffe are reserved
-pub reserved_lengths : map (λ low. initial_length_at true wide (run 3 0xff (low ∷ 1 ∷ [])))
+pub reserved_lengths : map (λ low. (unit_length (layout_of true wide)).read (run 3 0xff (low ∷ 1 ∷ [])))
     (0xf0 ∷ 0xf1 ∷ 0xf7 ∷ 0xf8 ∷ 0xfd ∷ 0xfe ∷ [])
     ≡ replicate 6 (Err UnknownReservedLength, 1 ∷ [])
-unfolding initial_length_at
+unfolding unit_length
 reserved_lengths = refl
 
-pub length_of_32_bits : initial_length_at true narrow (run 4 0xff (run 3 0 (1 ∷ replicate 4 0)))
+pub length_of_32_bits : (unit_length (layout_of true narrow)).read (run 4 0xff (run 3 0 (1 ∷ replicate 4 0)))
     ≡ (Err UnsupportedOffset, [])
-unfolding initial_length_at
+unfolding unit_length
 length_of_32_bits = refl
 
 -- what was looked at is taken
-pub lengths_cut : map (initial_length_at false wide) ((1 ∷ 2 ∷ []) ∷ replicate 4 0xff ∷ run 4 0xff (replicate 7 1) ∷ [])
+pub lengths_cut : map (unit_length (layout_of false wide)).read
+    ((1 ∷ 2 ∷ []) ∷ replicate 4 0xff ∷ run 4 0xff (replicate 7 1) ∷ [])
     ≡ (Err (missing 2), 1 ∷ 2 ∷ []) ∷ (Err (missing 0), []) ∷ (Err (missing 7), replicate 7 1) ∷ []
-unfolding initial_length_at
+unfolding unit_length
 lengths_cut = refl
 
-pub sizes_of_addresses : map (λ n. address_size_at (n ∷ 5 ∷ [])) (1 ∷ 2 ∷ 4 ∷ 8 ∷ [])
+pub sizes_of_addresses : map (λ n. address_size.read (n ∷ 5 ∷ [])) (1 ∷ 2 ∷ 4 ∷ 8 ∷ [])
     ≡ map (λ n. (Ok n, 5 ∷ [])) (1 ∷ 2 ∷ 4 ∷ 8 ∷ [])
-unfolding address_size_at
+unfolding address_size
 sizes_of_addresses = refl
 
-pub no_sizes_of_addresses : map (λ n. address_size_at (n ∷ 5 ∷ [])) (0 ∷ 3 ∷ 5 ∷ 6 ∷ 7 ∷ 9 ∷ 16 ∷ 32 ∷ 255 ∷ [])
+pub no_sizes_of_addresses : map (λ n. address_size.read (n ∷ 5 ∷ [])) (0 ∷ 3 ∷ 5 ∷ 6 ∷ 7 ∷ 9 ∷ 16 ∷ 32 ∷ 255 ∷ [])
     ≡ map (λ n. (Err (UnsupportedAddressSize n), 5 ∷ [])) (0 ∷ 3 ∷ 5 ∷ 6 ∷ 7 ∷ 9 ∷ 16 ∷ 32 ∷ 255 ∷ [])
-unfolding address_size_at
+unfolding address_size
 no_sizes_of_addresses = refl
 
-pub no_byte_for_a_size : address_size_at [] ≡ (Err (missing 0), [])
-unfolding address_size_at
+pub no_byte_for_a_size : address_size.read [] ≡ (Err (missing 0), [])
+unfolding address_size
 no_byte_for_a_size = refl
 
 -- an address may be the greatest of its size

@@ -3,13 +3,15 @@
 -- the next.
 use Rattle.std.specs.Prelude.{◌≡◌, ◌≢◌, ◌⊎◌, ℕ, zero, suc, ◌+◌, ◌<◌, ◌≤◌, List, [], ◌∷◌, ◌++◌}
 use Rattle.std.specs.Prelude.{length, Bool, true, false, IsTrue, IsFalse, Ok, Err, ℤ, nat_lt}
+use Rattle.std.specs.Prelude.{if◌then◌else◌}
 use Rattle.std.specs.Int.{w8, cast_signed}
 use Rattle.std.specs.List.{AllByRecursion}
 use Rattle.gimli_core.specs
 use specs.Numbers.{SpellsNumber, SpellsUleb128, SpellsSleb128}
 use specs.Numbers.{SpellsInitialLength, word_size, is_address_size}
 use specs.Layout.{OrderAndLimit}
-use specs.Reading.{Read, eof}
+use specs.Reading.{Read, ◌>>=◌ as ◌>=>◌, eof, with_rest, byte_at, number_at, split_at, text_at}
+use specs.Reading.{unsigned_at, unsigned_16_at, signed_at, closed_at, long_or_short_at}
 use specs.declared.common.Format.{Format}
 use specs.declared.common.Format.TheVariants.{Dwarf32, Dwarf64}
 use specs.declared.error.Error.{Error}
@@ -26,12 +28,18 @@ pub record Production (A : Type 0) : Type 1 where
   pub Spells : List ℕ → A → Type 0
   -- the bytes begin with no spelling, and this is the refusal
   pub Fault : List ℕ → Error → Type 0
+  -- what is taken of the front of the bytes, or why nothing is, and what is left
+  pub read : List ℕ → Read A
 
 -- ---- put together
 
 -- nothing is spelled, and x is known
 abbrev pub done : {A : Type 0} → A → Production A
-done x = record { Spells = λ bytes y. (bytes ≡ []) × (y ≡ x); Fault = λ bytes e. ⊥ }
+done x = record {
+  Spells = λ bytes y. (bytes ≡ []) × (y ≡ x);
+  Fault = λ bytes e. ⊥;
+  read = λ bytes. (Ok x, bytes);
+}
 
 -- a production, and after it the production that its value asks for
 infixl 10 ◌>>=◌
@@ -44,6 +52,7 @@ l >>= next = record {
       l.Fault bytes e
       ⊎ ((x : _) × (front : List ℕ) × (rest : List ℕ) × (bytes ≡ front ++ rest) × l.Spells front x
       × (next x).Fault rest e);
+  read = λ bytes. l.read bytes >=> λ x. (next x).read;
 }
 
 -- the same, where the value doesn't matter
@@ -53,13 +62,18 @@ l >> next = l >>= λ _. next
 
 -- a refusal, whatever comes
 abbrev pub refuse : {A : Type 0} → Error → Production A
-refuse d = record { Spells = λ bytes x. ⊥; Fault = λ bytes e. e ≡ d }
+refuse d = record {
+  Spells = λ bytes x. ⊥;
+  Fault = λ bytes e. e ≡ d;
+  read = λ bytes. (Err d, bytes);
+}
 
 -- nothing where the test holds, else a refusal
 abbrev pub check : Bool → Error → Production (Unit {0})
 check b d = record {
   Spells = λ bytes x. (bytes ≡ []) × IsTrue b;
   Fault = λ bytes e. IsFalse b × (e ≡ d);
+  read = λ bytes. (if b then Ok tt else Err d, bytes);
 }
 
 -- one production where the test holds, else the other
@@ -95,6 +109,7 @@ list_to_zero l = record {
   Fault = λ bytes e.
       (xs : List _) × (front : List ℕ) × (rest : List ℕ) × (bytes ≡ front ++ rest)
       × Each l.Spells front xs × IsOpen rest × l.Fault rest e;
+  read = closed_at l.read;
 }
 
 -- a production at the front of bytes that were taken before, and what is left over of these
@@ -103,6 +118,7 @@ within inside l = record {
   Spells =
       λ bytes x. (bytes ≡ []) × ((front : List ℕ) × (inside ≡ front ++ x.1) × l.Spells front x.0);
   Fault = λ bytes e. l.Fault inside e;
+  read = λ bytes. (with_rest (l.read inside), bytes);
 }
 
 -- ---- bytes and numbers
@@ -115,6 +131,7 @@ abbrev pub some_bytes : ℕ → Production (List ℕ)
 some_bytes n = record {
   Spells = λ bytes xs. (length bytes ≡ n) × (xs ≡ bytes);
   Fault = IsWanting n;
+  read = split_at n;
 }
 
 -- bytes that aren't zero, and a zero byte
@@ -122,15 +139,20 @@ abbrev pub text : Production (List ℕ)
 text = record {
   Spells = λ bytes name. AllByRecursion (λ b. b ≢ 0) name × (bytes ≡ name ++ 0 ∷ []);
   Fault = λ bytes e. AllByRecursion (λ b. b ≢ 0) bytes × (e ≡ eof bytes);
+  read = text_at;
 }
 
 -- a number of so many bytes
 abbrev pub number : Bool → ℕ → Production ℕ
-number is_big size = record { Spells = SpellsNumber is_big size; Fault = IsWanting size }
+number is_big size = record {
+  Spells = SpellsNumber is_big size;
+  Fault = IsWanting size;
+  read = number_at is_big size;
+}
 
 -- a byte, whatever the order
 abbrev pub byte : Production ℕ
-byte = record { Spells = λ bytes b. bytes ≡ b ∷ []; Fault = IsWanting 1 }
+byte = record { Spells = λ bytes b. bytes ≡ b ∷ []; Fault = IsWanting 1; read = byte_at }
 
 -- a byte, as a signed number
 abbrev pub signed_byte : Production ℤ
@@ -155,12 +177,14 @@ abbrev pub unsigned : Production ℕ
 unsigned = record {
   Spells = SpellsUleb128 64;
   Fault = IsLebFault 10 (λ b. 1 < b) BadUnsignedLeb128;
+  read = unsigned_at;
 }
 
 abbrev pub unsigned_16 : Production ℕ
 unsigned_16 = record {
   Spells = SpellsUleb128 16;
   Fault = IsLebFault 3 (λ b. 3 < b) BadUnsignedLeb128;
+  read = unsigned_16_at;
 }
 
 -- signed ones of 64 bits
@@ -168,12 +192,13 @@ abbrev pub signed : Production ℤ
 signed = record {
   Spells = SpellsSleb128;
   Fault = IsLebFault 10 (λ b. (b ≢ 0) × (b ≢ 127)) BadSignedLeb128;
+  read = signed_at;
 }
 
 -- ---- words, lengths and offsets
 
 -- the size of an address
-abbrev pub address_size : Production ℕ
+unfoldable pub address_size : Production ℕ
 address_size = do
   size ← byte
   check (is_address_size size) (UnsupportedAddressSize size)
@@ -192,6 +217,7 @@ initial_length is_big = record {
       × SpellsNumber is_big 4 first n
       × (((0xffff_fff0 ≤ n) × (n ≢ 0xffff_ffff) × (e ≡ UnknownReservedLength))
       ⊎ ((n ≡ 0xffff_ffff) × IsWanting 8 rest e)));
+  read = λ bytes. number_at is_big 4 bytes >=> long_or_short_at is_big;
 }
 
 -- a number that an offset of the reader has to hold
@@ -207,14 +233,14 @@ fits_offset layout Dwarf32 n = true
 fits_offset layout Dwarf64 n = nat_lt n layout.limit
 
 -- a word of the format that is an offset or a length
-abbrev pub offset_word : OrderAndLimit → Format → Production ℕ
+unfoldable pub offset_word : OrderAndLimit → Format → Production ℕ
 offset_word layout format = do
   n ← word layout.is_big format
   check (fits_offset layout format n) UnsupportedOffset
   done n
 
 -- the length of a unit, and its format
-abbrev pub unit_length : OrderAndLimit → Production (ℕ × Format)
+unfoldable pub unit_length : OrderAndLimit → Production (ℕ × Format)
 unit_length layout = do
   unit ← initial_length layout.is_big
   check (fits_offset layout unit.1 unit.0) UnsupportedOffset
@@ -222,13 +248,12 @@ unit_length layout = do
 
 -- ---- reading a production
 
--- a function of bytes reads a production: what it takes is spelled so; what is spelled so it takes,
--- whatever follows; where it refuses, that is the production's fault; and it refuses for each fault
--- of the production
-pub record Reads {A : Type 0} (l : Production A) (read : List ℕ → Read A) : Type 0 where
-  pub found : (bytes : List ℕ) (x : A) (rest : List ℕ) → read bytes ≡ (Ok x, rest)
+-- what is taken is spelled so; what is spelled so is taken, whatever follows; a refusal is a fault
+-- of the production; and each fault of it is refused
+pub record Reads {A : Type 0} (l : Production A) : Type 0 where
+  pub found : (bytes : List ℕ) (x : A) (rest : List ℕ) → l.read bytes ≡ (Ok x, rest)
       → (front : List ℕ) × (bytes ≡ front ++ rest) × l.Spells front x
   pub only : (front : List ℕ) (x : A) (rest : List ℕ) → l.Spells front x
-      → read (front ++ rest) ≡ (Ok x, rest)
-  pub fault : (bytes : List ℕ) (e : Error) → (read bytes).0 ≡ Err e → l.Fault bytes e
-  pub refused : (bytes : List ℕ) (e : Error) → l.Fault bytes e → (read bytes).0 ≡ Err e
+      → l.read (front ++ rest) ≡ (Ok x, rest)
+  pub fault : (bytes : List ℕ) (e : Error) → (l.read bytes).0 ≡ Err e → l.Fault bytes e
+  pub refused : (bytes : List ℕ) (e : Error) → l.Fault bytes e → (l.read bytes).0 ≡ Err e

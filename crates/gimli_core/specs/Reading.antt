@@ -1,10 +1,9 @@
 -- What readers take from the front of a list of bytes, and what they leave.
 use Rattle.std.specs.Prelude.{ℕ, zero, suc, ◌+◌, ◌*◌, ◌%◌, ◌^◌, Bool, List, [], ◌∷◌, length, take}
 use Rattle.std.specs.Prelude.{drop, position, Result, Ok, Err, Some, None, nat_lt, nat_le, nat_eq}
-use Rattle.std.specs.Prelude.{◌||◌, if◌then◌else◌, ℤ, pos, ◌-ℤ◌}
-use Rattle.std.specs.Int.{w8, cast_signed}
+use Rattle.std.specs.Prelude.{◌||◌, if◌then◌else◌, ℤ, pos, ◌-ℤ◌, false}
 use Rattle.gimli_core.specs
-use specs.Numbers.{value_of, is_address_size}
+use specs.Numbers.{value_of}
 use specs.declared.common.Format.{Format}
 use specs.declared.common.Format.TheVariants.{Dwarf32, Dwarf64}
 use specs.declared.error.Error.{Error}
@@ -13,7 +12,6 @@ use specs.declared.error.Error.TheVariants.{
   BadUnsignedLeb128,
   BadSignedLeb128,
   UnknownReservedLength,
-  UnsupportedAddressSize,
   UnsupportedOffset,
   AddressOverflow,
 }
@@ -22,25 +20,41 @@ use specs.declared.error.Error.TheVariants.{
 abbrev pub Read : Type 0 → Type 0
 Read A = Result A Error × List ℕ
 
+-- bytes are missing
+abbrev pub eof : List ℕ → Error
+eof bytes = UnexpectedEof (record { 0 = length bytes })
+
+-- a zero byte comes next
+abbrev pub is_closed : List ℕ → Bool
+is_closed [] = false
+is_closed (b ∷ bytes) = nat_eq b 0
+
+-- the bytes after the first
+abbrev pub after_first : List ℕ → List ℕ
+after_first [] = []
+after_first (b ∷ bytes) = bytes
+
 -- one call after another
 infixl 10 ◌>>=◌
 abbrev pub ◌>>=◌ : {A B : Type 0} → Read A → (A → List ℕ → Read B) → Read B
 (Ok x, rest) >>= f = f x rest
 (Err e, rest) >>= f = (Err e, rest)
 
--- so many of a call
-abbrev pub times_at : {A : Type 0} → ℕ → (List ℕ → Read A) → List ℕ → Read (List A)
-times_at zero read bytes = (Ok [], bytes)
-times_at (suc n) read bytes =
-    read bytes >>= λ x rest. times_at n read rest >>= λ xs left. (Ok (x ∷ xs), left)
+-- fewer than so many values, up to a zero byte, which goes too
+unfoldable pub closed_below : {A : Type 0} → ℕ → (List ℕ → Read A) → List ℕ → Read (List A)
+closed_below zero read bytes = (Err (eof bytes), bytes)
+closed_below (suc more) read bytes =
+    if is_closed bytes then (Ok [], after_first bytes)
+    else (read bytes >>= λ x rest. closed_below more read rest >>= λ xs left. (Ok (x ∷ xs), left))
+
+-- the values up to a zero byte; they aren't more than the bytes
+abbrev pub closed_at : {A : Type 0} → (List ℕ → Read A) → List ℕ → Read (List A)
+closed_at read bytes = closed_below (suc (length bytes)) read bytes
 
 -- a call on bytes that were taken before: what it answers and what it leaves of these
 abbrev pub with_rest : {A : Type 0} → Read A → Result (A × List ℕ) Error
 with_rest (Ok x, rest) = Ok (x, rest)
 with_rest (Err e, rest) = Err e
-
-abbrev pub within_at : {A : Type 0} → List ℕ → (List ℕ → Read A) → List ℕ → Read (A × List ℕ)
-within_at inside read bytes = (with_rest (read inside), bytes)
 
 -- an answer, its value seen by view
 abbrev pub result_map : {A B E : Type 0} → (A → B) → Result A E → Result B E
@@ -48,10 +62,6 @@ result_map view (Ok x) = Ok (view x)
 result_map view (Err e) = Err e
 
 -- ---- bytes
-
--- bytes are missing
-abbrev pub eof : List ℕ → Error
-eof bytes = UnexpectedEof (record { 0 = length bytes })
 
 -- the first n bytes, and those after them
 abbrev pub split_at : ℕ → List ℕ → Read (List ℕ)
@@ -86,10 +96,6 @@ abbrev pub byte_at : List ℕ → Read ℕ
 byte_at [] = (Err (eof []), [])
 byte_at (b ∷ bytes) = (Ok b, bytes)
 
--- one byte, as a signed number
-abbrev pub signed_byte_at : List ℕ → Read ℤ
-signed_byte_at bytes = byte_at bytes >>= λ b rest. (Ok (cast_signed w8 b), rest)
-
 -- a number of so many bytes, in this order
 abbrev pub number_at : Bool → ℕ → List ℕ → Read ℕ
 number_at is_big size bytes =
@@ -98,7 +104,7 @@ number_at is_big size bytes =
 
 -- a number as an offset, below the limit of the offsets
 abbrev pub offset_of : ℕ → ℕ → Result ℕ Error
-offset_of limit n = if nat_le limit n then Err UnsupportedOffset else Ok n
+offset_of limit n = if nat_lt n limit then Ok n else Err UnsupportedOffset
 
 -- the groups of seven bits of an unsigned number: at most so many bytes before the last, and then
 -- one of at most top
@@ -140,29 +146,15 @@ sleb_at (suc more) bytes =
 abbrev pub signed_at : List ℕ → Read ℤ
 signed_at bytes = sleb_at 9 bytes >>= λ z rest. (Ok (pos z.0 -ℤ pos z.1), rest)
 
--- ---- words, lengths and addresses
+-- ---- lengths and addresses
 
--- a word of the format, as an offset
-unfoldable pub word_at : Bool → ℕ → Format → List ℕ → Read ℕ
-word_at is_big limit Dwarf32 bytes = number_at is_big 4 bytes
-word_at is_big limit Dwarf64 bytes =
-    number_at is_big 8 bytes >>= λ n rest. (offset_of limit n, rest)
-
--- the length of a unit, and its format
-unfoldable pub initial_length_at : Bool → ℕ → List ℕ → Read (ℕ × Format)
-initial_length_at is_big limit bytes =
-    number_at is_big 4 bytes >>= λ n rest.
+-- what comes after the first word of the length of a unit
+abbrev pub long_or_short_at : Bool → ℕ → List ℕ → Read (ℕ × Format)
+long_or_short_at is_big n rest =
     if nat_lt n 0xffff_fff0 then (Ok (n, Dwarf32), rest)
     else (if nat_eq n 0xffff_ffff
-    then (number_at is_big 8 rest >>= λ n rest.
-    (result_map (λ n. (n, Dwarf64)) (offset_of limit n), rest))
+    then (number_at is_big 8 rest >>= λ m left. (Ok (m, Dwarf64), left))
     else (Err UnknownReservedLength, rest))
-
--- the size of an address
-unfoldable pub address_size_at : List ℕ → Read ℕ
-address_size_at bytes =
-    byte_at bytes >>= λ n rest.
-    (if is_address_size n then Ok n else Err (UnsupportedAddressSize n), rest)
 
 -- the sum of an address and a length, where it is an address of the size
 abbrev pub sized_sum : ℕ → ℕ → ℕ → Result ℕ Error

@@ -10,9 +10,6 @@ ghost use Rattle.gimli_core.specs.declared.common.Format.{Format};
 ghost use Rattle.gimli_core.specs.Production.{Reads, byte, signed_byte, some_bytes, number, text};
 ghost use Rattle.gimli_core.specs.Production.{unsigned, unsigned_16, signed, address_size};
 ghost use Rattle.gimli_core.specs.Production.{offset_word, unit_length};
-ghost use Rattle.gimli_core.specs.Reading.{split_at, byte_at, signed_byte_at, number_at, text_at};
-ghost use Rattle.gimli_core.specs.Reading.{unsigned_at, unsigned_16_at, signed_at, address_size_at};
-ghost use Rattle.gimli_core.specs.Reading.{word_at, initial_length_at};
 
 use crate::attribute_value::AttributeValue;
 use crate::common::{
@@ -28,63 +25,61 @@ use crate::reader::Reader;
 
 /// `read_uleb128` takes a spelling of its number, and each that is there, whatever follows.
 pub fn unsigned_numbers()
-    ensures { Reads unsigned unsigned_at }
+    ensures { Reads unsigned }
 {}
 
 /// `read_uleb128_u16` takes a spelling of its number, and each that is there, whatever follows.
 pub fn unsigned_numbers_16()
-    ensures { Reads unsigned_16 unsigned_16_at }
+    ensures { Reads unsigned_16 }
 {}
 
 /// `read_sleb128` takes a spelling of its number, and each that is there, whatever follows.
 pub fn signed_numbers()
-    ensures { Reads signed signed_at }
+    ensures { Reads signed }
 {}
 
 /// `read_u16` to `read_u64`, `read_uint` and `read_address` take a spelling of their number, and
 /// each that is there, whatever follows.
 pub fn fixed_numbers()
-    ensures { (is_big : Bool) (size : ℕ) → Reads (number is_big size) (number_at is_big size) }
+    ensures { (is_big : Bool) (size : ℕ) → Reads (number is_big size) }
 {}
 
 /// `read_null_terminated_slice` takes a text and its zero byte, and each that is there, whatever
 /// follows.
 pub fn texts()
-    ensures { Reads text text_at }
+    ensures { Reads text }
 {}
 
 /// `split` and `read_u8_array_16` take so many bytes, and each that are there, whatever follows.
 pub fn bytes()
-    ensures { (n : ℕ) → Reads (some_bytes n) (split_at n) }
+    ensures { (n : ℕ) → Reads (some_bytes n) }
 {}
 
 /// `read_u8` takes a byte, and each that is there, whatever follows.
 pub fn single_bytes()
-    ensures { Reads byte byte_at }
+    ensures { Reads byte }
 {}
 
 /// `read_i8` takes a byte as a signed number, and each that is there, whatever follows.
 pub fn signed_bytes()
-    ensures { Reads signed_byte signed_byte_at }
+    ensures { Reads signed_byte }
 {}
 
 /// `read_address_size` takes the size of an address, and each that is there, whatever follows.
 pub fn address_sizes()
-    ensures { Reads address_size address_size_at }
+    ensures { Reads address_size }
 {}
 
 /// `read_length` and `read_offset` take a word of the format that an offset holds, and each that is
 /// there, whatever follows.
 pub fn words()
-    ensures { (layout : OrderAndLimit) (format : Format)
-        → Reads (offset_word layout format) (word_at layout.is_big layout.limit format) }
+    ensures { (layout : OrderAndLimit) (format : Format) → Reads (offset_word layout format) }
 {}
 
 /// `read_initial_length` takes the length of a unit that an offset holds, and each that is there,
 /// whatever follows.
 pub fn unit_lengths()
-    ensures { (layout : OrderAndLimit)
-        → Reads (unit_length layout) (initial_length_at layout.is_big layout.limit) }
+    ensures { (layout : OrderAndLimit) → Reads (unit_length layout) }
 {}
 
 /// What `Endianity::write_u16` to `write_u128` put into a slice spells the number.

@@ -4,10 +4,11 @@ ghost use Rattle.std.specs.Prelude.{◌≡◌, ℕ, ◌+◌, ◌-◌, ◌≤◌,
 ghost use Rattle.std.specs.Prelude.{IsTrue, IfOk, IfErr, OnErr};
 ghost use Rattle.std.specs.Cow.{cow_slice_items};
 ghost use Rattle.gimli_core.specs.Numbers.{is_address_size};
-ghost use Rattle.gimli_core.specs.Reading.{result_map, split_at, skip_at, truncate_at, find_at};
-ghost use Rattle.gimli_core.specs.Reading.{text_at, byte_at, signed_byte_at, number_at};
-ghost use Rattle.gimli_core.specs.Reading.{unsigned_at, unsigned_16_at, signed_at, word_at};
-ghost use Rattle.gimli_core.specs.Reading.{initial_length_at, address_size_at};
+ghost use Rattle.gimli_core.specs.Layout.{layout_of};
+ghost use Rattle.gimli_core.specs.Reading.{result_map, skip_at, truncate_at, find_at};
+ghost use Rattle.gimli_core.specs.Production.{Production, some_bytes, text, byte, signed_byte};
+ghost use Rattle.gimli_core.specs.Production.{number, unsigned, unsigned_16, signed, offset_word};
+ghost use Rattle.gimli_core.specs.Production.{unit_length, address_size};
 
 use crate::common::Format;
 use crate::endianity::Endianity;
@@ -72,7 +73,7 @@ pub trait Reader: Copy {
     /// Takes the first `len` bytes, as a reader of their own.
     fn split(&mut self, len: Self::Offset) -> Result<Self>
         ensures read { (result_map bytes result, bytes self.new)
-            ≡ split_at (Self.Offset.number len) (bytes self.old) }
+            ≡ (some_bytes (Self.Offset.number len)).read (bytes self.old) }
         ensures order { is_big self.new ≡ is_big self.old }
         ensures part { IfOk result (λ part. is_big part ≡ is_big self.old) };
 
@@ -86,7 +87,7 @@ pub trait Reader: Copy {
     /// stays as it was too.
     fn read_slice(&mut self, buf: &mut [u8]) -> Result<()>
         ensures read { (result_map (λ _. buf.new) result, bytes self.new)
-            ≡ split_at (length buf.old) (bytes self.old) }
+            ≡ (some_bytes (length buf.old)).read (bytes self.old) }
         ensures order { is_big self.new ≡ is_big self.old }
         ensures refused { OnErr result (buf.new ≡ buf.old) };
 
@@ -99,7 +100,7 @@ pub trait Reader: Copy {
 
     /// Takes sixteen bytes.
     fn read_u8_array_16(&mut self) -> Result<[u8; 16]>
-        ensures read { (result, bytes self.new) ≡ split_at 16 (bytes self.old) }
+        ensures read { (result, bytes self.new) ≡ (some_bytes 16).read (bytes self.old) }
         ensures order { is_big self.new ≡ is_big self.old }
     {
         let mut buf = [0; 16];
@@ -109,7 +110,7 @@ pub trait Reader: Copy {
 
     /// Takes an unsigned number of one byte.
     fn read_u8(&mut self) -> Result<u8>
-        ensures read { (result, bytes self.new) ≡ byte_at (bytes self.old) }
+        ensures read { (result, bytes self.new) ≡ byte.read (bytes self.old) }
         ensures order { is_big self.new ≡ is_big self.old }
     {
         let mut buf = [0; 1];
@@ -119,7 +120,7 @@ pub trait Reader: Copy {
 
     /// Takes a signed number of one byte.
     fn read_i8(&mut self) -> Result<i8>
-        ensures read { (result, bytes self.new) ≡ signed_byte_at (bytes self.old) }
+        ensures read { (result, bytes self.new) ≡ signed_byte.read (bytes self.old) }
         ensures order { is_big self.new ≡ is_big self.old }
     {
         let byte = self.read_u8()?;
@@ -128,7 +129,8 @@ pub trait Reader: Copy {
 
     /// Takes an unsigned number of two bytes.
     fn read_u16(&mut self) -> Result<u16>
-        ensures read { (result, bytes self.new) ≡ number_at (is_big self.old) 2 (bytes self.old) }
+        ensures read { (result, bytes self.new)
+            ≡ (number (is_big self.old) 2).read (bytes self.old) }
         ensures order { is_big self.new ≡ is_big self.old }
     {
         let mut buf = [0; 2];
@@ -138,7 +140,8 @@ pub trait Reader: Copy {
 
     /// Takes an unsigned number of four bytes.
     fn read_u32(&mut self) -> Result<u32>
-        ensures read { (result, bytes self.new) ≡ number_at (is_big self.old) 4 (bytes self.old) }
+        ensures read { (result, bytes self.new)
+            ≡ (number (is_big self.old) 4).read (bytes self.old) }
         ensures order { is_big self.new ≡ is_big self.old }
     {
         let mut buf = [0; 4];
@@ -148,7 +151,8 @@ pub trait Reader: Copy {
 
     /// Takes an unsigned number of eight bytes.
     fn read_u64(&mut self) -> Result<u64>
-        ensures read { (result, bytes self.new) ≡ number_at (is_big self.old) 8 (bytes self.old) }
+        ensures read { (result, bytes self.new)
+            ≡ (number (is_big self.old) 8).read (bytes self.old) }
         ensures order { is_big self.new ≡ is_big self.old }
     {
         let mut buf = [0; 8];
@@ -159,7 +163,8 @@ pub trait Reader: Copy {
     /// Takes an unsigned number of `n` bytes. Requires that `n` is 8 at most.
     fn read_uint(&mut self, n: usize) -> Result<u64>
         requires { n ≤ 8 }
-        ensures read { (result, bytes self.new) ≡ number_at (is_big self.old) n (bytes self.old) }
+        ensures read { (result, bytes self.new)
+            ≡ (number (is_big self.old) n).read (bytes self.old) }
         ensures order { is_big self.new ≡ is_big self.old }
     {
         let mut buf = [0; 8];
@@ -174,7 +179,7 @@ pub trait Reader: Copy {
     /// Takes the bytes before the first zero byte, as a reader of their own, and discards the zero
     /// byte. Refused by `UnexpectedEof` where there is none.
     fn read_null_terminated_slice(&mut self) -> Result<Self>
-        ensures read { (result_map bytes result, bytes self.new) ≡ text_at (bytes self.old) }
+        ensures read { (result_map bytes result, bytes self.new) ≡ text.read (bytes self.old) }
         ensures order { is_big self.new ≡ is_big self.old }
         ensures part { IfOk result (λ part. is_big part ≡ is_big self.old) }
     {
@@ -187,7 +192,7 @@ pub trait Reader: Copy {
     /// Takes an unsigned LEB128 number. Refused by `BadUnsignedLeb128` where it doesn't fit 64 bits
     /// or has more than ten bytes. A refused call has taken the bytes that it looked at.
     fn read_uleb128(&mut self) -> Result<u64>
-        ensures read { (result, bytes self.new) ≡ unsigned_at (bytes self.old) }
+        ensures read { (result, bytes self.new) ≡ unsigned.read (bytes self.old) }
         ensures order { is_big self.new ≡ is_big self.old }
     {
         let mut value = 0;
@@ -209,7 +214,7 @@ pub trait Reader: Copy {
     /// fit them or has more than three bytes. A refused call has taken the bytes that it looked at.
     #[tactic(auto, unfolding(crate::specs::Reading::uleb_at))]
     fn read_uleb128_u16(&mut self) -> Result<u16>
-        ensures read { (result, bytes self.new) ≡ unsigned_16_at (bytes self.old) }
+        ensures read { (result, bytes self.new) ≡ unsigned_16.read (bytes self.old) }
         ensures order { is_big self.new ≡ is_big self.old }
     {
         let first = self.read_u8()?;
@@ -231,7 +236,7 @@ pub trait Reader: Copy {
     /// Takes a signed LEB128 number. Refused by `BadSignedLeb128` where it doesn't fit 64 bits or
     /// has more than ten bytes. A refused call has taken the bytes that it looked at.
     fn read_sleb128(&mut self) -> Result<i64>
-        ensures read { (result, bytes self.new) ≡ signed_at (bytes self.old) }
+        ensures read { (result, bytes self.new) ≡ signed.read (bytes self.old) }
         ensures order { is_big self.new ≡ is_big self.old }
     {
         let mut value = 0;
@@ -250,13 +255,13 @@ pub trait Reader: Copy {
     /// at a reserved first word, and by `UnsupportedOffset` where the offset type is too narrow. A
     /// refused call has taken the first word, if it is there, and a length of eight bytes that is
     /// too large.
-    #[tactic(auto, unfolding(crate::specs::Reading::initial_length_at))]
+    #[tactic(auto, unfolding(crate::specs::Production::unit_length))]
     fn read_initial_length(&mut self) -> Result<(Self::Offset, Format)>
         ensures read { (
           result_map (λ read. (Self.Offset.number read.0, read.1)) result,
           bytes self.new,
         )
-            ≡ initial_length_at (is_big self.old) Self.Offset.limit (bytes self.old) }
+            ≡ (unit_length (layout_of (is_big self.old) Self.Offset.limit)).read (bytes self.old) }
         ensures order { is_big self.new ≡ is_big self.old }
     {
         let first = self.read_u32()?;
@@ -272,9 +277,9 @@ pub trait Reader: Copy {
 
     /// Takes the size of an address. Refused by `UnsupportedAddressSize` where it isn't 1, 2, 4 or
     /// 8; the byte is taken then too.
-    #[tactic(auto, unfolding(crate::specs::Reading::address_size_at))]
+    #[tactic(auto, unfolding(crate::specs::Production::address_size))]
     fn read_address_size(&mut self) -> Result<u8>
-        ensures read { (result, bytes self.new) ≡ address_size_at (bytes self.old) }
+        ensures read { (result, bytes self.new) ≡ address_size.read (bytes self.old) }
         ensures order { is_big self.new ≡ is_big self.old }
     {
         let size = self.read_u8()?;
@@ -289,7 +294,7 @@ pub trait Reader: Copy {
     fn read_address(&mut self, size: u8) -> Result<u64>
         requires { IsTrue (is_address_size size) }
         ensures read { (result, bytes self.new)
-            ≡ number_at (is_big self.old) size (bytes self.old) }
+            ≡ (number (is_big self.old) size).read (bytes self.old) }
         ensures order { is_big self.new ≡ is_big self.old }
     {
         match size {
@@ -311,10 +316,11 @@ pub trait Reader: Copy {
 
     /// Takes a length of one word of the format. Refused by `UnsupportedOffset` where the offset
     /// type is too narrow; the word is taken then.
-    #[tactic(auto, unfolding(crate::specs::Reading::word_at))]
+    #[tactic(auto, unfolding(crate::specs::Production::offset_word))]
     fn read_length(&mut self, format: Format) -> Result<Self::Offset>
         ensures read { (result_map Self.Offset.number result, bytes self.new)
-            ≡ word_at (is_big self.old) Self.Offset.limit format (bytes self.old) }
+            ≡ (offset_word (layout_of (is_big self.old) Self.Offset.limit) format).read
+            (bytes self.old) }
         ensures order { is_big self.new ≡ is_big self.old }
     {
         match format {
@@ -333,7 +339,8 @@ pub trait Reader: Copy {
     /// type is too narrow; the word is taken then.
     fn read_offset(&mut self, format: Format) -> Result<Self::Offset>
         ensures read { (result_map Self.Offset.number result, bytes self.new)
-            ≡ word_at (is_big self.old) Self.Offset.limit format (bytes self.old) }
+            ≡ (offset_word (layout_of (is_big self.old) Self.Offset.limit) format).read
+            (bytes self.old) }
         ensures order { is_big self.new ≡ is_big self.old }
     {
         self.read_length(format)

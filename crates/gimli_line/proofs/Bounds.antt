@@ -4,7 +4,8 @@ use Rattle.std.specs.Prelude.{◌≡◌, ◌≢◌, ◌+◌, ◌<◌, ◌≤◌,
 use Rattle.gimli_line.proofs.Common
 use Common.{ℕ, zero, suc, Bool, true, false, List, [], length, Option, Some, None, refl, ap, arith}
 use Common.{nat_le, length-append, length-map, OrderAndLimit, IsLeb128, UnknownForm, Value, Production}
-use Common.{Each, times, refuse, choose, String, Format, Encoding, File, Header, UnitEntry}
+use Common.{Each, times, refuse, choose, table_of, offset_word, header_production, Format, Encoding, File, Header}
+use Common.{UnitEntry}
 use Common.{TableEntry, path_of, file_of_entry, paths_production, files_production, formats_production}
 use Common.{entry_production, entries_production, table_production, directory_table, file_table, opening_production}
 use Common.{fields_production, HeaderOpening, SpellsUnit, HoldsCount, FileEntryFormat}
@@ -70,11 +71,13 @@ each_bounded Spells some bytes (x ∷ xs) s =
 -- formats with a path are some
 pub formats_some : (bytes : List ℕ) (formats : List FileEntryFormat) → formats_production.Spells bytes formats
     → formats ≢ []
+unfolding formats_production
 formats_some bytes formats s none = grind arith
 
 module _ (layout : OrderAndLimit) (format : Format) where
   shape_some : (shape : Shape) → HasBytes shape → (bytes : List ℕ) (v : Value)
       → (shape_production layout format shape).Spells bytes v → 0 < length bytes
+  unfolding offset_word
   shape_some (fixed size make) some bytes v s = grind (arith, length-append)
   shape_some (three_bytes make) some bytes v s = grind (arith, length-append)
   shape_some (word_offset make) some bytes v s = grind (arith, length-append)
@@ -102,30 +105,23 @@ module _ (layout : OrderAndLimit) (format : Format) where
 
   entry_some : (formats : List FileEntryFormat) → formats ≢ [] → (bytes : List ℕ) (entry : TableEntry)
       → (entry_production layout format formats).Spells bytes entry → 0 < length bytes
+  unfolding entry_production
   entry_some [] some bytes entry s = absurd (some refl)
   entry_some (f ∷ formats) some bytes entry s = grind (arith, length-append, form_some)
 
   -- a table's entries are as many as their count says, and no more than the bytes after it
   pub entries_bounded : (formats : List FileEntryFormat) → formats ≢ [] → (bytes : List ℕ) (entries : List TableEntry)
       → (entries_production layout format formats).Spells bytes entries → HoldsCount bytes (length entries)
+  unfolding entries_production
   entries_bounded formats some bytes entries s = grind (arith, times_counted, times_bounded, entry_some)
 
   table_bounded : (bytes : List ℕ) (table : List FileEntryFormat × List TableEntry)
       → (table_production layout format).Spells bytes table
       → length table.1 ≤ length bytes
+  unfolding table_production
   table_bounded bytes table s =
-      let e = s.5 in
-      let b = entries_bounded _ (formats_some _ _ s.4) _ _ e.4 in
-      omega (
-        arith,
-        length-append s.1 s.2,
-        ap length s.3,
-        length-append e.1 e.2,
-        ap length e.3,
-        length-append b.0 b.1,
-        ap length b.2,
-        ap (λ t. length t.1) e.5.1,
-      )
+      let b = entries_bounded _ (formats_some _ _ s.4) _ _ s.5.4 in
+      grind (arith, length-append, b.2, b.4)
 
 -- ---- the tables of a header
 
@@ -143,50 +139,32 @@ chosen : {A : Type 0} {P : Type 0} (test : Bool) (l m : Production A) (bytes : L
 chosen true l m bytes x one other s = one s
 chosen false l m bytes x one other s = other s
 
+items_bounded : {B : Type 0} (plain : Production (List B)) (view : TableEntry → B)
+    → ((bytes : List ℕ) (items : List B) → plain.Spells bytes items → length items ≤ length bytes)
+    → (layout : OrderAndLimit) (encoding : Encoding) (bytes : List ℕ) (table : List FileEntryFormat × List B)
+    → (table_of plain view layout encoding).Spells bytes table
+    → length table.1 ≤ length bytes
+unfolding table_of
+items_bounded plain view bounded layout encoding bytes table =
+    chosen (nat_le encoding.version 4) _ _ bytes table
+    (λ s. grind (arith, length-append, bounded))
+    (λ s. grind (arith, length-append, length-map, table_bounded))
+
 module _ (layout : OrderAndLimit) (encoding : Encoding) where
   directories_bounded : (bytes : List ℕ) (table : List FileEntryFormat × List Value)
-      → (directory_table layout encoding).Spells bytes table
-      → length table.1 ≤ length bytes
-  directories_bounded bytes table = chosen (nat_le encoding.version 4) _ _ bytes table (λ s. omega (
-    arith,
-    length-append s.1 s.2,
-    ap length s.3,
-    paths_bounded s.1 s.0 s.4,
-    length-map {B = Value} s.0 String,
-    ap (λ t. length t.1) s.5.1,
-  ))
-      (λ s. omega (
-        arith,
-        length-append s.1 s.2,
-        ap length s.3,
-        table_bounded layout encoding.format s.1 s.0 s.4,
-        length-map s.0.1 path_of,
-        ap (λ t. length t.1) s.5.1,
-      ))
+      → (directory_table layout encoding).Spells bytes table → length table.1 ≤ length bytes
+  directories_bounded = items_bounded _ path_of
+      (λ bytes items s. grind (arith, length-append, paths_bounded, length-map)) layout encoding
 
   all_files_bounded : (bytes : List ℕ) (table : List FileEntryFormat × List File)
-      → (file_table layout encoding).Spells bytes table
-      → length table.1 ≤ length bytes
-  all_files_bounded bytes table = chosen (nat_le encoding.version 4) _ _ bytes table (λ s. omega (
-    arith,
-    length-append s.1 s.2,
-    ap length s.3,
-    files_bounded s.1 s.0 s.4,
-    ap (λ t. length t.1) s.5.1,
-  ))
-      (λ s. omega (
-        arith,
-        length-append s.1 s.2,
-        ap length s.3,
-        table_bounded layout encoding.format s.1 s.0 s.4,
-        length-map s.0.1 file_of_entry,
-        ap (λ t. length t.1) s.5.1,
-      ))
+      → (file_table layout encoding).Spells bytes table → length table.1 ≤ length bytes
+  all_files_bounded = items_bounded _ file_of_entry files_bounded layout encoding
 
 -- the bytes that the header length counts are that many, and stand in front of the program
 opening_counted : (layout : OrderAndLimit) (handed : ℕ) (format : Format) (bytes : List ℕ) (o : HeaderOpening)
     → (opening_production layout handed format).Spells bytes o
     → (length o.fields ≡ o.header_length) × (o.header_length ≤ length bytes)
+unfolding opening_production
 opening_counted layout handed format bytes o s = grind (arith, length-append)
 
 fields_bounded : (layout : OrderAndLimit) (unit_entry : UnitEntry) (unit : ℕ) (o : HeaderOpening)
@@ -195,6 +173,7 @@ fields_bounded : (layout : OrderAndLimit) (unit_entry : UnitEntry) (unit : ℕ) 
     → (fields_production layout unit_entry unit o program).Spells bytes h
     → (length h.directories + length h.files ≤ length bytes) × (h.program ≡ program)
     × (h.header_length ≡ o.header_length) × (h.unit_length ≡ unit)
+unfolding fields_production
 fields_bounded layout unit_entry unit o program bytes h s =
     grind (arith, directories_bounded, all_files_bounded, length-append)
 
@@ -202,6 +181,7 @@ pub unit_bounded : (layout : OrderAndLimit) (unit_entry : UnitEntry) (bytes : Li
     → SpellsUnit layout unit_entry bytes h
     → (length h.directories + length h.files ≤ h.header_length) × (h.header_length + length h.program ≤ h.unit_length)
     × (h.unit_length ≤ length bytes)
+unfolding header_production
 unit_bounded layout unit_entry bytes h u =
     let s = u.3 in
     let i = s.5 in

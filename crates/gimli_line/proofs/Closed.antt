@@ -2,10 +2,10 @@
 use Rattle.std.specs.Prelude.{◌≡◌, ◌≢◌, ◌<◌, ◌∷◌, ◌++◌}
 use Rattle.gimli_line.proofs.Common
 use Common.{ℕ, zero, suc, false, List, [], length, Ok, Err, refl, sym, ap, subst, ◌∙◌, append_assoc, inl, inr, arith}
-use Common.{ne_eqb, length-append, Error, Read, ◌>>=◌, text_at, Production, ◌>>>◌, text, Each, IsOpen, list_to_zero}
-use Common.{Reads, bind_ok, bind_fault, bind_refused, ok_parts, reads_text, path_text, is_closed, list_to_zero_at}
+use Common.{ne_eqb, length-append, Error, Read, ◌>>=◌, Production, ◌>>>◌, text, Each, IsOpen, list_to_zero}
+use Common.{Reads, bind_ok, bind_fault, bind_refused, ok_parts, reads_text, path_text, is_closed, closed_at}
+use Common.{closed_below}
 use Rattle.std.proofs.lemmas.Bool.Decides.{eqb_tells}
-use Rattle.gimli_line.specs.inside.header.TableReading.{closed_below}
 
 -- bytes that begin with one that isn't zero
 pub record Opens (bytes : List ℕ) : Type 0 where
@@ -14,14 +14,14 @@ pub record Opens (bytes : List ℕ) : Type 0 where
   pub parts : bytes ≡ first ∷ rest
   pub other : first ≢ 0
 
--- a function reads a production wherever no zero byte comes next; and no spelling of the production begins with one
-pub record ReadsOpen {A : Type 0} (l : Production A) (read : List ℕ → Read A) : Type 0 where
-  pub found : (bytes : List ℕ) (x : A) (rest : List ℕ) → IsOpen bytes → read bytes ≡ (Ok x, rest)
+-- a production is read wherever no zero byte comes next; and no spelling of it begins with one
+pub record ReadsOpen {A : Type 0} (l : Production A) : Type 0 where
+  pub found : (bytes : List ℕ) (x : A) (rest : List ℕ) → IsOpen bytes → l.read bytes ≡ (Ok x, rest)
       → (front : List ℕ) × (bytes ≡ front ++ rest) × l.Spells front x
-  pub only : (front : List ℕ) (x : A) (rest : List ℕ) → l.Spells front x → read (front ++ rest) ≡ (Ok x, rest)
+  pub only : (front : List ℕ) (x : A) (rest : List ℕ) → l.Spells front x → l.read (front ++ rest) ≡ (Ok x, rest)
   pub opens : (front : List ℕ) (x : A) → l.Spells front x → Opens front
-  pub fault : (bytes : List ℕ) (e : Error) → IsOpen bytes → (read bytes).0 ≡ Err e → l.Fault bytes e
-  pub refused : (bytes : List ℕ) (e : Error) → IsOpen bytes → l.Fault bytes e → (read bytes).0 ≡ Err e
+  pub fault : (bytes : List ℕ) (e : Error) → IsOpen bytes → (l.read bytes).0 ≡ Err e → l.Fault bytes e
+  pub refused : (bytes : List ℕ) (e : Error) → IsOpen bytes → l.Fault bytes e → (l.read bytes).0 ≡ Err e
 
 -- ---- texts that aren't empty
 
@@ -33,7 +33,7 @@ name_opens : (front xs : List ℕ) → path_text.Spells front xs → Opens front
 name_opens front [] s = absurd (s.0 refl)
 name_opens front (b ∷ xs) s = grind arith
 
-pub reads_name : ReadsOpen path_text text_at
+pub reads_name : ReadsOpen path_text
 reads_name = record {
   found = λ bytes xs rest clear e.
       let f = reads_text.found bytes xs rest e in
@@ -46,11 +46,13 @@ reads_name = record {
 
 -- ---- a production, and after it the next
 
-module _ {A B : Type 0} (l : Production A) (next : A → Production B) (read : List ℕ → Read A)
-    (after : A → List ℕ → Read B) (first : ReadsOpen l read)
-    (second : (x : A) → Reads (next x) (after x)) where
+module _ {A B : Type 0} (l : Production A) (next : A → Production B) (first : ReadsOpen l)
+    (second : (x : A) → Reads (next x)) where
   abbrev both : List ℕ → Read B
-  both bytes = read bytes >>= after
+  both = (l >>> next).read
+
+  abbrev after : A → List ℕ → Read B
+  after x = (next x).read
 
   both_opens : (front : List ℕ) (y : B) → (l >>> next).Spells front y → Opens front
   both_opens front y s = grind arith
@@ -65,10 +67,10 @@ module _ {A B : Type 0} (l : Production A) (next : A → Production B) (read : L
   both_refused bytes e clear (inl p) = grind (arith)
   both_refused bytes e clear (inr s) = grind arith
 
-  pub reads_open_both : ReadsOpen (l >>> next) both
+  pub reads_open_both : ReadsOpen (l >>> next)
   reads_open_both = record {
     found = λ bytes y rest clear e.
-        let a = bind_ok (read bytes) after y rest e in
+        let a = bind_ok (l.read bytes) after y rest e in
         let p = first.found bytes a.0 a.1 clear a.2 in
         let q = (second a.0).found a.1 y rest a.3 in (
           p.0 ++ q.0,
@@ -105,7 +107,10 @@ opens_is front rest o = grind (arith)
 opens_longer : (front rest : List ℕ) → Opens front → length rest < length (front ++ rest)
 opens_longer front rest o = grind (arith, length-append)
 
-module _ {A : Type 0} (l : Production A) (read : List ℕ → Read A) (r : ReadsOpen l read) where
+module _ {A : Type 0} (l : Production A) (r : ReadsOpen l) where
+  abbrev read : List ℕ → Read A
+  read = l.read
+
   -- another value, and the further ones
   abbrev more_at : ℕ → List ℕ → Read (List A)
   more_at more bytes = read bytes >>= λ x rest. closed_below more read rest >>= λ xs left. (Ok (x ∷ xs), left)
@@ -214,15 +219,15 @@ module _ {A : Type 0} (l : Production A) (read : List ℕ → Read A) (r : Reads
       ∙ rw first (bind_refused (closed_below more read (s.1 ++ rest))
       (λ ys left. (let r : Read (List A) = (Ok (x ∷ ys), left) in r)) e others)
 
-  pub reads_closed : Reads (list_to_zero l) (list_to_zero_at read)
+  pub reads_closed : Reads (list_to_zero l)
   reads_closed = record {
     found = λ bytes xs rest e. closed_found (suc (length bytes)) bytes xs rest e;
     only = λ front xs rest s.
         let whole : front ++ rest ≡ s.0 ++ 0 ∷ rest = ap (λ (ys : List ℕ). ys ++ rest) s.1
         ∙ append_assoc s.0 (0 ∷ []) rest in
-        ap (list_to_zero_at read) whole ∙ closed_only xs s.0 rest (suc (length (s.0 ++ 0 ∷ rest))) (omega arith) s.2;
+        ap (closed_at read) whole ∙ closed_only xs s.0 rest (suc (length (s.0 ++ 0 ∷ rest))) (omega arith) s.2;
     fault = λ bytes e is. closed_fault (suc (length bytes)) bytes e (omega arith) is;
     refused = λ bytes e f.
         let again = closed_refused f.0 f.1 f.2 e (suc (length (f.1 ++ f.2))) (omega arith) f.4 f.5 f.6 in
-        ap (λ (ys : List ℕ). (list_to_zero_at read ys).0) f.3 ∙ again;
+        ap (λ (ys : List ℕ). (closed_at read ys).0) f.3 ∙ again;
   }

@@ -3,7 +3,6 @@ pub use Rattle.gimli_core.proofs.ProductionLaws.{
   reads_below_limit,
   reads_byte,
   reads_number,
-  reads_offset_word,
   reads_some_bytes,
   reads_text,
   reads_unit_length,
@@ -14,20 +13,17 @@ pub use Rattle.gimli_core.proofs.Productions.{
   bind_refused,
   ok_parts,
   reads_both,
-  reads_check,
   reads_done,
   reads_if,
   reads_refuse,
-  reads_same,
   reads_times,
   reads_within,
 }
 pub use Rattle.gimli_core.proofs.SignedLaws.{reads_signed}
-pub use Rattle.gimli_core.proofs.UnsignedLeb.{reads_unsigned, reads_unsigned_16}
+pub use Rattle.gimli_core.proofs.UnsignedLeb.{reads_unsigned}
 pub use Rattle.gimli_core.specs.Layout.{OrderAndLimit, layout_of}
 pub use Rattle.gimli_core.specs.Numbers.{
   IsLeb128,
-  SpellsInitialLength,
   SpellsUleb128,
   initial_length_size,
   is_address_size,
@@ -45,53 +41,43 @@ pub use Rattle.gimli_core.specs.Production.{
   done,
   list_to_zero,
   number,
-  offset_word,
   refuse,
   signed,
   some_bytes,
   text,
   times,
-  unit_length,
   unsigned,
-  unsigned_16,
   within,
   ◌>>=◌ as ◌>>>◌,
 }
+unfoldable pub use Rattle.gimli_core.specs.Production.{address_size, offset_word, unit_length}
 pub use Rattle.gimli_core.specs.Reading.{
   Read,
   byte_at,
-  initial_length_at,
+  closed_at,
+  is_closed,
   number_at,
   signed_at,
   sized_sum,
   split_at,
   text_at,
-  times_at,
   unsigned_at,
-  within_at,
   ◌>>=◌,
 }
+unfoldable pub use Rattle.gimli_core.specs.Reading.{closed_below}
 pub use Rattle.gimli_core.specs.Values.{IsOrder, Value, ValueHasOrder, udata_value, value_by, value_order, value_seen}
 pub use Rattle.gimli_core.specs.declared.attribute_value.AttributeValue.{AttributeValue}
-pub use Rattle.gimli_core.specs.declared.attribute_value.AttributeValue.TheVariants.{Block, String}
+pub use Rattle.gimli_core.specs.declared.attribute_value.AttributeValue.TheVariants.{String}
 pub use Rattle.gimli_core.specs.declared.common.DebugLineOffset.{DebugLineOffset}
 pub use Rattle.gimli_core.specs.declared.common.Encoding.{Encoding}
 pub use Rattle.gimli_core.specs.declared.common.Format.{Format}
-pub use Rattle.gimli_core.specs.declared.common.Format.TheVariants.{Dwarf32, Dwarf64}
+pub use Rattle.gimli_core.specs.declared.common.Format.TheVariants.{Dwarf32}
 pub use Rattle.gimli_core.specs.declared.error.Error.{Error}
 pub use Rattle.gimli_core.specs.declared.error.Error.TheVariants.{
   AddressOverflow,
-  LineRangeZero,
-  MaximumOperationsPerInstructionZero,
-  MinimumInstructionLengthZero,
-  MissingFileEntryFormatPath,
-  OpcodeBaseZero,
   OutOfMemory,
   UnknownForm,
-  UnknownVersion,
-  UnsupportedAddressSize,
   UnsupportedOffset,
-  UnsupportedSegmentSize,
 }
 pub use Rattle.gimli_line.specs.declared.header.file_entry.FileEntry.{FileEntry}
 pub use Rattle.gimli_line.specs.declared.header.file_entry.FileEntryFormat.{FileEntryFormat}
@@ -146,50 +132,38 @@ pub use Rattle.gimli_line.specs.header.HeaderGrammar.{
   HoldsCount,
   SpellsUnit,
   TableEntry,
-  address_size_production,
   digest,
   directory_table,
+  file_of_entry,
+  file_table,
+  files_production,
+  last_value,
+  named_file,
+  operations_production,
+  path_of,
+  paths_production,
+}
+unfoldable pub use Rattle.gimli_line.specs.header.HeaderGrammar.{
+  address_size_production,
   entries_production,
   entry_production,
   fields_production,
-  file_of_entry,
   file_production,
-  file_table,
-  files_production,
   format_production,
   formats_production,
   header_production,
-  is_content,
-  last_value,
   line_encoding_production,
   opening_production,
   parameters_production,
-  path_of,
-  paths_production,
+  table_of,
   table_production,
   version_production,
 }
-pub use Rattle.gimli_line.specs.header.HeaderReading.{plain_file_at}
 pub use Rattle.gimli_line.specs.header.Orders.{HeaderSource, KeepsSource, source_of}
 pub use Rattle.gimli_line.specs.header.Parameters.{Parameters}
-pub use Rattle.gimli_line.specs.header.Productions.{bytes_of, operand_of, path_text, positive}
-pub use Rattle.gimli_line.specs.inside.header.FormReading.{block_at, form_at, shape_at}
-pub use Rattle.gimli_line.specs.inside.header.HeaderReading.{
-  directories_at,
-  entries_at,
-  entry_at,
-  file_names_at,
-  format_at,
-  formats_at,
-  named_file_at,
-  opening_at,
-  operations_at,
-  paths_at,
-  size_at,
-}
-pub use Rattle.gimli_line.specs.inside.header.Outcome.{IsAnswer, read_map}
-pub use Rattle.gimli_line.specs.inside.header.TableReading.{is_closed, list_to_zero_at}
-pub use Rattle.gimli_line.specs.inside.run.InstructionReading.{without_value}
+pub use Rattle.gimli_line.specs.header.Productions.{bytes_of, operand_of, path_text}
+unfoldable pub use Rattle.gimli_line.specs.header.Productions.{positive}
+pub use Rattle.gimli_line.specs.inside.header.Outcome.{IsAnswer, read_map, without_value}
 pub use Rattle.gimli_line.specs.inside.run.Rows.{ReadsOn, StepIs, StepsTo, given_row}
 pub use Rattle.gimli_line.specs.run.Events.{
   Event,
@@ -223,7 +197,12 @@ pub use Rattle.gimli_line.specs.run.Instruction.{
   is_end,
   makes_row,
 }
-pub use Rattle.gimli_line.specs.run.InstructionReading.{bytes_at, decoded_after, decoded_at, ins_at, operand_at}
+pub use Rattle.gimli_line.specs.run.InstructionGrammar.{
+  decoded_after,
+  decoded_at,
+  instruction_production,
+  operand_production,
+}
 pub use Rattle.gimli_line.specs.run.Machine.{
   initial,
   is_refused,
@@ -264,7 +243,7 @@ pub use Rattle.gimli_line.specs.run.Rows.{
   start_of_run,
   whole_run,
 }
-pub use Rattle.gimli_line.specs.run.RunState.{RunState}
+pub use Rattle.gimli_line.specs.run.Passing.{RunState}
 pub use Rattle.gimli_line.specs.run.Unread.{Unread}
 pub use Rattle.std.proofs.Common.{Bool, Bor, Err, IfErr, IsTrue, List, None, Ok, Option, Result, Some, [], ap}
 pub use Rattle.std.proofs.Common.{append_assoc, arith, drop, false, inl, inr, length, map, not, of_z, refl, rules}
@@ -290,7 +269,6 @@ pub use Rattle.std.specs.Prelude.{
   Decides,
   OnErr,
   OnOk,
-  count_by,
   nat_eq,
   nat_le,
   nat_lt,

@@ -3,7 +3,7 @@ use Rattle.std.specs.Prelude.{◌≡◌, if◌then◌else◌, ◌∷◌}
 use Rattle.gimli_line.proofs.Common
 use Common.{ℕ, List, [], Option, Some, None, Ok, Err, refl, sym, ap, ◌∙◌, nat_eq, OrderAndLimit, Value, udata_value}
 use Common.{Read, ◌>>=◌, Format, read_map, File, plain_file, TableEntry, last_value, digest, file_of_entry}
-use Common.{entry_at, FileEntryFormat}
+use Common.{entry_production, FileEntryFormat}
 use Rattle.gimli_line.specs.inside.header.EntryReading.{value_after, file_with, fold_of, folded_at}
 
 -- the last value of an entry, from its first value on
@@ -44,7 +44,8 @@ file_folded first (v ∷ entry) =
 module _ (layout : OrderAndLimit) (format : Format) {A : Type 0} (step : A → ℕ → Value → A) where
   folded_is : (first : A) (formats : List FileEntryFormat) (bytes : List ℕ)
       → folded_at layout format step first formats bytes
-      ≡ read_map (fold_of step first) (entry_at layout format formats bytes)
+      ≡ read_map (fold_of step first) ((entry_production layout format formats).read bytes)
+  unfolding entry_production
   folded_is first [] bytes = refl
   folded_is first (f ∷ formats) bytes = at_value _ (λ value rest.
       folded_is (step first f.content_type.0 value) formats rest)
@@ -58,11 +59,14 @@ module _ (layout : OrderAndLimit) (format : Format) {A : Type 0} (step : A → �
       at_value : (r : Read Value)
           → ((value : Value) (rest : List ℕ)
           → folded_at layout format step (step first f.content_type.0 value) formats rest
-          ≡ read_map (fold_of step (step first f.content_type.0 value)) (entry_at layout format formats rest))
+          ≡ read_map (fold_of step (step first f.content_type.0 value))
+          ((entry_production layout format formats).read rest))
           → (r >>= λ value rest. folded_at layout format step (step first f.content_type.0 value) formats rest)
-          ≡ read_map (fold_of step first) (r >>= λ value rest. entry_at layout format formats rest >>= λ values left.
+          ≡ read_map (fold_of step first) (r >>= λ value rest. (entry_production layout format formats).read rest
+          >>= λ values left.
           (Ok ((f.content_type.0, value) ∷ values), left))
-      at_value (Ok value, rest) others = others value rest ∙ after _ (entry_at layout format formats rest)
+      at_value (Ok value, rest) others =
+          others value rest ∙ after _ ((entry_production layout format formats).read rest)
       at_value (Err e, rest) others = refl
 
 viewed_by : {A B : Type 0} (f g : A → B) → ((x : A) → f x ≡ g x) → (r : Read A) → read_map f r ≡ read_map g r
@@ -73,7 +77,7 @@ module _ (layout : OrderAndLimit) (format : Format) where
   -- from a file of an empty path the file is that of the entry
   pub file_is : (formats : List FileEntryFormat) (bytes : List ℕ)
       → folded_at layout format file_with (plain_file [] 0 0 0) formats bytes
-      ≡ read_map file_of_entry (entry_at layout format formats bytes)
+      ≡ read_map file_of_entry ((entry_production layout format formats).read bytes)
   file_is formats bytes = folded_is _ _ _ _ _ _
       ∙ viewed_by _ _ (file_folded _)
       _

@@ -2,17 +2,15 @@
 use Rattle.std.specs.Prelude.{◌≡◌, ◌≢◌, ◌-◌, ◌<◌, ◌≤◌, ◌∷◌, ◌++◌}
 use Rattle.gimli_line.proofs.Common
 use Common.{ℕ, zero, suc, List, [], length, take, Option, Some, None, Ok, Err, refl, sym, ap, subst, ◌∙◌, append_assoc}
-use Common.{arith, nat_eq, nat_le, slice_index, length-append, take_at, OrderAndLimit, Read, ◌>>=◌, within_at}
-use Common.{Production, ◌>>>◌, done, times, byte, some_bytes, unsigned, below_limit, within}
-use Common.{Reads, Error, reads_both, reads_done, reads_if, reads_times, reads_within, bind_ok, bind_refused, ok_parts}
-use Common.{reads_byte, reads_some_bytes, reads_number, reads_text, reads_below_limit, reads_unsigned, reads_signed}
-use Common.{Special, UnknownStandard0, UnknownStandard1, UnknownStandardN, UnknownExtended, Ins, Header, bytes_of}
-use Common.{operand_of, bytes_at, operand_at, decoded_after, decoded_at}
+use Common.{arith, slice_index, length-append, take_at, OrderAndLimit, Read, Production, ◌>>>◌, done, within, Reads}
+use Common.{Error}
+use Common.{bind_ok, bind_refused, ok_parts, UnknownExtended, Ins, Header, bytes_of, operand_of, decoded_after}
+use Common.{decoded_at}
+use Rattle.gimli_core.proofs.Readers.{readers}
 use Rattle.gimli_line.specs
 use specs.run.InstructionGrammar.{Operand, none, uleb, sleb, uhalf, address, file, standard_opcodes, operand_production}
 use specs.run.InstructionGrammar.{unknown_production, standard_production, extended_operands, extended_production}
-use specs.run.InstructionGrammar.{instruction_production, SpellsInstruction, Decodes}
-use specs.run.InstructionReading.{unknown_at, standard_at, extended_operands_at, extended_at, ins_at, decoded_upto}
+use specs.run.InstructionGrammar.{instruction_production, SpellsInstruction, Decodes, decoded_upto}
 use Rattle.gimli_line.proofs.HeaderLaws.{reads_file, given_ok, given_err, answer_of}
 
 -- ---- the bytes of a production
@@ -22,8 +20,8 @@ pub front_at : (bytes front rest : List ℕ) → bytes ≡ front ++ rest → tak
 front_at bytes front rest parts =
     rw parts (take_at _ _ _ (omega (arith, length-append front rest)))
 
-module _ {A : Type 0} (l : Production A) (read : List ℕ → Read A) (r : Reads l read) where
-  bytes_found : (bytes xs rest : List ℕ) → bytes_at read bytes ≡ (Ok xs, rest)
+module _ {A : Type 0} (l : Production A) (r : Reads l) where
+  bytes_found : (bytes xs rest : List ℕ) → (bytes_of l).read bytes ≡ (Ok xs, rest)
       → (front : List ℕ) × (bytes ≡ front ++ rest) × (bytes_of l).Spells front xs
   bytes_found bytes xs rest e =
       let a = bind_ok _ _ _ _ e in
@@ -32,10 +30,10 @@ module _ {A : Type 0} (l : Production A) (read : List ℕ → Read A) (r : Reads
       let whole : bytes ≡ f.0 ++ rest = f.1 ∙ ap (λ ys. f.0 ++ ys) p.1 in
       (f.0, whole, (sym p.0 ∙ front_at _ _ _ f.1, (a.0, f.2)))
 
-  bytes_fault : (bytes : List ℕ) (e : Error) → (bytes_at read bytes).0 ≡ Err e → l.Fault bytes e
+  bytes_fault : (bytes : List ℕ) (e : Error) → ((bytes_of l).read bytes).0 ≡ Err e → l.Fault bytes e
   bytes_fault bytes e is = grind (arith)
 
-  pub reads_bytes_of : Reads (bytes_of l) (bytes_at read)
+  pub reads_bytes_of : Reads (bytes_of l)
   reads_bytes_of = record {
     found = bytes_found;
     only = λ front xs rest s. rw (r.only front s.1.0 rest s.1.1, front_at (front ++ rest) front rest refl, s.0) refl;
@@ -46,77 +44,48 @@ module _ {A : Type 0} (l : Production A) (read : List ℕ → Read A) (r : Reads
 -- ---- instructions
 
 module _ (layout : OrderAndLimit) (h : Header) where
-  reads_operand : (operand : Operand) → Reads (operand_production layout h operand) (operand_at layout h operand)
-  reads_operand (none i) = reads_done i
-  reads_operand (uleb make) = reads_both _ _ _ _ reads_unsigned (λ n. reads_done _)
-  reads_operand (sleb make) = reads_both _ _ _ _ reads_signed (λ z. reads_done _)
-  reads_operand (uhalf make) =
-      reads_both _ _ _ _ (reads_number _ 2) (λ n. reads_done _)
-  reads_operand (address make) = reads_both _ _ _ _
-      (reads_number _ _) (λ a.
-      reads_done _)
-  reads_operand (file make) = reads_both _ _ _ _ reads_text (λ path.
-      reads_both _ _ _ _ (reads_file _) (λ f. reads_done _))
+  reads_operand : (operand : Operand) → Reads (operand_production layout h operand)
+  reads_operand (none i) = search readers
+  reads_operand (uleb make) = search readers
+  reads_operand (sleb make) = search readers
+  reads_operand (uhalf make) = search readers
+  reads_operand (address make) = search readers
+  reads_operand (file make) = search (readers, reads_file)
 
-  reads_unknown : (opcode count : ℕ)
-      → Reads (unknown_production layout h opcode count) (unknown_at layout h opcode count)
-  unfolding unknown_at
-  reads_unknown opcode zero = reads_done (UnknownStandard0 (record { 0 = opcode }))
-  reads_unknown opcode (suc zero) =
-      reads_both unsigned _ _ _ reads_unsigned (λ n. reads_done (UnknownStandard1 (record { 0 = opcode }) n))
-  reads_unknown opcode (suc (suc more)) = reads_both (bytes_of (times (suc (suc more)) unsigned)) _ _ _
-      (reads_bytes_of (times (suc (suc more)) unsigned) _ (reads_times (suc (suc more)) unsigned _ reads_unsigned))
-      (λ operands. reads_done (UnknownStandardN (record { 0 = opcode }) operands))
+  reads_unknown : (opcode count : ℕ) → Reads (unknown_production layout h opcode count)
+  unfolding unknown_production
+  reads_unknown opcode zero = search readers
+  reads_unknown opcode (suc zero) = search readers
+  reads_unknown opcode (suc (suc more)) = search (readers, reads_bytes_of)
 
-  pub reads_standard : (opcode : ℕ) → Reads (standard_production layout h opcode) (standard_at layout h opcode)
-  unfolding standard_at
+  pub reads_standard : (opcode : ℕ) → Reads (standard_production layout h opcode)
+  unfolding standard_production
   reads_standard opcode = at_operand (operand_of opcode standard_opcodes)
     where
       at_operand : (found : Option Operand) → Reads {A = Ins} (elim found [
         | Some operand ↦ operand_production layout h operand
         | None ↦ unknown_production layout h opcode (slice_index h.operand_counts (opcode - 1))
       ])
-          (λ bytes. elim found [
-            | Some operand ↦
-                operand_at layout h operand bytes
-            | None ↦ unknown_at layout h opcode (slice_index h.operand_counts (opcode - 1)) bytes
-          ])
       at_operand (Some operand) = reads_operand operand
       at_operand None = reads_unknown opcode (slice_index h.operand_counts (opcode - 1))
 
-  reads_extended_operands : (opcode : ℕ) (operands : List ℕ)
-      → Reads (extended_operands layout h opcode operands) (extended_operands_at layout h opcode operands)
-  unfolding extended_operands_at
-  reads_extended_operands opcode operands =
-      at_operand _
+  reads_extended_operands : (opcode : ℕ) (operands : List ℕ) → Reads (extended_operands layout h opcode operands)
+  unfolding extended_operands
+  reads_extended_operands opcode operands = at_operand _
     where
       at_operand : (found : Option Operand) → Reads {A = Ins} (elim found [
         | Some operand ↦ within operands (operand_production layout h operand) >>> (λ read. done read.0)
         | None ↦ done (UnknownExtended (record { 0 = opcode }) operands)
       ])
-          (λ bytes. elim found [
-            | Some operand ↦
-                within_at operands (operand_at layout h operand) bytes >>= (λ read rest. (Ok read.0, rest))
-            | None ↦ (Ok (UnknownExtended (record { 0 = opcode }) operands), bytes)
-          ])
-      at_operand (Some operand) = reads_both _ _ _ _
-          (reads_within _ _ _ (reads_operand _)) (λ read.
-          reads_done _)
-      at_operand None = reads_done _
+      at_operand (Some operand) = search (readers, reads_operand)
+      at_operand None = search readers
 
-  reads_extended : Reads (extended_production layout h) (extended_at layout h)
-  unfolding extended_at
-  reads_extended = reads_both (below_limit layout unsigned) _ _ _ (reads_below_limit layout unsigned _ reads_unsigned)
-      (λ size. reads_both (some_bytes size) _ _ _ (reads_some_bytes size)
-      (λ inside. reads_both (within inside byte) _ _ _ (reads_within inside byte _ reads_byte)
-      (λ opened. reads_extended_operands opened.0 opened.1)))
+  reads_extended : Reads (extended_production layout h)
+  unfolding extended_production
+  reads_extended = search (readers, reads_extended_operands)
 
-  pub reads_instruction : Reads (instruction_production layout h) (ins_at layout h)
-  unfolding ins_at
-  reads_instruction = reads_both byte _ _ _ reads_byte
-      (λ opcode. reads_if (nat_eq opcode 0) (extended_production layout h) _ _ _ reads_extended
-      (reads_if (nat_le h.parameters.opcode_base opcode) (done (Special opcode)) _ _ _ (reads_done (Special opcode))
-      (reads_standard opcode)))
+  pub reads_instruction : Reads (instruction_production layout h)
+  reads_instruction = search (readers, reads_extended, reads_standard)
 
   -- ---- a program
 
@@ -130,7 +99,7 @@ module _ (layout : OrderAndLimit) (h : Header) where
   decoding_is zero [] le = record { front = []; rest = []; parts = refl; spelled = refl; ended = refl }
   decoding_is zero (b ∷ bytes) le = absurd (omega arith)
   decoding_is (suc more) [] le = record { front = []; rest = []; parts = refl; spelled = refl; ended = refl }
-  decoding_is (suc more) (b ∷ bytes) le = elim (answer_of (ins_at layout h (b ∷ bytes))) [
+  decoding_is (suc more) (b ∷ bytes) le = elim (answer_of ((instruction_production layout h).read (b ∷ bytes))) [
     | given_ok i rest is ↦
         let f = reads_instruction.found (b ∷ bytes) i rest is in
         let some = takes_bytes f.0 i f.2 in
@@ -142,10 +111,10 @@ module _ (layout : OrderAndLimit) (h : Header) where
           spelled = (f.0, c.front, refl, f.2, c.spelled);
           ended = c.ended;
         })
-    | given_err e is ↦ at_fault e (ins_at layout h (b ∷ bytes)) refl is
+    | given_err e is ↦ at_fault e ((instruction_production layout h).read (b ∷ bytes)) refl is
   ]
     where
-      at_fault : (e : Error) (r : Read Ins) → r ≡ ins_at layout h (b ∷ bytes) → r.0 ≡ Err e
+      at_fault : (e : Error) (r : Read Ins) → r ≡ (instruction_production layout h).read (b ∷ bytes) → r.0 ≡ Err e
           → Decodes layout h (b ∷ bytes) (decoded_after layout h (decoded_upto layout h more) r).0
           (decoded_after layout h (decoded_upto layout h more) r).1
       at_fault e (Ok i, rest) same is = absurd cc
@@ -184,20 +153,22 @@ module _ (layout : OrderAndLimit) (h : Header) where
       at_fault zero (b ∷ bytes) le some f = absurd (omega arith)
       at_fault (suc more) [] le some f = absurd (some refl)
       at_fault (suc more) (b ∷ bytes) le some f =
-          after b bytes more (ins_at layout h (b ∷ bytes)) (reads_instruction.refused (b ∷ bytes) e f)
+          after b bytes more ((instruction_production layout h).read (b ∷ bytes))
+          (reads_instruction.refused (b ∷ bytes) e f)
   only_decoding (i ∷ list) end more bytes le c =
       let s = c.spelled in
       let some = takes_bytes s.0 i s.3 in
       let whole : bytes ≡ s.0 ++ (s.1 ++ c.rest) = c.parts ∙ ap (λ (xs : List ℕ). xs ++ c.rest) s.2
       ∙ append_assoc s.0 s.1 c.rest in
-      let first : ins_at layout h bytes ≡ (Ok i, s.1 ++ c.rest) = ap (ins_at layout h) whole
+      let first : (instruction_production layout h).read bytes
+      ≡ (Ok i, s.1 ++ c.rest) = ap ((instruction_production layout h).read) whole
       ∙ reads_instruction.only s.0 i (s.1 ++ c.rest) s.3 in
       at_more more bytes le (s.1 ++ c.rest) first (omega (arith, length-append s.0 (s.1 ++ c.rest), ap length whole))
       (λ less fewer. only_decoding list end less (s.1 ++ c.rest) fewer
       (record { front = s.1; rest = c.rest; parts = refl; spelled = s.4; ended = c.ended }))
     where
       at_more : (more : ℕ) (bytes : List ℕ) → length bytes ≤ more → (rest : List ℕ)
-          → ins_at layout h bytes ≡ (Ok i, rest) → length rest < length bytes
+          → (instruction_production layout h).read bytes ≡ (Ok i, rest) → length rest < length bytes
           → ((less : ℕ) → length rest ≤ less → (list, end) ≡ decoded_upto layout h less rest)
           → (i ∷ list, end) ≡ decoded_upto layout h more bytes
       at_more zero bytes le rest first fewer others = absurd (omega arith)

@@ -4,10 +4,11 @@ use Rattle.gimli_line.proofs.Common
 use Common.{ℕ, zero, suc, Bool, true, false, List, Option, Some, None, inl, inr, arith, ltb-false, nat_eq, nat_le}
 use Common.{nat_lt, slice_index, OrderAndLimit, SpellsUleb128, Production, done, check, choose, times, within, byte}
 use Common.{number, some_bytes, text, unsigned, signed, below_limit, IsWanting, Error, UnsupportedOffset, Special}
-use Common.{UnknownStandard0, UnknownStandard1, UnknownStandardN, UnknownExtended, Header, file_production, operand_of}
+use Common.{UnknownStandard0, UnknownStandard1, UnknownStandardN, UnknownExtended, Header, operand_of}
 use Common.{bytes_of, Ins}
 use Rattle.gimli_core.specs.Production.{◌>>=◌}
 use Rattle.gimli_line.specs
+use specs.header.HeaderGrammar.{file_production}
 use specs.run.InstructionGrammar.{Operand, none, uleb, sleb, uhalf, address, file, standard_opcodes, operand_production}
 use specs.run.InstructionGrammar.{unknown_production, standard_production, extended_operands, extended_production}
 use specs.run.InstructionGrammar.{instruction_production, IsInstructionRefusal}
@@ -83,6 +84,7 @@ module _ (layout : OrderAndLimit) where
   -- ---- instructions
 
   file_known : (path : List ℕ) → IsKnown layout (file_production path)
+  unfolding file_production
   file_known path = grind (arith)
 
   module _ (h : Header) where
@@ -101,6 +103,7 @@ module _ (layout : OrderAndLimit) where
         then_known _ _ (file_known _) (λ f. done_known _))
 
     unknown_known : (opcode count : ℕ) → IsKnown layout (unknown_production layout h opcode count)
+    unfolding unknown_production
     unknown_known opcode zero = done_known (UnknownStandard0 (record { 0 = opcode }))
     unknown_known opcode (suc zero) =
         then_known unsigned _ unsigned_known (λ n. done_known (UnknownStandard1 (record { 0 = opcode }) n))
@@ -111,6 +114,7 @@ module _ (layout : OrderAndLimit) where
         done_known (UnknownStandardN (record { 0 = opcode }) operands))
 
     standard_known : (opcode : ℕ) → IsKnown layout (standard_production layout h opcode)
+    unfolding standard_production
     standard_known opcode = at_operand (operand_of opcode standard_opcodes)
       where
         at_operand : (found : Option Operand) → IsKnown {A = Ins} layout (elim found [
@@ -121,6 +125,7 @@ module _ (layout : OrderAndLimit) where
         at_operand None = unknown_known opcode (slice_index h.operand_counts (opcode - 1))
 
     operands_known : (opcode : ℕ) (operands : List ℕ) → IsKnown layout (extended_operands layout h opcode operands)
+    unfolding extended_operands
     operands_known opcode operands = at_operand _
       where
         at_operand : (found : Option Operand) → IsKnown {A = Ins} layout (elim found [
@@ -134,6 +139,7 @@ module _ (layout : OrderAndLimit) where
         at_operand None = done_known _
 
     extended_known : IsKnown layout (extended_production layout h)
+    unfolding extended_production
     extended_known =
         then_known (below_limit layout unsigned) _ limit_known (λ size.
         then_known (some_bytes size) _ (bytes_known size) (λ inside.

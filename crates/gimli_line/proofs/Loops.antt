@@ -3,10 +3,10 @@ use Rattle.std.specs.Prelude.{◌≡◌, ◌+◌, ◌-◌, ◌<◌, ◌≤◌, �
 use Rattle.gimli_line.proofs.Common
 use Common.{ℕ, zero, suc, Bool, true, false, List, [], length, map, Ok, Err, refl, sym, ap, ◌∙◌, append_assoc, arith}
 use Common.{nat_eq, IsTrue, append-nil, length-append, Error, OrderAndLimit, layout_of, Read, ◌>>=◌}
-use Common.{text_at, unsigned_at, times_at, Format, Production, IsOpen, bind_refused, reads_text, read_map, is_closed}
-use Common.{list_to_zero_at, File, TableEntry, plain_file_at, named_file_at, entry_at, FileEntryFormat}
-use Rattle.gimli_line.specs.inside.header.TableReading.{closed_below}
-use Rattle.gimli_line.specs.inside.header.HeaderReading.{entries_at}
+use Common.{text_at, unsigned_at, times, Format, Production, IsOpen, bind_refused, reads_text, read_map, is_closed}
+use Common.{closed_at, closed_below, File, TableEntry, file_production, named_file, entry_production}
+use Common.{entries_production}
+use Common.{FileEntryFormat}
 use Rattle.gimli_line.proofs.Closed.{ReadsOpen}
 
 -- ---- items before, and those that are read after them
@@ -39,48 +39,50 @@ module _ {A B : Type 0} (f : A → B) where
 
   -- ---- so many of an item
 
-  module _ (read : List ℕ → Read A) where
+  module _ (l : Production A) where
+    abbrev so_many : ℕ → List ℕ → Read (List A)
+    so_many n = (times n l).read
+
     pub times_goes_on : (xs : List B) (count i : ℕ) (bytes : List ℕ) (v : B) (left : List ℕ) (total : Read (List B))
         → i < count
-        → (Ok v, left) ≡ read_map f (read bytes)
-        → collected xs f (times_at (count - i) read bytes) ≡ total
-        → collected (xs ++ v ∷ []) f (times_at (count - (i + 1)) read left) ≡ total
+        → (Ok v, left) ≡ read_map f (l.read bytes)
+        → collected xs f (so_many (count - i) bytes) ≡ total
+        → collected (xs ++ v ∷ []) f (so_many (count - (i + 1)) left) ≡ total
     times_goes_on xs count i bytes v left total lt e so_far =
         let a = seen_item _ v _ e in
         let k : count - i ≡ suc (count - (i + 1)) = omega arith in
-        let one : collected xs f (times_at (count - i) read bytes)
-        ≡ collected (xs ++ v ∷ []) f (times_at (count - (i + 1)) read left) =
-        rw (k, a.1) (regroup _ _ v a.2 _) in
-        sym one ∙ so_far
+        let one : collected xs f (so_many (suc (count - (i + 1))) bytes)
+        ≡ collected (xs ++ v ∷ []) f (so_many (count - (i + 1)) left) =
+        rw a.1 (regroup _ _ v a.2 _) in
+        sym one ∙ ap (λ n. collected xs f (so_many n bytes)) (sym k) ∙ so_far
 
     pub times_ends : (xs : List B) (count i : ℕ) (bytes : List ℕ) (e : Error) (left : List ℕ) (total : Read (List B))
         → i < count
-        → (Err e, left) ≡ read_map f (read bytes)
-        → collected xs f (times_at (count - i) read bytes) ≡ total → total.0 ≡ Err e
+        → (Err e, left) ≡ read_map f (l.read bytes)
+        → collected xs f (so_many (count - i) bytes) ≡ total → total.0 ≡ Err e
     times_ends xs count i bytes e left total lt is so_far =
         let k : count - i ≡ suc (count - (i + 1)) = omega arith in
         let refused = seen_fault _ e _ is in
         let inner = bind_refused _
-        (λ x rest. times_at (count - (i + 1)) read rest >>= λ ys end. (let s : Read (List A) = (Ok (x ∷ ys), end) in s))
-        e
+        (λ x rest. so_many (count - (i + 1)) rest >>= λ ys end. (let s : Read (List A) = (Ok (x ∷ ys), end) in s)) e
         refused in
-        let one : (collected xs f (times_at (count - i) read bytes)).0
-        ≡ Err e = rw k
-        (bind_refused _
-        (λ ys rest. (let s : Read (List B) = (Ok (xs ++ map f ys), rest) in s)) e inner) in
-        ap (λ r. r.0) (sym so_far) ∙ one
+        let one = bind_refused (so_many (suc (count - (i + 1))) bytes)
+        (λ ys rest. (let s : Read (List B) = (Ok (xs ++ map f ys), rest) in s)) e inner in
+        ap (λ r. r.0) (sym so_far) ∙ ap (λ n. (collected xs f (so_many n bytes)).0) k ∙ one
 
     pub times_done : (xs : List B) (count i : ℕ) (bytes : List ℕ) (total : Read (List B)) → count ≤ i
-        → collected xs f (times_at (count - i) read bytes) ≡ total
+        → collected xs f (so_many (count - i) bytes) ≡ total
         → total ≡ (Ok xs, bytes)
     times_done xs count i bytes total le so_far =
         let k : count - i ≡ 0 = omega arith in
-        let one : collected xs f (times_at (count - i) read bytes) ≡ (Ok xs, bytes) = rw k (none_left _ _) in
-        sym so_far ∙ one
+        sym so_far ∙ ap (λ n. collected xs f (so_many n bytes)) k ∙ none_left _ _
 
   -- ---- items up to a zero byte
 
-  module _ (l : Production A) (read : List ℕ → Read A) (r : ReadsOpen l read) where
+  module _ (l : Production A) (r : ReadsOpen l) where
+    abbrev read : List ℕ → Read A
+    read = l.read
+
     -- an item has bytes
     pub shrinks : (bytes : List ℕ) (x : A) (rest : List ℕ) → IsOpen bytes → read bytes ≡ (Ok x, rest)
         → length rest < length bytes
@@ -114,23 +116,23 @@ module _ {A B : Type 0} (f : A → B) where
 
     -- an item, and the further ones
     step : (bytes : List ℕ) (x : A) (left : List ℕ) → is_closed bytes ≡ false → read bytes ≡ (Ok x, left)
-        → list_to_zero_at read bytes ≡ (list_to_zero_at read left >>= λ ys rest. (Ok (x ∷ ys), rest))
+        → closed_at read bytes ≡ (closed_at read left >>= λ ys rest. (Ok (x ∷ ys), rest))
     unfolding closed_below
     step bytes x left is same =
         let fewer = shrinks _ x _ (is_open _ is) same in
         let further : closed_below (length bytes) read left
-        ≡ list_to_zero_at read left = bound_free (length bytes) (suc (length left)) left fewer (omega arith) in
+        ≡ closed_at read left = bound_free (length bytes) (suc (length left)) left fewer (omega arith) in
         rw (is, same)
         (ap (λ s. s >>= λ ys rest. (let t : Read (List A) = (Ok (x ∷ ys), rest) in t)) further)
 
     pub closed_goes_on : (xs : List B) (bytes : List ℕ) (v : B) (left : List ℕ) (total : Read (List B))
         → is_closed bytes ≡ false
         → (Ok v, left) ≡ read_map f (read bytes)
-        → collected xs f (list_to_zero_at read bytes) ≡ total
-        → collected (xs ++ v ∷ []) f (list_to_zero_at read left) ≡ total
+        → collected xs f (closed_at read bytes) ≡ total
+        → collected (xs ++ v ∷ []) f (closed_at read left) ≡ total
     closed_goes_on xs bytes v left total is e so_far =
         let a = seen_item _ v _ e in
-        let one : collected xs f (list_to_zero_at read bytes) ≡ collected (xs ++ v ∷ []) f (list_to_zero_at read left) =
+        let one : collected xs f (closed_at read bytes) ≡ collected (xs ++ v ∷ []) f (closed_at read left) =
         ap (collected xs f) (step _ _ _ is a.1) ∙ regroup _ _ v a.2 _ in
         sym one ∙ so_far
 
@@ -143,11 +145,11 @@ module _ {A B : Type 0} (f : A → B) where
     pub closed_ends : (xs : List B) (bytes : List ℕ) (e : Error) (left : List ℕ) (total : Read (List B))
         → is_closed bytes ≡ false
         → (Err e, left) ≡ read_map f (read bytes)
-        → collected xs f (list_to_zero_at read bytes) ≡ total → total.0 ≡ Err e
+        → collected xs f (closed_at read bytes) ≡ total → total.0 ≡ Err e
     unfolding closed_below
     closed_ends xs bytes e left total is same so_far =
         let refused = seen_fault _ e _ same in
-        let inner : (list_to_zero_at read bytes).0
+        let inner : (closed_at read bytes).0
         ≡ Err e = rw is (bind_refused _
         (λ x rest. closed_below (length bytes) read rest >>= λ ys end.
         (let s : Read (List A) = (Ok (x ∷ ys), end) in s)) e refused) in
@@ -156,11 +158,11 @@ module _ {A B : Type 0} (f : A → B) where
         ap (λ r. r.0) (sym so_far) ∙ one
 
     pub closed_done : (xs : List B) (bytes left : List ℕ) (total : Read (List B)) → bytes ≡ 0 ∷ left
-        → collected xs f (list_to_zero_at read bytes) ≡ total
+        → collected xs f (closed_at read bytes) ≡ total
         → total ≡ (Ok xs, left)
     unfolding closed_below
     closed_done xs bytes left total is so_far =
-        let one : collected xs f (list_to_zero_at read bytes) ≡ (Ok xs, left) = rw is (none_left _ _) in
+        let one : collected xs f (closed_at read bytes) ≡ (Ok xs, left) = rw is (none_left _ _) in
         sym so_far ∙ one
 
 -- ---- what a text says of the zero byte
@@ -183,12 +185,12 @@ text_refused bytes rest e is = grind (arith)
 -- ---- a file, whose path is read first
 
 pub named_is : (bytes path mid : List ℕ) (answer : Read File) → (Ok path, mid) ≡ text_at bytes
-    → answer ≡ plain_file_at path mid
-    → answer ≡ read_map (λ x. x) (named_file_at bytes)
+    → answer ≡ (file_production path).read mid
+    → answer ≡ read_map (λ x. x) (named_file.read bytes)
 named_is bytes path mid answer e is = grind (arith)
 
 pub named_fault : (bytes mid : List ℕ) (e : Error) → (Err e, mid) ≡ text_at bytes
-    → (Err e, mid) ≡ read_map (λ x. x) (named_file_at bytes)
+    → (Err e, mid) ≡ read_map (λ x. x) (named_file.read bytes)
 named_fault bytes mid e is = grind (arith)
 
 -- ---- the entries of a table of version 5, whose count is read first
@@ -196,19 +198,20 @@ named_fault bytes mid e is = grind (arith)
 module _ (layout : OrderAndLimit) (format : Format) {B : Type 0} (f : TableEntry → B)
     (formats : List FileEntryFormat) where
   pub entries_start : (bytes : List ℕ) (count : ℕ) (left : List ℕ) → (Ok count, left) ≡ unsigned_at bytes
-      → collected [] f (times_at (count - 0) (entry_at layout format formats) left)
-      ≡ read_map (map f) (entries_at layout format formats bytes)
-  unfolding entries_at
+      → collected [] f ((times (count - 0) (entry_production layout format formats)).read left)
+      ≡ read_map (map f) ((entries_production layout format formats).read bytes)
+  unfolding entries_production
   entries_start bytes count left is =
       let all : count - 0 ≡ count = omega arith in
-      rw all
-      (ap (λ r. read_map (map f) (r >>= λ n rest. times_at n (entry_at layout format formats) rest)) is)
+      let many : ℕ → List ℕ → Read (List TableEntry) = λ n. (times n (entry_production layout format formats)).read in
+      ap (λ n. read_map (map f) (many n left)) all ∙ ap (λ r. read_map (map f) (r >>= many)) is
 
 -- the order of bytes, which a loop keeps
 pub entry_kept : (format : Format) {B : Type 0} (f : TableEntry → B) (formats : List FileEntryFormat) (now first : Bool)
     (limit : ℕ) (bytes : List ℕ)
     (answer : Read B)
     → now ≡ first
-    → answer ≡ read_map f (entry_at (layout_of now limit) format formats bytes)
-    → answer ≡ read_map f (entry_at (layout_of first limit) format formats bytes)
-entry_kept format f formats now first limit bytes answer same is = grind arith
+    → answer ≡ read_map f ((entry_production (layout_of now limit) format formats).read bytes)
+    → answer ≡ read_map f ((entry_production (layout_of first limit) format formats).read bytes)
+entry_kept format f formats now first limit bytes answer same is =
+    is ∙ ap (λ b. read_map f ((entry_production (layout_of b limit) format formats).read bytes)) same

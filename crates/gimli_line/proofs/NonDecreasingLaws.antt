@@ -4,7 +4,7 @@ use Rattle.gimli_line.proofs.Common
 use Common.{ℕ, Bool, true, false, List, [], None, arith, filter, AddressOverflow, Special, AdvancePc, ConstAddPc}
 use Common.{FixedAddPc, EndSequence, SetAddress, Parameters, Ins, is_end, makes_row, OperationPointer, next_pointer}
 use Common.{pointer_at, overflows, Event, row, fault, row_at, is_given, events_after}
-use Rattle.gimli_line.specs.run.NonDecreasing.{NeverBelow, AreOneSequence}
+use Rattle.gimli_line.specs.run.Sequences.{NeverBelow, AreOneSequence}
 use Rattle.gimli_line.proofs.RunLists.{after_here}
 
 -- ---- a pointer that goes on isn't lower

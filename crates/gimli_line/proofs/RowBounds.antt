@@ -7,7 +7,7 @@ use Common.{files_after, decoded_at, decoded_after, overflows, is_refused, step_
 use Common.{made_from, Event, Events, row, fault, row_at, made_at, end_events, EventWithFiles, with_files, made_after}
 use Common.{is_given, given_of, files_at, program_made, Makes, EventsWithFiles, RunState, made_left, events_left}
 use Rattle.gimli_line.specs.run.InstructionGrammar.{Decodes}
-use Rattle.gimli_line.specs.run.InstructionReading.{decoded_upto}
+use Rattle.gimli_line.specs.run.InstructionGrammar.{decoded_upto}
 use Rattle.gimli_line.proofs.InstructionLaws.{one_decoding}
 
 -- ---- no more events than instructions, and one more at a refused end

@@ -8,8 +8,9 @@ use Common.{DefineFile, Parameters, HeaderSource, Header, without_files, files_a
 use Common.{File, decoded_at, Event, row, EventWithFiles, is_given, step_of, reset_row, is_refused, made_step}
 use Common.{next_registers, Unread, RunState, PassesOver, with_reset_row, registers_from, files_from, live_made}
 use Common.{live_events, made_left, events_left, files_at_end, WantsMemory, FaultComes, FaultIs, given_row}
-use Rattle.gimli_line.specs.run.InstructionGrammar.{SpellsInstruction, instruction_production, Decodes}
-use Rattle.gimli_line.specs.run.InstructionReading.{decoded_upto}
+use Rattle.gimli_line.specs
+use specs.run.InstructionGrammar.{unknown_production, standard_production, extended_operands, extended_production}
+use specs.run.InstructionGrammar.{instruction_production, SpellsInstruction, Decodes, decoded_upto}
 use proofs.RunLists.{run_of_one, runs_joined}
 use proofs.InstructionLaws.{is_decoded, one_decoding, takes_bytes}
 
@@ -49,9 +50,26 @@ decodes_on n h bytes (i ∷ list) front rest parts s =
     ∙ ap (λ (c : List Ins × Option Error). (i ∷ c.0, c.1)) (decodes_on n h (s.1 ++ rest) list s.1 rest refl s.4)
 
 -- the files of a header mean nothing to its program
-pub bare_decoding : (layout : OrderAndLimit) (h : Header) (bytes : List ℕ) (list : List Ins) (end : Option Error)
-    → Decodes layout (without_files h) bytes list end → Decodes layout h bytes list end
-bare_decoding layout h bytes list end c = grind arith
+module _ (layout : OrderAndLimit) (h : Header) (bytes : List ℕ) where
+  pub bare_decoding : (list : List Ins) (end : Option Error) → Decodes layout (without_files h) bytes list end
+      → Decodes layout h bytes list end
+  unfolding unknown_production standard_production extended_operands extended_production
+  bare_decoding list end c = record {
+    front = c.front;
+    rest = c.rest;
+    parts = c.parts;
+    spelled = c.spelled;
+    ended = c.ended;
+  }
+
+  bare_spelled : (i : Ins) → SpellsInstruction layout h bytes i → SpellsInstruction layout (without_files h) bytes i
+  unfolding unknown_production standard_production extended_operands extended_production
+  bare_spelled i s = s
+
+  bare_fault : (e : Error) → (instruction_production layout h).Fault bytes e
+      → (instruction_production layout (without_files h)).Fault bytes e
+  unfolding unknown_production standard_production extended_operands extended_production
+  bare_fault e f = f
 
 -- ---- instructions that make a row or are refused
 
@@ -96,7 +114,7 @@ module _ (a : Bool) (h k : Header) (same : k ≡ h) (c c2 : HeaderSource) (r : L
       → (r2 : LineRow)
       → FaultComes live_made (state a h c r s) (state a h c2 r2 s2) e
   after_fault e some empty f r2 =
-      let last = decoded_fault s.layout (without_files h) s.bytes e some (rw same at f) in (
+      let last = decoded_fault s.layout (without_files h) s.bytes e some (bare_fault _ h _ e (rw same at f)) in (
         rw (last, none_to_make (state a h c2 r2 s2) empty) refl,
         rw (last, end_here (state a h c2 r2 s2) empty) refl,
         λ _. empty,
@@ -109,7 +127,8 @@ module _ (a : Bool) (h k : Header) (same : k ≡ h) (c c2 : HeaderSource) (r : L
           i ∷ (decoded_at s.layout (without_files h) s2.bytes).0,
           (decoded_at s.layout (without_files h) s2.bytes).1,
         )
-    first_decoded = decoded_some s.layout (without_files h) s.bytes i front s2.bytes parts (rw same at spelled)
+    first_decoded = decoded_some s.layout (without_files h) s.bytes i front s2.bytes parts
+        (bare_spelled _ h _ i (rw same at spelled))
 
     pub is_shorter : length s2.bytes < length s.bytes
     is_shorter = omega (arith, takes_bytes s.layout k front i spelled, length-append front s2.bytes, ap length parts)
@@ -123,7 +142,7 @@ module _ (a : Bool) (h k : Header) (same : k ≡ h) (c c2 : HeaderSource) (r : L
       list = i ∷ [];
       front = front;
       parts = parts;
-      spelled = (front, [], sym (append-nil front), rw same at spelled, refl);
+      spelled = (front, [], sym (append-nil front), bare_spelled _ h _ i (rw same at spelled), refl);
       layout = layout;
       fixed = ap without_files after;
       appends = refl;
@@ -253,7 +272,7 @@ wants a h k same c c2 r s i front rest parts spelled defines h2 r2 s2 empty kept
   front = front;
   rest = rest;
   parts = parts;
-  spelled = rw same at spelled;
+  spelled = bare_spelled _ h _ i (rw same at spelled);
   defines = defines;
   appends = appends;
   files = grind arith;
@@ -290,5 +309,5 @@ refused_after live a b c e events passed (inr f) = inr (events ∙ f.0, f.1 ∙ 
 -- where no bytes are left nothing is refused
 pub never_refused : (a b : RunState) (e : Error) → a.unread.bytes ≡ [] → FaultIs live_events a b e → ⊥
 never_refused a b e empty (inl m) =
-    grind (arith, length-append)
+    grind (arith, length-append, takes_bytes)
 never_refused a b e empty (inr f) = grind (arith, none_made)

@@ -11,12 +11,12 @@ use Common.{registers_from, files_from, live_events, start_of_run, whole_run, Fa
 use Rattle.std.specs.Option.{unwrap_or}
 use Rattle.gimli_line.specs
 use specs.run.InstructionGrammar.{SpellsInstruction}
-use specs.inside.run.Unread.{front_of}
+use specs.inside.run.Rows.{front_of}
 use specs.run.Sequences.{Sequence, IsSequence, HasRun, HaveRuns, AreSequences, HasFirstFault}
 use specs.inside.run.SequenceSplit.{SequenceSplit, with_row, RowSplit, with_kept_row}
 use proofs.Backwards.{starts, files_from_start}
 use proofs.RunLists.{given_joined, given_from_start}
-use proofs.InstructionLaws.{front_at, is_decoded}
+use proofs.InstructionLaws.{front_at, is_decoded, takes_bytes}
 use proofs.Sources.{fits_less, keeps_both}
 use proofs.Runs.{decodes_on, bare_decoding, passes_both}
 
@@ -82,7 +82,15 @@ through_runs h (s ∷ parts) (run ∷ runs) all later = ap through_last_end (app
 
 -- the files of a header mean nothing to the run of a sequence
 run_over : (c : Header) (s : Sequence) (run : List Event) → HasRun (without_files c) s run → HasRun c s run
-run_over c s run has = grind (arith)
+run_over c s run has = record {
+  given = record {
+    list = has.given.list;
+    end = has.given.end;
+    decoding = bare_decoding _ c _ _ _ has.given.decoding;
+    given = has.given.given;
+  };
+  is = has.is;
+}
 
 runs_over : (c : Header) (parts : List Sequence) (runs : List (List Event)) → HaveRuns (without_files c) parts runs
     → HaveRuns c parts runs
@@ -274,7 +282,7 @@ row_takes a b e es p = at_list _ _ p.parts p.spelled p.given
         → Each (SpellsInstruction a.unread.layout a.fixed) front list
         → run a.fixed.parameters a.row list ≡ e ∷ es → length b.unread.bytes < length a.unread.bytes
     at_list [] front parts s given = absurd cc
-    at_list (i ∷ list) front parts s given = grind (arith, length-append)
+    at_list (i ∷ list) front parts s given = grind (arith, length-append, takes_bytes)
 
 -- ---- the end of a run without a fault
 
@@ -285,7 +293,13 @@ module _ (source : HeaderSource) (h c : Header) (k : SequenceSplit) (done : List
       → AreSequences source.layout h c k.parts
   are_sequences splitting p empty fixed files = record {
     list = p.list;
-    decoding = grind (arith);
+    decoding = bare_decoding _ h _ _ _ (record {
+      front = p.front;
+      rest = last.unread.bytes;
+      parts = p.parts;
+      spelled = p.spelled;
+      ended = empty;
+    });
     rows = done;
     given = given;
     files = c_is;

@@ -5,13 +5,13 @@ use proofs.Common
 use Common.{◌∙◌, Bool, true, false, [], ap, arith, inl, inr, length, refl, sym, subst, Result, Some, Ok, Err}
 use Common.{length-append, Error, AddressOverflow, OutOfMemory, Executed, No, Quiet, Address, Row, DefineFile, LineRow}
 use Common.{Header, without_files, KeepsSource, given_row, ReadsOn, StepIs, StepsTo, Ins, makes_row, defines_file}
-use Common.{header_after, ins_at, step_of, is_refused, with_reset_row, RunState, live_made, FaultComes}
+use Common.{header_after, instruction_production, step_of, is_refused, with_reset_row, RunState, live_made, FaultComes}
 use Common.{KeepsRun, WantsMemory, Unread}
 use Rattle.gimli_line.specs
 use specs.declared.run.rows.RowStep.{RowStep}
 use specs.declared.run.rows.RowStep.TheVariants.{Done, Made, More}
 use specs.run.Execution.{ExecutesNext, IsExecuted, RefusesNext}
-use specs.run.NextInstruction.{TakesNext, EndsByFault}
+use specs.run.InstructionGrammar.{TakesNext, EndsByFault}
 use proofs.Executions.{told_row, told_quiet, told_address}
 use proofs.InstructionLaws.{reads_instruction}
 use proofs.Sources.{fits_less, keeps_both}
@@ -181,7 +181,8 @@ none_executed k old row unread same = grind (arith)
 module _ (a : Bool) (h k : Header) (same : k ≡ h) (old : RunState) (row : LineRow) (unread : Unread)
     (from : Has a h old)
     (layout : unread.layout ≡ old.unread.layout) where
-  executed_step : (x : IsExecuted k.parameters (ins_at old.unread.layout k old.unread.bytes) unread.bytes old.row row
+  executed_step : (x : IsExecuted k.parameters ((instruction_production old.unread.layout k).read old.unread.bytes)
+      unread.bytes old.row row
       false)
       → (made : Bool) → makes_row x.instruction ≡ made
       → StepsTo old (with_rest old row unread) (Ok (if made then Made else More))

@@ -3,27 +3,32 @@ use Rattle.std.specs.Prelude.{◌≡◌, ◌≢◌, ◌+◌, ◌-◌, ◌<◌, �
 use Rattle.gimli_line.proofs.Common
 use Common.{ℕ, zero, suc, List, [], length, take, drop, Ok, Err, refl, sym, ap, subst, ◌∙◌, arith, append_assoc, inl}
 use Common.{inr, cases_lt, append-nil, drop_all, drop_at, take-append-drop, length-append, length-drop, OrderAndLimit}
-use Common.{initial_length_size, Reads, Read, Error, reads_both, reads_some_bytes, reads_unit_length, Header, UnitEntry}
-use Common.{header_production, SpellsUnit}
-use Rattle.gimli_line.specs.Units.{offset_after, any_unit, BeginsWithUnit, BeginsWithNoUnit, AreUnits}
-use Rattle.gimli_line.specs.UnitReading.{any_unit_at, after_unit, offsets_upto, offsets_at}
+use Common.{initial_length_size, Reads, Read, Error, Header, UnitEntry}
+use Rattle.gimli_core.specs.Production.{unit_length}
+use Rattle.gimli_line.specs.header.HeaderGrammar.{header_production, opening_production, fields_production}
+use Rattle.gimli_line.specs.header.HeaderGrammar.{parameters_production}
+use Common.{SpellsUnit}
+use Rattle.gimli_line.specs.Units.{offset_after, any_unit, after_unit, offsets_upto, offsets_at, BeginsWithUnit}
+use Rattle.gimli_line.specs.Units.{BeginsWithNoUnit, AreUnits}
+use Rattle.gimli_core.proofs.Readers.{readers}
 
 module _ (layout : OrderAndLimit) where
-  pub reads_any_unit : Reads (any_unit layout) (any_unit_at layout)
-  unfolding any_unit_at
-  reads_any_unit = reads_both _ _ _ _ (reads_unit_length _) (λ unit. reads_some_bytes _)
+  pub reads_any_unit : Reads (any_unit layout)
+  unfolding any_unit
+  reads_any_unit = search readers
 
   -- a unit has bytes
   unit_some : (unit content : List ℕ) → (any_unit layout).Spells unit content → 0 < length unit
+  unfolding any_unit unit_length
   unit_some unit content s = grind (arith, length-append)
 
   -- what comes after the bytes that were read is an end of them, and is shorter
-  after_end : (bytes : List ℕ) (r : Read (List ℕ)) → any_unit_at layout bytes ≡ r
+  after_end : (bytes : List ℕ) (r : Read (List ℕ)) → (any_unit layout).read bytes ≡ r
       → (front : List ℕ) × (bytes ≡ front ++ after_unit r)
   after_end bytes (Ok content, rest) is = let f = reads_any_unit.found bytes content rest is in (f.0, f.1)
   after_end bytes (Err e, rest) is = (bytes, sym (append-nil _))
 
-  after_less : (bytes : List ℕ) (r : Read (List ℕ)) → bytes ≢ [] → any_unit_at layout bytes ≡ r
+  after_less : (bytes : List ℕ) (r : Read (List ℕ)) → bytes ≢ [] → (any_unit layout).read bytes ≡ r
       → length (after_unit r) < length bytes
   after_less [] r some is = absurd (some refl)
   after_less (b ∷ bytes) (Ok content, rest) some is =
@@ -43,7 +48,7 @@ module _ (layout : OrderAndLimit) where
 
     upto_some : (more : ℕ) (bytes : List ℕ) → bytes ≢ []
         → offsets_upto layout end (suc more) bytes
-        ≡ (end - length bytes) ∷ offsets_upto layout end more (after_unit (any_unit_at layout bytes))
+        ≡ (end - length bytes) ∷ offsets_upto layout end more (after_unit ((any_unit layout).read bytes))
     unfolding offsets_upto
     upto_some more [] some = absurd (some refl)
     upto_some more (b ∷ bytes) some = refl
@@ -58,7 +63,7 @@ module _ (layout : OrderAndLimit) where
         let some : b ∷ bytes ≢ [] = λ none. absurd cc in
         let fewer = after_less _ _ some refl in
         upto_some _ _ some ∙ ap (λ os. (end - length (b ∷ bytes)) ∷ os)
-        (enough more less (after_unit (any_unit_at layout (b ∷ bytes))) (omega arith) (omega arith))
+        (enough more less (after_unit ((any_unit layout).read (b ∷ bytes))) (omega arith) (omega arith))
         ∙ sym (upto_some _ _ some)
 
     pub offsets_none : (bytes : List ℕ) → bytes ≡ [] → offsets_at layout end bytes ≡ []
@@ -66,10 +71,10 @@ module _ (layout : OrderAndLimit) where
 
     offsets_some : (bytes : List ℕ) → bytes ≢ []
         → offsets_at layout end bytes
-        ≡ (end - length bytes) ∷ offsets_at layout end (after_unit (any_unit_at layout bytes))
+        ≡ (end - length bytes) ∷ offsets_at layout end (after_unit ((any_unit layout).read bytes))
     offsets_some [] some = absurd (some refl)
     offsets_some (b ∷ bytes) some =
-        let after = after_unit (any_unit_at layout (b ∷ bytes)) in
+        let after = after_unit ((any_unit layout).read (b ∷ bytes)) in
         let fewer = after_less _ _ some refl in
         upto_some _ _ some ∙ ap (λ os. (end - length (b ∷ bytes)) ∷ os)
         (enough _ _ _ (omega arith) (omega arith))
@@ -88,7 +93,7 @@ module _ (layout : OrderAndLimit) where
       at_answer : b ∷ bytes ≢ []
           → ((next : ℕ) (rest : List ℕ) → length rest ≤ more → next + length rest ≡ end
           → AreUnits layout next rest (offsets_upto layout end more rest))
-          → (r : Read (List ℕ)) → any_unit_at layout (b ∷ bytes) ≡ r
+          → (r : Read (List ℕ)) → (any_unit layout).read (b ∷ bytes) ≡ r
           → BeginsWithUnit layout (b ∷ bytes) (λ size rest.
           AreUnits layout (offset + size) rest (offsets_upto layout end more (after_unit r)))
           ⊎ (BeginsWithNoUnit layout (b ∷ bytes) × (offsets_upto layout end more (after_unit r) ≡ []))
@@ -123,17 +128,17 @@ module _ (layout : OrderAndLimit) where
   only_units (o ∷ offsets) end (suc more) offset (b ∷ bytes) le ends s =
       let some : b ∷ bytes ≢ [] = λ none. absurd cc in
       let first : o ≡ end - length (b ∷ bytes) = omega (arith) in
-      let others : offsets ≡ offsets_upto layout end more (after_unit (any_unit_at layout (b ∷ bytes))) = elim s.1 [
+      let others : offsets ≡ offsets_upto layout end more (after_unit ((any_unit layout).read (b ∷ bytes))) = elim s.1 [
         | inl u ↦
             let long = unit_some u.unit u.content u.spelled in
-            let read : any_unit_at layout (b ∷ bytes) ≡ (Ok u.content, u.rest) = ap (any_unit_at layout) u.parts
+            let read : (any_unit layout).read (b ∷ bytes) ≡ (Ok u.content, u.rest) = ap ((any_unit layout).read) u.parts
             ∙ reads_any_unit.only u.unit u.content u.rest u.spelled in
             rw read (only_units offsets end more (offset + length u.unit) u.rest
             (omega (arith, length-append u.unit u.rest, ap length u.parts))
             (omega (arith, length-append u.unit u.rest, ap length u.parts)) u.follow)
         | inr r ↦
             rw (
-              after_fault r.0.error (any_unit_at layout (b ∷ bytes))
+              after_fault r.0.error ((any_unit layout).read (b ∷ bytes))
                   (reads_any_unit.refused (b ∷ bytes) r.0.error r.0.fault),
               upto_none end more,
             )
@@ -167,12 +172,14 @@ module _ (layout : OrderAndLimit) where
       → (header_production layout unit_entry).Spells unit h
       → (content : List ℕ) × (any_unit layout).Spells unit content
       × (length unit ≡ initial_length_size h.parameters.encoding.format + h.unit_length)
+  unfolding any_unit unit_length header_production opening_production fields_production parameters_production
   unit_size unit_entry unit h s = grind (arith, append-nil, length-append)
 
   pub unit_ends : (unit_entry : UnitEntry) (offset : ℕ) (bytes : List ℕ) (h : Header)
       → SpellsUnit layout unit_entry bytes h
       → offset_after offset h ≤ offset + length bytes
-  unit_ends unit_entry offset bytes h u = grind (arith, length-append)
+  unit_ends unit_entry offset bytes h u =
+      let p = unit_size _ _ h u.3 in omega (arith, p.2, length-append u.0 u.1, ap length u.2)
 
   pub unit_follows : (unit_entry : UnitEntry) (offset next : ℕ) (bytes offsets : List ℕ) (h : Header)
       → SpellsUnit layout unit_entry bytes h
@@ -180,9 +187,9 @@ module _ (layout : OrderAndLimit) where
   unit_follows unit_entry offset next bytes offsets h u s = elim s.1 [
     | inl b ↦
         let p = unit_size _ _ h u.3 in
-        let read : any_unit_at layout bytes ≡ (Ok p.0, u.1) = ap (any_unit_at layout) u.2
+        let read : (any_unit layout).read bytes ≡ (Ok p.0, u.1) = ap ((any_unit layout).read) u.2
         ∙ reads_any_unit.only u.0 p.0 u.1 p.1 in
-        let again : any_unit_at layout bytes ≡ (Ok b.content, b.rest) = ap (any_unit_at layout) b.parts
+        let again : (any_unit layout).read bytes ≡ (Ok b.content, b.rest) = ap ((any_unit layout).read) b.parts
         ∙ reads_any_unit.only b.unit b.content b.rest b.spelled in
         let same : u.1 ≡ b.rest = ap (λ r. r.1) (sym read ∙ again) in
         omega (
@@ -200,10 +207,10 @@ module _ (layout : OrderAndLimit) where
 
   -- what is left after a unit is an end of the section
   pub rest_is_end : (section : List ℕ) (offset : ℕ) (after : List ℕ)
-      → after ≡ after_unit (any_unit_at layout (drop offset section))
+      → after ≡ after_unit ((any_unit layout).read (drop offset section))
       → (front : List ℕ) × (section ≡ front ++ after)
   rest_is_end section offset after is =
-      let a = after_end (drop offset section) (any_unit_at layout (drop offset section)) refl in (
+      let a = after_end (drop offset section) ((any_unit layout).read (drop offset section)) refl in (
         take offset section ++ a.0,
         sym (take-append-drop offset section) ∙ ap (λ (xs : List ℕ). take offset section ++ xs) (rw is a.1)
             ∙ sym (append_assoc (take offset section) a.0 after),
@@ -211,7 +218,7 @@ module _ (layout : OrderAndLimit) where
 
   -- the first offset is that of the unit in front; the others are those from the offset after it on
   pub offsets_step : (section : List ℕ) (offset next : ℕ) (after : List ℕ) → drop offset section ≢ []
-      → after ≡ after_unit (any_unit_at layout (drop offset section)) → next + length after ≡ length section
+      → after ≡ after_unit ((any_unit layout).read (drop offset section)) → next + length after ≡ length section
       → offsets_at layout (length section) (drop offset section)
       ≡ offset ∷ offsets_at layout (length section) (drop next section)
   offsets_step section offset next after some is ends =
@@ -224,5 +231,5 @@ module _ (layout : OrderAndLimit) where
       let first : length section - length (drop offset section) ≡ offset = omega (arith, length-drop offset section) in
       offsets_some (length section) (drop offset section) some
       ∙ ap
-      (λ (n : ℕ). n ∷ offsets_at layout (length section) (after_unit (any_unit_at layout (drop offset section))))
+      (λ (n : ℕ). n ∷ offsets_at layout (length section) (after_unit ((any_unit layout).read (drop offset section))))
       first ∙ ap (λ (xs : List ℕ). offset ∷ offsets_at layout (length section) xs) (sym is ∙ sym rest)

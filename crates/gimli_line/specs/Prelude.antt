@@ -2,20 +2,13 @@
 pub use Rattle.gimli_core.specs.Layout.{OrderAndLimit, layout_of}
 pub use Rattle.gimli_core.specs.Reading.{
   Read,
-  address_size_at,
   byte_at,
-  eof,
-  initial_length_at,
   number_at,
   offset_of,
   signed_at,
   split_at,
   text_at,
-  times_at,
-  unsigned_16_at,
   unsigned_at,
-  within_at,
-  word_at,
   ◌>>=◌,
 }
 pub use Rattle.gimli_core.specs.Values.{
@@ -46,7 +39,6 @@ pub use Rattle.gimli_core.specs.declared.error.Error.TheVariants.{
   UnexpectedEof,
   UnknownForm,
   UnknownVersion,
-  UnsupportedAddressSize,
   UnsupportedOffset,
   UnsupportedSegmentSize,
 }

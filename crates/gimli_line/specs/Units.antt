@@ -1,18 +1,36 @@
 -- The units of a section, one after the other (DWARF 5, sections 6.2.4 and 7.4).
-use Rattle.std.specs.Prelude.{◌≡◌, ◌≢◌, ◌⊎◌, ◌+◌, ◌∷◌, ◌++◌}
-use Rattle.gimli_line.specs
-use specs.Prelude.{ℕ, List, [], length, OrderAndLimit, Error}
+use Rattle.std.specs.Prelude.{◌≡◌, ◌≢◌, ◌⊎◌, ◌+◌, ◌-◌, ◌∷◌, ◌++◌}
+use Rattle.gimli_line.specs.Prelude.{ℕ, zero, suc, List, [], length, Ok, Err, OrderAndLimit, Read}
+use Rattle.gimli_line.specs.Prelude.{Error, drop}
 use Rattle.gimli_core.specs.Numbers.{initial_length_size}
 use Rattle.gimli_core.specs.Production.{Production, ◌>>=◌, some_bytes, unit_length}
-use specs.header.Header.{Header, UnitEntry}
-use specs.run.Unread.{Unread}
+use Rattle.gimli_line.specs.header.Header.{Header, UnitEntry, SeenHeader}
+use Rattle.gimli_line.specs.run.Unread.{Unread}
+use Rattle.gimli_line.specs.header.HeaderGrammar.{SpellsUnit, HasUnitFault}
 
 -- a unit, whatever its content is: a length that an offset of the reader holds, and as many bytes
 -- as it says
-abbrev pub any_unit : OrderAndLimit → Production (List ℕ)
+unfoldable pub any_unit : OrderAndLimit → Production (List ℕ)
 any_unit layout = do
   unit ← unit_length layout
   some_bytes unit.0
+
+-- the bytes after a unit; none where there is no unit
+abbrev pub after_unit : Read (List ℕ) → List ℕ
+after_unit (Ok content, rest) = rest
+after_unit (Err e, rest) = []
+
+-- the offsets of at most so many units, in bytes that have this end
+unfoldable pub offsets_upto : OrderAndLimit → ℕ → ℕ → List ℕ → List ℕ
+offsets_upto layout end zero bytes = []
+offsets_upto layout end (suc more) [] = []
+offsets_upto layout end (suc more) (b ∷ bytes) =
+    (end - length (b ∷ bytes))
+    ∷ offsets_upto layout end more (after_unit ((any_unit layout).read (b ∷ bytes)))
+
+-- the offsets of all units; they aren't more than the bytes
+abbrev pub offsets_at : OrderAndLimit → ℕ → List ℕ → List ℕ
+offsets_at layout end bytes = offsets_upto layout end (length bytes) bytes
 
 -- the bytes begin with a unit, and units at these offsets follow it
 pub record BeginsWithUnit (layout : OrderAndLimit) (bytes : List ℕ) (Follow : ℕ → List ℕ → Type 0)
@@ -57,3 +75,15 @@ pub record UnitWalk : Type 0 where
   pub entry : UnitEntry
   -- the offsets of the units that are still to come
   pub offsets : List ℕ
+
+-- from the offset on the section begins with a unit, and this is its header
+abbrev pub SpellsUnitAt : {R Offset Endian : Type 0} → Unread → ℕ → UnitEntry
+    → SeenHeader R Offset Endian → Type 0
+SpellsUnitAt section offset unit_entry header =
+    SpellsUnit section.layout unit_entry (drop offset section.bytes) header.meaning
+
+-- from the offset on the section begins with no unit, and this is the refusal of the first part of
+-- the header that isn't met
+abbrev pub HasUnitFaultAt : Unread → ℕ → UnitEntry → Error → Type 0
+HasUnitFaultAt section offset unit_entry e =
+    HasUnitFault section.layout unit_entry (drop offset section.bytes) e

@@ -1,4 +1,4 @@
--- Headers of line programs: what they say, how they are spelled, and how they are read.
+-- Headers of line programs: what they say, and how they are spelled and read.
 pub mod Parameters
 pub mod File
 pub mod Header
@@ -6,5 +6,3 @@ pub mod Orders
 pub mod HeaderParts
 pub mod Productions
 pub mod HeaderGrammar
-pub mod FormReading
-pub mod HeaderReading

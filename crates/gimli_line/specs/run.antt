@@ -1,20 +1,14 @@
 -- Runs of line programs: instructions, registers, rows and sequences.
 pub mod Instruction
 pub mod InstructionGrammar
-pub mod InstructionReading
 pub mod Unread
-pub mod NextInstruction
 pub mod Registers
 pub mod OperationPointer
 pub mod Events
 pub mod Machine
 pub mod Execution
 pub mod Row
-pub mod StoredRow
 pub mod EventsWithFiles
-pub mod RunState
 pub mod Passing
 pub mod Rows
-pub mod Started
 pub mod Sequences
-pub mod NonDecreasing

@@ -8,7 +8,7 @@ ghost use Rattle.gimli_core.specs.declared.error.Error.TheVariants.{OutOfMemory}
 ghost use Rattle.gimli_line.specs.header.Header.{unit_entry};
 ghost use Rattle.gimli_line.specs.header.Orders.{HasOneOrder};
 ghost use Rattle.gimli_line.specs.header.HeaderGrammar.{handed_value};
-ghost use Rattle.gimli_line.specs.UnitAt.{SpellsUnitAt, HasUnitFaultAt};
+ghost use Rattle.gimli_line.specs.Units.{SpellsUnitAt, HasUnitFaultAt};
 ghost use Rattle.gimli_line.specs.run.Unread.{unread_of};
 
 use crate::header::program_header::LineProgramHeader;

@@ -28,17 +28,17 @@ ghost use Rattle.gimli_line.specs.run.InstructionGrammar.{
   instruction_production,
   IsInstructionRefusal,
 };
-ghost use Rattle.gimli_line.specs.run.InstructionReading.{decoded_at};
+ghost use Rattle.gimli_line.specs.run.InstructionGrammar.{decoded_at};
 ghost use Rattle.gimli_line.specs.run.OperationPointer.{is_under_tombstone, overflows};
 ghost use Rattle.gimli_line.specs.run.OperationPointer.{OperationPointer, advanced_by};
 ghost use Rattle.gimli_line.specs.run.OperationPointer.{advanced_by_formula};
-ghost use Rattle.gimli_line.specs.run.RunState.{RunState};
+ghost use Rattle.gimli_line.specs.run.Passing.{RunState};
 ghost use Rattle.gimli_line.specs.run.Rows.{events_left, start_of_run};
-ghost use Rattle.gimli_line.specs.run.Started.{GivesEvents, GivesFiles};
+ghost use Rattle.gimli_line.specs.run.Rows.{GivesEvents, GivesFiles};
 ghost use Rattle.gimli_line.specs.run.Unread.{Unread};
 ghost use Rattle.gimli_line.specs.run.Machine.{initial, is_refused, made_from};
 ghost use Rattle.gimli_line.specs.run.Machine.{registers_after, registers_at};
-ghost use Rattle.gimli_line.specs.run.NonDecreasing.{AreOneSequence, NeverBelow};
+ghost use Rattle.gimli_line.specs.run.Sequences.{AreOneSequence, NeverBelow};
 ghost use Rattle.gimli_line.specs.header.Parameters.{Parameters};
 ghost use Rattle.gimli_line.specs.run.Row.{column_number};
 ghost use Rattle.gimli_line.specs.Units.{AreUnits, AreUnitsOnce, offset_after};

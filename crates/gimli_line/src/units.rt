@@ -3,7 +3,7 @@
 ghost use Rattle.std.specs.Prelude.{◌≡◌, ◌↔◌, Err, IsTrue};
 ghost use Rattle.gimli_core.specs.Layout.{layout_of};
 ghost use Rattle.gimli_core.specs.Reading.{result_map};
-ghost use Rattle.gimli_line.specs.UnitReading.{after_unit, any_unit_at};
+ghost use Rattle.gimli_line.specs.Units.{after_unit, any_unit};
 
 use crate::debug_line::DebugLine;
 use crate::run::program::IncompleteLineProgram;
@@ -12,10 +12,10 @@ use std::alloc::Global;
 use std::marker::Model;
 
 /// Takes a unit: its length, and as many bytes as that says. Returns the latter.
-#[tactic(auto, unfolding(crate::specs::UnitReading::any_unit_at))]
+#[tactic(auto, unfolding(crate::specs::Units::any_unit))]
 fn split_unit<R: Reader>(input: &mut R) -> Result<R>
     ensures { (result_map R.bytes result, R.bytes input.new)
-        ≡ any_unit_at (layout_of (R.is_big input.old) R.Offset.limit) (R.bytes input.old) }
+        ≡ (any_unit (layout_of (R.is_big input.old) R.Offset.limit)).read (R.bytes input.old) }
 {
     let (length, _format) = input.read_initial_length()?;
     input.split(length)
@@ -25,7 +25,7 @@ fn split_unit<R: Reader>(input: &mut R) -> Result<R>
 fn skip_unit<R: Reader>(input: &mut R)
     ensures { R.bytes input.new
         ≡ after_unit
-        (any_unit_at (layout_of (R.is_big input.old) R.Offset.limit) (R.bytes input.old)) }
+        ((any_unit (layout_of (R.is_big input.old) R.Offset.limit)).read (R.bytes input.old)) }
 {
     if split_unit(input).is_err() {
         input.empty();
@@ -72,7 +72,7 @@ impl<R: Reader> Model for LineUnits<R> {
     ghost use Rattle.gimli_core.specs.Numbers.{is_address_size};
     ghost use Rattle.gimli_line.specs.header.Header.{unit_entry};
     ghost use Rattle.gimli_line.specs.run.Unread.{unread_of};
-    ghost use Rattle.gimli_line.specs.UnitReading.{offsets_at};
+    ghost use Rattle.gimli_line.specs.Units.{offsets_at};
     ghost use Rattle.gimli_line.specs.Units.{UnitWalk};
 
     ghost Value = { UnitWalk };
@@ -117,7 +117,7 @@ impl<R: Reader> DebugLine<R> {
 
 impl<R: Reader> LineUnits<R> {
     ghost use Rattle.std.specs.Prelude.{◌≡◌, ◌∷◌, [], IfErr, IfOk, IfSome, MatchOption};
-    ghost use Rattle.gimli_line.specs.UnitAt.{SpellsUnitAt, HasUnitFaultAt};
+    ghost use Rattle.gimli_line.specs.Units.{SpellsUnitAt, HasUnitFaultAt};
     ghost use Rattle.gimli_line.specs.header.Orders.{HasOneOrder};
 
     /// The next unit of the section; None where no bytes are left. A unit that `program` refuses is

@@ -1,5 +1,5 @@
 -- Counting pieces.
-use Rattle.std.proofs.Common.{◌≡◌, ◌≢◌, ℕ, zero, suc, ◌+◌, ◌-◌, ◌<◌, ◌≤◌, Bool, true, false, if◌then◌else◌, List, []}
+use Rattle.std.proofs.Common.{◌≡◌, ◌≢◌, ℕ, ◌+◌, ◌-◌, ◌<◌, Bool, true, false, if◌then◌else◌, List, []}
 use Rattle.std.proofs.Common.{◌∷◌, ◌++◌, length, sum, map, refl, sym}
 use Rattle.std.proofs.Common.{ap, ◌∙◌, subst}
 use Rattle.std.proofs.Common.{append_assoc, arith, inl, inr}
@@ -13,9 +13,8 @@ use Rattle.gimli_core.specs.declared.error.Error.{Error}
 use Rattle.gimli_line.specs.header.Header.{Header}
 use Rattle.gimli_line.specs.run.Instruction.{Ins}
 use Rattle.gimli_line.specs.run.InstructionGrammar.{SpellsInstruction, instruction_production}
-use Rattle.gimli_line.specs.run.NextInstruction.{TakesNext}
+use Rattle.gimli_line.specs.run.InstructionGrammar.{TakesNext}
 use Rattle.gimli_line.specs.run.Unread.{Unread as Instructions}
-use Rattle.gimli_line.proofs.InstructionLaws.{takes_bytes}
 use Rattle.lines_counts.specs.Pieces.{Piece, all_bytes, instruction_piece, opcode_size, plain_piece, ArePieces}
 use Rattle.lines_counts.specs.Spent.{number, spent_on}
 use Rattle.lines_counts.specs.declared.sizes.InstructionBytes.{InstructionBytes}
@@ -108,23 +107,26 @@ module _ (layout : OrderAndLimit) (h : Header) where
   -- the next instruction was read, and its bytes passed over and counted
   pub next_counted : (program rest left : List ℕ) (old middle new : Tally) (before after : Instructions)
       (next : Option Ins) (i : Ins) (kind : Spent)
-      (sizes : InstructionBytes) → next ≡ Some i → TakesNext h before after next → rest ≡ before.bytes
+      (sizes : InstructionBytes) (size : ℕ) → size ≡ length after.bytes → next ≡ Some i → TakesNext h before after next
+      → rest ≡ before.bytes
       → before.layout ≡ layout
       → AreCounted layout h program old rest middle
-      → ((n : OrderAndLimit) (k : Header) (front behind : List ℕ) → rest ≡ front ++ behind
-      → SpellsInstruction n k front i
+      → ((n : OrderAndLimit) (k : Header) (j : Ins) (front behind : List ℕ) → rest ≡ front ++ behind
+      → size ≡ length behind → SpellsInstruction n k front j
       → ◌≡◌ {A = Result InstructionBytes Error} (Ok sizes)
       (Ok (record { opcode = opcode_size front; operands = length front - opcode_size front })))
-      → ((n : OrderAndLimit) (k : Header) (front behind : List ℕ) → rest ≡ front ++ behind
-      → SpellsInstruction n k front i
+      → ((n : OrderAndLimit) (k : Header) (j : Ins) (front behind : List ℕ) → rest ≡ front ++ behind
+      → size ≡ length behind → SpellsInstruction n k front j
       → left ≡ behind)
       → kind ≡ spent_on i
       → Counts middle (record { kind = kind; bytes = sizes.opcode; operands = sizes.operands } ∷ []) new
       → AreCounted layout h program old left new × (left ≡ after.bytes)
-  next_counted program rest left old middle new before after None i kind sizes is takes same notes so_far counted leaves
+  next_counted program rest left old middle new before after None i kind sizes size long is takes same notes so_far
+      counted leaves
       on counts =
       absurd cc
-  next_counted program rest left old middle new before after (Some j) i kind sizes is takes same notes so_far counted
+  next_counted program rest left old middle new before after (Some j) i kind sizes size long is takes same notes so_far
+      counted
       leaves on counts =
       let one : j ≡ i = cc in
       let front = takes.0 in
@@ -133,8 +135,8 @@ module _ (layout : OrderAndLimit) (h : Header) where
       subst (λ (n : OrderAndLimit). SpellsInstruction n h front i) notes
       (subst (λ (k : Ins). SpellsInstruction before.layout h front k) one takes.2) in
       let own : sizes ≡ record { opcode = opcode_size front; operands = length front - opcode_size front } =
-      ok_same (counted layout h front after.bytes whole spells) in
-      let behind : left ≡ after.bytes = leaves layout h front after.bytes whole spells in
+      ok_same (counted layout h i front after.bytes whole long spells) in
+      let behind : left ≡ after.bytes = leaves layout h i front after.bytes whole long spells in
       let piece : ◌≡◌ {A = Piece} (record { kind = kind; bytes = sizes.opcode; operands = sizes.operands })
       (instruction_piece i front) =
       ap (λ (k : Spent). let p : Piece = record { kind = k; bytes = sizes.opcode; operands = sizes.operands } in p) on

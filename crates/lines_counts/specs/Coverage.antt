@@ -1,8 +1,8 @@
 -- How many bytes of code places have, as a finite map, and how a new program differs from an old
 -- one.
-use Rattle.std.specs.Prelude.{◌≡◌, ◌+◌, ◌-◌, ◌^◌, ◌⊎◌, ℕ, List, Option, None, Some, min}
+use Rattle.std.specs.Prelude.{◌≡◌, ◌+◌, ◌-◌, ◌^◌, ℕ, List, Option, None, Some, min}
 use Rattle.std.specs.Prelude.{false, nat_eq, if◌then◌else◌}
-use Rattle.std.specs.BTreeMap.{BTreeMap, get, is_at}
+use Rattle.std.specs.BTreeMap.{is_at}
 use Rattle.std.specs.Map.{lookup}
 use Rattle.std.specs.declared.cmp.Ordering.{Ordering}
 use Rattle.lines_counts.specs.contracts.coverage.LinePlaceOrd.TheImpl as place_ord

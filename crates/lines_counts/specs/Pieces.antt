@@ -1,10 +1,10 @@
 -- The pieces of a unit: its header, its tables, each instruction of its program, and what can't be
 -- read.
 use Rattle.std.specs.Prelude.{◌≡◌, ◌⊎◌, ◌+◌, ◌-◌, ℕ, Bool, List, [], ◌∷◌, ◌++◌, length, nat_eq}
-use Rattle.std.specs.Prelude.{nat_le, if◌then◌else◌, sum, map}
+use Rattle.std.specs.Prelude.{nat_le, if◌then◌else◌}
 use Rattle.gimli_core.specs.Layout.{OrderAndLimit}
 use Rattle.gimli_core.specs.Numbers.{word_size}
-use Rattle.gimli_core.specs.Reading.{unsigned_at}
+use Rattle.gimli_core.specs.Production.{unsigned}
 use Rattle.gimli_core.specs.declared.common.Format.{Format}
 use Rattle.gimli_core.specs.declared.common.Format.TheVariants.{Dwarf32, Dwarf64}
 use Rattle.gimli_core.specs.declared.error.Error.{Error}
@@ -31,7 +31,7 @@ all_bytes piece = piece.bytes + piece.operands
 -- the zero byte, the length and the opcode (DWARF 5, section 6.2.3)
 abbrev pub opened_size : Bool → List ℕ → ℕ
 opened_size is_extended rest =
-    if is_extended then 2 + (length rest - length (unsigned_at rest).1) else 1
+    if is_extended then 2 + (length rest - length (unsigned.read rest).1) else 1
 
 abbrev pub opcode_size : List ℕ → ℕ
 opcode_size [] = 0

@@ -11,6 +11,5 @@ mod spent;
 mod tally;
 
 pub use coverage::{Change, Coverage, LinePlace};
-pub use sizes::{InstructionBytes, instruction_bytes};
 pub use spent::Spent;
 pub use tally::{Share, Tally};

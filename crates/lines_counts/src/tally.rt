@@ -137,7 +137,7 @@ impl Tally {
     {
         let mut instructions = header.instructions();
         'instructions: while let Some(instruction) = instructions.next_instruction(header)? {
-            let bytes = instruction_bytes(&instruction, rest)?;
+            let bytes = instruction_bytes(rest, instructions.len().into_u64())?;
             self.add(Spent::on(&instruction), bytes.opcode, bytes.operands);
         }
         Ok(())

@@ -5,7 +5,6 @@ use gimli_core::{Error, Reader, ReaderOffset};
 use gimli_line::{
     IncompleteLineProgram, LineInstruction, LineInstructions, LineProgramHeader, LineRow,
 };
-use lines_counts::instruction_bytes;
 use lines_pieces::Result;
 use lines_words::Output;
 use std::alloc::AllocError;
@@ -139,10 +138,8 @@ impl<R: Reader> UnitCheck<R> {
 fn instruction_start<R: Reader>(header: &LineProgramHeader<R>, before: u64) -> Option<u64> {
     let end = header.next_unit_offset()?;
     let mut instructions = header.instructions();
-    let mut rest = header.raw_program_buf();
     for _ in 0..before {
-        let instruction = instructions.next_instruction(header).ok()??;
-        instruction_bytes(&instruction, &mut rest).ok()?;
+        instructions.next_instruction(header).ok()??;
     }
-    end.0.into_u64().checked_sub(rest.len().into_u64())
+    end.0.into_u64().checked_sub(instructions.len().into_u64())
 }

@@ -7,15 +7,16 @@ use Rattle.gimli_core.specs.declared.error.Error.{Error}
 use Rattle.gimli_compilation.specs.declared.abbreviation.Abbreviations.{Abbreviations}
 use Rattle.gimli_compilation.specs.declared.abbreviation.Specification.{Specification}
 use Rattle.gimli_compilation.specs.declared.abbreviation.Tables.{Tables}
-use Rattle.gimli_compilation.specs.inside.AbbreviationReading.{IsListed, listed, abbreviation_at}
-use Rattle.gimli_compilation.specs.inside.UnitReading.{table_at}
+use Rattle.gimli_compilation.specs.Abbreviation.{abbreviation_production}
+use Rattle.gimli_compilation.specs.Unit.{table_production}
+use Rattle.gimli_compilation.specs.inside.AbbreviationReading.{IsListed, listed}
 
 module _ {R : Type 0} (bytes : R → List ℕ) where
   -- the answer to a code: what is kept of it, else what comes where reading goes on
   abbrev pub answer_to : ℕ → Option R → Result (Option R) Error
       → Result (Option (List Specification)) Error
   answer_to code (Some part) next = Ok (Some (listed (bytes part)))
-  answer_to code None (Ok (Some rest)) = (abbreviation_at code (bytes rest)).0
+  answer_to code None (Ok (Some rest)) = ((abbreviation_production code).read (bytes rest)).0
   answer_to code None (Ok None) = Ok None
   answer_to code None (Err e) = Err e
 
@@ -23,7 +24,7 @@ module _ {R : Type 0} (bytes : R → List ℕ) where
   pub record IsTable (section : List ℕ) (table : Abbreviations R) : Type 0 where
     pub answers : (code : ℕ)
         → answer_to code (get nat_cmp table.specifications code) table.next
-        ≡ (table_at table.offset code section).0
+        ≡ ((table_production table.offset code).read section).0
     pub whole : (code : ℕ)
         → IfSome (get nat_cmp table.specifications code) (λ part. IsListed (bytes part))
 

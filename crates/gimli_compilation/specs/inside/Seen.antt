@@ -6,9 +6,11 @@ use Rattle.gimli_compilation.specs.Header.{Header}
 use Rattle.gimli_compilation.specs.declared.header.UnitHeader.{UnitHeader}
 use Rattle.gimli_compilation.specs.inside.AbbreviationReading.{listed}
 
+-- the content of a unit, and its format
 abbrev pub frame_seen : {R : Type 0} → (R → List ℕ) → R × Format → List ℕ × Format
 frame_seen bytes unit = (bytes unit.0, unit.1)
 
+-- the header of a unit
 abbrev pub header_seen : {R Endian Offset : Type 0} → (Offset → ℕ) → UnitHeader R Endian Offset
     → Header
 header_seen number header = record {
@@ -17,6 +19,7 @@ header_seen number header = record {
   abbreviations = number header.abbreviations;
 }
 
+-- a declaration; the end of a table is one with the code 0
 abbrev pub declaration_seen : {R : Type 0} → (R → List ℕ) → Option (ℕ × R) → Declaration
 declaration_seen bytes (Some found) = (found.0, listed (bytes found.1))
 declaration_seen bytes None = (0, [])

@@ -1,7 +1,9 @@
--- The values of attributes, with lists of bytes in place of readers.
-use Rattle.std.specs.Prelude.{ℕ, List}
+-- The values of attributes, with lists of bytes in place of readers, and the shapes that are read.
+use Rattle.std.specs.Prelude.{ℕ, ◌≤◌, List}
 use Rattle.gimli_compilation.specs.declared.form.Value.{Value}
 use Rattle.gimli_compilation.specs.declared.form.Value.TheVariants.{Number, Text, Passed}
+use Rattle.gimli_compilation.specs.declared.form.Shape.{Shape}
+use Rattle.gimli_compilation.specs.declared.form.Shape.TheVariants.{Fixed, Counted}
 use Rattle.gimli_compilation.specs.declared.attributes.Attributes.{Attributes}
 
 -- a value, its text seen by bytes
@@ -18,3 +20,9 @@ attributes_seen bytes attributes = record {
   name = value_seen bytes attributes.name;
   str_offsets_base = value_seen bytes attributes.str_offsets_base;
 }
+
+-- a number of this shape is one that `read_uint` takes
+abbrev pub IsReadable : Shape → Type 0
+IsReadable (Fixed size kind) = size ≤ 8
+IsReadable (Counted size) = size ≤ 8
+IsReadable shape = Unit {0}

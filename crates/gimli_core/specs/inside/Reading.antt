@@ -1,18 +1,9 @@
 -- What readers take from the front of a list of bytes, and what they leave.
-use Rattle.std.specs.Prelude.{ℕ, ◌^◌, Bool, List, Result, Ok, Err, nat_eq, if◌then◌else◌, ℤ, pos}
+use Rattle.std.specs.Prelude.{ℕ, ◌^◌, Result, Ok, Err, nat_eq, if◌then◌else◌, ℤ, pos}
 use Rattle.std.specs.Prelude.{◌-ℤ◌}
 use Rattle.gimli_core.specs
 use specs.declared.error.Error.{Error}
 use specs.declared.error.Error.TheVariants.{BadSignedLeb128}
-use specs.Reading.{Read, ◌>>=◌, offset_of}
-
--- a test
-abbrev pub check_at : Bool → Error → List ℕ → Read (Unit {0})
-check_at b d bytes = if b then (Ok tt, bytes) else (Err d, bytes)
-
--- a number that an offset has to hold
-abbrev pub below_at : ℕ → (List ℕ → Read ℕ) → List ℕ → Read ℕ
-below_at limit read bytes = read bytes >>= λ n rest. (offset_of limit n, rest)
 
 -- nine groups that are n as an unsigned number, and the tenth byte, which only repeats the sign
 abbrev pub tenth_at : ℕ → ℕ → Result ℤ Error

@@ -5,11 +5,11 @@ use Rattle.gimli_line.specs
 use specs.Prelude
 use Prelude.{ℕ, List, [], length, map, replicate, min, count_by, Bool, not, nat_eq, nat_le, Option}
 use Prelude.{Some, None, option_map, Value, udata_value, Encoding, LineEncoding, Format, Block}
-use Prelude.{String, Error, UnknownVersion, UnsupportedAddressSize, UnsupportedSegmentSize}
+use Prelude.{String, Error, UnknownVersion, UnsupportedSegmentSize}
 use Prelude.{MinimumInstructionLengthZero, MaximumOperationsPerInstructionZero, LineRangeZero}
 use Prelude.{OpcodeBaseZero, MissingFileEntryFormatPath, OrderAndLimit}
 use Rattle.std.specs.Int.{w8, cast_signed}
-use Rattle.gimli_core.specs.Numbers.{is_address_size, SpellsUleb128}
+use Rattle.gimli_core.specs.Numbers.{SpellsUleb128}
 use Rattle.gimli_core.specs.Production.{
   Production,
   ◌>>=◌,
@@ -20,6 +20,7 @@ use Rattle.gimli_core.specs.Production.{
   times,
   list_to_zero,
   within,
+  address_size,
   byte,
   number,
   some_bytes,
@@ -50,24 +51,26 @@ abbrev pub paths_production : Production (List (List ℕ))
 paths_production = list_to_zero path_text
 
 -- after the path of a file: its directory, its timestamp and its size
-abbrev pub file_production : List ℕ → Production File
+unfoldable pub file_production : List ℕ → Production File
 file_production path = do
   directory ← unsigned
   time ← unsigned
   size ← unsigned
   done (plain_file path directory time size)
 
--- files: each a path that isn't empty and three numbers, closed by a zero byte
+-- a path that isn't empty, and what stands after it
+abbrev pub named_file : Production File
+named_file = path_text >>= file_production
+
+-- files, closed by a zero byte
 abbrev pub files_production : Production (List File)
-files_production = list_to_zero (do
-  path ← path_text
-  file_production path)
+files_production = list_to_zero named_file
 
 -- ---- tables of version 5 (DWARF 5, section 6.2.4, parts 13 to 20)
 
 -- one format: a content type, and a form. The standard's content types have 16 bits: that a larger
 -- one is ffff is ours, as gimli has it, so that a table with an unknown one can still be read
-abbrev pub format_production : Production FileEntryFormat
+unfoldable pub format_production : Production FileEntryFormat
 format_production = do
   content ← unsigned
   form ← unsigned_16
@@ -78,7 +81,7 @@ abbrev pub is_content : ℕ → FileEntryFormat → Bool
 is_content content format = nat_eq format.content_type.0 content
 
 -- a count and so many formats, exactly one of which is a path
-abbrev pub formats_production : Production (List FileEntryFormat)
+unfoldable pub formats_production : Production (List FileEntryFormat)
 formats_production = do
   count ← byte
   formats ← times count format_production
@@ -91,7 +94,7 @@ TableEntry = List (ℕ × Value)
 
 module _ (layout : OrderAndLimit) (format : Format) where
   -- an entry: a value for each format
-  abbrev pub entry_production : List FileEntryFormat → Production TableEntry
+  unfoldable pub entry_production : List FileEntryFormat → Production TableEntry
   entry_production [] = done []
   entry_production (f ∷ formats) = do
     value ← form_production layout format f.form.0
@@ -99,13 +102,13 @@ module _ (layout : OrderAndLimit) (format : Format) where
     done ((f.content_type.0, value) ∷ values)
 
   -- a count and so many entries
-  abbrev pub entries_production : List FileEntryFormat → Production (List TableEntry)
+  unfoldable pub entries_production : List FileEntryFormat → Production (List TableEntry)
   entries_production formats = do
     count ← unsigned
     times count (entry_production formats)
 
   -- a table: its formats and its entries
-  abbrev pub table_production : Production (List FileEntryFormat × List TableEntry)
+  unfoldable pub table_production : Production (List FileEntryFormat × List TableEntry)
   table_production = do
     formats ← formats_production
     entries ← entries_production formats
@@ -142,7 +145,7 @@ file_of_entry entry = record {
 -- ---- the parts of a header
 
 -- from version 2 to version 5
-abbrev pub version_production : Bool → Production ℕ
+unfoldable pub version_production : Bool → Production ℕ
 version_production is_big = do
   version ← number is_big 2
   check (nat_le 2 version && nat_le version 5) (UnknownVersion version)
@@ -150,11 +153,10 @@ version_production is_big = do
 
 -- up to version 4 the handed address size; in version 5 the unit's own, and after it a segment
 -- selector size of 0
-abbrev pub address_size_production : ℕ → ℕ → Production ℕ
+unfoldable pub address_size_production : ℕ → ℕ → Production ℕ
 address_size_production version handed =
     choose (nat_le version 4) (done handed) (do
-      size ← byte
-      check (is_address_size size) (UnsupportedAddressSize size)
+      size ← address_size
       selector ← byte
       check (nat_eq selector 0) (UnsupportedSegmentSize selector)
       done size)
@@ -165,7 +167,7 @@ pub record HeaderOpening : Type 0 where
   pub header_length : ℕ
   pub fields : List ℕ
 
-abbrev pub opening_production : OrderAndLimit → ℕ → Format → Production HeaderOpening
+unfoldable pub opening_production : OrderAndLimit → ℕ → Format → Production HeaderOpening
 opening_production layout handed format = do
   version ← version_production layout.is_big
   address_size ← address_size_production version handed
@@ -178,10 +180,15 @@ opening_production layout handed format = do
   })
 
 -- up to version 3 an instruction of the machine is one operation
-abbrev pub line_encoding_production : ℕ → Production LineEncoding
+abbrev pub operations_production : ℕ → Production ℕ
+operations_production version =
+    choose (nat_le version 3) (done 1) (positive MaximumOperationsPerInstructionZero)
+
+-- what rows are encoded by
+unfoldable pub line_encoding_production : ℕ → Production LineEncoding
 line_encoding_production version = do
   minimum ← positive MinimumInstructionLengthZero
-  maximum ← choose (nat_le version 3) (done 1) (positive MaximumOperationsPerInstructionZero)
+  maximum ← operations_production version
   statement ← byte
   base ← byte
   range ← positive LineRangeZero
@@ -194,41 +201,38 @@ line_encoding_production version = do
   })
 
 -- what the instructions are executed by
-abbrev pub parameters_production : Encoding → Production Parameters
+unfoldable pub parameters_production : Encoding → Production Parameters
 parameters_production encoding = do
   line_encoding ← line_encoding_production encoding.version
   opcode_base ← positive OpcodeBaseZero
   done (record { encoding = encoding; line_encoding = line_encoding; opcode_base = opcode_base })
 
--- the directories, with their formats
+-- the items of a table, with their formats: up to version 4 plain ones without formats, in version
+-- 5 what its entries say
+unfoldable pub table_of : {B : Type 0} → Production (List B) → (TableEntry → B) → OrderAndLimit
+    → Encoding → Production (List FileEntryFormat × List B)
+table_of plain view layout encoding =
+    choose (nat_le encoding.version 4)
+    (do
+      items ← plain
+      done ([], items))
+    (do
+      table ← table_production layout encoding.format
+      done (table.0, map view table.1))
+
 abbrev pub directory_table : OrderAndLimit → Encoding
     → Production (List FileEntryFormat × List Value)
-directory_table layout encoding =
-    choose (nat_le encoding.version 4)
-    (do
-      paths ← paths_production
-      done ([], map String paths))
-    (do
-      table ← table_production layout encoding.format
-      done (table.0, map path_of table.1))
+directory_table = table_of (paths_production >>= λ paths. done (map String paths)) path_of
 
--- the files, with their formats
 abbrev pub file_table : OrderAndLimit → Encoding → Production (List FileEntryFormat × List File)
-file_table layout encoding =
-    choose (nat_le encoding.version 4)
-    (do
-      files ← files_production
-      done ([], files))
-    (do
-      table ← table_production layout encoding.format
-      done (table.0, map file_of_entry table.1))
+file_table = table_of files_production file_of_entry
 
 -- what was handed in, where the version takes it
 abbrev pub handed_value : {A : Type 0} → Encoding → Option A → Option A
 handed_value encoding handed = if nat_le encoding.version 4 then handed else None
 
 -- the further fields of a header, whose program was found already
-abbrev pub fields_production : OrderAndLimit → UnitEntry → ℕ → HeaderOpening → List ℕ
+unfoldable pub fields_production : OrderAndLimit → UnitEntry → ℕ → HeaderOpening → List ℕ
     → Production Header
 fields_production layout unit_entry unit opening program = do
   parameters ← parameters_production opening.encoding
@@ -255,7 +259,7 @@ fields_production layout unit_entry unit opening program = do
 -- a unit: its length, and that many bytes. At their front stand the version and so on, up to the
 -- fields that the header length counts, with slack after the last of these; after them stands the
 -- program
-abbrev pub header_production : OrderAndLimit → UnitEntry → Production Header
+unfoldable pub header_production : OrderAndLimit → UnitEntry → Production Header
 header_production layout unit_entry = do
   unit ← unit_length layout
   inside ← some_bytes unit.0

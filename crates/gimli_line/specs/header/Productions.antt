@@ -1,7 +1,9 @@
 -- Further productions of a format, beside those of the core.
-use Rattle.std.specs.Prelude.{◌≡◌, ◌≢◌, ◌∷◌, if◌then◌else◌}
-use Rattle.gimli_line.specs.Prelude.{ℕ, List, [], nat_eq, not, Option, Some, None, Error}
+use Rattle.std.specs.Prelude.{◌≡◌, ◌≢◌, ◌-◌, ◌∷◌, if◌then◌else◌}
+use Rattle.gimli_line.specs.Prelude
+use Prelude.{ℕ, List, [], length, take, nat_eq, not, Option, Some, None, Ok, Error, text_at}
 use Rattle.gimli_core.specs.Production.{Production, ◌>>=◌, ◌>>◌, done, check, byte, text}
+use Rattle.gimli_core.specs.Reading.{◌>>=◌ as ◌>=>◌}
 
 -- ---- put together
 
@@ -10,6 +12,8 @@ abbrev pub bytes_of : {A : Type 0} → Production A → Production (List ℕ)
 bytes_of l = record {
   Spells = λ bytes xs. (xs ≡ bytes) × ((x : _) × l.Spells bytes x);
   Fault = l.Fault;
+  read =
+      λ bytes. l.read bytes >=> λ x rest. (Ok (take (length bytes - length rest) bytes), rest);
 }
 
 -- what stands beside a number in a table
@@ -19,12 +23,16 @@ operand_of n (row ∷ rows) = if nat_eq n row.0 then Some row.1 else operand_of 
 
 -- ---- single productions
 
--- a text that isn't empty, and its zero byte
+-- a text that isn't empty, and its zero byte; it is read where no zero byte comes first
 abbrev pub path_text : Production (List ℕ)
-path_text = record { Spells = λ bytes xs. (xs ≢ []) × text.Spells bytes xs; Fault = text.Fault }
+path_text = record {
+  Spells = λ bytes xs. (xs ≢ []) × text.Spells bytes xs;
+  Fault = text.Fault;
+  read = text_at;
+}
 
 -- a byte that isn't 0
-abbrev pub positive : Error → Production ℕ
+unfoldable pub positive : Error → Production ℕ
 positive d = do
   n ← byte
   check (not (nat_eq n 0)) d

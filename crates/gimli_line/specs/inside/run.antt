@@ -1,5 +1,2 @@
-pub mod InstructionReading
 pub mod Rows
 pub mod SequenceSplit
-pub mod StoredRow
-pub mod Unread

@@ -15,7 +15,7 @@ use specs.declared.run.row.LineRow.{LineRow}
 use specs.header.Header.{Header}
 use specs.header.Parameters.{Parameters}
 use specs.run.Instruction.{Ins, defines_file}
-use specs.run.InstructionReading.{ins_at}
+use specs.run.InstructionGrammar.{instruction_production}
 use specs.run.Machine.{step_of, is_refused}
 use specs.run.Unread.{Unread}
 
@@ -67,11 +67,13 @@ IsExecutedAs parameters read rest old new told =
 abbrev pub ExecutesNext : Header → Unread → Unread → LineRow → LineRow → Executed → Type 0
 ExecutesNext h old new row after No = (new ≡ old) × (after ≡ row)
 ExecutesNext h old new row after told =
-    IsExecutedAs h.parameters (ins_at old.layout h old.bytes) new.bytes row after told
+    IsExecutedAs h.parameters ((instruction_production old.layout h).read old.bytes) new.bytes row
+    after told
 
 -- the next instruction was refused: the address would pass the greatest one of its size; the
 -- registers go on, but for the address
 abbrev pub RefusesNext : Header → Unread → Unread → LineRow → LineRow → Error → Type 0
 RefusesNext h old new row after e =
     (e ≡ AddressOverflow)
-    × IsExecuted h.parameters (ins_at old.layout h old.bytes) new.bytes row after true
+    × IsExecuted h.parameters ((instruction_production old.layout h).read old.bytes) new.bytes row
+    after true

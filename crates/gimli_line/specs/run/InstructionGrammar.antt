@@ -1,72 +1,46 @@
 -- How instructions are spelled, and how a program is decoded into them (DWARF 5, sections 6.2.3 and
 -- 6.2.5).
 use Rattle.std.specs.Prelude.{◌≡◌, ◌≢◌, ◌<◌, ◌^◌, ◌-◌, ◌∷◌, ◌++◌, if◌then◌else◌}
-use Rattle.gimli_line.specs
-use specs.Prelude
-use Prelude.{ℕ, zero, suc, List, [], nat_eq, nat_le, Option, Some, None, ℤ, slice_index, Error}
-use Prelude.{UnexpectedEof, BadUnsignedLeb128, BadSignedLeb128, UnsupportedOffset, OrderAndLimit}
-use Rattle.gimli_core.specs.Production.{
-  Production,
-  ◌>>=◌,
-  done,
-  choose,
-  times,
-  within,
-  byte,
-  number,
-  some_bytes,
-  text,
-  unsigned,
-  signed,
-  below_limit,
-  Each,
-}
-use specs.declared.run.instruction.LineInstruction.TheVariants.{
-  Special,
-  Copy,
-  AdvancePc,
-  AdvanceLine,
-  SetFile,
-  SetColumn,
-  NegateStatement,
-  SetBasicBlock,
-  ConstAddPc,
-  FixedAddPc,
-  SetPrologueEnd,
-  SetEpilogueBegin,
-  SetIsa,
-  UnknownStandard0,
-  UnknownStandard1,
-  UnknownStandardN,
-  EndSequence,
-  SetAddress,
-  DefineFile,
-  SetDiscriminator,
-  UnknownExtended,
-}
-use specs.LineNumbers.{
-  DW_LNS_copy,
-  DW_LNS_advance_pc,
-  DW_LNS_advance_line,
-  DW_LNS_set_file,
-  DW_LNS_set_column,
-  DW_LNS_negate_stmt,
-  DW_LNS_set_basic_block,
-  DW_LNS_const_add_pc,
-  DW_LNS_fixed_advance_pc,
-  DW_LNS_set_prologue_end,
-  DW_LNS_set_epilogue_begin,
-  DW_LNS_set_isa,
-  DW_LNE_end_sequence,
-  DW_LNE_set_address,
-  DW_LNE_define_file,
-  DW_LNE_set_discriminator,
-}
-use specs.run.Instruction.{Ins}
-use specs.header.File.{File}
-use specs.header.Header.{Header}
-use specs.header.HeaderGrammar.{file_production}
-use specs.header.Productions.{bytes_of, operand_of}
+use Rattle.gimli_line.specs.Prelude.{ℕ, zero, suc, List, [], length, nat_eq, nat_le, Option, Some}
+use Rattle.gimli_line.specs.Prelude.{None, Ok, Err, ℤ, slice_index, Error, UnexpectedEof}
+use Rattle.gimli_line.specs.Prelude.{BadUnsignedLeb128, BadSignedLeb128, UnsupportedOffset}
+use Rattle.gimli_line.specs.Prelude.{OrderAndLimit, Read}
+use Rattle.gimli_core.specs.Production.{Production, ◌>>=◌, done, choose, times, within, byte}
+use Rattle.gimli_core.specs.Production.{number, some_bytes, text, unsigned, signed, below_limit}
+use Rattle.gimli_core.specs.Production.{Each}
+use Rattle.gimli_line.specs.declared.run.instruction.LineInstruction.TheVariants.{Special, Copy}
+use Rattle.gimli_line.specs.declared.run.instruction.LineInstruction.TheVariants.{AdvancePc}
+use Rattle.gimli_line.specs.declared.run.instruction.LineInstruction.TheVariants.{AdvanceLine}
+use Rattle.gimli_line.specs.declared.run.instruction.LineInstruction.TheVariants.{SetFile}
+use Rattle.gimli_line.specs.declared.run.instruction.LineInstruction.TheVariants.{SetColumn}
+use Rattle.gimli_line.specs.declared.run.instruction.LineInstruction.TheVariants.{NegateStatement}
+use Rattle.gimli_line.specs.declared.run.instruction.LineInstruction.TheVariants.{SetBasicBlock}
+use Rattle.gimli_line.specs.declared.run.instruction.LineInstruction.TheVariants.{ConstAddPc}
+use Rattle.gimli_line.specs.declared.run.instruction.LineInstruction.TheVariants.{FixedAddPc}
+use Rattle.gimli_line.specs.declared.run.instruction.LineInstruction.TheVariants.{SetPrologueEnd}
+use Rattle.gimli_line.specs.declared.run.instruction.LineInstruction.TheVariants.{SetEpilogueBegin}
+use Rattle.gimli_line.specs.declared.run.instruction.LineInstruction.TheVariants.{SetIsa}
+use Rattle.gimli_line.specs.declared.run.instruction.LineInstruction.TheVariants.{UnknownStandard0}
+use Rattle.gimli_line.specs.declared.run.instruction.LineInstruction.TheVariants.{UnknownStandard1}
+use Rattle.gimli_line.specs.declared.run.instruction.LineInstruction.TheVariants.{UnknownStandardN}
+use Rattle.gimli_line.specs.declared.run.instruction.LineInstruction.TheVariants.{EndSequence}
+use Rattle.gimli_line.specs.declared.run.instruction.LineInstruction.TheVariants.{SetAddress}
+use Rattle.gimli_line.specs.declared.run.instruction.LineInstruction.TheVariants.{DefineFile}
+use Rattle.gimli_line.specs.declared.run.instruction.LineInstruction.TheVariants.{SetDiscriminator}
+use Rattle.gimli_line.specs.declared.run.instruction.LineInstruction.TheVariants.{UnknownExtended}
+use Rattle.gimli_line.specs.LineNumbers.{DW_LNS_copy, DW_LNS_advance_pc, DW_LNS_advance_line}
+use Rattle.gimli_line.specs.LineNumbers.{DW_LNS_set_file, DW_LNS_set_column, DW_LNS_negate_stmt}
+use Rattle.gimli_line.specs.LineNumbers.{DW_LNS_set_basic_block, DW_LNS_const_add_pc}
+use Rattle.gimli_line.specs.LineNumbers.{DW_LNS_fixed_advance_pc, DW_LNS_set_prologue_end}
+use Rattle.gimli_line.specs.LineNumbers.{DW_LNS_set_epilogue_begin, DW_LNS_set_isa}
+use Rattle.gimli_line.specs.LineNumbers.{DW_LNE_end_sequence, DW_LNE_set_address}
+use Rattle.gimli_line.specs.LineNumbers.{DW_LNE_define_file, DW_LNE_set_discriminator}
+use Rattle.gimli_line.specs.run.Instruction.{Ins}
+use Rattle.gimli_line.specs.header.File.{File}
+use Rattle.gimli_line.specs.header.Header.{Header}
+use Rattle.gimli_line.specs.header.HeaderGrammar.{file_production}
+use Rattle.gimli_line.specs.header.Productions.{bytes_of, operand_of}
+use Rattle.gimli_line.specs.run.Unread.{Unread}
 
 -- ---- opcodes and their operands
 
@@ -123,7 +97,7 @@ module _ (layout : OrderAndLimit) (h : Header) where
     done (make f)
 
   -- after a standard opcode without a meaning here: as many LEB128 numbers as the header counts
-  abbrev pub unknown_production : ℕ → ℕ → Production Ins
+  unfoldable pub unknown_production : ℕ → ℕ → Production Ins
   unknown_production opcode zero = done (UnknownStandard0 (record { 0 = opcode }))
   unknown_production opcode (suc zero) = do
     n ← unsigned
@@ -133,14 +107,14 @@ module _ (layout : OrderAndLimit) (h : Header) where
     done (UnknownStandardN (record { 0 = opcode }) operands)
 
   -- after an opcode below the opcode base
-  abbrev pub standard_production : ℕ → Production Ins
+  unfoldable pub standard_production : ℕ → Production Ins
   standard_production opcode = elim (operand_of opcode standard_opcodes) [
     | Some operand ↦ operand_production operand
     | None ↦ unknown_production opcode (slice_index h.operand_counts (opcode - 1))
   ]
 
   -- an extended opcode, and the bytes after it within its instruction; surplus ones are skipped
-  abbrev pub extended_operands : ℕ → List ℕ → Production Ins
+  unfoldable pub extended_operands : ℕ → List ℕ → Production Ins
   extended_operands opcode operands =
       elim (operand_of opcode (extended_opcodes h.parameters.encoding.version)) [
         | Some operand ↦ within operands (operand_production operand) >>= λ read. done read.0
@@ -148,7 +122,7 @@ module _ (layout : OrderAndLimit) (h : Header) where
       ]
 
   -- after a zero byte: a length, and that many bytes, of which the first is the opcode
-  abbrev pub extended_production : Production Ins
+  unfoldable pub extended_production : Production Ins
   extended_production = do
     size ← below_limit layout unsigned
     inside ← some_bytes size
@@ -184,6 +158,22 @@ module _ (layout : OrderAndLimit) (h : Header) where
     pub spelled : Each SpellsInstruction front list
     pub ended : IsEnd rest end
 
+  -- an instruction that was read, and after it what is decoded of the rest
+  abbrev pub decoded_after : (List ℕ → List Ins × Option Error) → Read Ins → List Ins × Option Error
+  decoded_after decoding (Ok i, rest) = (i ∷ (decoding rest).0, (decoding rest).1)
+  decoded_after decoding (Err e, rest) = ([], Some e)
+
+  -- at most so many instructions, and the end
+  unfoldable pub decoded_upto : ℕ → List ℕ → List Ins × Option Error
+  decoded_upto zero bytes = ([], None)
+  decoded_upto (suc more) [] = ([], None)
+  decoded_upto (suc more) (b ∷ bytes) =
+      decoded_after (decoded_upto more) (instruction_production.read (b ∷ bytes))
+
+  -- the instructions of a program and its end; they aren't more than its bytes
+  abbrev pub decoded_at : List ℕ → List Ins × Option Error
+  decoded_at bytes = decoded_upto (length bytes) bytes
+
   -- the bytes are decoded in one way at most
   abbrev pub AreDecodedOnce : List ℕ → Type 0
   AreDecodedOnce bytes =
@@ -200,3 +190,14 @@ IsInstructionRefusal layout BadUnsignedLeb128 = Unit {0}
 IsInstructionRefusal layout BadSignedLeb128 = Unit {0}
 IsInstructionRefusal layout UnsupportedOffset = layout.limit < 2 ^ 64
 IsInstructionRefusal layout e = ⊥
+
+-- a spelling of the instruction is taken from the front; or there is none, since no bytes are left
+abbrev pub TakesNext : Header → Unread → Unread → Option Ins → Type 0
+TakesNext h old new None = (old.bytes ≡ []) × (new.bytes ≡ [])
+TakesNext h old new (Some i) =
+    (front : List ℕ) × (old.bytes ≡ front ++ new.bytes) × SpellsInstruction old.layout h front i
+
+-- bytes are left that begin with no instruction, and this is the refusal; after it none are left
+abbrev pub EndsByFault : Header → Unread → Unread → Error → Type 0
+EndsByFault h old new e =
+    (old.bytes ≢ []) × (new.bytes ≡ []) × (instruction_production old.layout h).Fault old.bytes e

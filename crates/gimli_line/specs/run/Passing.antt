@@ -1,16 +1,31 @@
 -- What a run passes over on its way.
 use Rattle.std.specs.Prelude.{◌≡◌, ◌∷◌, ◌++◌}
-use Rattle.gimli_line.specs
-use specs.Prelude.{Bool, List, [], ℕ}
+use Rattle.gimli_line.specs.Prelude.{Bool, List, [], ℕ}
 use Rattle.gimli_core.specs.Production.{Each}
-use specs.declared.run.row.LineRow.{LineRow}
-use specs.header.Parameters.{Parameters}
-use specs.run.Instruction.{Ins, files_after}
-use specs.header.File.{File}
-use specs.run.InstructionGrammar.{SpellsInstruction}
-use specs.run.Events.{Event}
-use specs.run.Machine.{reset_row, next_registers, run}
-use specs.run.RunState.{RunState}
+use Rattle.gimli_line.specs.declared.run.row.LineRow.{LineRow}
+use Rattle.gimli_line.specs.header.Parameters.{Parameters}
+use Rattle.gimli_line.specs.run.Instruction.{Ins, files_after}
+use Rattle.gimli_line.specs.header.File.{File}
+use Rattle.gimli_line.specs.run.InstructionGrammar.{SpellsInstruction}
+use Rattle.gimli_line.specs.run.Events.{Event}
+use Rattle.gimli_line.specs.run.Machine.{reset_row, next_registers, run}
+use Rattle.gimli_line.specs.header.Header.{Header}
+use Rattle.gimli_line.specs.header.Orders.{HeaderSource}
+use Rattle.gimli_line.specs.run.Unread.{Unread}
+
+-- a row iterator, as its callers see it
+pub record RunState : Type 0 where
+  -- the header without its files, and these
+  pub fixed : Header
+  pub files : List File
+  -- whether files are added
+  pub appends : Bool
+  -- where the header comes from
+  pub source : HeaderSource
+  -- the registers
+  pub row : LineRow
+  -- the instructions to come
+  pub unread : Unread
 
 -- the registers after these instructions, from these on
 abbrev pub registers_from : Parameters → LineRow → List Ins → LineRow

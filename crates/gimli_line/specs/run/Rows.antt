@@ -1,22 +1,20 @@
 -- What a row iterator still makes and gives.
 use Rattle.std.specs.Prelude.{◌≡◌, ◌≢◌, ◌⊎◌, ◌∷◌, ◌++◌}
-use Rattle.gimli_line.specs
-use specs.Prelude
-use Prelude.{ℕ, Bool, true, false, List, [], All, Option, Some, None, Result, Ok, Err, Error}
-use Prelude.{AddressOverflow, OutOfMemory}
+use Rattle.gimli_line.specs.Prelude.{ℕ, Bool, true, false, List, [], All, Option, Some, None}
+use Rattle.gimli_line.specs.Prelude.{Result, Ok, Err, Error, AddressOverflow, OutOfMemory}
 use Rattle.std.specs.Borrow.{Bor}
-use specs.declared.run.row.LineRow.{LineRow}
-use specs.header.File.{File}
-use specs.header.Header.{Header, SeenHeader, without_files}
-use specs.header.Orders.{HeaderSource, source_of, AreOneOrder, KeepsSource}
-use specs.run.Instruction.{Ins, defines_file}
-use specs.run.InstructionGrammar.{SpellsInstruction}
-use specs.run.InstructionReading.{decoded_at}
-use specs.run.Events.{Event, row, fault, EventWithFiles, given_of}
-use specs.run.Machine.{initial, made_from}
-use specs.run.Unread.{Unread, whole_program}
-use specs.run.RunState.{RunState}
-use specs.run.Passing.{with_reset_row, files_from, PassesOver}
+use Rattle.gimli_line.specs.declared.run.row.LineRow.{LineRow}
+use Rattle.gimli_line.specs.header.File.{File}
+use Rattle.gimli_line.specs.header.Header.{Header, SeenHeader, without_files}
+use Rattle.gimli_line.specs.header.Orders.{HeaderSource, source_of, AreOneOrder, KeepsSource}
+use Rattle.gimli_line.specs.run.Instruction.{Ins, defines_file}
+use Rattle.gimli_line.specs.run.InstructionGrammar.{SpellsInstruction, decoded_at}
+use Rattle.gimli_line.specs.run.Events.{Event, row, fault, EventWithFiles, given_of}
+use Rattle.gimli_line.specs.run.Machine.{initial, made_from}
+use Rattle.gimli_line.specs.run.Unread.{Unread, whole_program}
+use Rattle.gimli_line.specs.run.Passing.{RunState}
+use Rattle.gimli_line.specs.run.Passing.{with_reset_row, files_from, PassesOver}
+use Rattle.gimli_line.specs.run.EventsWithFiles.{EventsWithFiles, FilesAtEnd}
 
 -- ---- what is still to come
 
@@ -151,3 +149,13 @@ abbrev pub NextIs : {R Offset Endian : Type 0} → (RunState → List EventWithF
 NextIs live old new (Ok None) = EndIs live old new
 NextIs live old new (Ok (Some found)) = RowIs live old new found.1.now found.0.now.meaning.files
 NextIs live old new (Err e) = FaultIs live (with_reset_row old) new e
+
+-- the events to come are those of the instructions, with the files of the header at each
+abbrev pub GivesEvents : Bool → Header → Unread → RunState → Type 0
+GivesEvents appends h unread rows =
+    EventsWithFiles unread.layout appends h unread.bytes (events_left rows)
+
+-- the files at the end are those of the header and those that the instructions define
+abbrev pub GivesFiles : Bool → Header → Unread → RunState → Type 0
+GivesFiles appends h unread rows =
+    FilesAtEnd unread.layout appends h unread.bytes (files_at_end rows)

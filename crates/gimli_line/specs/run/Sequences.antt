@@ -1,26 +1,16 @@
 -- The sequences of a program, each run by itself.
-use Rattle.std.specs.Prelude.{◌≡◌, ◌∷◌, ◌++◌}
-use Rattle.gimli_line.specs
-use specs.Prelude
-use Prelude.{ℕ, true, false, List, [], map, flat_map, Option, None, AllByRecursion, Error}
-use Prelude.{OrderAndLimit}
-use specs.declared.run.row.LineRow.{LineRow}
-use specs.declared.run.sequences.LineSequence.{LineSequence}
-use specs.header.Header.{Header}
-use specs.run.Instruction.{Ins}
-use specs.run.InstructionGrammar.{Decodes}
-use specs.run.Events.{
-  Event,
-  row,
-  fault,
-  Events,
-  program_events,
-  defined_files,
-  past_at_end,
-  through_last_end,
-}
+use Rattle.std.specs.Prelude.{◌≡◌, ◌∷◌, ◌++◌, ◌≤◌}
+use Rattle.gimli_line.specs.Prelude.{ℕ, true, false, List, [], map, flat_map, Option, None}
+use Rattle.gimli_line.specs.Prelude.{AllByRecursion, Error, OrderAndLimit}
+use Rattle.gimli_line.specs.declared.run.row.LineRow.{LineRow}
+use Rattle.gimli_line.specs.declared.run.sequences.LineSequence.{LineSequence}
+use Rattle.gimli_line.specs.header.Header.{Header}
+use Rattle.gimli_line.specs.run.Instruction.{Ins, is_end}
+use Rattle.gimli_line.specs.run.InstructionGrammar.{Decodes}
+use Rattle.gimli_line.specs.run.Events.{Event, row, fault, Events, program_events, defined_files}
+use Rattle.gimli_line.specs.run.Events.{past_at_end, through_last_end}
 pub use Rattle.gimli_line.specs.run.Events.{events_of}
-use specs.run.Unread.{Unread}
+use Rattle.gimli_line.specs.run.Unread.{Unread}
 
 -- a sequence: the addresses that it names, and the instructions that give its rows
 pub record Sequence : Type 0 where
@@ -87,3 +77,15 @@ pub record HasFirstFault (layout : OrderAndLimit) (h : Header) (e : Error) : Typ
   pub rows : List LineRow
   pub rest : List Event
   pub given : program_events h.parameters list end ≡ map row rows ++ fault e ∷ rest
+
+-- no row has an address below the one before it, nor the first below `low`
+abbrev pub NeverBelow : ℕ → List Event → Type 0
+NeverBelow low [] = Unit {0}
+NeverBelow low (row r ∷ events) = (low ≤ r.address) × NeverBelow r.address events
+NeverBelow low (fault e ∷ events) = NeverBelow low events
+
+-- instructions of which none but the last is an end
+abbrev pub AreOneSequence : List Ins → Type 0
+AreOneSequence [] = Unit {0}
+AreOneSequence (i ∷ []) = Unit {0}
+AreOneSequence (i ∷ j ∷ list) = (is_end i ≡ false) × AreOneSequence (j ∷ list)

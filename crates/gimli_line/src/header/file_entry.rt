@@ -59,7 +59,7 @@ where
     ghost use Rattle.gimli_core.specs.Values.{ValueHasOrder};
     ghost use Rattle.gimli_line.specs.header.File.{file_seen, FileHasOrder};
     ghost use Rattle.gimli_line.specs.header.Header.{plain_file};
-    ghost use Rattle.gimli_line.specs.header.HeaderReading.{plain_file_at};
+    ghost use Rattle.gimli_line.specs.header.HeaderGrammar.{file_production};
     ghost use Rattle.gimli_line.specs.inside.header.EntryReading.{file_with};
 
     /// A file of which the path alone is known.
@@ -81,10 +81,10 @@ where
 
     /// Takes what stands after the path of a file up to version 4.
     #[inline(always)]
-    #[tactic(auto, unfolding(crate::specs::header::HeaderReading::plain_file_at))]
+    #[tactic(auto, unfolding(crate::specs::header::HeaderGrammar::file_production))]
     pub(crate) fn parse(input: &mut R, path_name: R) -> Result<Self>
         ensures read { (result_map (file_seen R.bytes Offset.number) result, R.bytes input.new)
-            ≡ plain_file_at (R.bytes path_name) (R.bytes input.old) }
+            ≡ (file_production (R.bytes path_name)).read (R.bytes input.old) }
         ensures order { R.is_big input.new ≡ R.is_big input.old }
         ensures file { IfOk result (FileHasOrder R.is_big (R.is_big path_name)) }
     {

@@ -1,12 +1,12 @@
 //! Values of the tables of version 5, by their forms.
 
-ghost use Rattle.std.specs.Prelude.{◌≡◌, IfOk};
-ghost use Rattle.gimli_core.specs.Reading.{result_map, unsigned_at};
+ghost use Rattle.std.specs.Prelude.{◌≡◌, IfOk, drop};
+ghost use Rattle.gimli_core.specs.Form.{block_production, form_production, shapes};
+ghost use Rattle.gimli_core.specs.Production.{below_limit, unsigned};
+ghost use Rattle.gimli_core.specs.Reading.{result_map};
 ghost use Rattle.gimli_core.specs.Layout.{layout_of};
 ghost use Rattle.gimli_core.specs.Values.{value_seen, ValueHasOrder};
-ghost use Rattle.gimli_line.specs.header.FormReading.{offset_at};
-ghost use Rattle.gimli_line.specs.inside.header.FormReading.{form_at, number_form_at, word_form_at};
-ghost use Rattle.gimli_line.specs.inside.header.FormReading.{index_form_at, block_at};
+ghost use Rattle.gimli_line.specs.inside.header.HeaderGrammar.{form_among};
 
 use crate::run::leb128::read_uleb128;
 use gimli_core::{
@@ -15,14 +15,13 @@ use gimli_core::{
 };
 
 /// Takes a value in a form. Refused by `UnknownForm` at a form that line programs don't know.
-#[tactic(auto, unfolding(crate::specs::inside::header::FormReading::form_at, crate::specs::inside::header::FormReading::number_form_at))]
 pub(crate) fn parse_attribute<R: Reader>(
     input: &mut R,
     format: Format,
     form: DwForm,
 ) -> Result<AttributeValue<R>>
     ensures read { (result_map (value_seen R.bytes R.Offset.number) result, R.bytes input.new)
-        ≡ form_at (layout_of (R.is_big input.old) R.Offset.limit) format form.0
+        ≡ (form_production (layout_of (R.is_big input.old) R.Offset.limit) format form.0).read
         (R.bytes input.old) }
     ensures order { R.is_big input.new ≡ R.is_big input.old }
     ensures part { IfOk result (ValueHasOrder R.is_big (R.is_big input.old)) }
@@ -50,11 +49,10 @@ pub(crate) fn parse_attribute<R: Reader>(
 }
 
 /// Takes a value in a form that isn't a block: a number, or what comes after those.
-#[tactic(auto, unfolding(crate::specs::inside::header::FormReading::number_form_at, crate::specs::inside::header::FormReading::word_form_at))]
 fn parse_number<R: Reader>(input: &mut R, format: Format, form: DwForm) -> Result<AttributeValue<R>>
     ensures read { (result_map (value_seen R.bytes R.Offset.number) result, R.bytes input.new)
-        ≡ number_form_at (layout_of (R.is_big input.old) R.Offset.limit) format form.0
-        (R.bytes input.old) }
+        ≡ (form_among (layout_of (R.is_big input.old) R.Offset.limit) format (drop 5 shapes)
+        form.0).read (R.bytes input.old) }
     ensures order { R.is_big input.new ≡ R.is_big input.old }
     ensures part { IfOk result (ValueHasOrder R.is_big (R.is_big input.old)) }
 {
@@ -71,15 +69,14 @@ fn parse_number<R: Reader>(input: &mut R, format: Format, form: DwForm) -> Resul
 }
 
 /// Takes a word of the format, a text, or what comes after those: an index.
-#[tactic(auto, unfolding(crate::specs::inside::header::FormReading::word_form_at, crate::specs::inside::header::FormReading::index_form_at))]
 fn parse_word_or_text<R: Reader>(
     input: &mut R,
     format: Format,
     form: DwForm,
 ) -> Result<AttributeValue<R>>
     ensures read { (result_map (value_seen R.bytes R.Offset.number) result, R.bytes input.new)
-        ≡ word_form_at (layout_of (R.is_big input.old) R.Offset.limit) format form.0
-        (R.bytes input.old) }
+        ≡ (form_among (layout_of (R.is_big input.old) R.Offset.limit) format (drop 12 shapes)
+        form.0).read (R.bytes input.old) }
     ensures order { R.is_big input.new ≡ R.is_big input.old }
     ensures part { IfOk result (ValueHasOrder R.is_big (R.is_big input.old)) }
 {
@@ -106,11 +103,10 @@ fn parse_word_or_text<R: Reader>(
 }
 
 /// Takes an index of a text. Refused by `UnknownForm` at a form that has none.
-#[tactic(auto, unfolding(crate::specs::inside::header::FormReading::index_form_at))]
 fn parse_index<R: Reader>(input: &mut R, format: Format, form: DwForm) -> Result<AttributeValue<R>>
     ensures read { (result_map (value_seen R.bytes R.Offset.number) result, R.bytes input.new)
-        ≡ index_form_at (layout_of (R.is_big input.old) R.Offset.limit) format form.0
-        (R.bytes input.old) }
+        ≡ (form_among (layout_of (R.is_big input.old) R.Offset.limit) format (drop 18 shapes)
+        form.0).read (R.bytes input.old) }
     ensures order { R.is_big input.new ≡ R.is_big input.old }
     ensures part { IfOk result (ValueHasOrder R.is_big (R.is_big input.old)) }
 {
@@ -128,7 +124,7 @@ fn parse_index<R: Reader>(input: &mut R, format: Format, form: DwForm) -> Result
 /// Takes so many bytes, as a block.
 fn parse_block<R: Reader>(input: &mut R, len: R::Offset) -> Result<AttributeValue<R>>
     ensures read { (result_map (value_seen R.bytes R.Offset.number) result, R.bytes input.new)
-        ≡ block_at (R.Offset.number len) (R.bytes input.old) }
+        ≡ (block_production (R.Offset.number len)).read (R.bytes input.old) }
     ensures order { R.is_big input.new ≡ R.is_big input.old }
     ensures part { IfOk result (ValueHasOrder R.is_big (R.is_big input.old)) }
 {
@@ -140,7 +136,8 @@ fn parse_block<R: Reader>(input: &mut R, len: R::Offset) -> Result<AttributeValu
 /// type is too narrow.
 pub(crate) fn parse_offset<R: Reader>(input: &mut R) -> Result<R::Offset>
     ensures read { (result_map R.Offset.number result, R.bytes input.new)
-        ≡ offset_at R.Offset.limit unsigned_at (R.bytes input.old) }
+        ≡ (below_limit (layout_of (R.is_big input.old) R.Offset.limit) unsigned).read
+        (R.bytes input.old) }
     ensures order { R.is_big input.new ≡ R.is_big input.old }
 {
     let number = read_uleb128(input)?;

@@ -14,7 +14,7 @@ pub(crate) struct Parameters {
 
 impl Model for Parameters {
     ghost use Rattle.gimli_line.specs.header.Parameters.{Parameters};
-    ghost use Rattle.gimli_line.specs.inside.header.Parameters.{AreAllowed};
+    ghost use Rattle.gimli_line.specs.inside.header.HeaderGrammar.{AreAllowed};
 
     ghost Value = { Parameters };
 

@@ -5,16 +5,15 @@ ghost use Rattle.std.specs.Prelude.{◌≡◌, ◌<◌, IfOk, IsTrue, option_map
 ghost use Rattle.gimli_core.specs.Layout.{layout_of};
 ghost use Rattle.gimli_core.specs.Numbers.{is_address_size};
 ghost use Rattle.gimli_core.specs.Reading.{result_map};
-ghost use Rattle.gimli_line.specs.inside.header.HeaderReading.{
-  positive_at,
-  version_at,
-  own_address_size_at,
-  size_at,
-  operations_at,
-  line_encoding_at,
-  parameters_at,
+ghost use Rattle.gimli_line.specs.header.HeaderGrammar.{
+  version_production,
+  address_size_production,
+  operations_production,
+  line_encoding_production,
+  parameters_production,
 };
 ghost use Rattle.gimli_line.specs.header.Parameters.{IsLineEncoding};
+ghost use Rattle.gimli_line.specs.header.Productions.{positive};
 
 use crate::header::file_entry::FileEntry;
 use crate::header::parameters::Parameters;
@@ -26,9 +25,9 @@ use gimli_core::{
 use std::alloc::Global;
 
 /// Takes a byte that isn't 0. Refused by `error` where it is.
-#[tactic(auto, unfolding(crate::specs::inside::header::HeaderReading::positive_at))]
+#[tactic(auto, unfolding(crate::specs::header::Productions::positive))]
 fn parse_positive<R: Reader>(input: &mut R, error: Error) -> Result<u8>
-    ensures read { (result, R.bytes input.new) ≡ positive_at error (R.bytes input.old) }
+    ensures read { (result, R.bytes input.new) ≡ (positive error).read (R.bytes input.old) }
     ensures order { R.is_big input.new ≡ R.is_big input.old }
     ensures positive { IfOk result (λ n. 0 < n) }
 {
@@ -41,10 +40,10 @@ fn parse_positive<R: Reader>(input: &mut R, error: Error) -> Result<u8>
 
 /// Takes a version, from 2 to 5: the versions of the line table, which are those of DWARF (DWARF 5,
 /// appendix F). Refused by `UnknownVersion` at any other.
-#[tactic(auto, unfolding(crate::specs::inside::header::HeaderReading::version_at))]
+#[tactic(auto, unfolding(crate::specs::header::HeaderGrammar::version_production))]
 fn parse_version<R: Reader>(input: &mut R) -> Result<u16>
     ensures read { (result, R.bytes input.new)
-        ≡ version_at (R.is_big input.old) (R.bytes input.old) }
+        ≡ (version_production (R.is_big input.old)).read (R.bytes input.old) }
     ensures order { R.is_big input.new ≡ R.is_big input.old }
 {
     let version = input.read_u16()?;
@@ -56,10 +55,11 @@ fn parse_version<R: Reader>(input: &mut R) -> Result<u16>
 
 /// The address size of a unit: the handed one up to version 4, else the unit's own, after which a
 /// segment selector size of 0 stands.
-#[tactic(auto, unfolding(crate::specs::inside::header::HeaderReading::own_address_size_at))]
+#[tactic(auto, unfolding(crate::specs::header::HeaderGrammar::address_size_production))]
 fn parse_address_size<R: Reader>(input: &mut R, version: u16, handed: u8) -> Result<u8>
     requires { IsTrue (is_address_size handed) }
-    ensures read { (result, R.bytes input.new) ≡ size_at version handed (R.bytes input.old) }
+    ensures read { (result, R.bytes input.new)
+        ≡ (address_size_production version handed).read (R.bytes input.old) }
     ensures order { R.is_big input.new ≡ R.is_big input.old }
     ensures size { IfOk result (λ n. IsTrue (is_address_size n)) }
 {
@@ -75,9 +75,10 @@ fn parse_address_size<R: Reader>(input: &mut R, version: u16, handed: u8) -> Res
 }
 
 /// Takes what rows are encoded by. Up to version 3 the maximum of operations isn't there, and is 1.
-#[tactic(auto, unfolding(crate::specs::inside::header::HeaderReading::line_encoding_at))]
+#[tactic(auto, unfolding(crate::specs::header::HeaderGrammar::line_encoding_production))]
 fn parse_line_encoding<R: Reader>(input: &mut R, version: u16) -> Result<LineEncoding>
-    ensures read { (result, R.bytes input.new) ≡ line_encoding_at version (R.bytes input.old) }
+    ensures read { (result, R.bytes input.new)
+        ≡ (line_encoding_production version).read (R.bytes input.old) }
     ensures order { R.is_big input.new ≡ R.is_big input.old }
     ensures allowed { IfOk result IsLineEncoding }
 {
@@ -98,7 +99,8 @@ fn parse_line_encoding<R: Reader>(input: &mut R, version: u16) -> Result<LineEnc
 /// The maximum of operations of an instruction: there from version 4 on, for machines whose
 /// instructions are bundles of operations.
 fn parse_operations<R: Reader>(input: &mut R, version: u16) -> Result<u8>
-    ensures read { (result, R.bytes input.new) ≡ operations_at version (R.bytes input.old) }
+    ensures read { (result, R.bytes input.new)
+        ≡ (operations_production version).read (R.bytes input.old) }
     ensures order { R.is_big input.new ≡ R.is_big input.old }
     ensures positive { IfOk result (λ n. 0 < n) }
 {
@@ -109,10 +111,11 @@ fn parse_operations<R: Reader>(input: &mut R, version: u16) -> Result<u8>
 }
 
 /// Takes what instructions are executed by.
-#[tactic(auto, unfolding(crate::specs::inside::header::HeaderReading::parameters_at))]
+#[tactic(auto, unfolding(crate::specs::header::HeaderGrammar::parameters_production))]
 fn parse_parameters<R: Reader>(input: &mut R, encoding: Encoding) -> Result<Parameters>
     requires { IsTrue (is_address_size encoding.address_size) }
-    ensures read { (result, R.bytes input.new) ≡ parameters_at encoding (R.bytes input.old) }
+    ensures read { (result, R.bytes input.new)
+        ≡ (parameters_production encoding).read (R.bytes input.old) }
     ensures order { R.is_big input.new ≡ R.is_big input.old }
     ensures positive { IfOk result (λ parameters. 0 < parameters.opcode_base) }
     ensures encoding { IfOk result (λ parameters. parameters.encoding ≡ encoding) }
@@ -136,15 +139,16 @@ struct HeaderOpening<R: Reader> {
 }
 
 impl<R: Reader> HeaderOpening<R> {
-    ghost use Rattle.gimli_line.specs.inside.header.HeaderReading.{opening_at};
-    ghost use Rattle.gimli_line.specs.inside.header.HeaderOpening.{opening_seen};
+    ghost use Rattle.gimli_line.specs.header.HeaderGrammar.{opening_production};
+    ghost use Rattle.gimli_line.specs.inside.header.HeaderGrammar.{opening_seen};
 
     /// Takes a unit up to the end of its header; what is left is its program.
-    #[tactic(auto, unfolding(crate::specs::inside::header::HeaderReading::opening_at))]
+    #[tactic(auto, unfolding(crate::specs::header::HeaderGrammar::opening_production))]
     fn parse(input: &mut R, handed: u8, format: Format) -> Result<Self>
         requires { IsTrue (is_address_size handed) }
         ensures read { (result_map (opening_seen R.bytes R.Offset.number) result, R.bytes input.new)
-            ≡ opening_at (layout_of (R.is_big input.old) R.Offset.limit) handed format
+            ≡ (opening_production (layout_of (R.is_big input.old) R.Offset.limit) handed
+            format).read
             (R.bytes input.old) }
         ensures order { R.is_big input.new ≡ R.is_big input.old }
         ensures fields { IfOk result (λ opening. R.is_big opening.fields ≡ R.is_big input.old) }
@@ -176,15 +180,15 @@ where
     ghost use Rattle.gimli_core.specs.declared.attribute_value.AttributeValue.TheVariants.{String};
     ghost use Rattle.gimli_line.specs.header.Header.{plain_file, unit_entry};
     ghost use Rattle.gimli_line.specs.header.Orders.{HasOneOrder};
-    ghost use Rattle.gimli_line.specs.header.HeaderGrammar.{handed_value};
-    ghost use Rattle.gimli_line.specs.inside.header.HeaderReading.{fields_at, header_at};
-    ghost use Rattle.gimli_line.specs.inside.header.HeaderOpening.{opening_seen};
+    ghost use Rattle.gimli_line.specs.header.HeaderGrammar.{handed_value, fields_production};
+    ghost use Rattle.gimli_line.specs.header.HeaderGrammar.{header_production};
+    ghost use Rattle.gimli_line.specs.inside.header.HeaderGrammar.{opening_seen};
     ghost use Rattle.gimli_line.specs.header.File.{file_seen};
 
     /// Takes the header of a unit, and its program. The unit length says where the unit ends, and
     /// the header length where the program begins: what a later version appends to a header is
     /// passed over so.
-    #[tactic(auto, unfolding(crate::specs::inside::header::HeaderReading::header_at))]
+    #[tactic(auto, unfolding(crate::specs::header::HeaderGrammar::header_production))]
     pub(crate) fn parse(
         alloc: Global,
         input: &mut R,
@@ -195,8 +199,8 @@ where
     ) -> Result<Self>
         requires { IsTrue (is_address_size address_size) }
         ensures read { IsAnswer (λ header. header.meaning) result
-            (header_at (layout_of (R.is_big input.old) Offset.limit)
-            (unit_entry R.bytes address_size comp_dir comp_name) (R.bytes input.old)).0 }
+            ((header_production (layout_of (R.is_big input.old) Offset.limit)
+            (unit_entry R.bytes address_size comp_dir comp_name)).read (R.bytes input.old)).0 }
         ensures layout { IfOk result (λ header.
             header.layout ≡ layout_of (R.is_big input.old) Offset.limit) }
         ensures offset { IfOk result (λ header. header.offset ≡ offset) }
@@ -221,7 +225,7 @@ where
     }
 
     /// Takes the fields of a header within its length.
-    #[tactic(auto, unfolding(crate::specs::inside::header::HeaderReading::fields_at))]
+    #[tactic(auto, unfolding(crate::specs::header::HeaderGrammar::fields_production))]
     fn parse_fields(
         alloc: Global,
         opening: HeaderOpening<R>,
@@ -234,10 +238,10 @@ where
         requires size { IsTrue (is_address_size opening.encoding.address_size) }
         requires order { R.is_big opening.fields ≡ R.is_big program_buf }
         ensures read { IsAnswer (λ header. header.meaning) result
-            (fields_at (layout_of (R.is_big program_buf) Offset.limit)
+            ((fields_production (layout_of (R.is_big program_buf) Offset.limit)
             (unit_entry R.bytes opening.encoding.address_size comp_dir comp_name)
             (Offset.number unit_length)
-            (opening_seen R.bytes Offset.number opening) (R.bytes program_buf)
+            (opening_seen R.bytes Offset.number opening) (R.bytes program_buf)).read
             (R.bytes opening.fields)).0 }
         ensures layout { IfOk result (λ header.
             header.layout ≡ layout_of (R.is_big program_buf) Offset.limit) }

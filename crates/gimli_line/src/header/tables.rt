@@ -1,19 +1,27 @@
 //! The tables of directories and files.
 
 ghost use Rattle.std.specs.Prelude.{◌≡◌, [], ◌∷◌, ◌++◌, map, IfErr, IfOk, OnErr, OnOk};
-ghost use Rattle.gimli_core.specs.Reading.{result_map, times_at};
+ghost use Rattle.gimli_core.specs.Production.{times};
+ghost use Rattle.gimli_core.specs.Reading.{result_map};
 ghost use Rattle.std.specs.List.{All};
 ghost use Rattle.gimli_core.specs.Layout.{layout_of};
 ghost use Rattle.gimli_core.specs.Values.{value_seen, ValueHasOrder};
 ghost use Rattle.gimli_core.specs.declared.attribute_value.AttributeValue.TheVariants.{String};
 ghost use Rattle.gimli_line.specs.inside.header.Outcome.{IsOutcome, IsListOutcome, IsTableOutcome};
 ghost use Rattle.gimli_line.specs.inside.header.Outcome.{read_map};
-ghost use Rattle.gimli_line.specs.inside.header.HeaderReading.{format_at, formats_at, paths_at};
-ghost use Rattle.gimli_line.specs.inside.header.HeaderReading.{files_at, directory_at, file_at};
-ghost use Rattle.gimli_line.specs.inside.header.HeaderReading.{directory_entries_at};
-ghost use Rattle.gimli_line.specs.inside.header.HeaderReading.{file_entries_at, directories_at};
-ghost use Rattle.gimli_line.specs.inside.header.HeaderReading.{file_names_at};
 ghost use Rattle.gimli_line.specs.header.File.{file_seen, FileHasOrder};
+ghost use Rattle.gimli_line.specs.header.HeaderGrammar.{
+  format_production,
+  formats_production,
+  paths_production,
+  files_production,
+  path_of,
+  file_of_entry,
+  entry_production,
+  entries_production,
+  directory_table,
+  file_table,
+};
 
 use crate::header::file_entry::{FileEntry, FileEntryFormat};
 use crate::header::forms::parse_attribute;
@@ -39,10 +47,10 @@ pub(crate) fn push<T: Drop>(list: &mut Vec<T>, item: T) -> Result<()>
 
 /// Takes the formats of a table. Refused by `MissingFileEntryFormatPath` where not exactly one of
 /// them is a path.
-#[tactic(auto, unfolding(crate::specs::inside::header::HeaderReading::formats_at))]
+#[tactic(auto, unfolding(crate::specs::header::HeaderGrammar::formats_production))]
 pub(crate) fn parse_formats<R: Reader>(alloc: Global, input: &mut R) -> Result<Vec<FileEntryFormat>>
     ensures read { IsOutcome (λ formats. formats.items) result (R.bytes input.new)
-        (formats_at (R.bytes input.old)) }
+        (formats_production.read (R.bytes input.old)) }
     ensures order { R.is_big input.new ≡ R.is_big input.old }
 {
     let count = input.read_u8()?;
@@ -64,7 +72,7 @@ fn parse_all_formats<R: Reader>(
     count: u8,
 ) -> Result<Vec<FileEntryFormat>>
     ensures read { IsOutcome (λ formats. formats.items) result (R.bytes input.new)
-        (times_at count format_at (R.bytes input.old)) }
+        ((times count format_production).read (R.bytes input.old)) }
     ensures order { R.is_big input.new ≡ R.is_big input.old }
 {
     let mut formats = Vec::new(alloc);
@@ -76,9 +84,9 @@ fn parse_all_formats<R: Reader>(
 }
 
 /// Takes a format. A content type that is too large becomes the greatest one.
-#[tactic(auto, unfolding(crate::specs::inside::header::HeaderReading::format_at))]
+#[tactic(auto, unfolding(crate::specs::header::HeaderGrammar::format_production))]
 fn parse_format<R: Reader>(input: &mut R) -> Result<FileEntryFormat>
-    ensures read { (result, R.bytes input.new) ≡ format_at (R.bytes input.old) }
+    ensures read { (result, R.bytes input.new) ≡ format_production.read (R.bytes input.old) }
     ensures order { R.is_big input.new ≡ R.is_big input.old }
 {
     let content_type = input.read_uleb128()?.min(0xffff) as u16;
@@ -94,7 +102,7 @@ fn parse_format<R: Reader>(input: &mut R) -> Result<FileEntryFormat>
 /// Takes directories up to an empty one.
 fn parse_directories<R: Reader>(alloc: Global, input: &mut R) -> Result<Vec<AttributeValue<R>>>
     ensures read { IsListOutcome (value_seen R.bytes R.Offset.number) result (R.bytes input.new)
-        (read_map (map String) (paths_at (R.bytes input.old))) }
+        (read_map (map String) (paths_production.read (R.bytes input.old))) }
     ensures order { R.is_big input.new ≡ R.is_big input.old }
     ensures parts { IfOk result (λ directories.
         All (ValueHasOrder R.is_big (R.is_big input.old)) directories.items) }
@@ -112,7 +120,7 @@ fn parse_directories<R: Reader>(alloc: Global, input: &mut R) -> Result<Vec<Attr
 /// Takes files up to one with an empty path.
 fn parse_files<R: Reader>(alloc: Global, input: &mut R) -> Result<Vec<FileEntry<R>>>
     ensures read { IsListOutcome (file_seen R.bytes R.Offset.number) result (R.bytes input.new)
-        (files_at (R.bytes input.old)) }
+        (files_production.read (R.bytes input.old)) }
     ensures order { R.is_big input.new ≡ R.is_big input.old }
     ensures parts { IfOk result (λ files.
         All (FileHasOrder R.is_big (R.is_big input.old)) files.items) }
@@ -147,8 +155,8 @@ fn parse_directory_v5<R: Reader>(
     formats: &[FileEntryFormat],
 ) -> Result<AttributeValue<R>>
     ensures read { (result_map (value_seen R.bytes R.Offset.number) result, R.bytes input.new)
-        ≡ directory_at (layout_of (R.is_big input.old) R.Offset.limit) format formats.now
-        (R.bytes input.old) }
+        ≡ read_map path_of ((entry_production (layout_of (R.is_big input.old) R.Offset.limit)
+        format formats.now).read (R.bytes input.old)) }
     ensures order { R.is_big input.new ≡ R.is_big input.old }
     ensures part { IfOk result (ValueHasOrder R.is_big (R.is_big input.old)) }
 {
@@ -163,8 +171,8 @@ fn parse_file_v5<R: Reader>(
     formats: &[FileEntryFormat],
 ) -> Result<FileEntry<R>>
     ensures read { (result_map (file_seen R.bytes R.Offset.number) result, R.bytes input.new)
-        ≡ file_at (layout_of (R.is_big input.old) R.Offset.limit) format formats.now
-        (R.bytes input.old) }
+        ≡ read_map file_of_entry ((entry_production (layout_of (R.is_big input.old) R.Offset.limit)
+        format formats.now).read (R.bytes input.old)) }
     ensures order { R.is_big input.new ≡ R.is_big input.old }
     ensures part { IfOk result (FileHasOrder R.is_big (R.is_big input.old)) }
 {
@@ -177,7 +185,7 @@ fn parse_file_v5<R: Reader>(
 }
 
 /// Takes a count and so many directories.
-#[tactic(auto, unfolding(crate::specs::inside::header::HeaderReading::entries_at))]
+#[tactic(auto, unfolding(crate::specs::header::HeaderGrammar::entries_production))]
 fn parse_directories_v5<R: Reader>(
     alloc: Global,
     input: &mut R,
@@ -185,8 +193,8 @@ fn parse_directories_v5<R: Reader>(
     formats: &[FileEntryFormat],
 ) -> Result<Vec<AttributeValue<R>>>
     ensures read { IsListOutcome (value_seen R.bytes R.Offset.number) result (R.bytes input.new)
-        (directory_entries_at (layout_of (R.is_big input.old) R.Offset.limit) format formats.now
-        (R.bytes input.old)) }
+        (read_map (map path_of) ((entries_production (layout_of (R.is_big input.old) R.Offset.limit)
+        format formats.now).read (R.bytes input.old))) }
     ensures order { R.is_big input.new ≡ R.is_big input.old }
     ensures parts { IfOk result (λ directories.
         All (ValueHasOrder R.is_big (R.is_big input.old)) directories.items) }
@@ -201,7 +209,7 @@ fn parse_directories_v5<R: Reader>(
 }
 
 /// Takes a count and so many files.
-#[tactic(auto, unfolding(crate::specs::inside::header::HeaderReading::entries_at))]
+#[tactic(auto, unfolding(crate::specs::header::HeaderGrammar::entries_production))]
 fn parse_files_v5<R: Reader>(
     alloc: Global,
     input: &mut R,
@@ -209,8 +217,9 @@ fn parse_files_v5<R: Reader>(
     formats: &[FileEntryFormat],
 ) -> Result<Vec<FileEntry<R>>>
     ensures read { IsListOutcome (file_seen R.bytes R.Offset.number) result (R.bytes input.new)
-        (file_entries_at (layout_of (R.is_big input.old) R.Offset.limit) format formats.now
-        (R.bytes input.old)) }
+        (read_map (map file_of_entry) ((entries_production
+        (layout_of (R.is_big input.old) R.Offset.limit) format formats.now).read
+        (R.bytes input.old))) }
     ensures order { R.is_big input.new ≡ R.is_big input.old }
     ensures parts { IfOk result (λ files.
         All (FileHasOrder R.is_big (R.is_big input.old)) files.items) }
@@ -233,7 +242,7 @@ pub(crate) fn parse_directory_table<R: Reader>(
     encoding: Encoding,
 ) -> Result<(Vec<FileEntryFormat>, Vec<AttributeValue<R>>)>
     ensures read { IsTableOutcome (value_seen R.bytes R.Offset.number) result (R.bytes input.new)
-        (directories_at (layout_of (R.is_big input.old) R.Offset.limit) encoding
+        ((directory_table (layout_of (R.is_big input.old) R.Offset.limit) encoding).read
         (R.bytes input.old)) }
     ensures order { R.is_big input.new ≡ R.is_big input.old }
     ensures parts { IfOk result (λ table.
@@ -255,7 +264,7 @@ pub(crate) fn parse_file_table<R: Reader>(
     encoding: Encoding,
 ) -> Result<(Vec<FileEntryFormat>, Vec<FileEntry<R>>)>
     ensures read { IsTableOutcome (file_seen R.bytes R.Offset.number) result (R.bytes input.new)
-        (file_names_at (layout_of (R.is_big input.old) R.Offset.limit) encoding
+        ((file_table (layout_of (R.is_big input.old) R.Offset.limit) encoding).read
         (R.bytes input.old)) }
     ensures order { R.is_big input.new ≡ R.is_big input.old }
     ensures parts { IfOk result (λ table.

@@ -9,19 +9,20 @@
 //! gives up, with nothing changed, where an instruction is another one, has an operand of more than
 //! two bytes or isn't there as a whole; then it is parsed. What an opcode does stands in `row.rt`
 //! alone, and here which bytes say it. What joins the two ways is one definition: by `IsExecuted`
-//! the registers are those after the instruction that `ins_at` reads from these bytes, which is the
-//! one that `next_instruction` returns.
+//! the registers are those after the instruction that `instruction_production` reads from these
+//! bytes, which is the one that `next_instruction` returns.
 
 ghost use Rattle.std.specs.Prelude.{◌≡◌, ◌<◌, IfErr, IfOk, IfSome, IsNone, IsTrue, Ok};
 ghost use Rattle.gimli_core.specs.Layout.{OrderAndLimit, layout_of};
-ghost use Rattle.gimli_core.specs.Reading.{number_at, unsigned_at};
+ghost use Rattle.gimli_core.specs.Production.{below_limit, number, unsigned};
 ghost use Rattle.gimli_line.specs.declared.run.instruction.LineInstruction.TheVariants.{DefineFile};
 ghost use Rattle.gimli_line.specs.header.File.{file_seen, FileHasOrder};
-ghost use Rattle.gimli_line.specs.header.FormReading.{offset_at};
 ghost use Rattle.gimli_line.specs.header.Header.{Header};
 ghost use Rattle.gimli_line.specs.run.Execution.{is_executed, ExecutesNext, IsExecutedAs};
 ghost use Rattle.gimli_line.specs.run.Execution.{RefusesNext};
-ghost use Rattle.gimli_line.specs.run.InstructionReading.{extended_at, ins_at, standard_at};
+ghost use Rattle.gimli_line.specs.run.InstructionGrammar.{extended_production};
+ghost use Rattle.gimli_line.specs.run.InstructionGrammar.{instruction_production};
+ghost use Rattle.gimli_line.specs.run.InstructionGrammar.{standard_production};
 
 use crate::header::file_entry::FileEntry;
 use crate::header::parameters::Parameters;
@@ -69,7 +70,8 @@ impl Executed {
 #[inline(always)]
 fn read_short_offset<R: Reader>(input: &mut R) -> Option<R::Offset>
     ensures read { IfSome result (λ offset. (Ok (R.Offset.number offset), R.bytes input.new)
-        ≡ offset_at R.Offset.limit unsigned_at (R.bytes input.old)) }
+        ≡ (below_limit (layout_of (R.is_big input.old) R.Offset.limit) unsigned).read
+        (R.bytes input.old)) }
     ensures order { R.is_big input.new ≡ R.is_big input.old }
 {
     let Some(number) = read_short_uleb128(input) else {
@@ -84,7 +86,7 @@ fn read_short_offset<R: Reader>(input: &mut R) -> Option<R::Offset>
 /// Takes the operand of a set address.
 fn read_set_address<R: Reader>(operands: &mut R, parameters: &Parameters) -> Result<u64>
     ensures read { (result, R.bytes operands.new)
-        ≡ number_at (R.is_big operands.old) parameters.now.encoding.address_size
+        ≡ (number (R.is_big operands.old) parameters.now.encoding.address_size).read
         (R.bytes operands.old) }
 {
     operands.read_address(parameters.encoding.address_size)
@@ -98,8 +100,8 @@ fn read_defined_file<R: Reader>(
     input: &mut R,
 ) -> Option<FileEntry<R>>
     ensures read { IfSome result (λ file.
-        extended_at (layout_of (R.is_big input.old) R.Offset.limit) header.now.meaning
-        (R.bytes input.old)
+        (extended_production (layout_of (R.is_big input.old) R.Offset.limit)
+        header.now.meaning).read (R.bytes input.old)
         ≡ (Ok (DefineFile (file_seen R.bytes R.Offset.number file)), R.bytes input.new)) }
     ensures order { R.is_big input.new ≡ R.is_big input.old }
     ensures file { IfSome result (FileHasOrder R.is_big (R.is_big input.old)) }
@@ -133,7 +135,7 @@ impl LineRow {
     #[inline(always)]
     fn exec_common_opcode<R: Reader>(&mut self, opcode: DwLns, input: &mut R) -> Executed
         ensures executed { IsTrue (is_executed result) → (n : OrderAndLimit) → (h : Header) →
-            IsExecutedAs h.parameters (standard_at n h opcode.0 (R.bytes input.old))
+            IsExecutedAs h.parameters ((standard_production n h opcode.0).read (R.bytes input.old))
             (R.bytes input.new) self.old self.new result }
         ensures some { IsTrue (is_executed result) → 0 < opcode.0 }
         ensures none { result ≡ Executed.No → self.new ≡ self.old }
@@ -176,7 +178,8 @@ impl LineRow {
         input: &mut R,
     ) -> Executed
         ensures executed { IsTrue (is_executed result) → IsExecutedAs header.now.meaning.parameters
-            (extended_at (layout_of (R.is_big input.old) R.Offset.limit) header.now.meaning
+            ((extended_production (layout_of (R.is_big input.old) R.Offset.limit)
+            header.now.meaning).read
             (R.bytes input.old)) (R.bytes input.new) self.old self.new result }
         ensures none { result ≡ Executed.No → self.new ≡ self.old }
         ensures order { R.is_big input.new ≡ R.is_big input.old }
@@ -285,7 +288,7 @@ impl<R: Reader> LineInstructions<R> {
         header: &LineProgramHeader<R>,
     ) -> Option<FileEntry<R>>
         ensures read { IfSome result (λ file.
-            ins_at self.old.layout header.now.meaning self.old.bytes
+            (instruction_production self.old.layout header.now.meaning).read self.old.bytes
             ≡ (Ok (DefineFile (file_seen R.bytes R.Offset.number file)), self.new.bytes)) }
         ensures none { IsNone result → self.new ≡ self.old }
         ensures layout { self.new.layout ≡ self.old.layout }

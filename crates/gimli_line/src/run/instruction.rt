@@ -1,9 +1,11 @@
 //! The instructions of a line program, one by one (DWARF 5, 6.2.3 and 6.2.5).
 
 ghost use Rattle.std.specs.Prelude.{◌≡◌, ◌-◌, IfOk, IfSome, slice_index};
-ghost use Rattle.gimli_core.specs.Reading.{result_map, times_at, unsigned_at};
-ghost use Rattle.gimli_line.specs.run.InstructionReading.{bytes_at};
-ghost use Rattle.gimli_line.specs.inside.run.InstructionReading.{without_value};
+ghost use Rattle.gimli_core.specs.Layout.{layout_of};
+ghost use Rattle.gimli_core.specs.Production.{times, unsigned};
+ghost use Rattle.gimli_core.specs.Reading.{result_map};
+ghost use Rattle.gimli_line.specs.header.Productions.{bytes_of};
+ghost use Rattle.gimli_line.specs.inside.header.Outcome.{without_value};
 
 use crate::header::file_entry::FileEntry;
 use crate::header::forms::parse_offset;
@@ -91,12 +93,12 @@ where
     ghost use Rattle.std.specs.Prelude.{◌≡◌, ◌<◌, ℕ, List, IfOk};
     ghost use Rattle.gimli_core.specs.Reading.{result_map};
     ghost use Rattle.gimli_line.specs.run.Instruction.{ins_seen, makes_row, InsHasOrder};
-    ghost use Rattle.gimli_line.specs.run.InstructionReading.{
-      ins_at,
-      extended_at,
-      extended_operands_at,
-      standard_at,
-      unknown_at,
+    ghost use Rattle.gimli_line.specs.run.InstructionGrammar.{
+      instruction_production,
+      extended_production,
+      extended_operands,
+      standard_production,
+      unknown_production,
     };
     ghost use Rattle.gimli_line.specs.run.Machine.{IsAllowed};
 
@@ -113,12 +115,10 @@ where
     }
 
     /// Takes an instruction.
-    #[tactic(auto, unfolding(crate::specs::run::InstructionReading::ins_at))]
     pub(crate) fn parse(header: &LineProgramHeader<R, Offset>, input: &mut R) -> Result<Self>
         ensures read { (result_map (ins_seen R.bytes Offset.number) result, R.bytes input.new)
-            ≡ ins_at (record { is_big = R.is_big input.old; limit = Offset.limit })
-            header.now.meaning
-            (R.bytes input.old) }
+            ≡ (instruction_production (layout_of (R.is_big input.old) Offset.limit)
+            header.now.meaning).read (R.bytes input.old) }
         ensures order { R.is_big input.new ≡ R.is_big input.old }
         ensures allowed { IfOk result (λ i. IsAllowed header.now.meaning.parameters
             (ins_seen R.bytes Offset.number i)) }
@@ -136,12 +136,11 @@ where
 
     /// Takes what stands after the zero byte of an extended instruction (DWARF 5, 6.2.5.3): a
     /// length, the opcode, and its operands. Surplus bytes within its length are skipped.
-    #[tactic(auto, unfolding(crate::specs::run::InstructionReading::extended_at))]
+    #[tactic(auto, unfolding(crate::specs::run::InstructionGrammar::extended_production))]
     fn parse_extended(header: &LineProgramHeader<R, Offset>, input: &mut R) -> Result<Self>
         ensures read { (result_map (ins_seen R.bytes Offset.number) result, R.bytes input.new)
-            ≡ extended_at (record { is_big = R.is_big input.old; limit = Offset.limit })
-            header.now.meaning
-            (R.bytes input.old) }
+            ≡ (extended_production (layout_of (R.is_big input.old) Offset.limit)
+            header.now.meaning).read (R.bytes input.old) }
         ensures order { R.is_big input.new ≡ R.is_big input.old }
         ensures allowed { IfOk result (λ i. IsAllowed header.now.meaning.parameters
             (ins_seen R.bytes Offset.number i)) }
@@ -154,7 +153,7 @@ where
     }
 
     /// Takes the operands of an extended opcode, from the bytes after it within its instruction.
-    #[tactic(auto, unfolding(crate::specs::run::InstructionReading::extended_operands_at))]
+    #[tactic(auto, unfolding(crate::specs::run::InstructionGrammar::extended_operands))]
     fn parse_extended_operands(
         header: &LineProgramHeader<R, Offset>,
         opcode: DwLne,
@@ -162,10 +161,8 @@ where
     ) -> Result<Self>
         ensures read { (after : List ℕ)
             → (result_map (ins_seen R.bytes Offset.number) result, after)
-            ≡ extended_operands_at
-            (record { is_big = R.is_big operands; limit = Offset.limit }) header.now.meaning
-            opcode.0
-            (R.bytes operands) after }
+            ≡ (extended_operands (layout_of (R.is_big operands) Offset.limit) header.now.meaning
+            opcode.0 (R.bytes operands)).read after }
         ensures allowed { IfOk result (λ i. IsAllowed header.now.meaning.parameters
             (ins_seen R.bytes Offset.number i)) }
         ensures operands { IfOk result (InsHasOrder R.is_big (R.is_big operands)) }
@@ -192,7 +189,7 @@ where
     }
 
     /// Takes the operands of an opcode below the opcode base.
-    #[tactic(auto, unfolding(crate::specs::run::InstructionReading::standard_at))]
+    #[tactic(auto, unfolding(crate::specs::run::InstructionGrammar::standard_production))]
     fn parse_standard(
         header: &LineProgramHeader<R, Offset>,
         opcode: DwLns,
@@ -200,9 +197,8 @@ where
     ) -> Result<Self>
         requires { 0 < opcode.0 }
         ensures read { (result_map (ins_seen R.bytes Offset.number) result, R.bytes input.new)
-            ≡ standard_at (record { is_big = R.is_big input.old; limit = Offset.limit })
-            header.now.meaning opcode.0
-            (R.bytes input.old) }
+            ≡ (standard_production (layout_of (R.is_big input.old) Offset.limit) header.now.meaning
+            opcode.0).read (R.bytes input.old) }
         ensures order { R.is_big input.new ≡ R.is_big input.old }
         ensures allowed { IfOk result (λ i. IsAllowed header.now.meaning.parameters
             (ins_seen R.bytes Offset.number i)) }
@@ -230,7 +226,7 @@ where
     }
 
     /// Takes as many operands of an opcode as the header counts.
-    #[tactic(auto, unfolding(crate::specs::run::InstructionReading::unknown_at))]
+    #[tactic(auto, unfolding(crate::specs::run::InstructionGrammar::unknown_production))]
     fn parse_unknown(
         header: &LineProgramHeader<R, Offset>,
         opcode: DwLns,
@@ -238,10 +234,9 @@ where
     ) -> Result<Self>
         requires { 0 < opcode.0 }
         ensures read { (result_map (ins_seen R.bytes Offset.number) result, R.bytes input.new)
-            ≡ unknown_at (record { is_big = R.is_big input.old; limit = Offset.limit })
-            header.now.meaning
-            opcode.0
-            (slice_index header.now.meaning.operand_counts (opcode.0 - 1)) (R.bytes input.old) }
+            ≡ (unknown_production (layout_of (R.is_big input.old) Offset.limit) header.now.meaning
+            opcode.0 (slice_index header.now.meaning.operand_counts (opcode.0 - 1))).read
+            (R.bytes input.old) }
         ensures order { R.is_big input.new ≡ R.is_big input.old }
         ensures allowed { IfOk result (λ i. IsAllowed header.now.meaning.parameters
             (ins_seen R.bytes Offset.number i)) }
@@ -261,7 +256,7 @@ where
 /// Takes so many LEB128 numbers, as the bytes that spell them.
 fn parse_operands<R: Reader>(input: &mut R, count: u8) -> Result<R>
     ensures read { (result_map R.bytes result, R.bytes input.new)
-        ≡ bytes_at (times_at count unsigned_at) (R.bytes input.old) }
+        ≡ (bytes_of (times count unsigned)).read (R.bytes input.old) }
     ensures order { R.is_big input.new ≡ R.is_big input.old }
     ensures part { IfOk result (λ part. R.is_big part ≡ R.is_big input.old) }
 {
@@ -275,7 +270,7 @@ fn parse_operands<R: Reader>(input: &mut R, count: u8) -> Result<R>
 /// Takes so many LEB128 numbers.
 fn skip_operands<R: Reader>(input: &mut R, count: u8) -> Result<()>
     ensures read { (result, R.bytes input.new)
-        ≡ without_value (times_at count unsigned_at (R.bytes input.old)) }
+        ≡ without_value ((times count unsigned).read (R.bytes input.old)) }
     ensures order { R.is_big input.new ≡ R.is_big input.old }
 {
     for _ in 0..count {
@@ -303,13 +298,13 @@ impl<R: Reader> Model for LineInstructions<R> {
 }
 
 impl<R: Reader> LineInstructions<R> {
-    ghost use Rattle.std.specs.Prelude.{◌≡◌, [], ◌++◌, List, ℕ, IfOk, IfErr, option_map};
+    ghost use Rattle.std.specs.Prelude.{◌≡◌, [], ◌++◌, List, ℕ, length, IfOk, IfErr, option_map};
     ghost use Rattle.gimli_line.specs.run.Instruction.{ins_seen, InsHasOrder};
     ghost use Rattle.std.specs.Prelude.{Ok, None};
-    ghost use Rattle.gimli_line.specs.run.NextInstruction.{TakesNext, EndsByFault};
+    ghost use Rattle.gimli_line.specs.run.InstructionGrammar.{TakesNext, EndsByFault};
     ghost use Rattle.gimli_line.specs.run.Machine.{IsAllowed};
     ghost use Rattle.gimli_line.specs.run.Unread.{unread_of};
-    ghost use Rattle.gimli_line.specs.inside.run.Unread.{front_of};
+    ghost use Rattle.gimli_line.specs.inside.run.Rows.{front_of};
 
     /// The instructions of these bytes.
     pub(crate) fn new(input: R) -> Self
@@ -323,6 +318,13 @@ impl<R: Reader> LineInstructions<R> {
         ensures { result ≡ self.now }
     {
         LineInstructions { input: self.input }
+    }
+
+    /// How many bytes the remaining instructions have.
+    pub fn len(&self) -> R::Offset
+        ensures { R.Offset.number result ≡ length self.now.bytes }
+    {
+        self.input.len()
     }
 
     /// Discards the remaining instructions.

@@ -1,7 +1,7 @@
 //! Rows kept in few bytes each, for who holds all rows of a unit: most have small numbers.
 
 ghost use Rattle.std.specs.Prelude.{◌↔◌, IsTrue};
-ghost use Rattle.gimli_line.specs.inside.run.StoredRow.{IsNarrow};
+ghost use Rattle.gimli_line.specs.inside.run.Rows.{IsNarrow};
 
 use crate::header::tables::push;
 use crate::run::row::LineRow;
@@ -42,8 +42,8 @@ fn is_narrow(row: &LineRow) -> bool
 
 impl NarrowRow {
     ghost use Rattle.std.specs.Prelude.{◌≡◌};
-    ghost use Rattle.gimli_line.specs.run.StoredRow.{row_of_narrow};
-    ghost use Rattle.gimli_line.specs.inside.run.StoredRow.{IsNarrow};
+    ghost use Rattle.gimli_line.specs.run.Row.{row_of_narrow};
+    ghost use Rattle.gimli_line.specs.inside.run.Rows.{IsNarrow};
 
     /// A row in narrow numbers. Requires that they fit.
     fn new(row: &LineRow) -> NarrowRow
@@ -101,7 +101,7 @@ const _: () = prove!(size_of::<StoredRow>() <= 48);
 
 impl StoredRow {
     ghost use Rattle.std.specs.Prelude.{◌≡◌};
-    ghost use Rattle.gimli_line.specs.run.StoredRow.{row_of_stored};
+    ghost use Rattle.gimli_line.specs.run.Row.{row_of_stored};
 
     /// The row.
     fn row(&self) -> LineRow
@@ -143,7 +143,7 @@ pub struct RowList {
 impl Model for RowList {
     ghost use Rattle.std.specs.Prelude.{List, map};
     ghost use Rattle.gimli_line.specs.declared.run.row.LineRow.{LineRow};
-    ghost use Rattle.gimli_line.specs.run.StoredRow.{row_of_stored};
+    ghost use Rattle.gimli_line.specs.run.Row.{row_of_stored};
 
     ghost Value = { List LineRow };
 

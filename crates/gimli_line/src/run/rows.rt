@@ -34,7 +34,7 @@ pub type ResumedLineRows<'program, R> = LineRows<R, &'program CompleteLineProgra
 
 impl<R: Reader, P: LineProgram<R>> Model for LineRows<R, P> {
     ghost use Rattle.gimli_line.specs.header.Header.{without_files};
-    ghost use Rattle.gimli_line.specs.run.RunState.{RunState};
+    ghost use Rattle.gimli_line.specs.run.Passing.{RunState};
 
     ghost Value = { RunState };
 

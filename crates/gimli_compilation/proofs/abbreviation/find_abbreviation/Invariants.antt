@@ -1,10 +1,11 @@
 use Rattle.std.proofs.Common.{◌≡◌, length}
-use Rattle.gimli_compilation.specs.inside.AbbreviationReading.{abbreviation_at}
+use Rattle.gimli_compilation.specs.Abbreviation.{abbreviation_production}
 use Rattle.gimli_compilation.proofs.abbreviation.find_abbreviation.Given as goal
 
 abbrev pub invariant-loop-found : goal.invariant-loop-found
 invariant-loop-found g l =
-    abbreviation_at l.code (g.R.Reader.bytes l.input) ≡ abbreviation_at l.code (g.R.Reader.bytes l.initial.input)
+    (abbreviation_production l.code).read (g.R.Reader.bytes l.input)
+    ≡ (abbreviation_production l.code).read (g.R.Reader.bytes l.initial.input)
 
 abbrev pub decreases-loop-found : goal.decreases-loop-found
 decreases-loop-found g l = length (g.R.Reader.bytes l.input)

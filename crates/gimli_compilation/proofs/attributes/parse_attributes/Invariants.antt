@@ -1,19 +1,20 @@
 use Rattle.std.proofs.Common.{◌≡◌, length}
 use Rattle.gimli_core.specs.Layout.{layout_of}
+use Rattle.gimli_compilation.specs.Unit.{attributes_production}
 use Rattle.gimli_compilation.specs.Value.{no_attributes}
 use Rattle.gimli_compilation.specs.inside.Value.{attributes_seen}
 use Rattle.gimli_compilation.specs.inside.AbbreviationReading.{listed, IsListed}
-use Rattle.gimli_compilation.specs.inside.AttributesReading.{attributes_at}
 use Rattle.gimli_compilation.proofs.attributes.parse_attributes.Given as goal
 
 abbrev pub invariant-loop-specification : goal.invariant-loop-specification
 invariant-loop-specification g l =
     let layout = layout_of (g.R.Reader.is_big l.initial.input) g.R.Offset.ReaderOffset.limit in
     record {
-      so_far : attributes_at layout l.encoding (attributes_seen g.R.Reader.bytes l.attributes)
-          (listed (g.R.Reader.bytes l.specifications))
+      so_far : (attributes_production layout l.encoding (attributes_seen g.R.Reader.bytes l.attributes)
+          (listed (g.R.Reader.bytes l.specifications))).read
           (g.R.Reader.bytes l.input)
-          ≡ attributes_at layout l.encoding no_attributes (listed (g.R.Reader.bytes l.initial.specifications))
+          ≡ (attributes_production layout l.encoding no_attributes
+          (listed (g.R.Reader.bytes l.initial.specifications))).read
           (g.R.Reader.bytes l.initial.input);
       closed : IsListed (g.R.Reader.bytes l.specifications);
       order : g.R.Reader.is_big l.input ≡ g.R.Reader.is_big l.initial.input;

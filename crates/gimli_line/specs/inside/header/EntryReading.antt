@@ -1,5 +1,6 @@
 -- What is taken of an entry of version 5, value by value.
 use Rattle.std.specs.Prelude.{if◌then◌else◌, ◌∷◌}
+use Rattle.gimli_core.specs.Form.{form_production}
 use Rattle.gimli_line.specs
 use specs.Prelude
 use Prelude.{ℕ, nat_eq, List, [], Option, Some, None, Ok, OrderAndLimit, Value, udata_value, Read}
@@ -14,7 +15,6 @@ use specs.LineNumbers.{
 }
 use specs.header.File.{File}
 use specs.header.HeaderGrammar.{TableEntry, digest}
-use specs.inside.header.FormReading.{form_at}
 use specs.declared.header.file_entry.FileEntryFormat.{FileEntryFormat}
 
 -- what a value of this content type makes of what stood before
@@ -45,5 +45,5 @@ module _ (layout : OrderAndLimit) (format : Format) where
       → Read A
   folded_at step first [] bytes = (Ok first, bytes)
   folded_at step first (f ∷ formats) bytes =
-      form_at layout format f.form.0 bytes >>= λ value rest.
+      (form_production layout format f.form.0).read bytes >>= λ value rest.
       folded_at step (step first f.content_type.0 value) formats rest

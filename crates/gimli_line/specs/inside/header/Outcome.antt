@@ -37,6 +37,10 @@ abbrev pub IsAnswer : {X Y : Type 0} → (X → Y) → Result X Error → Result
 IsAnswer view (Ok x) read = read ≡ Ok (view x)
 IsAnswer view (Err e) read = e ≢ OutOfMemory → read ≡ Err e
 
+-- what is read, its value passed over
+abbrev pub without_value : {A : Type 0} → Read A → Read (Unit {0})
+without_value r = r >>= λ x rest. (Ok tt, rest)
+
 -- what is read, its value seen by f
 abbrev pub read_map : {A B : Type 0} → (A → B) → Read A → Read B
 read_map f r = r >>= λ x rest. (Ok (f x), rest)

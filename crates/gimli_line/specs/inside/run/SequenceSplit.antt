@@ -5,7 +5,7 @@ use specs.Prelude.{ℕ, List, [], Option, Some, None}
 use Rattle.std.specs.Option.{unwrap_or}
 use specs.declared.run.row.LineRow.{LineRow}
 use specs.run.Unread.{Unread}
-use specs.inside.run.Unread.{front_of}
+use specs.inside.run.Rows.{front_of}
 use specs.run.Sequences.{Sequence}
 
 -- the sequences so far; and of the one that is open, the instructions from its start on and the

@@ -1,19 +1,16 @@
-use Rattle.std.proofs.Common.{◌≡◌, ◌∙◌, ap}
+use Rattle.std.proofs.Common.{◌∙◌, ap}
 use Rattle.gimli_core.specs.Reading.{Read}
-use Rattle.gimli_line.specs.run.Instruction.{Ins, ins_seen}
 use Rattle.lines_counts.specs.declared.sizes.InstructionBytes.{InstructionBytes}
 use Rattle.lines_counts.specs.inside.Sizes.{size_at}
 use Rattle.lines_counts.proofs.Passing.{size_is}
 use Rattle.lines_counts.proofs.sizes.instruction_bytes.Goals as goal
 
 pub returns-clause-sizes : goal.returns-clause-sizes
-returns-clause-sizes g c layout h front after is spells =
-    let i : Ins = ins_seen g.R.Reader.bytes g.R.Offset.ReaderOffset.number c.args.instruction.now in
+returns-clause-sizes g c layout h i front after is left spells =
     ap (λ (r : Read InstructionBytes). r.0)
-    (c.count_bytes.ensures.read ∙ ap (size_at i) is ∙ size_is layout h front after i spells)
+    (c.count_bytes.ensures.read ∙ ap (size_at c.args.left) is ∙ size_is layout h front after i _ left spells)
 
 pub returns-clause-left : goal.returns-clause-left
-returns-clause-left g c layout h front after is spells =
-    let i : Ins = ins_seen g.R.Reader.bytes g.R.Offset.ReaderOffset.number c.args.instruction.now in
+returns-clause-left g c layout h i front after is left spells =
     ap (λ (r : Read InstructionBytes). r.1)
-    (c.count_bytes.ensures.read ∙ ap (size_at i) is ∙ size_is layout h front after i spells)
+    (c.count_bytes.ensures.read ∙ ap (size_at c.args.left) is ∙ size_is layout h front after i _ left spells)

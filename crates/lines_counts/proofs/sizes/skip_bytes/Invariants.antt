@@ -1,11 +1,11 @@
 use Rattle.std.proofs.Common.{◌≡◌, ◌-◌}
-use Rattle.gimli_core.specs.Reading.{byte_at, times_at}
+use Rattle.gimli_core.specs.Production.{byte, times}
 use Rattle.lines_counts.specs.inside.Sizes.{passed}
 use Rattle.lines_counts.proofs.sizes.skip_bytes.Given as goal
 
 abbrev pub invariant-loop : goal.invariant-loop
 invariant-loop g l = record {
-  so_far : passed (times_at (l.count - l.counter) byte_at (g.R.Reader.bytes l.rest))
-      ≡ passed (times_at l.count byte_at (g.R.Reader.bytes l.initial.rest));
+  so_far : passed ((times (l.count - l.counter) byte).read (g.R.Reader.bytes l.rest))
+      ≡ passed ((times l.count byte).read (g.R.Reader.bytes l.initial.rest));
   order : g.R.Reader.is_big l.rest ≡ g.R.Reader.is_big l.initial.rest;
 }

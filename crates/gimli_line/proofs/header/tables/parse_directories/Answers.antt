@@ -1,5 +1,5 @@
 use Rattle.gimli_line.proofs
-use proofs.Common.{refl, ap, ◌∙◌, map_push, err_from_is_err_and, ValueHasOrder, text_at, String, read_map, path_text}
+use proofs.Common.{refl, ap, ◌∙◌, map_push, err_from_is_err_and, ValueHasOrder, String, read_map, path_text}
 use proofs.Order.{values_pushed}
 use proofs.Closed.{reads_name}
 use proofs.Tables.{text_smaller, none_yet}
@@ -10,21 +10,21 @@ pub returns-in_err-directory-clause-read : goal.returns-in_err-directory-clause-
 returns-in_err-directory-clause-read g c =
     let p = err_from_is_err_and c.from_residual.result c.from_residual.ensures.1 in
     rw (p.1, p.2) (λ _.
-    closed_ends String path_text text_at reads_name _ _ _ _ _
+    closed_ends String path_text reads_name _ _ _ _ _
     (text_refused (g.R.Reader.bytes c.loop-directories.input) _ _ c.in_err-directory.ensures.read)
     (ap (read_map String) c.in_err-directory.ensures.read)
     c.loop-directories.invariant.so_far)
 
 pub returns-then-is_empty-clause-read : goal.returns-then-is_empty-clause-read
 returns-then-is_empty-clause-read g c =
-    closed_done String path_text text_at reads_name _ _ _ _
+    closed_done String path_text reads_name _ _ _ _
     (text_closed (g.R.Reader.bytes c.loop-directories.input) _ _ c.if-is_empty.ensures c.in_ok-directory.ensures.read)
     c.loop-directories.invariant.so_far
 
 pub loop-directories-preserved : goal.loop-directories-preserved
 loop-directories-preserved g c = record {
   so_far = rw (c.in_ok-push.ensures.ok, map_push)
-      (closed_goes_on String path_text text_at reads_name _ _ _ _ _
+      (closed_goes_on String path_text reads_name _ _ _ _ _
       (text_free (g.R.Reader.bytes c.loop-directories.input) _ _ c.if-is_empty.ensures c.in_ok-directory.ensures.read)
       (ap (read_map String) c.in_ok-directory.ensures.read) c.loop-directories.invariant.so_far);
   order = c.read_null_terminated_slice.ensures.order ∙ c.loop-directories.invariant.order;

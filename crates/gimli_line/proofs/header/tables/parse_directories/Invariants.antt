@@ -1,14 +1,14 @@
 use Rattle.std.specs.Prelude.{◌≡◌}
 use Rattle.gimli_line.proofs
-use proofs.Common.{length, map, All, value_seen, ValueHasOrder, String, read_map, paths_at}
+use proofs.Common.{length, map, All, value_seen, ValueHasOrder, String, read_map, paths_production}
 use proofs.Loops.{collected}
 use proofs.header.tables.parse_directories.Given as goal
 
 abbrev pub invariant-loop-directories : goal.invariant-loop-directories
 invariant-loop-directories g l = record {
   so_far : collected (map (value_seen g.R.Reader.bytes g.R.Offset.ReaderOffset.number) l.directories.items) String
-      (paths_at (g.R.Reader.bytes l.input))
-      ≡ read_map (map String) (paths_at (g.R.Reader.bytes l.initial.input));
+      (paths_production.read (g.R.Reader.bytes l.input))
+      ≡ read_map (map String) (paths_production.read (g.R.Reader.bytes l.initial.input));
   order : g.R.Reader.is_big l.input ≡ g.R.Reader.is_big l.initial.input;
   parts : All (ValueHasOrder g.R.Reader.is_big (g.R.Reader.is_big l.initial.input)) l.directories.items;
 }

@@ -4,7 +4,8 @@ use Rattle.std.proofs.lemmas.List.{drop_more}
 use Rattle.gimli_line.proofs
 use proofs.Common
 use Common.{ℕ, List, Ok, Err, length, drop, drop_all, refl, subst, ◌∙◌, err_from_is_err_and, Value, ValueHasOrder, Read}
-use Common.{Error, Format, OrderAndLimit, form_at, File, FileEntryFormat}
+use Common.{Error, Format, OrderAndLimit, File, FileEntryFormat}
+use Rattle.gimli_core.specs.Form.{form_production}
 use Rattle.gimli_line.specs.inside.header.EntryReading.{file_with, folded_at}
 use proofs.Order.{file_kept}
 use proofs.Entries.{file_is}
@@ -13,13 +14,13 @@ use proofs.header.tables.parse_file_v5.Goals as goal
 module _ (layout : OrderAndLimit) (format : Format) (fs : List FileEntryFormat) (i : ℕ) (x : File) (bytes : List ℕ)
     (total : Read File) (so_far : folded_at layout format file_with x (drop i fs) bytes ≡ total) where
   goes_on : (d : FileEntryFormat) (value : Value) (rest : List ℕ) → i < length fs
-      → (Ok value, rest) ≡ form_at layout format (get_or fs i d).form.0 bytes
+      → (Ok value, rest) ≡ (form_production layout format (get_or fs i d).form.0).read bytes
       → folded_at layout format file_with (file_with x (get_or fs i d).content_type.0 value) (drop (i + 1) fs) rest
       ≡ total
   goes_on d value rest lt read = rw (drop_more fs i d lt, ← read) at so_far
 
   ends : (d : FileEntryFormat) (e : Error) (rest : List ℕ) → i < length fs
-      → (Err e, rest) ≡ form_at layout format (get_or fs i d).form.0 bytes → (Err e, rest) ≡ total
+      → (Err e, rest) ≡ (form_production layout format (get_or fs i d).form.0).read bytes → (Err e, rest) ≡ total
   ends d e rest lt read = rw (drop_more fs i d lt, ← read) at so_far
 
   done : length fs ≤ i → (Ok x, bytes) ≡ total

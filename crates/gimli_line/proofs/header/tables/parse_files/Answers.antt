@@ -1,8 +1,8 @@
 use Rattle.std.proofs.lemmas.List.{map-id}
 use Rattle.gimli_line.proofs
-use proofs.Common.{refl, ◌∙◌, map_push, err_from_is_err_and, FileHasOrder, named_file_at}
+use proofs.Common.{refl, ◌∙◌, map_push, err_from_is_err_and, FileHasOrder, named_file}
 use proofs.Order.{files_pushed}
-use proofs.HeaderLaws.{reads_named_file, named_file}
+use proofs.HeaderLaws.{reads_named_file}
 use proofs.Loops.{closed_goes_on, closed_ends, closed_done, closed_smaller, text_closed, text_free, text_refused}
 use proofs.Loops.{named_is, named_fault, viewed_same}
 use proofs.Tables.{none_yet}
@@ -12,14 +12,14 @@ pub returns-in_err-path_name-clause-read : goal.returns-in_err-path_name-clause-
 returns-in_err-path_name-clause-read g c =
     let p = err_from_is_err_and c.from_residual.result c.from_residual.ensures.1 in
     rw (p.1, p.2) (λ _.
-    closed_ends (λ x. x) named_file named_file_at reads_named_file _ _ _ _ _
+    closed_ends (λ x. x) named_file reads_named_file _ _ _ _ _
     (text_refused (g.R.Reader.bytes c.loop-files.input) _ _ c.in_err-path_name.ensures.read)
     (named_fault (g.R.Reader.bytes c.loop-files.input) _ _ c.in_err-path_name.ensures.read)
     c.loop-files.invariant.so_far)
 
 pub returns-then-is_empty-clause-read : goal.returns-then-is_empty-clause-read
 returns-then-is_empty-clause-read g c =
-    closed_done (λ x. x) named_file named_file_at reads_named_file _ _ _ _
+    closed_done (λ x. x) named_file reads_named_file _ _ _ _
     (text_closed (g.R.Reader.bytes c.loop-files.input) _ _ c.if-is_empty.ensures c.in_ok-path_name.ensures.read)
     c.loop-files.invariant.so_far
 
@@ -27,21 +27,21 @@ pub returns-in_err-file-clause-read : goal.returns-in_err-file-clause-read
 returns-in_err-file-clause-read g c =
     let p = err_from_is_err_and c.from_residual-in_err-file.result c.from_residual-in_err-file.ensures.1 in
     rw (p.1, p.2) (λ _.
-    closed_ends (λ x. x) named_file named_file_at reads_named_file _ _ _ _ _
+    closed_ends (λ x. x) named_file reads_named_file _ _ _ _ _
     (text_free (g.R.Reader.bytes c.loop-files.input) _ _ c.if-is_empty.ensures c.in_ok-path_name.ensures.read)
     (named_is (g.R.Reader.bytes c.loop-files.input) _ _ _ c.in_ok-path_name.ensures.read c.in_err-file.ensures.read)
     c.loop-files.invariant.so_far)
 
 pub loop-files-smaller : goal.loop-files-smaller
 loop-files-smaller g c =
-    closed_smaller (λ x. x) named_file named_file_at reads_named_file _ _ _
+    closed_smaller (λ x. x) named_file reads_named_file _ _ _
     (text_free (g.R.Reader.bytes c.loop-files.input) _ _ c.if-is_empty.ensures c.in_ok-path_name.ensures.read)
     (named_is (g.R.Reader.bytes c.loop-files.input) _ _ _ c.in_ok-path_name.ensures.read c.in_ok-file.ensures.read)
 
 pub loop-files-preserved : goal.loop-files-preserved
 loop-files-preserved g c = record {
   so_far = rw (c.in_ok-push.ensures.ok, map_push)
-      (closed_goes_on (λ x. x) named_file named_file_at reads_named_file _ _ _ _ _
+      (closed_goes_on (λ x. x) named_file reads_named_file _ _ _ _ _
       (text_free (g.R.Reader.bytes c.loop-files.input) _ _ c.if-is_empty.ensures c.in_ok-path_name.ensures.read)
       (named_is (g.R.Reader.bytes c.loop-files.input) _ _ _ c.in_ok-path_name.ensures.read c.in_ok-file.ensures.read)
       c.loop-files.invariant.so_far);

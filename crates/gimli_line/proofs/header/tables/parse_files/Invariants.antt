@@ -1,15 +1,14 @@
 use Rattle.std.specs.Prelude.{◌≡◌}
 use Rattle.gimli_line.proofs
-use proofs.Common.{length, map, All, file_seen, FileHasOrder}
-use Rattle.gimli_line.specs.inside.header.HeaderReading.{files_at}
+use proofs.Common.{length, map, All, file_seen, FileHasOrder, files_production}
 use proofs.Loops.{collected}
 use proofs.header.tables.parse_files.Given as goal
 
 abbrev pub invariant-loop-files : goal.invariant-loop-files
 invariant-loop-files g l = record {
   so_far : collected (map (file_seen g.R.Reader.bytes g.R.Offset.ReaderOffset.number) l.files.items) (λ x. x)
-      (files_at (g.R.Reader.bytes l.input))
-      ≡ files_at (g.R.Reader.bytes l.initial.input);
+      (files_production.read (g.R.Reader.bytes l.input))
+      ≡ files_production.read (g.R.Reader.bytes l.initial.input);
   order : g.R.Reader.is_big l.input ≡ g.R.Reader.is_big l.initial.input;
   parts : All (FileHasOrder g.R.Reader.is_big (g.R.Reader.is_big l.initial.input)) l.files.items;
 }

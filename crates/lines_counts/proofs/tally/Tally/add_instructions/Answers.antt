@@ -1,4 +1,4 @@
-use Rattle.std.proofs.Common.{◌≡◌, List, ℕ, sym, ap, subst, ◌∙◌}
+use Rattle.std.proofs.Common.{List, ℕ, sym, ap, subst, ◌∙◌}
 use Rattle.std.specs.Prelude.{option_map}
 use Rattle.gimli_core.specs.Layout.{OrderAndLimit}
 use Rattle.gimli_line.specs.header.Header.{Header}
@@ -25,24 +25,24 @@ pub returns-in_err-bytes-clause-counted : goal.returns-in_err-bytes-clause-count
 returns-in_err-bytes-clause-counted g c =
     let next = rw c.in-Some.is at c.in_ok-instruction.ensures.next in
     let no =
-    c.in_err-bytes.ensures.sizes _ c.args.header.now.meaning next.0 _ (c.instructions.invariant.same ∙ next.1)
-    next.2 in
+    c.in_err-bytes.ensures.sizes _ c.args.header.now.meaning _ next.0 _ (c.instructions.invariant.same ∙ next.1)
+    (c.into_u64.ensures ∙ c.len.ensures) next.2 in
     absurd cc
 
 pub returns-in_err-bytes-clause-fault : goal.returns-in_err-bytes-clause-fault
 returns-in_err-bytes-clause-fault g c =
     let next = rw c.in-Some.is at c.in_ok-instruction.ensures.next in
     let no =
-    c.in_err-bytes.ensures.sizes _ c.args.header.now.meaning next.0 _ (c.instructions.invariant.same ∙ next.1)
-    next.2 in
+    c.in_err-bytes.ensures.sizes _ c.args.header.now.meaning _ next.0 _ (c.instructions.invariant.same ∙ next.1)
+    (c.into_u64.ensures ∙ c.len.ensures) next.2 in
     absurd cc
 
 pub returns-in_err-bytes-clause-some : goal.returns-in_err-bytes-clause-some
 returns-in_err-bytes-clause-some g c =
     let next = rw c.in-Some.is at c.in_ok-instruction.ensures.next in
     let no =
-    c.in_err-bytes.ensures.sizes _ c.args.header.now.meaning next.0 _ (c.instructions.invariant.same ∙ next.1)
-    next.2 in
+    c.in_err-bytes.ensures.sizes _ c.args.header.now.meaning _ next.0 _ (c.instructions.invariant.same ∙ next.1)
+    (c.into_u64.ensures ∙ c.len.ensures) next.2 in
     absurd cc
 
 pub instructions-preserved : goal.instructions-preserved
@@ -55,7 +55,8 @@ instructions-preserved g c =
     (g.R.Reader.bytes c.instruction_bytes.new.rest) c.args.self.now
     c.instructions.self c.add.new.self c.instructions.instructions c.next_instruction.new.self
     (option_map seen c.in_ok-instruction.field-0)
-    (seen c.in-Some.instruction) c.on.result c.in_ok-bytes.bytes (ap (option_map seen) c.in-Some.is)
+    (seen c.in-Some.instruction) c.on.result c.in_ok-bytes.bytes _ (c.into_u64.ensures ∙ c.len.ensures)
+    (ap (option_map seen) c.in-Some.is)
     c.in_ok-instruction.ensures.next
     c.instructions.invariant.same c.instructions.invariant.layout c.instructions.invariant.counted
     c.in_ok-bytes.ensures.sizes
