@@ -43,6 +43,25 @@ at_zero = refl
 pub of_its_section : relocated (Only 1) file ≡ Ok (Some (0xaa ∷ 0xbb ∷ 0xcc ∷ 0xdd ∷ 0x14 ∷ 0 ∷ 0 ∷ 0 ∷ []))
 of_its_section = refl
 
+-- the same by the word of other machines: R_PPC_ADDR32 and UADDR32, R_MIPS_32, R_SPARC_32 and UA32, R_68K_32
+abbrev by_kind : ℕ → ℕ → Result (Option (List ℕ)) ElfError
+by_kind machine kind = relocated AllAtZero (slice_set (slice_set file 0x12 machine) 0x15c kind)
+
+abbrev at_zero_also : Result (Option (List ℕ)) ElfError
+at_zero_also = Ok (Some (0xaa ∷ 0xbb ∷ 0xcc ∷ 0xdd ∷ 0x14 ∷ 0 ∷ 0 ∷ 0 ∷ []))
+
+pub of_powerpc : (by_kind 20 1 ≡ at_zero_also) × (by_kind 20 24 ≡ at_zero_also)
+of_powerpc = (refl, refl)
+
+pub of_mips : by_kind 8 2 ≡ at_zero_also
+of_mips = refl
+
+pub of_sparc : (by_kind 2 3 ≡ at_zero_also) × (by_kind 18 23 ≡ at_zero_also)
+of_sparc = (refl, refl)
+
+pub of_68k : by_kind 4 1 ≡ at_zero_also
+of_68k = refl
+
 -- the symbol's section is in memory, and another one counts
 pub of_another_section : relocated (Only 2) file
     ≡ Ok (Some (0xaa ∷ 0xbb ∷ 0xcc ∷ 0xdd ∷ 0xff ∷ 0xff ∷ 0xff ∷ 0xff ∷ []))
@@ -67,8 +86,8 @@ index = refl
 
 -- ---- its refusals, by one byte or two
 
-pub machine_8 : relocated AllAtZero (slice_set file 0x12 8) ≡ Err (UnknownMachine 8)
-machine_8 = refl
+pub machine_9 : relocated AllAtZero (slice_set file 0x12 9) ≡ Err (UnknownMachine 9)
+machine_9 = refl
 
 -- R_386_PC32
 pub kind_2 : relocated AllAtZero (slice_set file 0x15c 2) ≡ Err (UnknownRelocation 2)

@@ -52,8 +52,23 @@ NT_GNU_BUILD_ID = 3
 
 -- ---- machines (e_machine)
 
+abbrev pub EM_SPARC : ℕ
+EM_SPARC = 2
+
 abbrev pub EM_386 : ℕ
 EM_386 = 3
+
+abbrev pub EM_68K : ℕ
+EM_68K = 4
+
+abbrev pub EM_MIPS : ℕ
+EM_MIPS = 8
+
+abbrev pub EM_SPARC32PLUS : ℕ
+EM_SPARC32PLUS = 18
+
+abbrev pub EM_PPC : ℕ
+EM_PPC = 20
 
 abbrev pub EM_PPC64 : ℕ
 EM_PPC64 = 21
@@ -64,6 +79,9 @@ EM_S390 = 22
 abbrev pub EM_ARM : ℕ
 EM_ARM = 40
 
+abbrev pub EM_SPARCV9 : ℕ
+EM_SPARCV9 = 43
+
 abbrev pub EM_X86_64 : ℕ
 EM_X86_64 = 62
 
@@ -72,3 +90,9 @@ EM_AARCH64 = 183
 
 abbrev pub EM_RISCV : ℕ
 EM_RISCV = 243
+
+abbrev pub EM_BPF : ℕ
+EM_BPF = 247
+
+abbrev pub EM_LOONGARCH : ℕ
+EM_LOONGARCH = 258

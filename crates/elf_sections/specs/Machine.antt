@@ -3,7 +3,8 @@
 use Rattle.std.specs.Prelude.{ℕ, ◌+◌, ◌-◌, ◌*◌, ◌/◌, ◌%◌, ◌^◌, List, [], ◌∷◌, nat_eq, if◌then◌else◌}
 use Rattle.std.specs.Prelude.{Option, Some, None, Result, Ok, Err}
 use Rattle.elf_sections.specs.ElfNumbers.{EM_X86_64, EM_386, EM_AARCH64, EM_ARM, EM_RISCV, EM_PPC64}
-use Rattle.elf_sections.specs.ElfNumbers.{EM_S390}
+use Rattle.elf_sections.specs.ElfNumbers.{EM_S390, EM_PPC, EM_MIPS, EM_SPARC, EM_SPARC32PLUS}
+use Rattle.elf_sections.specs.ElfNumbers.{EM_SPARCV9, EM_68K, EM_BPF, EM_LOONGARCH}
 use Rattle.elf_sections.specs.declared.error.ElfError.{ElfError}
 use Rattle.elf_sections.specs.declared.error.ElfError.TheVariants.{
   UnknownMachine,
@@ -65,21 +66,62 @@ abbrev pub s390x_kinds : List (ℕ × Change)
 s390x_kinds =
     (0, Nothing) ∷ (4, Number Address Four) ∷ (22, Number Address Eight) ∷ []
 
--- what the kind is on this machine
+-- 32-bit PowerPC: R_PPC_NONE, ADDR32 and UADDR32
+abbrev pub powerpc_kinds : List (ℕ × Change)
+powerpc_kinds =
+    (0, Nothing) ∷ (1, Number Address Four) ∷ (24, Number Address Four) ∷ []
+
+-- MIPS: R_MIPS_NONE, 32 and 64
+abbrev pub mips_kinds : List (ℕ × Change)
+mips_kinds =
+    (0, Nothing) ∷ (2, Number Address Four) ∷ (18, Number Address Eight) ∷ []
+
+-- SPARC: R_SPARC_NONE, 32, UA32, 64 and UA64
+abbrev pub sparc_kinds : List (ℕ × Change)
+sparc_kinds =
+    (0, Nothing) ∷ (3, Number Address Four) ∷ (23, Number Address Four) ∷ (32, Number Address Eight)
+    ∷ (54, Number Address Eight) ∷ []
+
+-- 68000: R_68K_NONE and 32
+abbrev pub m68k_kinds : List (ℕ × Change)
+m68k_kinds =
+    (0, Nothing) ∷ (1, Number Address Four) ∷ []
+
+-- BPF: R_BPF_NONE, 64_ABS64 and 64_ABS32
+abbrev pub bpf_kinds : List (ℕ × Change)
+bpf_kinds =
+    (0, Nothing) ∷ (2, Number Address Eight) ∷ (3, Number Address Four) ∷ []
+
+-- LoongArch: R_LARCH_NONE, 32 and 64; ADD8 to ADD64, and SUB8 to SUB64, without those of 24 bits
+abbrev pub loongarch_kinds : List (ℕ × Change)
+loongarch_kinds =
+    (0, Nothing) ∷ (1, Number Address Four) ∷ (2, Number Address Eight) ∷ (47, Number Add One)
+    ∷ (48, Number Add Two) ∷ (50, Number Add Four) ∷ (51, Number Add Eight)
+    ∷ (52, Number Subtract One) ∷ (53, Number Subtract Two) ∷ (55, Number Subtract Four)
+    ∷ (56, Number Subtract Eight) ∷ []
+
+-- the kinds of each machine that is known
+abbrev pub machines : List (ℕ × List (ℕ × Change))
+machines =
+    (EM_X86_64, x86_64_kinds) ∷ (EM_386, i386_kinds) ∷ (EM_AARCH64, aarch64_kinds)
+    ∷ (EM_ARM, arm_kinds) ∷ (EM_RISCV, riscv_kinds) ∷ (EM_PPC64, powerpc64_kinds)
+    ∷ (EM_S390, s390x_kinds) ∷ (EM_PPC, powerpc_kinds) ∷ (EM_MIPS, mips_kinds)
+    ∷ (EM_SPARC, sparc_kinds) ∷ (EM_SPARC32PLUS, sparc_kinds) ∷ (EM_SPARCV9, sparc_kinds)
+    ∷ (EM_68K, m68k_kinds) ∷ (EM_BPF, bpf_kinds) ∷ (EM_LOONGARCH, loongarch_kinds) ∷ []
+
+-- what a kind is on a machine
 abbrev pub known : ℕ → Option Change → Result Change ElfError
 known kind (Some change) = Ok change
 known kind None = Err (UnknownRelocation kind)
 
+abbrev pub change_among : ℕ → ℕ → List (ℕ × List (ℕ × Change)) → Result Change ElfError
+change_among machine kind [] = Err (UnknownMachine machine)
+change_among machine kind (row ∷ rows) =
+    if nat_eq machine row.0 then known kind (change_in row.1 kind)
+    else change_among machine kind rows
+
 abbrev pub change_of : ℕ → ℕ → Result Change ElfError
-change_of machine kind =
-    if nat_eq machine EM_X86_64 then known kind (change_in x86_64_kinds kind) else (
-    if nat_eq machine EM_386 then known kind (change_in i386_kinds kind) else (
-    if nat_eq machine EM_AARCH64 then known kind (change_in aarch64_kinds kind) else (
-    if nat_eq machine EM_ARM then known kind (change_in arm_kinds kind) else (
-    if nat_eq machine EM_RISCV then known kind (change_in riscv_kinds kind) else (
-    if nat_eq machine EM_PPC64 then known kind (change_in powerpc64_kinds kind) else (
-    if nat_eq machine EM_S390 then known kind (change_in s390x_kinds kind) else (
-    Err (UnknownMachine machine))))))))
+change_of machine kind = change_among machine kind machines
 
 -- the bytes of a number
 abbrev pub size_of : Width → ℕ

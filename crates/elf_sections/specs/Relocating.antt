@@ -11,7 +11,8 @@ use Rattle.elf_sections.specs.SectionHeader.{is_active, has_flag}
 use Rattle.elf_sections.specs.Compression.{has_old_name, old_name}
 use Rattle.elf_sections.specs.Table.{is_name_at}
 use Rattle.elf_sections.specs.File.{File, some_of, section_data_at}
-use Rattle.elf_sections.specs.Relocation.{relocation, relocation_size, form_of, relocates}
+use Rattle.elf_sections.specs.Relocation.{relocation, relocation_size, form_of, of_machine}
+use Rattle.elf_sections.specs.Relocation.{relocates}
 use Rattle.elf_sections.specs.Machine.{change_of, size_of, number_after}
 use Rattle.elf_sections.specs.Entries.{entries_at, symbols_in, symbol_at}
 use Rattle.elf_sections.specs.declared.error.ElfError.{ElfError}
@@ -94,7 +95,8 @@ applied file place symbols bytes entry =
 abbrev pub entry_applied : File → SectionPlace → Form → List (List ℕ) → List ℕ → List ℕ
     → Result (List ℕ) ElfError
 entry_applied file place form symbols bytes entry =
-    applied file place symbols bytes (relocation file.layout form entry)
+    applied file place symbols bytes
+    (of_machine file.machine file.layout (relocation file.layout form entry))
 
 -- the data, once the entries of a section are applied to it, in order. Their symbols are in the
 -- section of its link

@@ -1,7 +1,9 @@
 -- The entries of relocation sections (System V ABI, chapter 4, "Relocation").
 use Rattle.std.specs.Prelude.{ℕ, ◌+◌, ◌-◌, ◌*◌, ◌/◌, ◌%◌, ◌^◌, List, nat_eq, nat_lt, Bool, ◌&&◌}
-use Rattle.std.specs.Prelude.{◌||◌, if◌then◌else◌, Option, Some, None}
-use Rattle.elf_sections.specs.ElfNumbers.{SHT_RELA, SHT_REL}
+use Rattle.std.specs.Prelude.{◌||◌, false, if◌then◌else◌, Option, Some, None}
+use Rattle.gimli_core.specs.declared.endianity.RunTimeEndian.{RunTimeEndian}
+use Rattle.gimli_core.specs.declared.endianity.RunTimeEndian.TheVariants.{Little}
+use Rattle.elf_sections.specs.ElfNumbers.{SHT_RELA, SHT_REL, EM_MIPS}
 use Rattle.elf_sections.specs.Layout.{address_size, number_at}
 use Rattle.elf_sections.specs.declared.layout.Class.{Class}
 use Rattle.elf_sections.specs.declared.layout.Class.TheVariants.{Elf32, Elf64}
@@ -35,6 +37,24 @@ addend_of layout Rel bytes = None
 addend_of layout Rela bytes =
     Some (signed_of layout.class
     (number_at layout (address_size layout.class) (2 * address_size layout.class) bytes))
+
+-- the bytes of a word, in the other order
+abbrev pub swapped : ℕ → ℕ
+swapped n =
+    n % 2 ^ 8 * 2 ^ 24 + n / 2 ^ 8 % 2 ^ 8 * 2 ^ 16 + n / 2 ^ 16 % 2 ^ 8 * 2 ^ 8 + n / 2 ^ 24
+
+-- whether the two words of r_info stand in the other order, and the bytes of the kind too: in
+-- little-endian files of 64 bits for MIPS, whose r_info is a word and four bytes, of which the last
+-- is the kind
+abbrev pub is_swapped : ℕ → Class → RunTimeEndian → Bool
+is_swapped machine Elf64 Little = nat_eq machine EM_MIPS
+is_swapped machine class order = false
+
+-- the entry as the machine has it
+abbrev pub of_machine : ℕ → Layout → Relocation → Relocation
+of_machine machine layout entry =
+    if is_swapped machine layout.class layout.order
+    then record entry { symbol = entry.kind; kind = swapped entry.symbol } else entry
 
 -- r_info
 abbrev pub info_of : Layout → List ℕ → ℕ

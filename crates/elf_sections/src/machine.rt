@@ -4,6 +4,8 @@ ghost use Rattle.std.specs.Prelude.{◌≡◌, ◌+◌, ◌*◌, ◌/◌, ◌%�
 ghost use Rattle.elf_sections.specs.Machine.{change_of, known, size_of, number_after, change_in};
 ghost use Rattle.elf_sections.specs.Machine.{x86_64_kinds, i386_kinds, aarch64_kinds, arm_kinds};
 ghost use Rattle.elf_sections.specs.Machine.{riscv_kinds, powerpc64_kinds, s390x_kinds};
+ghost use Rattle.elf_sections.specs.Machine.{powerpc_kinds, mips_kinds, sparc_kinds, m68k_kinds};
+ghost use Rattle.elf_sections.specs.Machine.{bpf_kinds, loongarch_kinds};
 
 use crate::error::ElfError;
 
@@ -21,6 +23,22 @@ const RISCV: u16 = 243;
 const PPC64: u16 = 21;
 /// `EM_S390`.
 const S390: u16 = 22;
+/// `EM_PPC`.
+const PPC: u16 = 20;
+/// `EM_MIPS`.
+pub(crate) const MIPS: u16 = 8;
+/// `EM_SPARC`, `EM_SPARC32PLUS` and `EM_SPARCV9`.
+const SPARC: u16 = 2;
+
+const SPARC32PLUS: u16 = 18;
+
+const SPARCV9: u16 = 43;
+/// `EM_68K`.
+const M68K: u16 = 4;
+/// `EM_BPF`.
+const BPF: u16 = 247;
+/// `EM_LOONGARCH`.
+const LOONGARCH: u16 = 258;
 
 /// The bytes of a number.
 #[derive(Clone, Copy)]
@@ -105,6 +123,12 @@ pub(crate) fn change_of(machine: u16, kind: u32) -> Result<Change, ElfError>
         RISCV => known(kind, riscv_change(kind)),
         PPC64 => known(kind, powerpc64_change(kind)),
         S390 => known(kind, s390x_change(kind)),
+        PPC => known(kind, powerpc_change(kind)),
+        MIPS => known(kind, mips_change(kind)),
+        SPARC | SPARC32PLUS | SPARCV9 => known(kind, sparc_change(kind)),
+        M68K => known(kind, m68k_change(kind)),
+        BPF => known(kind, bpf_change(kind)),
+        LOONGARCH => known(kind, loongarch_change(kind)),
         _ => Err(ElfError::UnknownMachine(machine)),
     }
 }
@@ -208,6 +232,84 @@ fn s390x_change(kind: u32) -> Option<Change>
         0 => Some(Change::Nothing),
         4 => Some(Change::Number(Operation::Address, Width::Four)),
         22 => Some(Change::Number(Operation::Address, Width::Eight)),
+        _ => None,
+    }
+}
+
+/// 32-bit PowerPC: R_PPC_NONE, ADDR32 and UADDR32.
+fn powerpc_change(kind: u32) -> Option<Change>
+    ensures { result ≡ change_in powerpc_kinds kind }
+{
+    match kind {
+        0 => Some(Change::Nothing),
+        1 | 24 => Some(Change::Number(Operation::Address, Width::Four)),
+        _ => None,
+    }
+}
+
+/// MIPS: R_MIPS_NONE, 32 and 64.
+fn mips_change(kind: u32) -> Option<Change>
+    ensures { result ≡ change_in mips_kinds kind }
+{
+    match kind {
+        0 => Some(Change::Nothing),
+        2 => Some(Change::Number(Operation::Address, Width::Four)),
+        18 => Some(Change::Number(Operation::Address, Width::Eight)),
+        _ => None,
+    }
+}
+
+/// SPARC: R_SPARC_NONE, 32, UA32, 64 and UA64.
+fn sparc_change(kind: u32) -> Option<Change>
+    ensures { result ≡ change_in sparc_kinds kind }
+{
+    match kind {
+        0 => Some(Change::Nothing),
+        3 | 23 => Some(Change::Number(Operation::Address, Width::Four)),
+        32 | 54 => Some(Change::Number(Operation::Address, Width::Eight)),
+        _ => None,
+    }
+}
+
+/// 68000: R_68K_NONE and 32.
+fn m68k_change(kind: u32) -> Option<Change>
+    ensures { result ≡ change_in m68k_kinds kind }
+{
+    match kind {
+        0 => Some(Change::Nothing),
+        1 => Some(Change::Number(Operation::Address, Width::Four)),
+        _ => None,
+    }
+}
+
+/// BPF: R_BPF_NONE, 64_ABS64 and 64_ABS32.
+fn bpf_change(kind: u32) -> Option<Change>
+    ensures { result ≡ change_in bpf_kinds kind }
+{
+    match kind {
+        0 => Some(Change::Nothing),
+        2 => Some(Change::Number(Operation::Address, Width::Eight)),
+        3 => Some(Change::Number(Operation::Address, Width::Four)),
+        _ => None,
+    }
+}
+
+/// LoongArch: R_LARCH_NONE, 32 and 64; ADD8 to ADD64, and SUB8 to SUB64, without those of 24 bits.
+fn loongarch_change(kind: u32) -> Option<Change>
+    ensures { result ≡ change_in loongarch_kinds kind }
+{
+    match kind {
+        0 => Some(Change::Nothing),
+        1 => Some(Change::Number(Operation::Address, Width::Four)),
+        2 => Some(Change::Number(Operation::Address, Width::Eight)),
+        47 => Some(Change::Number(Operation::Add, Width::One)),
+        48 => Some(Change::Number(Operation::Add, Width::Two)),
+        50 => Some(Change::Number(Operation::Add, Width::Four)),
+        51 => Some(Change::Number(Operation::Add, Width::Eight)),
+        52 => Some(Change::Number(Operation::Subtract, Width::One)),
+        53 => Some(Change::Number(Operation::Subtract, Width::Two)),
+        55 => Some(Change::Number(Operation::Subtract, Width::Four)),
+        56 => Some(Change::Number(Operation::Subtract, Width::Eight)),
         _ => None,
     }
 }

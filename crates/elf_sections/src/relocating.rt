@@ -172,7 +172,8 @@ impl<'a> Relocator<'a> {
             bytes.old (entries all.now.size all.now.bytes.now) }
     {
         for index in 0..all.count() {
-            let entry = Relocation::parse(self.elf.layout, form, all.at(index));
+            let noted = Relocation::parse(self.elf.layout, form, all.at(index));
+            let entry = noted.of_machine(self.elf.machine, self.elf.layout);
             self.apply(&entry, symbols, bytes)?;
         }
         Ok(())

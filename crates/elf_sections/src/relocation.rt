@@ -3,9 +3,12 @@
 ghost use Rattle.std.specs.Prelude.{◌≡◌, ◌+◌, ◌*◌, ◌/◌, ◌%◌, ◌≤◌, length};
 ghost use Rattle.elf_sections.specs.Layout.{address_size, number_at};
 ghost use Rattle.elf_sections.specs.Relocation.{fields, relocation_size, kinds, signed_of};
-ghost use Rattle.elf_sections.specs.Relocation.{addend_of, info_of, relocation};
+ghost use Rattle.elf_sections.specs.Relocation.{addend_of, info_of, relocation, of_machine};
+ghost use Rattle.elf_sections.specs.Relocation.{swapped};
 
 use crate::layout::{Class, Layout};
+use crate::machine::MIPS;
+use gimli_core::RunTimeEndian;
 
 /// How the entries of a section are noted.
 #[derive(Clone, Copy)]
@@ -54,6 +57,31 @@ impl Relocation {
             addend: addend_of(layout, form, bytes),
         }
     }
+
+    /// The entry as the machine has it: in little-endian files of 64 bits for MIPS, `r_info` is the
+    /// word of the symbol and four bytes, of which the last is the kind.
+    pub(crate) fn of_machine(self, machine: u16, layout: Layout) -> Relocation
+        ensures { result ≡ of_machine machine layout self }
+    {
+        match (layout.class, layout.order) {
+            (Class::Elf64, RunTimeEndian::Little) if machine == MIPS => Relocation {
+                symbol: self.kind,
+                kind: swapped(self.symbol),
+                ..self
+            },
+            _ => self,
+        }
+    }
+}
+
+/// The bytes of a word, in the other order.
+fn swapped(word: u32) -> u32
+    ensures { result ≡ swapped word }
+{
+    word % 0x100 * 0x100_0000
+        + word / 0x100 % 0x100 * 0x1_0000
+        + word / 0x1_0000 % 0x100 * 0x100
+        + word / 0x100_0000
 }
 
 /// The symbol and the kind of an entry (`r_info`).

@@ -4,6 +4,7 @@ use Rattle.elf_sections.specs.Steps.{◌>>=◌}
 use Rattle.elf_sections.specs.Entries.{entries}
 use Rattle.elf_sections.specs.Relocating.{applied, entry_applied}
 use Rattle.elf_sections.specs.Elf.{file_of}
+use Rattle.elf_sections.specs.Relocation.{of_machine}
 use Rattle.elf_sections.specs.declared.error.ElfError.{ElfError}
 use Rattle.elf_sections.specs.declared.relocation.Relocation.{Relocation}
 use Rattle.elf_sections.proofs.StepLaws.{steps_from, steps_next}
@@ -25,7 +26,9 @@ returns-in_err-apply c =
     (ap (λ (entry : Relocation).
     applied (file_of c.args.self.now.elf) c.args.self.now.place
     (entries c.args.symbols.now.size c.args.symbols.now.bytes.now)
-    c.loop-index.bytes entry) (sym c.parse-entry.ensures)
+    c.loop-index.bytes entry) (sym (c.of_machine-entry.ensures
+    ∙ ap (λ (r : Relocation). of_machine c.args.self.now.elf.machine c.args.self.now.elf.layout r)
+    c.parse-noted.ensures))
     ∙ sym c.in_err-apply.ensures)))
 
 pub loop-index-preserved : goal.loop-index-preserved
@@ -43,5 +46,7 @@ loop-index-preserved c =
     (ap (λ (entry : Relocation).
     applied (file_of c.args.self.now.elf) c.args.self.now.place
     (entries c.args.symbols.now.size c.args.symbols.now.bytes.now)
-    c.loop-index.bytes entry) (sym c.parse-entry.ensures)
+    c.loop-index.bytes entry) (sym (c.of_machine-entry.ensures
+    ∙ ap (λ (r : Relocation). of_machine c.args.self.now.elf.machine c.args.self.now.elf.layout r)
+    c.parse-noted.ensures))
     ∙ sym c.in_ok-apply.ensures)
