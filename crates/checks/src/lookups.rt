@@ -8,14 +8,14 @@ use crate::units::{many_entries, program, slice};
 use crate::{Found, first_false};
 use gimli_core::{EndianSlice, Endianity, Error, LittleEndian, Reader, Result};
 use gimli_line::{DebugLine, IncompleteLineProgram, LineProgramHeader};
-use gimli_lookup::{Addresses, Lookup, SectionLookup, StringSections};
+use gimli_lookup::{Addresses, Lookup, ProgramPaths, SectionLookup, StringSections};
 use std::alloc::Global;
 
 // ---- a unit over a reader of one's own
 
 /// A unit of version 4 with the file `a.c`: the rows 0x1000, of line 1, and 0x1004, of line 3, and
 /// an end at 0x1008.
-const DEMO: &[u8] =
+pub(crate) const DEMO: &[u8] =
     b"\x2f\0\0\0\x04\0\x1b\0\0\0\x01\x01\x01\xfb\x0e\x0d\0\x01\x01\x01\x01\0\0\0\x01\0\0\x01\0\
       a.c\0\0\0\0\0\0\x05\x02\0\x10\0\0\x01\x4c\x02\x04\0\x01\x01";
 
@@ -115,12 +115,15 @@ fn has_unit<R: Reader>(lookup: &SectionLookup<R>) -> bool
 /// Whether line 1 is found in a lookup of a section, by the number of its file and by its path. The
 /// reader has no bytes.
 fn finds_line<R: Reader>(lookup: &SectionLookup<R>, empty: R) -> [bool; 2] {
-    let sections = StringSections {
+    let strings = StringSections {
         debug_line_str: empty,
         debug_str: empty,
     };
     let of_file = has_unit(lookup) && are_all(lookup.addresses_of_file(0, 1, 1));
-    let of_path = are_all(lookup.addresses_of(&sections, b"\x01\x01\x01/\x01\x01\x01", 1));
+    let of_path = match ProgramPaths::new(strings) {
+        Ok(paths) => are_all(lookup.addresses_of(&paths, b"\x01\x01\x01/\x01\x01\x01", 1)),
+        Err(_) => false,
+    };
     [of_file, of_path]
 }
 

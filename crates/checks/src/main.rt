@@ -10,6 +10,7 @@ mod errors;
 mod lookups;
 mod many;
 mod own_writer;
+mod programs;
 mod readers;
 mod relocations;
 mod units;
@@ -27,10 +28,14 @@ fn first_false(found: &[bool]) -> Option<usize> {
 }
 
 /// Each check, and what it finds.
-fn checks(alloc: Global) -> [(&'static str, Found); 11] {
+fn checks(alloc: Global) -> [(&'static str, Found); 12] {
     [
         ("readers::skipped", readers::skipped()),
         ("lookups::narrow_unit", lookups::narrow_unit(alloc)),
+        (
+            "programs::late_directories",
+            programs::late_directories(alloc),
+        ),
         ("lookups::wide_numbers", lookups::wide_numbers(alloc)),
         ("lookups::many", lookups::many(alloc)),
         ("relocations::calls", relocations::calls(alloc)),

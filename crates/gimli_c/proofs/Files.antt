@@ -21,10 +21,10 @@ use Rattle.gimli_line.specs.declared.run.instruction.LineInstruction.TheVariants
 use Rattle.gimli_line.specs.declared.run.instruction.LineInstruction.TheVariants.{SetDiscriminator, UnknownExtended}
 use Rattle.gimli_line.specs.header.Header.{Header, files_with, without_files, directory_of, file_of, from_one}
 use Rattle.gimli_line.specs.run.Instruction.{Ins, files_after}
-use Rattle.gimli_line.specs.run.InstructionReading.{decoded_at}
+use Rattle.gimli_line.specs.run.InstructionGrammar.{decoded_at}
 use Rattle.gimli_line.specs.run.Passing.{files_from}
 use Rattle.gimli_line.specs.run.Rows.{files_at_end}
-use Rattle.gimli_line.specs.run.RunState.{RunState}
+use Rattle.gimli_line.specs.run.Passing.{RunState}
 use Rattle.gimli_line.specs.run.EventsWithFiles.{FilesAtEnd}
 use Rattle.gimli_c.specs.Location.{Location, layout_at, HasUnit}
 use Rattle.gimli_c.specs.FileSeen.{HasFiles, file_seen_by_c}

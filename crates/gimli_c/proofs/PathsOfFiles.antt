@@ -4,7 +4,7 @@ use Rattle.std.specs.Prelude.{Result, Ok, Err, IfOk, IfErr}
 use Rattle.gimli_line.specs.header.File.{File}
 use Rattle.gimli_line.specs.header.Header.{Header}
 use Rattle.gimli_line.specs.run.Rows.{files_at_end}
-use Rattle.gimli_line.specs.run.RunState.{RunState}
+use Rattle.gimli_line.specs.run.Passing.{RunState}
 use Rattle.gimli_lookup.specs.Paths.{file_path}
 use Rattle.gimli_lookup.specs.Strings.{Strings}
 use Rattle.gimli_c.specs.Path.{paths_handed, texts_handed}

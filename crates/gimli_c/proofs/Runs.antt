@@ -15,10 +15,10 @@ use Rattle.gimli_line.specs.run.Instruction.{Ins}
 use Rattle.gimli_line.specs.run.Events.{Event, row, fault, Events}
 use Rattle.gimli_line.specs.run.EventsWithFiles.{EventWithFiles, EventsWithFiles}
 use Rattle.gimli_line.specs.run.Sequences.{events_of}
-use Rattle.gimli_line.specs.run.InstructionReading.{decoded_at, decoded_upto}
+use Rattle.gimli_line.specs.run.InstructionGrammar.{decoded_at, decoded_upto}
 use Rattle.gimli_line.specs.run.Passing.{files_from}
 use Rattle.gimli_line.specs.run.Rows.{files_at_end}
-use Rattle.gimli_line.specs.run.RunState.{RunState}
+use Rattle.gimli_line.specs.run.Passing.{RunState}
 use Rattle.gimli_c.specs.declared.row.GimliRow.{GimliRow}
 use Rattle.gimli_line.proofs.Bounds.{unit_bounded}
 use Rattle.gimli_line.proofs.HeaderLaws.{one_header}

@@ -6,10 +6,10 @@ use Rattle.std.proofs.lemmas.Bool.{cases_lt}
 use Rattle.std.proofs.lemmas.List.{append-nil, drop_all, length-append, length-drop}
 use Rattle.gimli_core.specs.Layout.{OrderAndLimit, layout_of}
 use Rattle.gimli_core.specs.Numbers.{word_size}
-use Rattle.gimli_core.specs.Reading.{Read, eof, initial_length_at}
+use Rattle.gimli_core.specs.Production.{unit_length}
+use Rattle.gimli_core.specs.Reading.{Read, eof}
 use Rattle.gimli_core.specs.declared.error.Error.{Error}
-use Rattle.gimli_line.specs.UnitReading.{after_unit, any_unit_at}
-use Rattle.gimli_line.specs.Units.{any_unit, offset_after}
+use Rattle.gimli_line.specs.Units.{after_unit, any_unit, offset_after}
 use Rattle.gimli_line.specs.header.File.{File}
 use Rattle.gimli_line.specs.header.Header.{Header, UnitEntry}
 use Rattle.gimli_line.specs.header.HeaderGrammar.{header_production, SpellsUnit}
@@ -27,17 +27,17 @@ use Rattle.gimli_c.proofs.Runs.{rows_at_most}
 -- ---- the next unit
 
 -- no bytes begin with no unit
-none_empty : (layout : OrderAndLimit) → (any_unit_at layout []).0 ≡ Err (eof [])
-unfolding any_unit_at initial_length_at
+none_empty : (layout : OrderAndLimit) → ((any_unit layout).read []).0 ≡ Err (eof [])
+unfolding any_unit unit_length
 none_empty layout = refl
 
 -- after a unit, or at the end where none was taken, the next one begins
 pub next_is : (layout : OrderAndLimit) (section : List ℕ) (offset next : ℕ) (after : List ℕ)
-    → after ≡ after_unit (any_unit_at layout (drop offset section)) → next + length after ≡ length section
+    → after ≡ after_unit ((any_unit layout).read (drop offset section)) → next + length after ≡ length section
     → IsNext layout section offset next
-next_is layout section offset next after is ends = at_answer (any_unit_at layout (drop offset section)) refl is
+next_is layout section offset next after is ends = at_answer ((any_unit layout).read (drop offset section)) refl is
   where
-    at_answer : (r : Read (List ℕ)) → any_unit_at layout (drop offset section) ≡ r → after ≡ after_unit r
+    at_answer : (r : Read (List ℕ)) → (any_unit layout).read (drop offset section) ≡ r → after ≡ after_unit r
         → IsNext layout section offset next
     at_answer (Ok content, rest) read left =
         let f = (reads_any_unit layout).found (drop offset section) content rest read in
@@ -46,7 +46,7 @@ next_is layout section offset next after is ends = at_answer (any_unit_at layout
           | inr le ↦
               let wrong : (let r : Result (List ℕ) Error = Err (eof []) in r) ≡ Ok content =
               sym (none_empty layout)
-              ∙ ap (λ (xs : List ℕ). (any_unit_at layout xs).0) (sym (drop_all offset section le))
+              ∙ ap (λ (xs : List ℕ). ((any_unit layout).read xs).0) (sym (drop_all offset section le))
               ∙ ap (λ (r : Read (List ℕ)). r.0) read in
               absurd cc
         ] in
@@ -78,6 +78,7 @@ same_next section other is_big other_big offset next s b is =
 unit_any : (layout : OrderAndLimit) (unit_entry : UnitEntry) (unit : List ℕ) (h : Header)
     → (header_production layout unit_entry).Spells unit h
     → (content : List ℕ) × (any_unit layout).Spells unit content
+unfolding any_unit header_production
 unit_any layout unit_entry unit h s =
     let i = s.5 in
     let o = i.5 in
@@ -92,6 +93,7 @@ unit_any layout unit_entry unit h s =
 unit_size : (layout : OrderAndLimit) (unit_entry : UnitEntry) (offset : ℕ) (unit : List ℕ) (h : Header)
     → (header_production layout unit_entry).Spells unit h
     → offset + length unit ≡ offset_after offset h
+unfolding any_unit unit_length
 unit_size layout unit_entry offset unit h s =
     let any = unit_any layout unit_entry unit h s in
     let one : List ℕ = 1 ∷ [] in
@@ -117,9 +119,10 @@ pub next_follows : (layout : OrderAndLimit) (unit_entry : UnitEntry) (section : 
     → next ≡ offset_after offset h
 next_follows layout unit_entry section offset next h u (inl b) =
     let any = unit_any layout unit_entry u.0 h u.3 in
-    let read : any_unit_at layout (drop offset section) ≡ (Ok any.0, u.1) = ap (any_unit_at layout) u.2
+    let read : (any_unit layout).read (drop offset section) ≡ (Ok any.0, u.1) = ap ((any_unit layout).read) u.2
     ∙ (reads_any_unit layout).only u.0 any.0 u.1 any.1 in
-    let again : any_unit_at layout (drop offset section) ≡ (Ok b.content, b.rest) = ap (any_unit_at layout) b.parts
+    let again : (any_unit layout).read (drop offset section)
+    ≡ (Ok b.content, b.rest) = ap ((any_unit layout).read) b.parts
     ∙ (reads_any_unit layout).only b.unit b.content b.rest b.spelled in
     let same : u.1 ≡ b.rest = ap (λ (r : Read (List ℕ)). r.1) (sym read ∙ again) in
     omega (
@@ -134,7 +137,7 @@ next_follows layout unit_entry section offset next h u (inl b) =
     )
 next_follows layout unit_entry section offset next h u (inr none) =
     let any = unit_any layout unit_entry u.0 h u.3 in
-    let read : any_unit_at layout (drop offset section) ≡ (Ok any.0, u.1) = ap (any_unit_at layout) u.2
+    let read : (any_unit layout).read (drop offset section) ≡ (Ok any.0, u.1) = ap ((any_unit layout).read) u.2
     ∙ (reads_any_unit layout).only u.0 any.0 u.1 any.1 in
     let refused = (reads_any_unit layout).refused (drop offset section) none.0.0 none.0.1 in
     let wrong : (let r : Result (List ℕ) Error = Ok any.0 in r)

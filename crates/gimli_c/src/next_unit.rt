@@ -3,7 +3,7 @@
 ghost use Rattle.std.specs.Prelude.{◌≡◌, ◌^◌, drop};
 ghost use Rattle.gimli_core.specs.Layout.{layout_of};
 ghost use Rattle.gimli_core.specs.Reading.{result_map};
-ghost use Rattle.gimli_line.specs.UnitReading.{after_unit, any_unit_at};
+ghost use Rattle.gimli_line.specs.Units.{after_unit, any_unit};
 ghost use Rattle.gimli_c.specs.Unit.{IsNext};
 
 use crate::location::order;
@@ -43,7 +43,7 @@ fn bytes_from<R: Reader>(section: R, offset: R::Offset) -> R
 fn skip_unit<R: Reader>(input: &mut R)
     ensures { R.bytes input.new
         ≡ after_unit
-        (any_unit_at (layout_of (R.is_big input.old) R.Offset.limit) (R.bytes input.old)) }
+        ((any_unit (layout_of (R.is_big input.old) R.Offset.limit)).read (R.bytes input.old)) }
 {
     if split_unit(input).is_err() {
         input.empty();
@@ -51,10 +51,10 @@ fn skip_unit<R: Reader>(input: &mut R)
 }
 
 /// Takes a unit, whatever its content is, by its length. Returns as many bytes as that says.
-#[tactic(auto, unfolding(gimli_line::specs::UnitReading::any_unit_at))]
+#[tactic(auto, unfolding(gimli_line::specs::Units::any_unit))]
 fn split_unit<R: Reader>(input: &mut R) -> Result<R>
     ensures { (result_map R.bytes result, R.bytes input.new)
-        ≡ any_unit_at (layout_of (R.is_big input.old) R.Offset.limit) (R.bytes input.old) }
+        ≡ (any_unit (layout_of (R.is_big input.old) R.Offset.limit)).read (R.bytes input.old) }
 {
     let (length, _format) = input.read_initial_length()?;
     input.split(length)

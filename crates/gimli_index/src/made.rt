@@ -24,7 +24,7 @@ use crate::source_table::SourceTable;
 use crate::statements::statements_of;
 use crate::turns::{Turn, are_in_turn, turns_of};
 use gimli_core::Reader;
-use gimli_lookup::{CoveringRows, ProgramPaths, Ranges, SectionLookup, SequenceRows};
+use gimli_lookup::{CoveringRows, Program, Ranges, SequenceRows};
 use std::alloc::{AllocError, Global};
 
 /// Whether two numbers are of sources that are the same.
@@ -307,12 +307,12 @@ fn write_entries<R: Reader>(
     .write_named(origin.alloc, out)
 }
 
-/// Appends the bytes of the index of a lookup: what [`SectionLookup::find`] says of each address,
-/// with the whole path of the row's file by [`ProgramPaths::of_row`]. The identity names what the
-/// index is made of: a build id or a checksum.
+/// Appends the bytes of the index of a program: what [`Program::place`] says of each address, with
+/// the whole path of the place. The identity names what the index is made of: a build id or a
+/// checksum.
 ///
 /// [`LineIndex::addresses_of`](crate::LineIndex::addresses_of) gives the addresses of a line that
-/// the lookup gives, whichever of its sequences overlap. The sources are those that an entry or a
+/// the rows give, whichever of their sequences overlap. The sources are those that an entry or a
 /// statement names, each the file of a row of code.
 ///
 /// Adjacent starts of one place are one. A path that can't be told is a source with the number of
@@ -326,29 +326,27 @@ fn write_entries<R: Reader>(
 /// each of its files, so the paths of a small section may be long. `usize::MAX` leaves the limit of
 /// 32 bits.
 pub fn write_index<R: Reader>(
-    alloc: Global,
-    lookup: &SectionLookup<R>,
-    paths: &ProgramPaths<R>,
+    program: &Program<R>,
     address_size: u16,
     identity: &[u8],
     limit: usize,
     out: &mut Vec<u8>,
 ) -> Result<(), MakeError>
     requires { IsTrue (is_address_size address_size) }
-    ensures bytes { OnOk result (IsAppended (given_by (texts_seen R.bytes paths.now) lookup.now
-        address_size identity.now) limit out.old.items out.new.items) }
-    ensures index { OnOk result (IsIndexAppended (given_by (texts_seen R.bytes paths.now) lookup.now
-        address_size identity.now) out.old.items out.new.items) }
-    ensures err { IfErr result (IsIndexFault (given_by (texts_seen R.bytes paths.now) lookup.now
-        address_size identity.now) limit) }
+    ensures bytes { OnOk result (IsAppended (given_by (texts_seen R.bytes program.now.paths)
+        program.now.lookup address_size identity.now) limit out.old.items out.new.items) }
+    ensures index { OnOk result (IsIndexAppended (given_by (texts_seen R.bytes program.now.paths)
+        program.now.lookup address_size identity.now) out.old.items out.new.items) }
+    ensures err { IfErr result (IsIndexFault (given_by (texts_seen R.bytes program.now.paths)
+        program.now.lookup address_size identity.now) limit) }
     ensures kept { IfErr result (λ e. e ≢ OutOfMemory → out.new.items ≡ out.old.items) }
 {
     let origin = Origin {
-        alloc,
-        lookup,
-        paths,
+        alloc: program.allocator(),
+        lookup: program.lookup(),
+        paths: program.paths(),
         limit,
     };
-    let mut table = SourceTable::new(alloc, lookup)?;
+    let mut table = SourceTable::new(origin.alloc, origin.lookup)?;
     write_entries(&origin, &mut table, address_size, identity, out)
 }

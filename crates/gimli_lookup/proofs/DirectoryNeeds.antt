@@ -3,7 +3,7 @@ use Rattle.std.proofs.Common.{◌≡◌, ℕ, Bool, true, false, List, [], ◌�
 use Rattle.std.specs.Prelude.{Result, Ok, Err, IfOk, IfErr}
 use Rattle.gimli_core.specs.declared.error.Error.{Error}
 use Rattle.gimli_line.specs.header.Header.{SeenHeader, UnitEntry}
-use Rattle.gimli_line.specs.UnitAt.{SpellsUnitAt, HasUnitFaultAt}
+use Rattle.gimli_line.specs.Units.{SpellsUnitAt, HasUnitFaultAt}
 use Rattle.gimli_line.specs.run.Unread.{Unread}
 use Rattle.gimli_line.specs.Units.{UnitWalk}
 use Rattle.gimli_lookup.specs.PathFiles.{paths_of}

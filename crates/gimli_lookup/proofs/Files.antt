@@ -13,10 +13,10 @@ use Rattle.gimli_line.specs.header.Parameters.{Parameters}
 use Rattle.gimli_line.specs.run.Events.{Event, fault, EventWithFiles, with_files, is_given, given_of}
 use Rattle.gimli_line.specs.run.Machine.{made_step, next_registers, made_from}
 use Rattle.gimli_line.specs.run.Instruction.{Ins, defines_file, files_after}
-use Rattle.gimli_line.specs.run.InstructionReading.{decoded_at}
+use Rattle.gimli_line.specs.run.InstructionGrammar.{decoded_at}
 use Rattle.gimli_line.specs.run.Passing.{with_reset_row, files_from}
 use Rattle.gimli_line.specs.run.Rows.{WantsMemory, events_left, files_at_end, live_events, whole_run}
-use Rattle.gimli_line.specs.run.RunState.{RunState}
+use Rattle.gimli_line.specs.run.Passing.{RunState}
 use Rattle.gimli_line.proofs.InstructionLaws.{is_decoded}
 use Rattle.gimli_line.proofs.Runs.{bare_decoding, decodes_on, decoded_some}
 use Rattle.gimli_lookup.specs.Run.{DefinesFile}

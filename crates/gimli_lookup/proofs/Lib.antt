@@ -5,6 +5,7 @@ pub mod OnePair
 pub mod StringLaws
 pub mod EndedStrings
 pub mod WholePaths
+pub mod NeededCompilations
 pub mod DirectoryNeeds
 pub mod OneAnswer
 pub mod KeptCut

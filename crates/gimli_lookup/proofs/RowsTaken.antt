@@ -9,7 +9,7 @@ use Rattle.gimli_line.specs.header.File.{File}
 use Rattle.gimli_line.specs.run.Events.{row}
 use Rattle.gimli_line.specs.run.EventsWithFiles.{EventWithFiles}
 use Rattle.gimli_line.specs.run.Passing.{with_reset_row}
-use Rattle.gimli_line.specs.run.RunState.{RunState}
+use Rattle.gimli_line.specs.run.Passing.{RunState}
 use Rattle.gimli_line.specs.run.Rows.{live_made, made_left, files_at_end, KeepsHeader, RowIs, EndIs, FaultIs}
 use Rattle.gimli_line.specs.run.Sequences.{events_of}
 use Rattle.gimli_line.proofs.Sources.{keeps_same, keeps_both}

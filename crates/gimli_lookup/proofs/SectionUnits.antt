@@ -11,7 +11,7 @@ use Rattle.gimli_core.specs.declared.error.Error.{Error}
 use Rattle.gimli_line.specs.declared.run.row.LineRow.{LineRow}
 use Rattle.gimli_line.specs.header.Header.{SeenHeader, UnitEntry}
 use Rattle.gimli_line.specs.run.Unread.{Unread}
-use Rattle.gimli_line.specs.UnitAt.{SpellsUnitAt, HasUnitFaultAt}
+use Rattle.gimli_line.specs.Units.{SpellsUnitAt, HasUnitFaultAt}
 use Rattle.gimli_line.specs.Units.{UnitWalk}
 use Rattle.gimli_lookup.specs.Section.{ListedUnit, KeptUnit, with_sequences, AreAdjacent}
 use Rattle.gimli_lookup.specs.inside.Section.{IsOutcome, IsAdded}

@@ -10,7 +10,7 @@ use Rattle.gimli_line.specs.header.Header.{Header}
 use Rattle.gimli_line.specs.header.Orders.{HeaderSource}
 use Rattle.gimli_line.specs.run.Events.{row}
 use Rattle.gimli_line.specs.run.EventsWithFiles.{EventWithFiles, Makes, FilesAtEnd}
-use Rattle.gimli_line.specs.run.RunState.{RunState}
+use Rattle.gimli_line.specs.run.Passing.{RunState}
 use Rattle.gimli_line.specs.run.Rows.{made_left, files_at_end, whole_run}
 use Rattle.gimli_line.specs.run.Sequences.{events_of}
 use Rattle.gimli_lookup.specs.inside.SequenceCut.{SequenceCut, no_rows, with_rows}

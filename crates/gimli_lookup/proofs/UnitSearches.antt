@@ -15,7 +15,7 @@ use Rattle.gimli_line.specs.declared.run.row.LineRow.{LineRow}
 use Rattle.gimli_line.specs.run.Rows.{live_made, FaultIs}
 use Rattle.gimli_line.specs.run.Passing.{with_reset_row}
 use Rattle.gimli_line.specs.run.Rows.{KeepsHeader}
-use Rattle.gimli_line.specs.run.RunState.{RunState}
+use Rattle.gimli_line.specs.run.Passing.{RunState}
 use Rattle.gimli_lookup.specs.declared.section_lookup.CoveringRows.{CoveringRows}
 use Rattle.gimli_lookup.specs.FirstPair.{HasNoPair, IsFirstPair}
 use Rattle.gimli_lookup.specs.UnitRun.{has_rows, stands}

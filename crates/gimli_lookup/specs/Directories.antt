@@ -4,7 +4,7 @@ use Rattle.gimli_core.specs.declared.error.Error.{Error}
 use Rattle.gimli_line.specs.header.Header.{Header, UnitEntry}
 use Rattle.gimli_line.specs.header.HeaderGrammar.{SpellsUnit}
 use Rattle.gimli_line.specs.run.Unread.{Unread}
-use Rattle.gimli_line.specs.UnitAt.{HasUnitFaultAt}
+use Rattle.gimli_line.specs.Units.{HasUnitFaultAt}
 use Rattle.gimli_lookup.specs.PathFiles.{paths_of}
 use Rattle.gimli_lookup.specs.Paths.{needs_directory}
 use Rattle.gimli_lookup.specs.Strings.{Strings}

@@ -8,6 +8,7 @@ pub mod Cut
 pub mod Strings
 pub mod Paths
 pub mod ProgramPaths
+pub mod Program
 pub mod Run
 pub mod Components
 pub mod Statements

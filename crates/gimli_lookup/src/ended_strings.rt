@@ -9,6 +9,7 @@ ghost use Rattle.gimli_core.specs.Values.{Value, value_seen};
 ghost use Rattle.gimli_line.specs.header.File.{file_seen, File};
 ghost use Rattle.gimli_line.specs.header.Header.{Header};
 ghost use Rattle.gimli_lookup.specs.Paths.{directory_path, directory_string, file_path};
+ghost use Rattle.gimli_lookup.specs.Paths.{needs_directory};
 ghost use Rattle.gimli_lookup.specs.Strings.{Strings, string_at, string_of, strings};
 ghost use Rattle.gimli_lookup.specs.declared.path_error.PathError.TheVariants.{OutOfMemory};
 ghost use Rattle.gimli_lookup.specs.declared.path_error.PathError.TheVariants.{
@@ -220,6 +221,16 @@ impl<R: Reader> EndedStrings<R> {
         Ok(EndedStrings {
             sections: Sections { whole, ended },
         })
+    }
+
+    /// Whether the paths of a header need the directory of its compilation, as
+    /// `Paths::needs_directory` says.
+    pub(crate) fn need_directory(&self, header: &LineProgramHeader<R>) -> bool
+        ensures { result ≡ needs_directory
+            (paths_in (strings R.bytes self.now) header.now.meaning None) }
+    {
+        strings_end_alike();
+        Paths::new(header, self.sections.ended, None).needs_directory()
     }
 
     /// The whole path of a file, by the directory of its compilation where that is known. Refused

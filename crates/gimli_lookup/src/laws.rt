@@ -13,6 +13,8 @@ ghost use Rattle.gimli_lookup.specs.FirstPair.{IsFirstPair};
 ghost use Rattle.gimli_lookup.specs.Paths.{Paths, is_absolute, directory_string};
 ghost use Rattle.gimli_lookup.specs.Paths.{file_path, compilation_directory, needs_directory};
 ghost use Rattle.gimli_lookup.specs.Paths.{with_directory, EndsWithOwnPath, HasAbsoluteRoot};
+ghost use Rattle.gimli_lookup.specs.Program.{listed, some_need};
+ghost use Rattle.gimli_lookup.specs.ProgramPaths.{found_path, Texts};
 ghost use Rattle.gimli_lookup.specs.Run.{AreRowsOfSequences, IsFirstFound, IsFoundInRun};
 ghost use Rattle.gimli_lookup.specs.Ranges.{IsFoundAt};
 ghost use Rattle.gimli_lookup.specs.Probes.{NoneGoesDown};
@@ -60,6 +62,15 @@ pub fn directories_are_needed()
         → file_path (with_directory other paths) f ≡ file_path paths f }
     ensures needed { (paths : Paths) → needs_directory paths ≡ true
         → compilation_directory paths ≡ Ok (unwrap_or paths.comp_dir []) }
+{}
+
+/// Where `Program::needs_compilations` is false, each path that a place has is the same whatever
+/// compilations are handed in.
+pub fn compilations_are_needed()
+    ensures { (texts : Texts) (units : List KeptUnit) (found : CoveringRows)
+        (other : ℕ → Option (List ℕ)) → some_need texts.strings units ≡ false
+        → found_path (record texts { directory = other }) (listed units) found
+        ≡ found_path texts (listed units) found }
 {}
 
 /// Whole paths are absolute where the directory of the compilation is, as it is where directory 0

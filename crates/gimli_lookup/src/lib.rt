@@ -1,10 +1,11 @@
 //! The rows of line programs that cover an address, the paths of their files, and the addresses of
 //! a line, in DWARF versions 2 to 5.
 //!
-//! [`Lookup`] keeps the rows of each sequence of a program, and finds the two between which an
-//! address stands. [`SectionLookup`] does so for all units of a section. [`find_in_run`] returns
-//! what a lookup does for one address, and keeps no rows. [`Paths`] gives the whole path of a row's
-//! file. The way back, from a line of a file to [`Addresses`], goes by the same rows.
+//! [`Program`] is made from the sections of a program, and finds the [`Place`] of an address, with
+//! the whole path of its file. It joins two types: [`SectionLookup`] keeps the rows of all units
+//! of a section, and [`ProgramPaths`] gives the paths. The way back, from a line of a file to
+//! [`Addresses`], goes by the same rows. [`Lookup`] keeps the rows of one unit; [`find_in_run`]
+//! returns what it does for one address, and keeps none. [`Paths`] gives the paths of one unit.
 #![tactic(auto)]
 
 mod covering_pairs;
@@ -17,6 +18,7 @@ mod lookup;
 mod path_error;
 mod path_files;
 mod paths;
+mod program;
 mod program_paths;
 mod ranges;
 mod row_counts;
@@ -42,6 +44,7 @@ pub use directories::some_need_directory;
 pub use lookup::Lookup;
 pub use path_error::PathError;
 pub use paths::Paths;
+pub use program::{Place, Program};
 pub use program_paths::ProgramPaths;
 pub use ranges::{CoveredRange, Ranges};
 pub use run::find_in_run;

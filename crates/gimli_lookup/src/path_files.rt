@@ -2,15 +2,14 @@
 
 ghost use Rattle.std.specs.Prelude.{◌≡◌, ◌++◌, [], ◌∷◌, if◌then◌else◌, ℕ, length, IfErr, IfOk};
 ghost use Rattle.std.specs.Prelude.{OnOk};
-ghost use Rattle.gimli_lookup.specs.PathFiles.{has_path, paths_of};
+ghost use Rattle.gimli_lookup.specs.PathFiles.{has_path};
+ghost use Rattle.gimli_lookup.specs.ProgramPaths.{texts_seen, unit_paths};
 ghost use Rattle.gimli_lookup.specs.inside.PathFiles.{AreBelow};
 ghost use Rattle.gimli_lookup.specs.inside.Statements.{is_among};
-ghost use Rattle.gimli_lookup.specs.Strings.{strings};
 
 use crate::path_error::PathError;
-use crate::paths::Paths;
+use crate::program_paths::ProgramPaths;
 use crate::statements::append;
-use crate::string_sections::StringSections;
 use gimli_core::{Error, Reader, Result};
 use gimli_line::LineProgramHeader;
 use std::alloc::Global;
@@ -20,17 +19,17 @@ fn has_path<R: Reader>(
     alloc: Global,
     file: u64,
     header: &LineProgramHeader<R>,
-    sections: &StringSections<R>,
+    paths: &ProgramPaths<R>,
     path: &[u8],
 ) -> Result<bool>
-    ensures ok { IfOk result (λ has. has ≡ has_path
-        (paths_of (strings R.bytes sections.now) header.now.meaning) path.now file) }
+    ensures ok { IfOk result (λ has. has ≡ has_path (unit_paths (texts_seen R.bytes paths.now)
+        (R.Offset.number header.now.offset.0) header.now.meaning) path.now file) }
     ensures err { IfErr result (λ e. e ≡ Error.OutOfMemory) }
 {
     let Some(entry) = header.file(file) else {
         return Ok(false);
     };
-    match Paths::new(header, *sections, None).of_file(alloc, entry) {
+    match paths.of_file(alloc, header, entry) {
         Ok(whole) => Ok(whole.as_slice() == path),
         Err(e) => match e {
             PathError::OutOfMemory => Err(Error::OutOfMemory),
@@ -44,16 +43,17 @@ fn append_with_path<R: Reader>(
     alloc: Global,
     file: u64,
     header: &LineProgramHeader<R>,
-    sections: &StringSections<R>,
+    paths: &ProgramPaths<R>,
     path: &[u8],
     files: &mut Vec<u64>,
 ) -> Result<()>
-    ensures ok { let paths = paths_of (strings R.bytes sections.now) header.now.meaning in
+    ensures ok { let paths = unit_paths (texts_seen R.bytes paths.now)
+        (R.Offset.number header.now.offset.0) header.now.meaning in
         OnOk result (files.new.items
         ≡ files.old.items ++ (if has_path paths path.now file then file ∷ [] else [])) }
     ensures err { IfErr result (λ e. e ≡ Error.OutOfMemory) }
 {
-    if has_path(alloc, file, header, sections, path)? {
+    if has_path(alloc, file, header, paths, path)? {
         append(files, file)?;
     }
     Ok(())
@@ -64,16 +64,16 @@ fn files_below<R: Reader>(
     alloc: Global,
     end: u64,
     header: &LineProgramHeader<R>,
-    sections: &StringSections<R>,
+    paths: &ProgramPaths<R>,
     path: &[u8],
 ) -> Result<Vec<u64>>
-    ensures ok { IfOk result (λ files. AreBelow (has_path
-        (paths_of (strings R.bytes sections.now) header.now.meaning) path.now) end files.items) }
+    ensures ok { IfOk result (λ files. AreBelow (has_path (unit_paths (texts_seen R.bytes paths.now)
+        (R.Offset.number header.now.offset.0) header.now.meaning) path.now) end files.items) }
     ensures err { IfErr result (λ e. e ≡ Error.OutOfMemory) }
 {
     let mut files = Vec::new(alloc);
     for file in 0..end {
-        append_with_path(alloc, file, header, sections, path, &mut files)?;
+        append_with_path(alloc, file, header, paths, path, &mut files)?;
     }
     Ok(files)
 }
@@ -91,15 +91,16 @@ fn last_index<R: Reader>(header: &LineProgramHeader<R>) -> u64
 pub(crate) fn files_with_path<R: Reader>(
     alloc: Global,
     header: &LineProgramHeader<R>,
-    sections: &StringSections<R>,
+    paths: &ProgramPaths<R>,
     path: &[u8],
 ) -> Result<Vec<u64>>
-    ensures ok { IfOk result (λ files. (i : ℕ) → is_among files.items i ≡ has_path
-        (paths_of (strings R.bytes sections.now) header.now.meaning) path.now i) }
+    ensures ok { IfOk result (λ files. (i : ℕ) → is_among files.items i
+        ≡ has_path (unit_paths (texts_seen R.bytes paths.now)
+        (R.Offset.number header.now.offset.0) header.now.meaning) path.now i) }
     ensures err { IfErr result (λ e. e ≡ Error.OutOfMemory) }
 {
     let last = last_index(header);
-    let mut files = files_below(alloc, last, header, sections, path)?;
-    append_with_path(alloc, last, header, sections, path, &mut files)?;
+    let mut files = files_below(alloc, last, header, paths, path)?;
+    append_with_path(alloc, last, header, paths, path, &mut files)?;
     Ok(files)
 }

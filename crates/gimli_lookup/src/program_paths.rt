@@ -1,9 +1,12 @@
 //! The whole paths of the files of a program.
 
-ghost use Rattle.std.specs.Prelude.{◌≡◌, ◌≢◌, Err, IfErr, IfOk, Ok};
+ghost use Rattle.std.specs.Prelude.{◌≡◌, ◌≢◌, [], Err, IfErr, IfOk, Ok};
+ghost use Rattle.gimli_compilation.specs.Directories.{directory_for};
 ghost use Rattle.gimli_line.specs.header.File.{file_seen};
-ghost use Rattle.gimli_lookup.specs.Paths.{file_path, row_path};
+ghost use Rattle.gimli_lookup.specs.PathFiles.{paths_of};
+ghost use Rattle.gimli_lookup.specs.Paths.{file_path, needs_directory, row_path};
 ghost use Rattle.gimli_lookup.specs.ProgramPaths.{found_path, texts_seen, unit_paths};
+ghost use Rattle.gimli_lookup.specs.Strings.{strings};
 ghost use Rattle.gimli_lookup.specs.declared.path_error.PathError.TheVariants.{OutOfMemory};
 
 use crate::ended_strings::EndedStrings;
@@ -21,43 +24,66 @@ use std::marker::Model;
 /// each of its units, by the directory of its compilation (`DW_AT_comp_dir`, DWARF 5, section
 /// 3.1.1).
 ///
-/// <!-- part of crates/uses/src/where_is.rt -->
+/// <!-- part of crates/lines_inputs/src/path_sources.rt -->
 /// ```rust
-/// let Some(found) = program.lookup.find(address) else {
-///     return Ok(None);
-/// };
-/// let units = program.lookup.units();
-/// let path = program.paths.of_found(alloc, units, &found)?;
+/// let mut paths = ProgramPaths::new(strings)?;
+/// paths.set_compilations(compilations);
 /// ```
 #[derive(Drop)]
 pub struct ProgramPaths<R: Reader> {
     strings: EndedStrings<R>,
-    compilations: Compilations<R>,
+    /// None where nobody has handed any over.
+    compilations: Option<Compilations<R>>,
 }
 
 impl<R: Reader> Model for ProgramPaths<R> {
-    ghost use Rattle.std.specs.Prelude.{ℕ, List};
+    ghost use Rattle.std.specs.Prelude.{ℕ, List, [], unwrap_or};
     ghost use Rattle.gimli_lookup.specs.declared.string_sections.StringSections.{StringSections};
 
     ghost Value = { StringSections R × List (ℕ × R) };
 
-    ghost view = { λ a. (a.strings, a.compilations) };
+    ghost view = { λ a. (a.strings, unwrap_or a.compilations []) };
 }
 
 impl<R: Reader> ProgramPaths<R> {
-    /// The paths by these sections of strings and these directories of compilations. Strings that
-    /// have no end cost no more than others: the sections are searched once for where the last one
-    /// ends. Fails only where memory is missing.
-    pub fn new(
-        strings: StringSections<R>,
-        compilations: Compilations<R>,
-    ) -> Result<Self, AllocError>
-        ensures { IfOk result (λ paths. paths ≡ (strings, compilations)) }
+    /// The paths by these sections of strings, while no compilation is known. Strings that have no
+    /// end cost no more than others: the sections are searched once for where the last one ends.
+    /// Fails only where memory is missing.
+    pub fn new(strings: StringSections<R>) -> Result<Self, AllocError>
+        ensures { IfOk result (λ paths. paths ≡ (strings, [])) }
     {
         Ok(ProgramPaths {
             strings: EndedStrings::new(strings)?,
-            compilations,
+            compilations: None,
         })
+    }
+
+    /// Makes paths by the directories of these compilations from now on, instead of those that were
+    /// handed over before.
+    pub fn set_compilations(&mut self, compilations: Compilations<R>)
+        ensures { self.new ≡ (self.old.0, compilations) }
+    {
+        self.compilations = Some(compilations);
+    }
+
+    /// The directory of the compilation whose line program begins at an offset of `.debug_line`, as
+    /// `Compilations::directory_of` gives it.
+    pub fn directory_of(&self, line_offset: u64) -> Option<R>
+        ensures { result ≡ directory_for self.now.1 line_offset }
+    {
+        match &self.compilations {
+            Some(compilations) => compilations.directory_of(line_offset),
+            None => None,
+        }
+    }
+
+    /// Whether the paths of a header need the directory of its compilation, as
+    /// `Paths::needs_directory` says.
+    pub(crate) fn need_directory(&self, header: &LineProgramHeader<R>) -> bool
+        ensures { result ≡ needs_directory
+            (paths_of (strings R.bytes self.now.0) header.now.meaning) }
+    {
+        self.strings.need_directory(header)
     }
 
     /// The whole path of a file of a header. Refused as `Paths::of_file` is.
@@ -77,7 +103,7 @@ impl<R: Reader> ProgramPaths<R> {
             → file_path paths (file_seen R.bytes R.Offset.number file.now) ≡ Err e) }
     {
         let offset = header.offset().0.into_u64();
-        let Some(directory) = self.compilations.directory_of(offset) else {
+        let Some(directory) = self.directory_of(offset) else {
             return self.strings.of_file(alloc, header, None, file);
         };
         let Ok(directory) = directory.to_slice() else {
@@ -127,12 +153,5 @@ impl<R: Reader> ProgramPaths<R> {
             return Err(PathError::InvalidFileIndex(found.row.file_index()));
         };
         self.of_row(alloc, header, &found.row)
-    }
-
-    /// The directories of compilations that the paths are made of.
-    pub fn compilations(&self) -> &Compilations<R>
-        ensures { result.now ≡ self.now.1 }
-    {
-        &self.compilations
     }
 }

@@ -2,6 +2,7 @@
 
 ghost use Rattle.std.specs.Prelude.{◌≡◌, ◌<◌, ◌==◌, ℕ, IfErr, IfOk, length, nat_eq, slice_index_or};
 ghost use Rattle.std.specs.List.{list_any};
+ghost use Rattle.gimli_lookup.specs.ProgramPaths.{texts_seen};
 ghost use Rattle.gimli_lookup.specs.Section.{KeptUnit};
 ghost use Rattle.gimli_lookup.specs.SectionAddresses.{
   unit_has_path,
@@ -10,13 +11,12 @@ ghost use Rattle.gimli_lookup.specs.SectionAddresses.{
 };
 ghost use Rattle.gimli_lookup.specs.Statements.{addresses_of, AreAddressesFrom};
 ghost use Rattle.gimli_lookup.specs.inside.Statements.{is_among, AreCollectedFrom};
-ghost use Rattle.gimli_lookup.specs.Strings.{strings};
 
 use crate::path_files::files_with_path;
+use crate::program_paths::ProgramPaths;
 use crate::section_lookup::SectionLookup;
 use crate::section_unit::UnitLookup;
 use crate::statements::{Addresses, addresses_from, collect_from, in_order, join_addresses};
-use crate::string_sections::StringSections;
 use gimli_core::{Error, Reader, Result};
 use std::alloc::Global;
 
@@ -24,15 +24,15 @@ use std::alloc::Global;
 fn unit_files<R: Reader>(
     alloc: Global,
     unit: &UnitLookup<R>,
-    sections: &StringSections<R>,
+    paths: &ProgramPaths<R>,
     path: &[u8],
 ) -> Result<Vec<u64>>
     ensures ok { IfOk result (λ files. (i : ℕ) → is_among files.items i
-        ≡ unit_has_path (strings R.bytes sections.now) path.now unit.now i) }
+        ≡ unit_has_path (texts_seen R.bytes paths.now) path.now unit.now i) }
     ensures err { IfErr result (λ e. e ≡ Error.OutOfMemory) }
 {
     match unit.header() {
-        Some(header) => files_with_path(alloc, header, sections, path),
+        Some(header) => files_with_path(alloc, header, paths, path),
         None => Ok(Vec::new(alloc)),
     }
 }
@@ -76,17 +76,17 @@ impl<R: Reader> SectionLookup<R> {
     /// Skips a file that has no path, and a unit that was refused. Fails only with `OutOfMemory`.
     pub fn addresses_of(
         &self,
-        sections: &StringSections<R>,
+        paths: &ProgramPaths<R>,
         path: &[u8],
         line: u64,
     ) -> Result<Option<Addresses>>
         ensures ok { IfOk result (AreAddressesFrom
-            (addresses_of_path (strings R.bytes sections.now) path.now self.now) line) }
+            (addresses_of_path (texts_seen R.bytes paths.now) path.now self.now) line) }
         ensures err { IfErr result (λ e. e ≡ Error.OutOfMemory) }
     {
         let mut found = None;
         for unit in 0..self.units().len() {
-            found = join_addresses(found, self.unit_addresses(unit, sections, path, line)?)?;
+            found = join_addresses(found, self.unit_addresses(unit, paths, path, line)?)?;
         }
         Ok(in_order(found))
     }
@@ -103,16 +103,16 @@ impl<R: Reader> SectionLookup<R> {
     fn unit_addresses(
         &self,
         unit: usize,
-        sections: &StringSections<R>,
+        paths: &ProgramPaths<R>,
         path: &[u8],
         line: u64,
     ) -> Result<Option<Addresses>>
         requires { unit < length self.now }
         ensures ok { (d : KeptUnit) → IfOk result (AreCollectedFrom (unit_addresses
-            (strings R.bytes sections.now) path.now (slice_index_or self.now unit d)) line) }
+            (texts_seen R.bytes paths.now) path.now (slice_index_or self.now unit d)) line) }
         ensures err { IfErr result (λ e. e ≡ Error.OutOfMemory) }
     {
-        let files = unit_files(self.allocator(), self.unit_at(unit), sections, path)?;
+        let files = unit_files(self.allocator(), self.unit_at(unit), paths, path)?;
         collect_from(self.allocator(), self.sequences_of(unit), &files, line)
     }
 }

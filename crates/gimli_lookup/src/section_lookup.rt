@@ -121,11 +121,11 @@ pub struct CoveringRows {
 /// The units of a section and the rows of their sequences, kept so that those that cover an address
 /// are found.
 ///
-/// <!-- part of crates/uses/src/where_is.rt -->
+/// [`Program`](crate::Program) has one, with the whole paths of the files.
+///
+/// <!-- part of crates/checks/src/lookups.rt -->
 /// ```rust
-/// let Some(found) = program.lookup.find(address) else {
-///     return Ok(None);
-/// };
+/// let found = SectionLookup::new(section, alloc, 4, 0)?.find(address);
 /// ```
 #[derive(Drop)]
 #[derive_where(Debug; R, R::Offset)]

@@ -14,8 +14,8 @@ use gimli_core::{AttributeValue, Reader};
 /// <!-- part of crates/uses/src/where_is.rt -->
 /// ```rust
 /// let strings = StringSections {
-///     debug_line_str: sections.debug_line_str,
-///     debug_str: sections.debug_str,
+///     debug_line_str: section(&elf, b".debug_line_str")?,
+///     debug_str: section(&elf, b".debug_str")?,
 /// };
 /// ```
 #[derive(Clone, Copy, Debug)]

@@ -7,7 +7,7 @@ use crate::opened_index::identity_of;
 use elf_sections::{Elf, ElfError, usual_limit};
 use gimli_core::Reader;
 use gimli_index::{MakeError, write_index};
-use lines_inputs::{Input, InputError, InputSections, PathSources, look_up};
+use lines_inputs::{Input, InputError, InputSections, program_of};
 use lines_pieces::Result;
 use lines_words::{Files, InputKind, Output};
 use std::alloc::{AllocError, Global};
@@ -82,12 +82,10 @@ fn index_of_input<R: Reader>(
     ensures { IfOk result (λ made. IfSome made (λ made.
         IsMade R.bytes R.is_big R.Offset.limit input.now identity.now made.items)) }
 {
-    let sources = PathSources::new(alloc, input)?;
-    let lookup = look_up(alloc, input, output)?;
+    let program = program_of(alloc, input, output)?;
     let mut bytes = Vec::new(alloc);
     let size = u16::from(input.notation.address_size.bytes());
-    let paths = sources.paths();
-    match write_index(alloc, &lookup, paths, size, identity, limit, &mut bytes) {
+    match write_index(&program, size, identity, limit, &mut bytes) {
         Ok(()) => Ok(Some(bytes)),
         Err(MakeError::OutOfMemory) => Err(AllocError),
         Err(refusal) => {

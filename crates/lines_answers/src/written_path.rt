@@ -165,7 +165,7 @@ impl<R: Reader> WrittenPaths<R> {
             return Ok(Some(zero));
         }
         let offset = header.offset().0.into_u64();
-        let known = self.sources.paths().compilations().directory_of(offset);
+        let known = self.sources.paths().directory_of(offset);
         Ok(Some(known.unwrap_or(nothing)))
     }
 

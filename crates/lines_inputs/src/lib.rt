@@ -13,7 +13,7 @@ mod units;
 pub use files::{build_id_in, write_file};
 pub use functions::Functions;
 pub use input::{Input, InputError, InputSections, tell_refusal};
-pub use lookup::{Covering, look_up, look_up_any, look_up_each};
+pub use lookup::{Covering, look_up_any, look_up_each, program_of};
 pub use path_budget::PathBudget;
 pub use path_sources::{PathFault, PathSources, resolved_path};
 pub use units::{

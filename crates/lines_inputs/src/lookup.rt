@@ -1,11 +1,14 @@
 //! The rows of all units of a section, for the commands that look among them.
 
-ghost use Rattle.std.specs.Prelude.{ℕ, All, IfOk};
+ghost use Rattle.std.specs.Prelude.{◌≡◌, ℕ, All, IfOk, option_map};
+ghost use Rattle.gimli_compilation.specs.Directories.{TellsDirectories, directory_for};
+ghost use Rattle.gimli_compilation.specs.Sections.{sections_of};
 ghost use Rattle.lines_inputs.specs.Lookups.{AreUnitsIn, IsReadFrom, Knows};
 
 use crate::input::Input;
+use gimli_compilation::Compilations;
 use gimli_core::{Reader, ReaderOffset};
-use gimli_lookup::{CoveringRows, FoundRows, SectionLookup, UnitLookup, find_in_section};
+use gimli_lookup::{CoveringRows, FoundRows, Program, SectionLookup, UnitLookup, find_in_section};
 use lines_words::Output;
 use std::alloc::{AllocError, Global};
 
@@ -87,7 +90,7 @@ pub fn look_up_each<R: Reader>(
 
 /// Keeps the rows of all units. The fault of each unit is reported; what stands before it is kept
 /// all the same.
-pub fn look_up<R: Reader>(
+fn look_up<R: Reader>(
     alloc: Global,
     input: &Input<R>,
     output: &mut Output<'_>,
@@ -102,6 +105,32 @@ pub fn look_up<R: Reader>(
         }
         Err(_) => Err(AllocError),
     }
+}
+
+/// Keeps the rows of all units, as `look_up` does, and what the whole paths of their files are made
+/// of. Reads the first entry of each unit of `.debug_info` once.
+pub fn program_of<R: Reader>(
+    alloc: Global,
+    input: &Input<R>,
+    output: &mut Output<'_>,
+) -> Result<Program<R>, AllocError>
+    ensures units { IfOk result (λ program.
+        AreUnitsIn R.bytes R.is_big R.Offset.limit input.now program.lookup) }
+    ensures strings { IfOk result (λ program. program.paths.0 ≡ input.now.strings) }
+    ensures directories { IfOk result (λ program.
+        TellsDirectories (sections_of R.bytes R.is_big R.Offset.limit input.now.compilations)
+        (λ line. option_map R.bytes (directory_for program.paths.1 line))) }
+{
+    let (size, lowest) = (input.notation.address_size.bytes(), input.notation.lowest);
+    let Ok(mut program) = Program::new(alloc, &input.lines, input.strings, size, lowest) else {
+        return Err(AllocError);
+    };
+    tell_faults(program.lookup().units(), output);
+    let Ok(compilations) = Compilations::new(alloc, &input.compilations) else {
+        return Err(AllocError);
+    };
+    program.set_compilations(compilations);
+    Ok(program)
 }
 
 /// Reports the fault of each unit.

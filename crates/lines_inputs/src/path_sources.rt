@@ -39,13 +39,12 @@ impl<R: Reader> PathSources<R> {
         ensures strings { IfOk result (λ sources. sources.paths.0 ≡ input.now.strings) }
     {
         let strings = input.strings;
-        match Compilations::new(alloc, &input.compilations) {
-            Ok(compilations) => Ok(PathSources {
-                strings,
-                paths: ProgramPaths::new(strings, compilations)?,
-            }),
-            Err(_) => Err(AllocError),
-        }
+        let Ok(compilations) = Compilations::new(alloc, &input.compilations) else {
+            return Err(AllocError);
+        };
+        let mut paths = ProgramPaths::new(strings)?;
+        paths.set_compilations(compilations);
+        Ok(PathSources { strings, paths })
     }
 
     /// Why a path can't be told, as it is printed.

@@ -3,7 +3,7 @@
 use crate::command::Asked;
 use gimli_core::{Error, Reader, ReaderOffset};
 use gimli_line::{LineProgram, LineProgramHeader, LineRows};
-use gimli_lookup::{PathError, Paths, SectionLookup};
+use gimli_lookup::{PathError, Paths, Program};
 use row_text::Piece::{Address, Number, Row, Text};
 use row_text::{Lines, parse_number};
 
@@ -44,28 +44,29 @@ pub(crate) fn print_units<R: Reader>(asked: &Asked<'_, R>, lines: &mut Lines) {
 /// line that has any; or the units, and for each address the rows that cover it.
 pub(crate) fn print_lookup<R: Reader>(asked: &Asked<'_, R>, is_line: bool, lines: &mut Lines) {
     let size = asked.address_size.bytes();
-    match SectionLookup::new(&asked.section, asked.alloc, size, asked.offset) {
-        Ok(lookup) if is_line => print_addresses(asked, &lookup, lines),
-        Ok(lookup) => print_places(&lookup, asked.addresses, lines),
+    match Program::new(asked.alloc, &asked.section, asked.texts, size, asked.offset) {
+        Ok(program) if is_line => print_addresses(asked, &program, lines),
+        Ok(program) => print_places(&program, asked.addresses, lines),
         Err(_) => lines.refuse(),
     }
 }
 
 /// Prints units, and the rows that cover addresses.
-fn print_places<R: Reader>(lookup: &SectionLookup<R>, words: &[&str], lines: &mut Lines) {
-    for unit in lookup.units() {
+fn print_places<R: Reader>(program: &Program<R>, words: &[&str], lines: &mut Lines) {
+    for unit in program.lookup().units() {
         let version = unit.header().map(|header| header.version());
         print_unit(unit.offset().0.into_u64(), version, unit.fault(), lines);
     }
     for word in words {
-        print_place(lookup, parse_number(word).unwrap_or(0), lines);
+        print_place(program, parse_number(word).unwrap_or(0), lines);
     }
 }
 
 /// Prints the rows that cover an address.
-fn print_place<R: Reader>(lookup: &SectionLookup<R>, address: u64, lines: &mut Lines) {
-    match lookup.find(address) {
-        Some(found) => {
+fn print_place<R: Reader>(program: &Program<R>, address: u64, lines: &mut Lines) {
+    match program.place(address) {
+        Some(place) => {
+            let found = place.rows;
             lines.print("% unit %\n", &[Address(address), Number(found.unit as u64)]);
             lines.print("%\n%\n", &[Row(found.row), Row(found.next)]);
         }
@@ -74,8 +75,8 @@ fn print_place<R: Reader>(lookup: &SectionLookup<R>, address: u64, lines: &mut L
 }
 
 /// Prints a line, and the addresses at which its code begins.
-fn print_addresses<R: Reader>(asked: &Asked<'_, R>, lookup: &SectionLookup<R>, lines: &mut Lines) {
-    match lookup.addresses_of(&asked.texts, asked.path, asked.line) {
+fn print_addresses<R: Reader>(asked: &Asked<'_, R>, program: &Program<R>, lines: &mut Lines) {
+    match program.addresses_of(asked.path, asked.line) {
         Ok(Some(found)) => {
             lines.print("line %\n", &[Number(found.line)]);
             for address in &found.addresses {

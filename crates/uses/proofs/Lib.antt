@@ -1,1 +1,2 @@
 mod ResumedRows
+mod Places

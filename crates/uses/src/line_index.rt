@@ -28,15 +28,7 @@ pub fn start(rt: &HostRuntime, words: &[String], text: &mut String) -> Result<()
 fn map_of(alloc: Global, file: &[u8]) -> Result<Vec<u8>> {
     let program = program_of(alloc, file)?;
     let mut bytes = Vec::new(alloc);
-    write_index(
-        alloc,
-        &program.lookup,
-        &program.paths,
-        8,
-        b"",
-        usize::MAX,
-        &mut bytes,
-    )?;
+    write_index(&program, 8, b"", usize::MAX, &mut bytes)?;
     Ok(bytes)
 }
 

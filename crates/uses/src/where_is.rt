@@ -8,9 +8,9 @@ ghost use Rattle.gimli_lookup.specs.Section.{all_sequences};
 use anyhow::bail;
 use elf_sections::{Elf, ElfError};
 use gimli_compilation::{CompilationSections, Compilations};
-use gimli_core::{EndianSlice, Error, LittleEndian, Reader};
+use gimli_core::{EndianSlice, LittleEndian, Reader};
 use gimli_line::{ColumnType, DebugLine, LineRow};
-use gimli_lookup::{PathError, ProgramPaths, SectionLookup, StringSections};
+use gimli_lookup::{PathError, Program, StringSections};
 use std::alloc::Global;
 use std::fmt::Write;
 use std::fs;
@@ -41,13 +41,33 @@ fn print_places<R: Reader>(
     Ok(())
 }
 
-/// What is kept of an ELF file.
+/// What is kept of an ELF file whose addresses have 8 bytes. Below the lowest address of its code a
+/// linker leaves what it dropped.
 pub fn program_of<'a>(
     alloc: Global,
     file: &'a [u8],
 ) -> Result<Program<EndianSlice<'a, LittleEndian>>> {
     let elf = Elf::parse(file)?;
     let lines = DebugLine::from(section(&elf, b".debug_line")?);
+    let strings = StringSections {
+        debug_line_str: section(&elf, b".debug_line_str")?,
+        debug_str: section(&elf, b".debug_str")?,
+    };
+    let lowest = elf.lowest_code_address().unwrap_or(0);
+    let Ok(mut program) = Program::new(alloc, &lines, strings, 8, lowest) else {
+        return Err(ElfError::OutOfMemory);
+    };
+    if program.needs_compilations() {
+        program.set_compilations(compilations_of(alloc, elf)?);
+    }
+    Ok(program)
+}
+
+/// The directories of the compilations of an ELF file.
+fn compilations_of<'a>(
+    alloc: Global,
+    elf: Elf<'a>,
+) -> Result<Compilations<EndianSlice<'a, LittleEndian>>> {
     let sections = CompilationSections {
         debug_info: section(&elf, b".debug_info")?,
         debug_abbrev: section(&elf, b".debug_abbrev")?,
@@ -55,50 +75,13 @@ pub fn program_of<'a>(
         debug_line_str: section(&elf, b".debug_line_str")?,
         debug_str_offsets: section(&elf, b".debug_str_offsets")?,
     };
-    Program::new(alloc, lines, sections, elf.lowest_code_address()).map_err(
-        |_| ElfError::OutOfMemory,
-    )
+    Compilations::new(alloc, &sections).map_err(|_| ElfError::OutOfMemory)
 }
 
 /// A section of an ELF file; no bytes where it has none of this name.
 fn section<'a>(elf: &Elf<'a>, name: &[u8]) -> Result<EndianSlice<'a, LittleEndian>> {
     let bytes = elf.section(name)?.unwrap_or(&[]);
     Ok(EndianSlice::new(bytes, LittleEndian))
-}
-
-/// What is kept of a program: the rows of its line programs, and the whole paths of its files.
-#[derive(Drop)]
-pub struct Program<R: Reader> {
-    pub lookup: SectionLookup<R>,
-    pub paths: ProgramPaths<R>,
-}
-
-impl<R: Reader> Program<R> {
-    /// Reads the line programs and the units of a program whose addresses have 8 bytes. Below the
-    /// lowest address of its code a linker leaves what it dropped. Fails only with `OutOfMemory`.
-    fn new(
-        alloc: Global,
-        lines: DebugLine<R>,
-        sections: CompilationSections<R>,
-        lowest: Option<u64>,
-    ) -> Result<Self, Error> {
-        let lookup = SectionLookup::new(&lines, alloc, 8, lowest.unwrap_or(0))?;
-        let paths = paths_of(alloc, sections)?;
-        Ok(Program { lookup, paths })
-    }
-}
-
-/// The whole paths of the files of a program.
-fn paths_of<R: Reader>(
-    alloc: Global,
-    sections: CompilationSections<R>,
-) -> Result<ProgramPaths<R>, Error> {
-    let strings = StringSections {
-        debug_line_str: sections.debug_line_str,
-        debug_str: sections.debug_str,
-    };
-    let compilations = Compilations::new(alloc, &sections)?;
-    ProgramPaths::new(strings, compilations).map_err(|_| Error::OutOfMemory)
 }
 
 /// Adds the line of an address.
@@ -143,10 +126,9 @@ fn source_at<R: Reader>(
     ensures row { IfOk result (λ source. IfSome source (λ source. (next : _)
         × IsFirstPair address (all_sequences program.now.lookup) source.1 next)) }
 {
-    let Some(found) = program.lookup.find(address) else {
+    let Some(place) = program.place(address) else {
         return Ok(None);
     };
-    let units = program.lookup.units();
-    let path = program.paths.of_found(alloc, units, &found)?;
-    Ok(Some((path, found.row)))
+    let path = place.path(alloc)?;
+    Ok(Some((path, place.rows.row)))
 }

@@ -1,6 +1,6 @@
 //! Making an index.
 
-ghost use Rattle.std.specs.Prelude.{◌≡◌, ◌≢◌, ◌⊎◌, ◌^◌, ℕ, true, false, IfErr, IfOk, List};
+ghost use Rattle.std.specs.Prelude.{◌≡◌, ◌≢◌, ◌⊎◌, ◌^◌, [], ℕ, true, false, IfErr, IfOk, List};
 ghost use Rattle.gimli_core.specs.Numbers.{is_address_size};
 ghost use Rattle.gimli_core.specs.Order.{is_big_endian};
 ghost use Rattle.gimli_compilation.specs.Sections.{sections_of};
@@ -20,7 +20,7 @@ use gimli_compilation::{CompilationSections, Compilations};
 use gimli_core::{EndianSlice, RunTimeEndian};
 use gimli_index::{MakeError, write_index};
 use gimli_line::DebugLine;
-use gimli_lookup::{ProgramPaths, SectionLookup, StringSections};
+use gimli_lookup::{Program, StringSections};
 use std::alloc::Global;
 
 /// A reader of a section that is handed over.
@@ -62,20 +62,30 @@ fn make_status(error: MakeError) -> u32
     }
 }
 
-/// The units of a section, with their headers. Refused by `OUT_OF_MEMORY` alone.
-fn units_of<'s>(
+/// The units of a section, with their headers, and these sections of strings, while no compilation
+/// is known. Refused by `OUT_OF_MEMORY` alone.
+fn program_of<'s>(
     alloc: Global,
     section: &'s [u8],
+    texts: &StringSections<Slice<'s>>,
     options: &GimliIndexOptions,
-) -> Result<SectionLookup<Slice<'s>>, u32>
+) -> Result<Program<Slice<'s>>, u32>
     requires { is_address_size options.now.address_size ≡ true }
-    ensures ok { (line_strings strings : List ℕ) → IfOk result (AreAllUnitsOf (program section.now
-        options.now.is_big options.now.address_size options.now.lowest line_strings strings)) }
+    ensures ok { (line_strings strings : List ℕ) → IfOk result (λ made. AreAllUnitsOf
+        (program section.now options.now.is_big options.now.address_size options.now.lowest
+        line_strings strings) made.lookup) }
+    ensures paths { IfOk result (λ made. made.paths ≡ (texts.now, [])) }
     ensures err { IfErr result (λ s. s ≡ OUT_OF_MEMORY) }
 {
     let section = DebugLine::new(section, order(options.is_big));
-    match SectionLookup::new(&section, alloc, options.address_size, options.lowest) {
-        Ok(units) => Ok(units),
+    match Program::new(
+        alloc,
+        &section,
+        *texts,
+        options.address_size,
+        options.lowest,
+    ) {
+        Ok(program) => Ok(program),
         Err(_) => Err(OUT_OF_MEMORY),
     }
 }
@@ -98,17 +108,14 @@ fn made_index<'s>(
         bytes.items) }
     ensures err { IfErr result IsIndexRefusal }
 {
-    let units = units_of(alloc, section, options)?;
+    let mut program = program_of(alloc, section, texts, options)?;
     let Ok(compilations) = Compilations::new(alloc, sections) else {
         return Err(OUT_OF_MEMORY);
     };
-    let Ok(paths) = ProgramPaths::new(*texts, compilations) else {
-        return Err(OUT_OF_MEMORY);
-    };
+    program.set_compilations(compilations);
     let mut bytes = Vec::new(alloc);
     let size = u16::from(options.address_size);
-    let limit = options.limit;
-    match write_index(alloc, &units, &paths, size, identity, limit, &mut bytes) {
+    match write_index(&program, size, identity, options.limit, &mut bytes) {
         Ok(()) => Ok(bytes),
         Err(e) => Err(make_status(e)),
     }

@@ -4,7 +4,7 @@ use Rattle.gimli_core.specs.declared.error.Error.{Error}
 use Rattle.gimli_line.specs.declared.run.row.LineRow.{LineRow}
 use Rattle.gimli_line.specs.run.Events.{row, fault}
 use Rattle.gimli_line.specs.run.EventsWithFiles.{EventWithFiles}
-use Rattle.gimli_line.specs.run.RunState.{RunState}
+use Rattle.gimli_line.specs.run.Passing.{RunState}
 use Rattle.gimli_line.specs.run.Rows.{made_left, files_at_end, event_of, KeepsHeader}
 use Rattle.gimli_line.specs.run.Sequences.{events_of}
 use Rattle.gimli_lookup.specs.inside.SequenceCut.{SequenceCut, with_rows}

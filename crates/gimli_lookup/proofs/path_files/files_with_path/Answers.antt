@@ -1,12 +1,13 @@
 use Rattle.std.proofs.Common.{◌+◌, ◌++◌, if◌then◌else◌, [], ◌∷◌, arith}
-use Rattle.gimli_lookup.specs.PathFiles.{has_path, paths_of}
-use Rattle.gimli_lookup.specs.Strings.{strings}
+use Rattle.gimli_lookup.specs.PathFiles.{has_path}
+use Rattle.gimli_lookup.specs.ProgramPaths.{texts_seen, unit_paths}
 use Rattle.gimli_lookup.proofs.PathFileNumbers.{more_below, all_below, no_path_past}
 use Rattle.gimli_lookup.proofs.path_files.files_with_path.Goals as goal
 
 pub returns-clause-ok : goal.returns-clause-ok
 returns-clause-ok g c =
-    let paths = paths_of (strings g.R.Reader.bytes c.args.sections.now) c.args.header.now.meaning in
+    let paths = unit_paths (texts_seen g.R.Reader.bytes c.args.paths.now)
+    (g.R.Offset.ReaderOffset.number c.args.header.now.offset.0) c.args.header.now.meaning in
     let test = has_path paths c.args.path.now in
     let last = c.last_index-last.result in
     let files = c.in_ok-files.files.items in

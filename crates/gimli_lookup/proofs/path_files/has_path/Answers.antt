@@ -1,30 +1,30 @@
 use Rattle.std.proofs.Common.{Ok, Err, sym, ap, ◌∙◌}
 use Rattle.std.specs.Str.{bytes_eq}
 use Rattle.gimli_line.specs.header.File.{file_seen}
-use Rattle.gimli_lookup.specs.PathFiles.{paths_of}
-use Rattle.gimli_lookup.specs.Paths.{Paths, file_path}
-use Rattle.gimli_lookup.specs.Strings.{strings}
+use Rattle.gimli_lookup.specs.ProgramPaths.{texts_seen, unit_paths}
 use Rattle.gimli_lookup.proofs.PathFileNumbers.{path_at}
 use Rattle.gimli_lookup.proofs.path_files.has_path.Goals as goal
 
 pub returns-in-Ok-clause-ok : goal.returns-in-Ok-clause-ok
 returns-in-Ok-clause-ok g c =
-    let paths = paths_of (strings g.R.Reader.bytes c.args.sections.now) c.args.header.now.meaning in
+    let paths = unit_paths (texts_seen g.R.Reader.bytes c.args.paths.now)
+    (g.R.Offset.ReaderOffset.number c.args.header.now.offset.0) c.args.header.now.meaning in
     let path = c.args.path.now in
     let file = file_seen g.R.Reader.bytes g.R.Offset.ReaderOffset.number c.in-Some.entry.now in
     c.eq.ensures ∙ ap (λ xs. bytes_eq xs path) c.as_slice.ensures.value
     ∙ sym (path_at paths path c.args.file file (Ok c.in-Ok.whole.items) c.in-Some.ensures.file
-    (ap (λ (p : Paths). file_path p file) (sym c.new.ensures) ∙ c.in-Ok.ensures.ok))
+    c.in-Ok.ensures.ok)
 
 pub returns-in_default-e : goal.returns-in_default-e
 returns-in_default-e g c =
-    let paths = paths_of (strings g.R.Reader.bytes c.args.sections.now) c.args.header.now.meaning in
+    let paths = unit_paths (texts_seen g.R.Reader.bytes c.args.paths.now)
+    (g.R.Offset.ReaderOffset.number c.args.header.now.offset.0) c.args.header.now.meaning in
     let path = c.args.path.now in
     let file = file_seen g.R.Reader.bytes g.R.Offset.ReaderOffset.number c.in-Some.entry.now in
     let told = c.in-Err.ensures.err c.in_default-e.not-OutOfMemory in
     record {
       ok =
           sym (path_at paths path c.args.file file (Err c.in-Err.e) c.in-Some.ensures.file
-          (ap (λ (p : Paths). file_path p file) (sym c.new.ensures) ∙ told));
+          told);
       err = tt;
     }

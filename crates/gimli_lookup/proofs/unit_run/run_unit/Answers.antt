@@ -1,7 +1,7 @@
 use Rattle.std.proofs.Common.{List, sym, subst}
 use Rattle.gimli_line.specs.declared.run.row.LineRow.{LineRow}
 use Rattle.gimli_line.specs.header.Orders.{source_of}
-use Rattle.gimli_line.specs.run.RunState.{RunState}
+use Rattle.gimli_line.specs.run.Passing.{RunState}
 use Rattle.gimli_line.specs.run.Rows.{KeepsRun}
 use Rattle.gimli_lookup.specs.RowsTaken.{header_of}
 use Rattle.gimli_lookup.specs.inside.RowsTaken.{AreTaken}

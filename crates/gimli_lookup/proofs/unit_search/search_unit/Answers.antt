@@ -1,6 +1,6 @@
 use Rattle.std.proofs.Common.{take, refl, sym, subst}
 use Rattle.gimli_line.specs.header.Orders.{source_of}
-use Rattle.gimli_line.specs.run.RunState.{RunState}
+use Rattle.gimli_line.specs.run.Passing.{RunState}
 use Rattle.gimli_line.specs.run.Rows.{KeepsRun}
 use Rattle.gimli_lookup.specs.inside.SequenceCut.{no_rows}
 use Rattle.gimli_lookup.specs.inside.UnitSearch.{UnitSearch, Sees}

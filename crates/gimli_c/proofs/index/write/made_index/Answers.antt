@@ -19,24 +19,23 @@ returns-in-Ok-write_index-clause-ok c =
     texts.debug_str.slice.now)
     (sections_of (λ s. s.slice.now) (λ s. is_big_endian s.endian) (2 ^ 64) c.args.sections.now) c.args.identity.now in
     record {
-      units = c.in_ok-units.units;
-      are_units = c.in_ok-units.ensures.ok texts.debug_line_str.slice.now texts.debug_str.slice.now;
+      units = c.in_ok-program.program.lookup;
+      are_units = c.in_ok-program.ensures.ok texts.debug_line_str.slice.now texts.debug_str.slice.now;
       directory = λ line. option_map (λ s. s.slice.now) (directory_for c.in-Ok.compilations line);
       tells = c.in-Ok.ensures.ok;
       index =
           index_made source (λ line. option_map (λ s. s.slice.now) (directory_for c.in-Ok.compilations line))
-          c.in_ok-units.units c.from-size.result
+          c.in_ok-program.program.lookup
+          c.from-size.result
           c.new-bytes.result.items c.write_index.new.out.items (search rules) (search rules)
-          (rw c.in-Ok-new.ensures at c.in-Ok-write_index.ensures.index);
+          (rw c.in_ok-program.ensures.paths at
+          (rw c.set_compilations.ensures at c.in-Ok-write_index.ensures.index));
     }
 
-pub returns-in_err-units-clause-err : goal.returns-in_err-units-clause-err
-returns-in_err-units-clause-err c =
+pub returns-in_err-program-clause-err : goal.returns-in_err-program-clause-err
+returns-in_err-program-clause-err c =
     let p = err_from_is_err_and c.from_residual.result c.from_residual.ensures.1 in
-    rw (p.1, p.2) (OutOfMemory, c.in_err-units.ensures.err)
+    rw (p.1, p.2) (OutOfMemory, c.in_err-program.ensures.err)
 
 pub returns-in_default-clause-err : goal.returns-in_default-clause-err
 returns-in_default-clause-err c = (OutOfMemory, refl)
-
-pub returns-in_default-new-clause-err : goal.returns-in_default-new-clause-err
-returns-in_default-new-clause-err c = (OutOfMemory, refl)

@@ -3,7 +3,6 @@ use Rattle.std.specs.Option.{option_map}
 use Rattle.gimli_compilation.specs.Directories.{directory_for}
 use Rattle.gimli_line.specs.header.File.{file_seen}
 use Rattle.gimli_lookup.specs.Paths.{file_path}
-use Rattle.gimli_lookup.specs.ProgramPaths.{texts_seen, unit_paths}
 use Rattle.gimli_lookup.specs.Strings.{strings}
 use Rattle.gimli_lookup.specs.declared.path_error.PathError.TheVariants.{OutOfMemory}
 use Rattle.gimli_lookup.specs.inside.EndedStrings.{paths_in}
@@ -13,14 +12,16 @@ pub returns-in_default-clause-ok : goal.returns-in_default-clause-ok
 returns-in_default-clause-ok g c =
     let bytes = g.R.Reader.bytes in
     let number = g.R.Offset.ReaderOffset.number in
-    let directory = directory_for c.self.inside.compilations in
+    let directory = directory_for c.args.self.now.1 in
     let h = c.args.header.now in
     let f = file_seen bytes number c.args.file.now in
     let none : directory (number h.offset.0) ≡ None =
     ap (λ o. directory (number o.0)) (sym c.offset.ensures) ∙ ap directory (sym c.into_u64-offset.ensures)
     ∙ sym c.directory_of.ensures ∙ c.in_default.is in
     subst (λ v. IfOk c.of_file.result (λ path.
-    file_path (unit_paths (texts_seen bytes v) (number h.offset.0) h.meaning) f ≡ Ok path.items)) c.self.view_is
+    file_path (paths_in (strings bytes v.0) h.meaning (option_map bytes (directory (number h.offset.0)))) f
+    ≡ Ok path.items))
+    c.self.view_is
     (subst (λ (known : Option (List ℕ)). IfOk c.of_file.result (λ path.
     file_path (paths_in (strings bytes c.self.inside.strings) h.meaning known) f ≡ Ok path.items))
     (sym (ap (option_map bytes) none)) c.of_file.ensures.ok)
@@ -29,14 +30,15 @@ pub returns-in_default-clause-err : goal.returns-in_default-clause-err
 returns-in_default-clause-err g c =
     let bytes = g.R.Reader.bytes in
     let number = g.R.Offset.ReaderOffset.number in
-    let directory = directory_for c.self.inside.compilations in
+    let directory = directory_for c.args.self.now.1 in
     let h = c.args.header.now in
     let f = file_seen bytes number c.args.file.now in
     let none : directory (number h.offset.0) ≡ None =
     ap (λ o. directory (number o.0)) (sym c.offset.ensures) ∙ ap directory (sym c.into_u64-offset.ensures)
     ∙ sym c.directory_of.ensures ∙ c.in_default.is in
     subst (λ v. IfErr c.of_file.result (λ e. e ≢ OutOfMemory →
-    file_path (unit_paths (texts_seen bytes v) (number h.offset.0) h.meaning) f ≡ Err e)) c.self.view_is
+    file_path (paths_in (strings bytes v.0) h.meaning (option_map bytes (directory (number h.offset.0)))) f ≡ Err e))
+    c.self.view_is
     (subst (λ (known : Option (List ℕ)). IfErr c.of_file.result (λ e. e ≢ OutOfMemory →
     file_path (paths_in (strings bytes c.self.inside.strings) h.meaning known) f ≡ Err e))
     (sym (ap (option_map bytes) none)) c.of_file.ensures.err)
@@ -45,7 +47,7 @@ pub returns-clause-ok : goal.returns-clause-ok
 returns-clause-ok g c =
     let bytes = g.R.Reader.bytes in
     let number = g.R.Offset.ReaderOffset.number in
-    let directory = directory_for c.self.inside.compilations in
+    let directory = directory_for c.args.self.now.1 in
     let h = c.args.header.now in
     let f = file_seen bytes number c.args.file.now in
     let some : directory (number h.offset.0) ≡ Some c.in-Some.directory =
@@ -53,7 +55,9 @@ returns-clause-ok g c =
     ∙ sym c.directory_of.ensures ∙ c.in-Some.is in
     let handed = ap (λ (xs : List ℕ). Some xs) (c.deref.ensures.value ∙ c.in-Ok.ensures.ok) in
     subst (λ v. IfOk c.of_file-2.result (λ path.
-    file_path (unit_paths (texts_seen bytes v) (number h.offset.0) h.meaning) f ≡ Ok path.items)) c.self.view_is
+    file_path (paths_in (strings bytes v.0) h.meaning (option_map bytes (directory (number h.offset.0)))) f
+    ≡ Ok path.items))
+    c.self.view_is
     (subst (λ (known : Option (List ℕ)). IfOk c.of_file-2.result (λ path.
     file_path (paths_in (strings bytes c.self.inside.strings) h.meaning known) f ≡ Ok path.items))
     (handed ∙ sym (ap (option_map bytes) some)) c.of_file-2.ensures.ok)
@@ -62,7 +66,7 @@ pub returns-clause-err : goal.returns-clause-err
 returns-clause-err g c =
     let bytes = g.R.Reader.bytes in
     let number = g.R.Offset.ReaderOffset.number in
-    let directory = directory_for c.self.inside.compilations in
+    let directory = directory_for c.args.self.now.1 in
     let h = c.args.header.now in
     let f = file_seen bytes number c.args.file.now in
     let some : directory (number h.offset.0) ≡ Some c.in-Some.directory =
@@ -70,7 +74,8 @@ returns-clause-err g c =
     ∙ sym c.directory_of.ensures ∙ c.in-Some.is in
     let handed = ap (λ (xs : List ℕ). Some xs) (c.deref.ensures.value ∙ c.in-Ok.ensures.ok) in
     subst (λ v. IfErr c.of_file-2.result (λ e. e ≢ OutOfMemory →
-    file_path (unit_paths (texts_seen bytes v) (number h.offset.0) h.meaning) f ≡ Err e)) c.self.view_is
+    file_path (paths_in (strings bytes v.0) h.meaning (option_map bytes (directory (number h.offset.0)))) f ≡ Err e))
+    c.self.view_is
     (subst (λ (known : Option (List ℕ)). IfErr c.of_file-2.result (λ e. e ≢ OutOfMemory →
     file_path (paths_in (strings bytes c.self.inside.strings) h.meaning known) f ≡ Err e))
     (handed ∙ sym (ap (option_map bytes) some)) c.of_file-2.ensures.err)

@@ -1,0 +1,79 @@
+//! Places of a program, and the lines of its files, before and after directories are handed in.
+
+use crate::lookups::DEMO;
+use crate::units::slice;
+use crate::{Found, first_false};
+use gimli_compilation::{CompilationSections, Compilations};
+use gimli_core::{EndianSlice, LittleEndian, Reader, Result};
+use gimli_line::DebugLine;
+use gimli_lookup::{Program, StringSections};
+use std::alloc::Global;
+
+/// A unit of `.debug_info` whose line program is at 0 and whose directory is `/w`.
+const INFO: &[u8] = b"\x0f\0\0\0\x04\0\0\0\0\0\x04\x01\0\0\0\0/w\0";
+
+/// Its declaration in `.debug_abbrev`.
+const ABBREV: &[u8] = b"\x01\x11\0\x10\x17\x1b\x08\0\0\0";
+
+/// A unit of version 5 whose directory 0 is `/w`, without rows.
+const WITH_DIRECTORY: &[u8] =
+    b"\x19\0\0\0\x05\0\x04\0\x11\0\0\0\x01\x01\x01\0\x01\x01\x01\x01\x08\x01/w\0\x01\x01\x08\0";
+
+/// A program whose strings stand in its section.
+fn program_of<'a>(
+    alloc: Global,
+    section: &'a [u8],
+) -> Result<Program<EndianSlice<'a, LittleEndian>>> {
+    let strings = StringSections {
+        debug_line_str: slice(&[]),
+        debug_str: slice(&[]),
+    };
+    Program::new(alloc, &DebugLine::from(slice(section)), strings, 4, 0)
+}
+
+/// The directories of `INFO`.
+fn directories<'a>(alloc: Global) -> Result<Compilations<EndianSlice<'a, LittleEndian>>> {
+    let sections = CompilationSections {
+        debug_info: slice(INFO),
+        debug_abbrev: slice(ABBREV),
+        debug_str: slice(&[]),
+        debug_line_str: slice(&[]),
+        debug_str_offsets: slice(&[]),
+    };
+    Compilations::new(alloc, &sections)
+}
+
+/// Whether 0x1005 is in line 3 of a file of version 4 that has this path, and line 1 of it begins
+/// at 0x1000.
+fn has_path<R: Reader>(alloc: Global, program: &Program<R>, path: &[u8]) -> bool {
+    let Some(place) = program.place(0x1005) else {
+        return false;
+    };
+    let Ok(whole) = place.path(alloc) else {
+        return false;
+    };
+    let Ok(Some(begin)) = program.addresses_of(path, 1) else {
+        return false;
+    };
+    place.rows.row.line().map_or(0, |line| line.get()) == 3
+        && place.header().map(|header| header.version()) == Some(4)
+        && whole.as_slice() == path
+        && begin.addresses.as_slice() == [0x1000].as_slice()
+}
+
+/// What a program has otherwise, which needs a directory of a compilation, or one that needs none.
+pub fn late_directories(alloc: Global) -> Found {
+    let mut program = program_of(alloc, DEMO)?;
+    let needs = program.needs_compilations();
+    let before = has_path(alloc, &program, b"a.c");
+    program.set_compilations(directories(alloc)?);
+    Ok(first_false(&[
+        needs,
+        before,
+        has_path(alloc, &program, b"/w/a.c"),
+        !has_path(alloc, &program, b"a.c"),
+        program.place(0x1008).is_none(),
+        program.paths().directory_of(1).is_none(),
+        !program_of(alloc, WITH_DIRECTORY)?.needs_compilations(),
+    ]))
+}

@@ -1,9 +1,0 @@
-use Rattle.std.proofs.Common.{◌∙◌}
-use Rattle.gimli_c.proofs.MadeIndexes.{same_all_units}
-use Rattle.gimli_c.proofs.index.write.units_of.Goals as goal
-
-pub returns-in-Ok-clause-ok : goal.returns-in-Ok-clause-ok
-returns-in-Ok-clause-ok c = λ line_strings strings.
-    same_all_units c.args.section.now _ c.args.options.now.is_big _ _ _ line_strings strings c.in-Ok.units
-    c.new-section.ensures.bytes
-    (c.new-section.ensures.order ∙ c.order.ensures) c.in-Ok.ensures.offsets c.in-Ok.ensures.units

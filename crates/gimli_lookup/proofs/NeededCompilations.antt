@@ -1,0 +1,53 @@
+-- Paths of a program whose units need no directory of a compilation.
+use Rattle.std.proofs.Common.{◌≡◌, ℕ, zero, suc, Bool, true, false, ◌||◌, List, [], ◌∷◌, Option, Some, None, Err, refl}
+use Rattle.std.specs.Prelude.{slice_get}
+use Rattle.std.specs.List.{list_any}
+use Rattle.std.specs.Option.{option_map_or}
+use Rattle.gimli_line.specs.declared.run.row.LineRow.{LineRow}
+use Rattle.gimli_line.specs.header.File.{File}
+use Rattle.gimli_line.specs.header.Header.{Header, file_of}
+use Rattle.gimli_lookup.specs.PathFiles.{paths_of}
+use Rattle.gimli_lookup.specs.Paths.{file_path, needs_directory, row_path}
+use Rattle.gimli_lookup.specs.Program.{unit_needs}
+use Rattle.gimli_lookup.specs.ProgramPaths.{found_in, Texts, unit_paths}
+use Rattle.gimli_lookup.specs.Section.{KeptHeader, ListedUnit}
+use Rattle.gimli_lookup.specs.declared.path_error.PathError.TheVariants.{InvalidFileIndex}
+use Rattle.gimli_lookup.specs.declared.section_lookup.CoveringRows.{CoveringRows}
+use Rattle.gimli_lookup.proofs.WholePaths.{same_anyway}
+
+-- the same texts with the directories of other compilations
+abbrev others : Texts → (ℕ → Option (List ℕ)) → Texts
+others t other = record t { directory = other }
+
+same_file : (t : Texts) (other : ℕ → Option (List ℕ)) (offset : ℕ) (h : Header) (r : LineRow) (f : Option File)
+    → needs_directory (paths_of t.strings h) ≡ false
+    → option_map_or (file_path (unit_paths (others t other) offset h)) f (Err (InvalidFileIndex r.file))
+    ≡ option_map_or (file_path (unit_paths t offset h)) f (Err (InvalidFileIndex r.file))
+same_file t other offset h r None none = refl
+same_file t other offset h r (Some f) none = same_anyway (unit_paths t offset h) f (other offset) none
+
+same_header : (t : Texts) (other : ℕ → Option (List ℕ)) (f : CoveringRows) (offset : ℕ) (h : Option KeptHeader)
+    → option_map_or (λ (h : KeptHeader). needs_directory (paths_of t.strings h.meaning)) h false ≡ false
+    → option_map_or (λ (h : KeptHeader). row_path (unit_paths (others t other) offset h.meaning) f.row) h
+    (Err (InvalidFileIndex f.row.file))
+    ≡ option_map_or (λ (h : KeptHeader). row_path (unit_paths t offset h.meaning) f.row) h
+    (Err (InvalidFileIndex f.row.file))
+same_header t other f offset None none = refl
+same_header t other f offset (Some h) none =
+    same_file t other offset h.meaning f.row (file_of h.meaning f.row.file) none
+
+neither : (b c : Bool) → (b || c) ≡ false → (b ≡ false) × (c ≡ false)
+neither true c e = absurd cc
+neither false c e = (refl, e)
+
+-- a path is the same with the directories of other compilations
+pub same_found : (t : Texts) (other : ℕ → Option (List ℕ)) (f : CoveringRows) (units : List ListedUnit) (i : ℕ)
+    → list_any (unit_needs t.strings) units ≡ false
+    → option_map_or (found_in (others t other) f) (slice_get units i) (Err (InvalidFileIndex f.row.file))
+    ≡ option_map_or (found_in t f) (slice_get units i) (Err (InvalidFileIndex f.row.file))
+same_found t other f [] i none = refl
+same_found t other f (u ∷ units) zero none =
+    same_header t other f u.offset u.header
+    (neither (unit_needs t.strings u) (list_any (unit_needs t.strings) units) none).0
+same_found t other f (u ∷ units) (suc i) none =
+    same_found t other f units i (neither (unit_needs t.strings u) (list_any (unit_needs t.strings) units) none).1
