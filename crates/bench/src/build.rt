@@ -6,13 +6,14 @@
 //! output has the length of the section and a sum of its bytes. Two more words do other work:
 //!
 //! - `build traps VERSION COUNT` builds COUNT rows and counts their traps.
-//! - `build refused_file COUNT` asks for the first refused one of COUNT files of version 5.
+//! - `build first_refusal COUNT` asks what `write` refuses first of a program of version 5 with
+//!   COUNT files.
 
 ghost use Rattle.std.specs.Prelude.{◌≡◌, false};
 ghost use Rattle.gimli_build.specs.LineText.{line_text, IsNotEmpty};
 
 use crate::{parse, print_sum};
-use gimli_build::{LineProgram, LineString};
+use gimli_build::{LineProgram, LineString, Refusal, Symbols};
 use gimli_bytes::{DebugLine, EndianVec, Error, LineStringTable, Result, StringTable};
 use gimli_core::{Encoding, Format, LineEncoding, LittleEndian};
 use linetool_commands::{begin_at, end_at, put_row};
@@ -138,44 +139,41 @@ fn traps_of(program: &mut LineProgram, count: u64) -> Result<usize> {
 }
 
 /// Builds a program of version 5 with so many files, whose names stand in `.debug_line_str`, and
-/// prints the first one that `write` refuses.
-pub fn ask_refused_file(rt: &HostRuntime, count: &str) -> io::Result<()> {
+/// prints what `write` refuses of it first.
+pub fn ask_first_refusal(rt: &HostRuntime, count: &str) -> io::Result<()> {
     let count = parse(count)?;
-    match refused_file(rt.alloc(), count) {
-        Ok(None) => println!(rt; "no file is refused"),
-        Ok(Some((index, _))) => println!(rt; "file {index} is refused"),
+    match first_refusal(rt.alloc(), count) {
+        Ok(None) => println!(rt; "nothing is refused"),
+        Ok(Some(refusal)) => println!(rt; "refused: {}", refusal.error()),
         Err(_) => Err(io::Error::from(ErrorKind::InvalidData)),
     }
 }
 
-/// The first file that is refused, of so many.
-fn refused_file(alloc: Global, count: u64) -> Result<Option<(usize, Error)>> {
+/// What is refused first of a program with so many files.
+fn first_refusal(alloc: Global, count: u64) -> Result<Option<Refusal>> {
     let mut names = Names::new(alloc, Place::LineStr);
-    refused_file_with(alloc, count, &mut names)
+    first_refusal_with(alloc, count, &mut names)
 }
 
 /// The same with the names that the program has.
-fn refused_file_with(
-    alloc: Global,
-    count: u64,
-    names: &mut Names,
-) -> Result<Option<(usize, Error)>> {
+fn first_refusal_with(alloc: Global, count: u64, names: &mut Names) -> Result<Option<Refusal>> {
     let mut program = program_of(alloc, 5, names)?;
-    refused_file_of(alloc, &mut program, count, names)
+    first_refusal_of(alloc, &mut program, count, names)
 }
 
-/// The first file that is refused of a program to which so many are added.
-fn refused_file_of(
+/// What is refused first of a program to which so many files are added.
+fn first_refusal_of(
     alloc: Global,
     program: &mut LineProgram,
     count: u64,
     names: &mut Names,
-) -> Result<Option<(usize, Error)>> {
+) -> Result<Option<Refusal>> {
     add_files(alloc, program, count, names)?;
-    if !program.can_write(&names.line_strings, &names.strings) {
+    let (texts, strings) = (&names.line_strings, &names.strings);
+    if !program.can_write(texts, strings) {
         return Err(Error::InvalidRange);
     }
-    Ok(program.refused_file(&names.line_strings, &names.strings))
+    Ok(program.first_refusal(program.encoding(), texts, strings, Symbols::Refused))
 }
 
 /// The section of a program with so many of a kind.

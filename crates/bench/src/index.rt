@@ -3,18 +3,17 @@
 //!
 //! | WORK | Does | Counts | Sums |
 //! |---|---|---|---|
-//! | `make` | makes the index of one lookup | starts | bytes |
+//! | `make` | makes the index of one program | starts | bytes |
 //! | `open` | opens one index, with bytes after it | starts | |
 //! | `find` | finds 10,000 addresses at random | those found | lines and sizes of paths |
 
 use crate::lookup::Tally;
 use crate::order::{INDEX, OrderOf};
 use crate::parse;
-use gimli_compilation::{CompilationSections, Compilations};
 use gimli_core::{EndianSlice, Reader};
 use gimli_index::{LineIndex, write_index};
 use gimli_line::DebugLine;
-use gimli_lookup::{ProgramPaths, SectionLookup, StringSections};
+use gimli_lookup::{Program, StringSections};
 use std::alloc::Global;
 use std::io::ErrorKind;
 use std::{fs, io};
@@ -34,8 +33,8 @@ pub fn run(rt: &HostRuntime, path: &str, work: &str, times: &str) -> io::Result<
     }
 }
 
-/// Does the work so many times. `none` is a reader of no bytes. None where the section or memory
-/// refuses it.
+/// Does the work so many times. `none` is a reader of no bytes: the strings stand in the section.
+/// None where the section or memory refuses it.
 fn do_work<R: Reader>(
     alloc: Global,
     section: &DebugLine<R>,
@@ -43,46 +42,32 @@ fn do_work<R: Reader>(
     work: &str,
     times: u64,
 ) -> Option<Tally> {
-    let lookup = SectionLookup::new(section, alloc, 8, 0).ok()?;
-    let mut bytes = index_of(alloc, &lookup, none)?;
+    let strings = StringSections {
+        debug_line_str: none,
+        debug_str: none,
+    };
+    let program = Program::new(alloc, section, strings, 8, 0).ok()?;
+    let mut bytes = index_of(&program)?;
     bytes.extend_from_slice(&[0; 8]).ok()?;
     match work {
-        "make" => indexes(alloc, &lookup, none, times),
+        "make" => indexes(&program, times),
         "open" => Some(openings(&bytes, times)),
         _ => Some(findings(&bytes, times)),
     }
 }
 
-/// The index of a lookup. Its strings stand in its section.
-fn index_of<R: Reader>(alloc: Global, lookup: &SectionLookup<R>, none: R) -> Option<Vec<u8>> {
-    let strings = StringSections {
-        debug_line_str: none,
-        debug_str: none,
-    };
-    let sections = CompilationSections {
-        debug_info: none,
-        debug_abbrev: none,
-        debug_str: none,
-        debug_line_str: none,
-        debug_str_offsets: none,
-    };
-    let compilations = Compilations::new(alloc, &sections).ok()?;
-    let paths = ProgramPaths::new(strings, compilations).ok()?;
-    let mut bytes = Vec::new(alloc);
-    write_index(alloc, lookup, &paths, 8, b"", usize::MAX, &mut bytes).ok()?;
+/// The index of a program.
+fn index_of<R: Reader>(program: &Program<R>) -> Option<Vec<u8>> {
+    let mut bytes = Vec::new(program.allocator());
+    write_index(program, 8, b"", usize::MAX, &mut bytes).ok()?;
     Some(bytes)
 }
 
-/// Makes the index of a lookup so many times.
-fn indexes<R: Reader>(
-    alloc: Global,
-    lookup: &SectionLookup<R>,
-    none: R,
-    times: u64,
-) -> Option<Tally> {
+/// Makes the index of a program so many times.
+fn indexes<R: Reader>(program: &Program<R>, times: u64) -> Option<Tally> {
     let mut tally = Tally::default();
     for _ in 0..times {
-        let bytes = index_of(alloc, lookup, none)?;
+        let bytes = index_of(program)?;
         tally.sum = bytes.len() as u64;
         tally.count = opening(&bytes).map_or(0, |index| index.len() as u64);
     }

@@ -52,7 +52,7 @@ fn start(rt: &HostRuntime) -> io::Result<()> {
     perform(rt, &["build", "directories", "4", "3"])?;
     perform(rt, &["build", "rows", "2", "3"])?;
     perform(rt, &["build", "traps", "5", "3"])?;
-    perform(rt, &["build", "refused_file", "3"])?;
+    perform(rt, &["build", "first_refusal", "3"])?;
     perform(rt, &["convert", "unit.section", "0", "2"])?;
     perform(rt, &["lookup", "demo.section", "0", "find", "1"])?;
     perform(rt, &["index", "demo.section", "find", "1"])
@@ -65,7 +65,7 @@ fn perform(rt: &HostRuntime, words: &[&str]) -> io::Result<()> {
         ["read", path, times, "sequences"] => read::run(rt, path, times, read::What::Sequences),
         ["write", sequences] => write::run(rt, sequences),
         ["build", "traps", version, count] => build::ask_traps(rt, version, count),
-        ["build", "refused_file", count] => build::ask_refused_file(rt, count),
+        ["build", "first_refusal", count] => build::ask_first_refusal(rt, count),
         ["build", kind, version, count] => build::run(rt, kind, version, count),
         ["convert", path, offset, times] => convert::run(rt, path, offset, times),
         ["index", path, work, times] => index::run(rt, path, work, times),

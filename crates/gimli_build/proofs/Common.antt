@@ -149,6 +149,7 @@ pub use Rattle.gimli_core.specs.Numbers.{
   number_bytes,
   word_size,
 }
+unfoldable pub use Rattle.gimli_core.specs.Production.{offset_word}
 pub use Rattle.gimli_core.specs.Production.{
   Each,
   Production,
@@ -157,7 +158,6 @@ pub use Rattle.gimli_core.specs.Production.{
   choose,
   done,
   fits_offset,
-  offset_word,
   times,
   unsigned,
   ◌>>=◌,
@@ -199,15 +199,17 @@ pub use Rattle.gimli_line.specs.declared.run.row.LineRow.{LineRow as ReadRow}
 pub use Rattle.gimli_line.specs.header.File.{File as ReadFile}
 pub use Rattle.gimli_line.specs.header.Header.{Header, UnitEntry, plain_file, without_files}
 pub use Rattle.gimli_line.specs.header.Parameters.{Parameters}
-pub use Rattle.gimli_line.specs.header.Productions.{path_text, positive}
+pub use Rattle.gimli_line.specs.header.Productions.{path_text}
+unfoldable pub use Rattle.gimli_line.specs.header.Productions.{positive}
 pub use Rattle.gimli_line.specs.inside.header.HeaderGrammar.{SpellsFiles, SpellsFormats, SpellsPaths}
 pub use Rattle.gimli_line.specs.run.Instruction.{Ins, defines_file, files_after, makes_row}
-pub use Rattle.gimli_line.specs.run.InstructionGrammar.{
-  Decodes,
-  SpellsInstruction,
+pub use Rattle.gimli_line.specs.run.InstructionGrammar.{Decodes, SpellsInstruction}
+unfoldable pub use Rattle.gimli_line.specs.run.InstructionGrammar.{
   extended_operands,
+  extended_production,
   standard_production,
 }
+pub use Rattle.gimli_line.specs.run.InstructionGrammar.{instruction_production}
 pub use Rattle.gimli_line.specs.run.Machine.{
   at_pointer,
   initial,

@@ -2,3 +2,4 @@
 pub mod Causes
 pub mod FirstCauses
 pub mod FoundCauses
+pub mod FirstRefusals

@@ -32,7 +32,7 @@ abbrev pub cause_if : Bool → Error → Option Error
 cause_if test e = if test then Some e else None
 
 -- the first cause of a list
-abbrev pub first_of : List (Option Error) → Option Error
+abbrev pub first_of : {A : Type 0} → List (Option A) → Option A
 first_of [] = None
 first_of (Some e ∷ causes) = Some e
 first_of (None ∷ causes) = first_of causes

@@ -12,7 +12,7 @@ use Rattle.gimli_build.specs.Prelude.{
   Decodes,
 }
 use Rattle.gimli_line.specs.header.Orders.{HeaderSource}
-use Rattle.gimli_line.specs.run.RunState.{RunState}
+use Rattle.gimli_line.specs.run.Passing.{RunState}
 use Rattle.gimli_line.specs.run.Rows.{start_of_run}
 use Rattle.gimli_line.specs.run.Unread.{whole_program}
 

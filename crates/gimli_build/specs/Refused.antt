@@ -1,8 +1,10 @@
--- Where `write` refuses a program: which of its directories, files and items have a cause.
+-- Where `write` refuses a program first, and why: its header, a directory, a file or an item.
 use Rattle.std.specs.Prelude.{◌≡◌, ◌<◌, ◌&&◌, if◌then◌else◌, ◌∷◌}
 use Rattle.gimli_build.specs
 use specs.Prelude
-use Prelude.{ℕ, not, nat_eq, nat_le, nat_lt, [], Option, Some, None, slice_get, option_map_or}
+use Prelude.{ℕ, suc, Bool, not, nat_eq, nat_le, nat_lt, List, [], map, Option, Some, None}
+use Prelude.{slice_get}
+use Prelude.{option_map_or, Constant, Symbol}
 use Prelude.{option_map, option_and_then, Encoding, Format, Error, IncompatibleLineProgramEncoding}
 use Prelude.{UnsupportedVersion, NeedVersion, StringTables, with_text}
 use Rattle.gimli_bytes.specs.Texts.{texts_in}
@@ -10,9 +12,17 @@ use Rattle.gimli_core.specs.FormNumbers.{DW_FORM_string}
 use specs.LineText.{LineText}
 use specs.Tables.{File}
 use specs.Built.{Built}
-use specs.Version5Tables.{first_form, path_texts, sources, empty_text}
-use specs.Cause.{cause_if, first_of, offset_cause, text_cause, item_cause}
+use specs.Version5Tables.{first_form, path_texts, sources, empty_text, texts_after}
+use specs.Cause.{cause_if, first_of, word_cause, offset_cause, text_cause, item_cause}
+use specs.Cause.{header_length}
+use specs.Cause.{unit_length, unit_length_cause}
 use specs.Unit.{is_incompatible}
+use specs.declared.built.items.BuiltItem.{BuiltItem}
+use specs.declared.built.items.BuiltItem.TheVariants.{SetAddress}
+use specs.declared.unit.refusal.Refusal.{Refusal}
+use specs.declared.unit.refusal.Refusal.TheVariants as part
+use specs.declared.unit.refusal.Symbols.{Symbols}
+use specs.declared.unit.refusal.Symbols.TheVariants.{Taken, Refused}
 
 -- the answer is the first index that has a cause, with its cause
 abbrev pub FindsFirst : (ℕ → Option Error) → Option (ℕ × Error) → Type 0
@@ -71,10 +81,6 @@ cause_of_item p i = option_and_then (item_cause p.encoding.address_size) (slice_
 
 -- ---- all of them, in the order of `write`
 
--- what was found, without where it is
-abbrev pub cause_found : Option (ℕ × Error) → Option Error
-cause_found found = option_map (λ f. f.1) found
-
 -- why a program can't be written for a unit of this encoding, whatever its parts are
 abbrev pub encoding_cause : Encoding → Built → Option Error
 encoding_cause unit p =
@@ -87,3 +93,51 @@ encoding_cause unit p =
     && not (nat_eq p.line_encoding.maximum_operations_per_instruction 1))
     (NeedVersion 4)
     ∷ [])
+
+-- the first element that has a cause, by its number, and the cause
+abbrev pub first_with : {A : Type 0} → (ℕ → A → Option Error) → List A → Option (ℕ × Error)
+first_with cause [] = None
+first_with cause (x ∷ xs) = elim (cause 0 x) [
+  | Some e ↦ Some (0, e)
+  | None ↦ option_map (λ f. (suc f.0, f.1)) (first_with (λ i. cause (suc i)) xs)
+]
+
+-- the part of a unit that is refused first. The lengths are asked after what they count, so what
+-- counts as unrefused is written then
+abbrev pub first_part : Bool → Encoding → Built → StringTables → Option Refusal
+first_part is_big unit p handed =
+    let texts = texts_after p handed in
+    first_of (
+    option_map part.Header (encoding_cause unit p)
+    ∷ option_map (λ f. part.Directory f.0 f.1) (first_with (directory_cause p handed) p.directories)
+    ∷ option_map (λ f. part.File f.0 f.1) (first_with (λ i. file_cause p handed) p.files)
+    ∷ option_map part.Header (word_cause p.encoding.format (header_length p texts))
+    ∷ option_map (λ f. part.Item f.0 f.1)
+    (first_with (λ i. item_cause p.encoding.address_size) p.items)
+    ∷ option_map part.Header (unit_length_cause p.encoding.format (unit_length is_big p texts))
+    ∷ [])
+
+-- an item with the address 0 in place of a symbol
+abbrev pub without_symbol : BuiltItem → BuiltItem
+without_symbol (SetAddress (Symbol symbol addend)) = SetAddress (Constant 0)
+without_symbol item = item
+
+-- a program for a writer that takes symbols, or refuses them: one that is taken counts as the
+-- address 0, which is as long, and never too wide
+abbrev pub items_seen : Symbols → List BuiltItem → List BuiltItem
+items_seen Taken items = map without_symbol items
+items_seen Refused items = items
+
+abbrev pub program_seen : Symbols → Built → Built
+program_seen symbols p = record p { items = items_seen symbols p.items }
+
+-- where `write` refuses a program first, and why
+abbrev pub first_refusal : Symbols → Bool → Encoding → Built → StringTables → Option Refusal
+first_refusal symbols is_big unit p handed = first_part is_big unit (program_seen symbols p) handed
+
+-- the error of a refusal
+abbrev pub error_of : Refusal → Error
+error_of (part.Header e) = e
+error_of (part.Directory number e) = e
+error_of (part.File number e) = e
+error_of (part.Item number e) = e

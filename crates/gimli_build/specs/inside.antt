@@ -2,6 +2,7 @@
 pub mod Conditions
 pub mod DueFormats
 pub mod EmptySource
+pub mod ItemSizes
 pub mod LentDetails
 pub mod ReadAs
 pub mod Tables

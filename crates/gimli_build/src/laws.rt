@@ -3,7 +3,7 @@
 //! laws of equality and of clones.
 
 ghost use Rattle.std.specs.Prelude.{◌≡◌, ℕ, Bool, false, All, ◌≤◌, List, [], ◌∷◌, length, map};
-ghost use Rattle.std.specs.Prelude.{IfOk, Option};
+ghost use Rattle.std.specs.Prelude.{IfOk, option_map};
 ghost use Rattle.std.specs.Bool.{Decides};
 ghost use Rattle.gimli_core.specs.Equality.{ClonesGiveSame, IsSameClone};
 ghost use Rattle.gimli_core.specs.Layout.{OrderAndLimit};
@@ -19,7 +19,7 @@ ghost use Rattle.gimli_line.specs.header.Header.{Header};
 ghost use Rattle.gimli_line.specs.header.Orders.{HeaderSource};
 ghost use Rattle.gimli_line.specs.run.Instruction.{Ins, defines_file};
 ghost use Rattle.gimli_line.specs.run.Events.{Event, row};
-ghost use Rattle.gimli_line.specs.run.RunState.{RunState};
+ghost use Rattle.gimli_line.specs.run.Passing.{RunState};
 ghost use Rattle.gimli_line.specs.run.Passing.{with_reset_row, PassesOver};
 ghost use Rattle.gimli_line.specs.run.Rows.{live_events, FaultIs};
 ghost use Rattle.gimli_line.specs.run.Machine.{initial};
@@ -45,10 +45,9 @@ ghost use Rattle.gimli_build.specs.Sizes.{IsMove, SpecialSuffices, SpecialAndCon
 ghost use Rattle.gimli_build.specs.Sizes.{row_size};
 ghost use Rattle.gimli_build.specs.Built.{Built};
 ghost use Rattle.gimli_build.specs.Conditions.{CanWrite};
-ghost use Rattle.gimli_build.specs.Cause.{first_cause, first_of, header_length, unit_length};
-ghost use Rattle.gimli_build.specs.Cause.{unit_length_cause, word_cause};
-ghost use Rattle.gimli_build.specs.Refused.{FindsFirst, cause_of_directory, cause_of_file};
-ghost use Rattle.gimli_build.specs.Refused.{cause_of_item, cause_found, encoding_cause};
+ghost use Rattle.gimli_build.specs.Cause.{first_cause};
+ghost use Rattle.gimli_build.specs.Refused.{first_refusal, program_seen, error_of};
+ghost use Rattle.gimli_build.specs.declared.unit.refusal.Symbols.TheVariants.{Taken, Refused};
 ghost use Rattle.gimli_build.specs.ReadsBack.{DecodesAs, IsFound};
 ghost use Rattle.gimli_build.specs.Texts.{Sections};
 ghost use Rattle.gimli_build.specs.NoFiles.{DefinesNoFile, program_started};
@@ -263,18 +262,17 @@ pub fn texts_are_found()
         (t : LineText) → IsFound sections unplaced texts t }
 {}
 
-/// Into a vector, `write` is refused for the first of these causes, or for memory: the encoding,
-/// what `refused_directory` finds, what `refused_file` finds, the header's length, what
-/// `refused_item` finds, and the unit's length.
-pub fn refused_parts_are_first_cause()
-    ensures { (is_big : Bool) (unit : Encoding) (p : Built) (handed : StringTables)
-        (directory file item : Option (ℕ × WriteError)) → CanWrite p handed →
-        FindsFirst (cause_of_directory p handed) directory →
-        FindsFirst (cause_of_file p handed) file →
-        FindsFirst (cause_of_item p) item →
-        let texts = texts_after p handed in
-        first_cause is_big unit p handed
-        ≡ first_of (encoding_cause unit p ∷ cause_found directory ∷ cause_found file
-        ∷ word_cause p.encoding.format (header_length p texts) ∷ cause_found item
-        ∷ unit_length_cause p.encoding.format (unit_length is_big p texts) ∷ []) }
+/// The error that `first_refusal` returns is the first cause of what `write` returns, of the
+/// program itself where symbols are refused, and where they are taken, of the program with the
+/// address 0 in place of each symbol. `write` into a vector is refused for that first cause, or for
+/// memory.
+pub fn first_refusal_is_first_cause()
+    ensures refused { (is_big : Bool) (unit : Encoding) (p : Built) (handed : StringTables) →
+        CanWrite p handed →
+        option_map error_of (first_refusal Refused is_big unit p handed)
+        ≡ first_cause is_big unit p handed }
+    ensures taken { (is_big : Bool) (unit : Encoding) (p : Built) (handed : StringTables) →
+        CanWrite p handed →
+        option_map error_of (first_refusal Taken is_big unit p handed)
+        ≡ first_cause is_big unit (program_seen Taken p) handed }
 {}

@@ -20,3 +20,4 @@ pub use built::line_program::LineProgram;
 pub use built::line_string::LineString;
 pub use built::row::LineRow;
 pub use built::trap::{Trap, Traps};
+pub use unit::{Refusal, Symbols};

@@ -17,6 +17,7 @@ ghost use Rattle.gimli_build.specs.Writes.{WritesOr, OfMemoryOr};
 ghost use Rattle.gimli_build.specs.inside.Writes.{Writes, always};
 
 mod header;
+mod refusal;
 mod refused;
 mod writable;
 
@@ -27,6 +28,7 @@ use crate::tables::version_5::add_empty_source;
 use gimli_bytes::{DebugLine, Error, LineStringTable, Result, StringTable, Writer};
 use gimli_core::{DebugLineOffset, Encoding};
 use header::write_header;
+pub use refusal::{Refusal, Symbols};
 
 impl LineProgram {
     /// Appends the program's unit, in the program's own version and format, and returns its offset:

@@ -194,7 +194,7 @@ impl<'t> RowsReader<'t> {
 /// those of the parts that a command with texts names after its other words.
 fn input_of(alloc: Global, parts: &Parts<'_>, words: &str, text: &str) -> Result<Input, Stop> {
     let name = words.split_whitespace().next().unwrap_or("");
-    if name == "write" || name == "traps" {
+    if name == "write" || name == "traps" || name == "refusals" {
         return Ok(Input::Script(String::from_str(alloc, text)?));
     }
     let order = order_of(words);

@@ -9,4 +9,4 @@ mod conversion;
 mod script;
 
 pub use conversion::convert;
-pub use script::write;
+pub use script::{Told, write};

@@ -5,25 +5,35 @@ use crate::built::{Tables, print_answer, put_refused};
 use gimli_core::{Encoding, RunTimeEndian};
 use gimli_write::{
     ConvertError, ConvertResult, DebugLine, EndianVec, Error, LineProgram, LineString, PieceVec,
-    RoundTrip, round_trip,
+    RoundTrip, Symbols, round_trip,
 };
 use row_text::Piece::{Bytes, Number, Word};
 use row_text::{Arguments, Attempts, Lines, Stop, Target};
 use std::alloc::Global;
 
-/// Builds the programs of a text's scripts, and writes them or tells their traps; prints what that
-/// gives, and returns the status: 1 where a program is refused or a condition isn't met. Of a bad
-/// script nothing is printed.
+/// What is printed of a program that is built.
+#[derive(Clone, Copy, PartialEq, Eq)]
+pub enum Told {
+    /// The bytes that are written.
+    Written,
+    /// Its traps.
+    Traps,
+    /// What `write` refuses first.
+    Refusals,
+}
+
+/// Builds the programs of a text's scripts, and prints what is told of them. Returns the status: 1
+/// where a program is refused or a condition isn't met. Of a bad script nothing is printed.
 pub fn write(
     alloc: Global,
     attempts: Attempts,
     input: &str,
-    tells_traps: bool,
+    told: Told,
     lines: &mut Lines,
 ) -> Result<u8, Stop> {
     let start = lines.len();
     let mut script = Script::new(alloc, attempts);
-    script.tells_traps = tells_traps;
+    script.told = told;
     let status = script.run(input, lines);
     if status.is_err() {
         lines.truncate(start);
@@ -46,8 +56,8 @@ pub(crate) struct Script {
     pub order: RunTimeEndian,
     /// Whether it is read back.
     pub reads_back: bool,
-    /// Whether its traps are told, and it isn't written.
-    tells_traps: bool,
+    /// What is told of it; it isn't written unless its bytes are.
+    told: Told,
     /// What it is written into.
     target: Target,
     /// What the section holds before.
@@ -79,7 +89,7 @@ impl Script {
             before: 0,
             order: RunTimeEndian::Little,
             reads_back: false,
-            tells_traps: false,
+            told: Told::Written,
             target: Target::Vector,
             prefix: Vec::new(alloc),
             unit: None,
@@ -132,11 +142,11 @@ impl Script {
 
     /// Forgets the script, but for its place and the status.
     fn begin_anew(&mut self) {
-        let (number, status, tells) = (self.number, self.status, self.tells_traps);
+        let (number, status, told) = (self.number, self.status, self.told);
         *self = Script::new(self.alloc, self.attempts);
         self.number = number;
         self.status = status;
-        self.tells_traps = tells;
+        self.told = told;
     }
 
     /// Sets the program.
@@ -229,12 +239,38 @@ impl Script {
         if !self.has_program {
             return Err(Stop::Bad);
         }
-        if self.tells_traps && !self.is_ended {
-            self.print_traps(lines);
-        } else if self.is_ended || !self.print_written(lines) {
+        let is_met = match self.told {
+            _ if self.is_ended => false,
+            Told::Written => self.print_written(lines),
+            Told::Traps => {
+                self.print_traps(lines);
+                true
+            }
+            Told::Refusals => self.print_refusals(lines),
+        };
+        if !is_met {
             self.status = 1;
         }
         Ok(())
+    }
+
+    /// Prints what `write` refuses first, of a writer that refuses symbols and of one that takes
+    /// them; false where the conditions of `write` aren't met.
+    fn print_refusals(&self, lines: &mut Lines) -> bool {
+        let encoding = self.unit.unwrap_or(self.program.encoding());
+        let program = &self.program;
+        let (texts, strings) = (&self.tables.line_strings, &self.tables.strings);
+        if !program.can_write(texts, strings) {
+            self.print_end(Stop::Condition, lines);
+            return false;
+        }
+        for symbols in [Symbols::Refused, Symbols::Taken] {
+            match program.first_refusal(encoding, texts, strings, symbols) {
+                Some(refusal) => lines.put_error("", refusal),
+                None => lines.print("nothing\n", &[]),
+            }
+        }
+        true
     }
 
     /// Prints the index of each item that has a trap, and the first of its traps.

@@ -5,7 +5,7 @@
 use gimli_core::{Encoding, Format, LineEncoding, LittleEndian};
 use gimli_write::{
     Address, DebugLine, DebugLineStr, EndianVec, Error, FileId, FileInfo, LineProgram, LineString,
-    LineStringTable, Result, StringTable, Writer,
+    LineStringTable, Refusal, Result, StringTable, Symbols, Writer,
 };
 use std::alloc::Global;
 use std::fmt::Write;
@@ -208,52 +208,62 @@ fn print_refused(
     print_refused_of(alloc, &mut program, line_strings, text)
 }
 
-/// Adds what `write` refuses, and prints it.
+/// Adds what `write` refuses, and prints it: a symbol as address, by a writer that refuses symbols
+/// and by one that takes them, and a file in front of it.
 fn print_refused_of(
     alloc: Global,
     program: &mut LineProgram,
     line_strings: &LineStringTable,
     text: &mut String,
 ) -> Result<()> {
-    add_refused(alloc, program)?;
-    print_parts(program, line_strings, &StringTable::default(alloc), text)
+    let strings = StringTable::default(alloc);
+    add_symbol(program)?;
+    print_first(program, line_strings, &strings, Symbols::Refused, text)?;
+    print_first(program, line_strings, &strings, Symbols::Taken, text)?;
+    add_other_file(alloc, program)?;
+    print_first(program, line_strings, &strings, Symbols::Refused, text)
 }
 
-/// Adds to a program the file `b.c` and an address that is a symbol.
-fn add_refused(alloc: Global, program: &mut LineProgram) -> Result<()> {
+/// Adds to a program an address that is a symbol.
+fn add_symbol(program: &mut LineProgram) -> Result<()> {
+    if program.is_none() {
+        return Err(Error::InvalidRange);
+    }
+    let (symbol, addend) = (1, 0);
+    program.set_address(Address::Symbol { symbol, addend })
+}
+
+/// Adds to a program the file `b.c`, whose path is in the program itself.
+fn add_other_file(alloc: Global, program: &mut LineProgram) -> Result<()> {
     let path = LineString::String(b"b.c".to_vec(alloc)?);
     if program.is_none() || !path.has_no_zero() || program.version() < 5 {
         return Err(Error::InvalidRange);
     }
     program.add_file(path, program.default_directory(), None)?;
-    let (symbol, addend) = (1, 0);
-    program.set_address(Address::Symbol { symbol, addend })
+    Ok(())
 }
 
-/// Adds a line for the first directory, the first file and the first item that are refused.
-fn print_parts(
+/// Adds a line for the first part of a program that is refused.
+fn print_first(
     program: &LineProgram,
     line_strings: &LineStringTable,
     strings: &StringTable,
+    symbols: Symbols,
     text: &mut String,
 ) -> Result<()> {
     if !program.can_write(line_strings, strings) {
         return Err(Error::InvalidRange);
     }
-    print_part(
-        "directory",
-        program.refused_directory(line_strings, strings),
-        text,
-    )?;
-    print_part("file", program.refused_file(line_strings, strings), text)?;
-    print_part("item", program.refused_item(), text)
-}
-
-/// Adds a line for what is refused, if something is.
-fn print_part(kind: &str, refused: Option<(usize, Error)>, text: &mut String) -> Result<()> {
-    match refused {
-        Some((index, cause)) => Ok(writeln!(text, "{kind} {index}: {cause}")?),
-        None => Ok(writeln!(text, "no {kind}")?),
+    let encoding = program.encoding();
+    let refusal = program.first_refusal(encoding, line_strings, strings, symbols);
+    match refusal {
+        None => Ok(writeln!(text, "nothing")?),
+        Some(Refusal::Header(error)) => Ok(writeln!(text, "header: {error}")?),
+        Some(Refusal::Directory(number, error)) => {
+            Ok(writeln!(text, "directory {number}: {error}")?)
+        }
+        Some(Refusal::File(number, error)) => Ok(writeln!(text, "file {number}: {error}")?),
+        Some(Refusal::Item(number, error)) => Ok(writeln!(text, "item {number}: {error}")?),
     }
 }
 

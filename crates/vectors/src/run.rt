@@ -3,7 +3,7 @@
 use crate::linetool::run_linetool;
 use row_text::{Attempts, Input, Lines, Piece, RowCommand, Stop, words_before_parts};
 use rows::{Command, print};
-use rows_built::{convert, write};
+use rows_built::{Told, convert, write};
 use std::alloc::{AllocError, Global};
 
 /// What a command of a row prints: its output, its lines on standard error after `stderr`, and its
@@ -40,7 +40,12 @@ pub fn run(
     let (own, parts) = words.split_at(count.min(words.len()));
     match (input, own) {
         (Input::Script(script), [name]) => {
-            write(alloc, attempts, script, *name == "traps", lines)
+            let told = match *name {
+                "traps" => Told::Traps,
+                "refusals" => Told::Refusals,
+                _ => Told::Written,
+            };
+            write(alloc, attempts, script, told, lines)
         }
         (Input::Script(_), _) => Err(Stop::Bad),
         (Input::Section(section, named), _) => {

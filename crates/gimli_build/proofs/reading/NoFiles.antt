@@ -12,9 +12,10 @@ use Rattle.gimli_core.specs.declared.error.Error.{Error}
 use Rattle.gimli_core.specs.declared.error.Error.TheVariants.{AddressOverflow}
 use Rattle.gimli_line.specs.header.File.{File}
 use Rattle.gimli_line.specs.header.Orders.{HeaderSource}
-use Rattle.gimli_line.specs.run.InstructionReading.{decoded_at}
+use Rattle.gimli_line.specs.run.InstructionGrammar.{decoded_at, unknown_production, standard_production}
+use Rattle.gimli_line.specs.run.InstructionGrammar.{extended_operands, extended_production}
 use Rattle.gimli_line.specs.run.Events.{Event, row, fault, EventWithFiles, with_files, given_of, events_of}
-use Rattle.gimli_line.specs.run.RunState.{RunState}
+use Rattle.gimli_line.specs.run.Passing.{RunState}
 use Rattle.gimli_line.specs.run.Passing.{with_reset_row, PassesOver}
 use Rattle.gimli_line.specs.run.Rows.{live_events, WantsMemory, FaultIs}
 use Rattle.gimli_line.proofs.InstructionLaws.{is_decoded, one_decoding}
@@ -186,11 +187,17 @@ refused-none a b e none (inr next) =
 -- ---- a program from its start
 
 -- files have no part in how instructions are spelled
+bare_spelled : (layout : OrderAndLimit) (h : Header) (bytes : List ℕ) (i : Ins) → SpellsInstruction layout h bytes i
+    → SpellsInstruction layout (without_files h) bytes i
+unfolding unknown_production standard_production extended_operands extended_production
+bare_spelled layout h bytes i s = s
+
 bare_each : (layout : OrderAndLimit) (h : Header) (front : List ℕ) (list : List Ins)
     → Each (SpellsInstruction layout h) front list
     → Each (SpellsInstruction layout (without_files h)) front list
 bare_each layout h front [] s = s
-bare_each layout h front (i ∷ list) s = (s.0, s.1, s.2, s.3, bare_each layout h s.1 list s.4)
+bare_each layout h front (i ∷ list) s =
+    (s.0, s.1, s.2, bare_spelled _ h _ _ s.3, bare_each layout h s.1 list s.4)
 
 pub starts-none : (source : HeaderSource) (h : Header) (appends : Bool) (list : List Ins)
     → Decodes source.layout h h.program list None

@@ -8,7 +8,8 @@ use Common.{OrderAndLimit, Value, String, Placement, counted, AreTexts, StringTa
 use Common.{FileEntryFormat, LineText, bytes_in, HasNoZero, File, Sections, OneByOne, Built, IsBuilt}
 use Common.{IsDirectory, IsFile, IsFound, result_append, directories_bytes, files_bytes, directory_formats}
 use Common.{file_formats, directory_table_bytes, file_table_bytes, tables_bytes}
-use Rattle.gimli_line.specs.header.HeaderGrammar.{path_of, file_of_entry, handed_value, directory_table, file_table}
+use Rattle.gimli_line.specs.header.HeaderGrammar.{path_of, file_of_entry, handed_value, table_of, directory_table}
+use Rattle.gimli_line.specs.header.HeaderGrammar.{file_table}
 use proofs.writing.WrittenParts.{both_written}
 use proofs.spellings.TableSpellings.{read_file, directories-spelled, files-spelled}
 use proofs.spellings.EncodingSpellings.{first-chosen, second-chosen}
@@ -87,15 +88,24 @@ module _ (at : Placement) (layout : OrderAndLimit) (unit_entry : UnitEntry) (sec
     old_directories_spelled : (bytes : List ℕ) → directories_bytes p.directories ≡ Ok bytes
         → (directory_table layout p.encoding).Spells bytes
         ([], map String (map (bytes_in texts) (drop 1 p.directories)))
+    unfolding table_of
     old_directories_spelled bytes is =
+        let names = map (bytes_in texts) (drop 1 p.directories) in
         let clean = All-drop HasNoZero 1 _ built.tables.directories_end in
         let spelled = directories-spelled texts p.directories _
         (built.is.directories_not_empty (leb-true p.encoding.version 4 old)) clean is in
-        first-chosen _ _ _ _ _ old
-        (map (bytes_in texts) (drop 1 p.directories), bytes, [], sym (append-nil _), spelled, (refl, refl))
+        first-chosen _ _ _ _ _ old (
+          map String names,
+          bytes,
+          [],
+          sym (append-nil _),
+          (names, bytes, [], sym (append-nil _), spelled, (refl, refl)),
+          (refl, refl),
+        )
 
     old_files_spelled : (bytes : List ℕ) → files_bytes p.files ≡ Ok bytes
         → (file_table layout p.encoding).Spells bytes ([], map (read_file texts) p.files)
+    unfolding table_of
     old_files_spelled bytes is =
         let spelled =
         files-spelled _ _ _ (built.is.paths_not_empty (leb-true p.encoding.version 4 old)) built.tables.paths_end
@@ -139,6 +149,7 @@ module _ (at : Placement) (layout : OrderAndLimit) (unit_entry : UnitEntry) (sec
         → directory_table_bytes (counted at) layout.is_big p.encoding.format texts p ≡ Ok bytes → length bytes < 2 ^ 64
         → (directory_table layout p.encoding).Spells bytes
         (map read_format (directory_formats p), map path_of (map (directory_entry at texts) p.directories))
+    unfolding table_of
     new_directories_spelled bytes is small =
         let entries = map (directory_entry at texts) p.directories in
         let spelled = new-directories-spelled at layout p texts ready held bytes is small in
@@ -150,6 +161,7 @@ module _ (at : Placement) (layout : OrderAndLimit) (unit_entry : UnitEntry) (sec
         → length bytes < 2 ^ 64
         → (file_table layout p.encoding).Spells bytes
         (map read_format (file_formats p), map file_of_entry (map (file_entry at p texts) p.files))
+    unfolding table_of
     new_files_spelled bytes is small =
         let entries = map (file_entry at p texts) p.files in
         let spelled = new-files-spelled at layout p texts ready held bytes is small in

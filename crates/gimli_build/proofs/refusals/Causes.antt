@@ -264,7 +264,7 @@ item-refusal : (is_big : Bool) (encoding : Encoding) (e : LineEncoding) (previou
     → refusal (item_bytes plain is_big encoding e previous item) ≡ item_cause encoding.address_size item
 item-refusal is_big encoding e previous known item = grind (arith, seen-refusal, address-refusal)
 
-items-refusal : (is_big : Bool) (encoding : Encoding) (e : LineEncoding)
+pub items-refusal : (is_big : Bool) (encoding : Encoding) (e : LineEncoding)
     → IsTrue (is_address_size encoding.address_size)
     → (previous : LineRow) (items : List BuiltItem)
     → refusal (items_bytes plain is_big encoding e previous items)

@@ -3,7 +3,7 @@ use Rattle.std.specs.Prelude.{◌≡◌, ◌+◌, ◌<◌, ◌≤◌, ◌∷◌,
 use Rattle.gimli_build.proofs
 use proofs.Common
 use Common.{ℕ, zero, suc, Bool, true, false, not, cond, List, [], length, map, drop, refl, sym, ap, ◌∙◌, arith, nat_eq}
-use Common.{nat_le, Option, Some, None, unwrap_or, slice_get, get_or, All, All-head, All-tail}
+use Common.{nat_le, Option, Some, None, option_map, unwrap_or, slice_get, get_or, All, All-head, All-tail}
 use Common.{bytes_eq, is_none, list_any, flat_map, with_text, index_of_text, offset_of, StringTables, LineText}
 use Common.{Inline, InStrings, InLineStrings, IsWithin, File, Built, CanWrite, Encoding, Error, Format, cause_if}
 use Common.{first_of, word_cause, text_cause, item_cause, first_form, path_texts, sources, empty_text}
@@ -17,10 +17,14 @@ use Rattle.std.specs.Cmp.Derive.{both_true}
 use Rattle.std.proofs.lemmas.List.Folds.{list_any_at}
 use Rattle.gimli_bytes.specs.Texts.{KeepsTexts}
 use Rattle.gimli_bytes.proofs.TextLemmas.{with_text-KeepsTexts}
-use Rattle.gimli_build.specs.Refused.{FindsFirst, cause_found, encoding_cause, empty_cause, file_cause, source_cause}
+use Rattle.gimli_build.specs.Refused.{FindsFirst, encoding_cause, empty_cause, file_cause, source_cause}
 use proofs.refusals.Causes.{or_first, first_apart, first_alone, causes_append, causes_map, causes_flat}
 
 -- ---- a search for the first cause
+
+-- what was found, without where it is
+abbrev pub cause_found : Option (ℕ × Error) → Option Error
+cause_found found = option_map (λ f. f.1) found
 
 -- of a list
 pub found_first : {A : Type 0} (cause : A → Option Error) (xs : List A) (found : Option (ℕ × Error))

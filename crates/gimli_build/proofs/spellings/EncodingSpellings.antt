@@ -8,7 +8,7 @@ use Common.{word_size, is_address_size, Production, ◌>>=◌, done, choose, byt
 use Common.{Format, Dwarf64, number_spelled, length_word, UnsupportedVersion, positive, CanEncode, format_word}
 use Common.{version_bytes, operations_bytes, flag_byte, line_encoding_bytes, escape_bytes}
 use Rattle.std.specs.Int.{w8, cast_signed}
-use Rattle.gimli_core.specs.Production.{unit_length}
+use Rattle.gimli_core.specs.Production.{address_size, unit_length}
 use Rattle.gimli_core.specs.declared.error.Error.{Error as ReadError}
 use Rattle.gimli_core.specs.declared.error.Error.TheVariants.{
   MinimumInstructionLengthZero,
@@ -22,6 +22,7 @@ use proofs.writing.WrittenParts.{after_written, before_written}
 -- ---- lines
 
 pub positive-spelled : (n : ℕ) (d : ReadError) → 0 < n → (positive d).Spells (n ∷ []) n
+unfolding positive
 positive-spelled n d some = grind arith
 
 pub first-chosen : {A : Type 0} (b : Bool) (l m : Production A) (bytes : List ℕ) (x : A) → b ≡ true → l.Spells bytes x
@@ -93,11 +94,12 @@ operations_line version = choose (nat_le version 3) (done 1) (positive MaximumOp
 
 operations_spelled : (version n : ℕ) (bytes : List ℕ) → 0 < n → operations_bytes version n ≡ Ok bytes
     → (operations_line version).Spells bytes n
-operations_spelled version n bytes some is = grind arith
+operations_spelled version n bytes some is = grind (arith, positive-spelled)
 
 pub encoding-spelled : (version : ℕ) (e : LineEncoding) (bytes : List ℕ) → CanEncode e
     → line_encoding_bytes version e ≡ Ok bytes
     → (line_encoding_production version).Spells bytes e
+unfolding line_encoding_production
 encoding-spelled version e bytes can is =
     let last = flag_byte e.default_is_stmt ∷ base_byte e.line_base ∷ e.line_range ∷ [] in
     let a = after_written (e.minimum_instruction_length ∷ []) _ _ is in
@@ -138,6 +140,7 @@ version-known is_big version bytes is = grind arith
 
 pub version-spelled : (is_big : Bool) (version : ℕ) (bytes : List ℕ) → version_bytes is_big version ≡ Ok bytes
     → (version_production is_big).Spells bytes version
+unfolding version_production
 version-spelled is_big version bytes is =
     let w = version_written _ _ _ is in
     let known = version-known is_big version bytes is in
@@ -147,9 +150,26 @@ version-spelled is_big version bytes is =
 -- ---- the size of an address
 
 -- up to version 4 no byte says it, and it is the one that is handed; in version 5 a byte does, and a 0 stands after it
+own_spelled : (size : ℕ) → IsTrue (is_address_size size) → address_size.Spells (size ∷ []) size
+unfolding address_size
+own_spelled size known = (size, size ∷ [], [], refl, refl, (tt, [], [], refl, (refl, known), (refl, refl)))
+
 pub address-spelled : (version handed size : ℕ) → handed ≡ size → IsTrue (is_address_size size)
     → (address_size_production version handed).Spells (if nat_le version 4 then [] else size ∷ 0 ∷ []) size
-address-spelled version handed size same known = grind (arith, nat_eq)
+unfolding address_size_production
+address-spelled version handed size same known = by (nat_le version 4) refl
+  where
+    by : (old : Bool) → nat_le version 4 ≡ old
+        → (address_size_production version handed).Spells (if old then [] else size ∷ 0 ∷ []) size
+    by true is = first-chosen _ _ _ _ _ is (refl, sym same)
+    by false is = second-chosen _ _ _ _ _ is (
+      size,
+      size ∷ [],
+      0 ∷ [],
+      refl,
+      own_spelled _ known,
+      (0, 0 ∷ [], [], refl, refl, (tt, [], [], refl, (refl, refl), (refl, refl))),
+    )
 
 -- ---- lengths
 
@@ -173,6 +193,7 @@ pub offset-spelled : (layout : OrderAndLimit) (format : Format) (n : ℕ) (bytes
     → (format ≡ Dwarf64 → n < layout.limit) → n < 2 ^ 64
     → format_word layout.is_big format n ≡ Ok bytes
     → (offset_word layout format).Spells bytes n
+unfolding offset_word
 offset-spelled layout format n bytes lt small is = (
   n,
   bytes,
@@ -192,6 +213,7 @@ pub length-spelled : (layout : OrderAndLimit) (format : Format) (n : ℕ) (word 
     → (format ≡ Dwarf64 → n < layout.limit) → n < 2 ^ 64
     → length_word layout.is_big format n ≡ Ok word
     → (unit_length layout).Spells (escape_bytes layout.is_big format ++ word) (n, format)
+unfolding unit_length
 length-spelled layout format n word lt small is =
     let bytes = escape_bytes layout.is_big format ++ word in (
       (n, format),

@@ -6,6 +6,7 @@ use Common.{ℤ, pos, unsigned_abs, FitsSigned, w64, rules, ints, AllByRecursion
 use Common.{le-leb, ne_eqb, and_parts, LineEncoding, OrderAndLimit, SpellsUleb128, SpellsNumber, number_bytes}
 use Common.{result_map, below_limit, unsigned, Each, number_spelled, plain, uleb, sleb, ValueTooLarge}
 use Common.{UnsupportedWordSize, Constant, uleb_shortest, Header, Ins, standard_production, extended_operands}
+use Common.{extended_production}
 use Common.{SpellsInstruction, Special, Copy, AdvancePc, AdvanceLine, SetFile, SetColumn, NegateStatement}
 use Common.{SetBasicBlock, ConstAddPc, SetPrologueEnd, SetEpilogueBegin, SetIsa, EndSequence, SetDiscriminator, LineRow}
 use Common.{CanEncode, CanFollow, operations, when, marks, changes, line_part, line_opcode, is_special_advance}
@@ -28,6 +29,7 @@ module _ (layout : OrderAndLimit) (h : Header) (base : h.parameters.opcode_base 
       → length operands + 1 < layout.limit
       → (extended_operands layout h opcode operands).Spells [] i
       → SpellsInstruction layout h (0 ∷ size ++ opcode ∷ operands) i
+  unfolding extended_production
   extended size opcode operands i spelled fits s =
       let held : nat_lt (length operands + 1) layout.limit
       ≡ true = lt-ltb (length operands + 1) layout.limit fits in
@@ -65,6 +67,7 @@ module _ (layout : OrderAndLimit) (h : Header) (base : h.parameters.opcode_base 
   unsigned_short n lt = let s = unsigned_spelled n lt in omega (arith, s.short)
 
   pub instruction-spelled : (i : Ins) → IsWritten i → SpellsInstruction layout h (instruction_bytes i) i
+  unfolding standard_production extended_operands
   instruction-spelled (Special o) w =
       let opened : nat_eq o 0 ≡ false = ne_eqb o 0 (λ e. absurd (omega (arith, w.0))) in
       let above : nat_le h.parameters.opcode_base o
@@ -123,6 +126,7 @@ module _ (layout : OrderAndLimit) (h : Header) (base : h.parameters.opcode_base 
       × (bytes ≡ 0 ∷ uleb (size + 1) ++ 2 ∷ number_bytes layout.is_big size a)
 
   address_written : (a : ℕ) (bytes : List ℕ) → Operand a bytes → SpellsInstruction layout h bytes (SetAddress a)
+  unfolding extended_operands
   address_written a bytes (size, is, small, fits, written) =
       let operand : SpellsNumber layout.is_big size (number_bytes layout.is_big size a) a = number_spelled _ _ a fits in
       let counted : length (number_bytes layout.is_big size a) + 1 ≡ size + 1 = ap (λ n. n + 1) operand.size_is in

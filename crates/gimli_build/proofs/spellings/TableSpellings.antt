@@ -52,6 +52,7 @@ module _ (texts : StringTables) where
 
   numbers_spelled : (path : List ℕ) (directory time size : ℕ) → directory < 2 ^ 64 → time < 2 ^ 64 → size < 2 ^ 64
       → (file_production path).Spells (uleb directory ++ uleb time ++ uleb size) (plain_file path directory time size)
+  unfolding file_production
   numbers_spelled path directory time size d t s = (
     directory,
     uleb directory,

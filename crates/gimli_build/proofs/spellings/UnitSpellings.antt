@@ -159,6 +159,7 @@ module _ (hand : Hand) (layout : OrderAndLimit) (unit_entry : UnitEntry) (sectio
 
   rules_spelled : (bytes : List ℕ) → line_encoding_bytes p.encoding.version p.line_encoding ≡ Ok bytes
       → (parameters_production p.encoding).Spells (bytes ++ 13 ∷ []) (built_rules p.encoding p.line_encoding)
+  unfolding parameters_production
   rules_spelled bytes is = (
     p.line_encoding,
     bytes,
@@ -172,6 +173,7 @@ module _ (hand : Hand) (layout : OrderAndLimit) (unit_entry : UnitEntry) (sectio
       (t : Tables w.tables)
       → (fields_production layout unit_entry unit_size (opening_of fields) program).Spells fields
       (header_of w.tables t unit_size (length fields) program)
+  unfolding fields_production
   fields_spelled unit_size fields program w t = (
     built_rules p.encoding p.line_encoding,
     w.encoding ++ 13 ∷ [],
@@ -202,6 +204,7 @@ module _ (hand : Hand) (layout : OrderAndLimit) (unit_entry : UnitEntry) (sectio
       → format_word layout.is_big p.encoding.format (length fields) ≡ Ok size
       → (opening_production layout unit_entry.address_size p.encoding.format).Spells (opening ++ (size ++ fields))
       (opening_of fields)
+  unfolding opening_production
   opening_spelled opening size fields same holds small opening_is size_is =
       let address = if nat_le p.encoding.version 4 then [] else p.encoding.address_size ∷ 0 ∷ [] in
       let b = before_written _ _ _ opening_is in (
@@ -241,6 +244,7 @@ module _ (hand : Hand) (layout : OrderAndLimit) (unit_entry : UnitEntry) (sectio
     unit_fields = fields_spelled _ _ _ v t
 
     unit_spelled : (header_production layout unit_entry).Spells unit header
+    unfolding header_production
     unit_spelled =
         let inside = inside-short hand layout.is_big p texts _ w in
         let fields = fields-short hand layout.is_big p texts unit w in

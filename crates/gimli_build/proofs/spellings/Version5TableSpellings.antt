@@ -15,7 +15,9 @@ use Rattle.gimli_line.specs.header.HeaderGrammar.{
   format_production,
   is_content,
   TableEntry,
+  formats_production,
   entry_production,
+  entries_production,
   digest,
   file_of_entry,
   table_production,
@@ -50,6 +52,7 @@ abbrev one_bytes : ℕ × ℕ → List ℕ
 one_bytes f = uleb f.0 ++ uleb f.1
 
 one_spelled : (f : ℕ × ℕ) → IsFormat f → format_production.Spells (one_bytes f) (read_format f)
+unfolding format_production
 one_spelled f is = (
   f.0,
   uleb f.0,
@@ -85,6 +88,7 @@ last_spelled false f is = (refl, refl)
 formats_spelled : (formats : List (ℕ × ℕ)) → AreSpelled formats
     → count_by (is_content 0x0001) (map read_format formats) ≡ 1
     → SpellsFormats (formats_bytes formats) (map read_format formats)
+unfolding formats_production
 formats_spelled formats spelled one = grind (arith, append-nil)
 
 -- ---- the tables
@@ -92,7 +96,7 @@ formats_spelled formats spelled one = grind (arith, append-nil)
 text_form_small : (t : LineText) → text_form t < 128
 text_form_small t = grind arith
 
-first_form_small : (texts : List LineText) → first_form texts < 128
+pub first_form_small : (texts : List LineText) → first_form texts < 128
 first_form_small texts = grind (arith, text_form_small)
 
 is_format : (content form : ℕ) → content < 2 ^ 64 → min content 0xffff ≡ content → form < 128 → IsFormat (content, form)
@@ -222,6 +226,7 @@ module _ (layout : OrderAndLimit) (format : Format) where
       (entry : TableEntry)
       → SpellsForm layout format form bytes v → IsSpelled formats rest entry
       → IsSpelled ((content, form) ∷ formats) (bytes ++ rest) ((content, v) ∷ entry)
+  unfolding entry_production
   value-spelled content form bytes v formats rest entry own after = grind (arith, append-nil)
 
   -- a value where a flag asks for it
@@ -236,11 +241,13 @@ module _ (layout : OrderAndLimit) (format : Format) where
   -- a value alone
   pub last-spelled : (content form : ℕ) (bytes : List ℕ) (v : Value) → SpellsForm layout format form bytes v
       → IsSpelled ((content, form) ∷ []) bytes ((content, v) ∷ [])
+  unfolding entry_production
   last-spelled content form bytes v own = grind (arith, append-nil)
 
   source_spelled : (due : Bool) (form : ℕ) (bytes : List ℕ) (v : Value)
       → (due ≡ true → SpellsForm layout format form bytes v) → (due ≡ false → bytes ≡ [])
       → IsSpelled (when due (0x2001, form)) bytes (when due (0x2001, v))
+  unfolding entry_production
   source_spelled true form bytes v own none = last-spelled _ form _ v (own refl)
   source_spelled false form bytes v own none = (none refl, refl)
 
@@ -305,6 +312,7 @@ module _ (layout : OrderAndLimit) (format : Format) {X : Type 0} (formats : List
       → result_append (Ok (formats_bytes formats ++ uleb (length xs))) (result_concat part xs) ≡ Ok bytes
       → length bytes < 2 ^ 64
       → (table_production layout format).Spells bytes (map read_format formats, map entry xs)
+  unfolding table_production entries_production
   table_spelled xs bytes formats_spelled all is small =
       let front = formats_bytes formats in
       let count = uleb (length xs) in

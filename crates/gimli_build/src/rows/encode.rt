@@ -64,7 +64,11 @@ pub(crate) fn write_items<W: Writer>(
 
 /// The row that the next item follows, but for its position: what was built isn't copied.
 #[inline(always)]
-fn next_row<'a>(initial: &'a LineRow, previous: &'a LineRow, item: &'a BuiltItem) -> &'a LineRow
+pub(crate) fn next_row<'a>(
+    initial: &'a LineRow,
+    previous: &'a LineRow,
+    item: &'a BuiltItem,
+) -> &'a LineRow
     ensures { (version : ℕ) (is_stmt : Bool) (position : ℕ × ℕ)
         → initial.now ≡ initial_row version is_stmt →
         at_position (position_after item.now) result.now
@@ -79,7 +83,7 @@ fn next_row<'a>(initial: &'a LineRow, previous: &'a LineRow, item: &'a BuiltItem
 
 /// The row whose position the next item is compared with: an item's own, else the initial one.
 #[inline(always)]
-fn place_after<'a>(initial: &'a LineRow, item: &'a BuiltItem) -> &'a LineRow
+pub(crate) fn place_after<'a>(initial: &'a LineRow, item: &'a BuiltItem) -> &'a LineRow
     ensures { (version : ℕ) (is_stmt : Bool) → initial.now ≡ initial_row version is_stmt →
         (result.now.address_offset, result.now.op_index) ≡ position_after item.now }
 {
@@ -256,7 +260,7 @@ fn write_line_advance<W: Writer>(
 }
 
 /// Whether special opcodes have this line advance.
-fn has_special(line_encoding: &LineEncoding, advance: i64) -> bool
+pub(crate) fn has_special(line_encoding: &LineEncoding, advance: i64) -> bool
     ensures { result ≡ is_special_advance line_encoding.now advance }
 {
     let base = i64::from(line_encoding.line_base);
@@ -290,7 +294,7 @@ fn write_operation_advance<W: Writer>(
 
 /// The special opcode that advances by `count` operations more than `opcode` does; none where no
 /// byte has it. More than 255 are too many for each line range, so the product stays small.
-fn special_opcode(opcode: u8, count: u64, range: u64) -> Option<u8>
+pub(crate) fn special_opcode(opcode: u8, count: u64, range: u64) -> Option<u8>
     requires some { 1 ≤ range }
     requires few { range ≤ 127 }
     ensures { result
@@ -316,7 +320,7 @@ fn maker(line_encoding: &LineEncoding, opcode: u8) -> LineInstruction
 
 /// How many operations an offset and an op_index are after the position of `place`. Where each
 /// byte is an operation, its bytes are counted.
-fn operation_advance(
+pub(crate) fn operation_advance(
     line_encoding: &LineEncoding,
     place: &LineRow,
     address_offset: u64,
@@ -338,7 +342,7 @@ fn operation_advance(
 }
 
 /// How far a line is after another one.
-fn line_advance(from: u64, to: u64) -> i64
+pub(crate) fn line_advance(from: u64, to: u64) -> i64
     requires from { from < 2 ^ 63 }
     requires to { to < 2 ^ 63 }
     ensures { result ≡ pos to -ℤ pos from }

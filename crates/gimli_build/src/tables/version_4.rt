@@ -36,7 +36,7 @@ fn write_directories<W: Writer>(w: &mut W, directories: &[LineString]) -> Result
 }
 
 /// The directories but for the first.
-fn others(directories: &[LineString]) -> &[LineString]
+pub(crate) fn others(directories: &[LineString]) -> &[LineString]
     ensures { result.now ≡ drop 1 directories.now }
 {
     match directories.split_first() {

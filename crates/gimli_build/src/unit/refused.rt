@@ -1,29 +1,79 @@
-//! Where `write` refuses a program. What these calls find is what `write` is refused for, beside
-//! the encoding and two lengths: `laws::refused_parts_are_first_cause`.
+//! Where `write` refuses a program first, and why. Nothing is written to find it, and no memory is
+//! taken.
 
-ghost use Rattle.std.specs.Prelude.{◌≡◌, ◌<◌, ◌+◌, ◌^◌, false, IsTrue, IfSome, length, option_map};
-ghost use Rattle.std.specs.Prelude.{◌&&◌, nat_eq, nat_le};
-ghost use Rattle.gimli_core.specs.Numbers.{is_address_size};
-ghost use Rattle.gimli_bytes.specs.Texts.{texts_in};
+ghost use Rattle.std.specs.Prelude.{◌≡◌, ◌<◌, ◌+◌, ◌-◌, ◌^◌, Bool, false, None, IsTrue, IfSome};
+ghost use Rattle.std.specs.Prelude.{length, min, option_map, ◌&&◌, nat_eq, nat_le, if◌then◌else◌};
+ghost use Rattle.gimli_core.specs.Numbers.{is_address_size, word_size};
+ghost use Rattle.gimli_bytes.specs.Texts.{StringTables, texts_in};
 ghost use Rattle.gimli_build.specs.LineText.{line_text, IsWithin};
 ghost use Rattle.gimli_build.specs.Conditions.{CanWrite};
-ghost use Rattle.gimli_build.specs.Cause.{item_cause, text_cause, word_cause};
+ghost use Rattle.gimli_build.specs.Cause.{item_cause, text_cause, word_cause, header_length};
+ghost use Rattle.gimli_build.specs.Cause.{unit_length, unit_length_cause};
 ghost use Rattle.gimli_build.specs.Refused.{FindsFirst, cause_of_directory, cause_of_file};
 ghost use Rattle.gimli_build.specs.Refused.{cause_of_item, empty_cause, source_cause, wanted_form};
+ghost use Rattle.gimli_build.specs.Refused.{encoding_cause, first_refusal, program_seen};
+ghost use Rattle.gimli_build.specs.Refused.{items_seen, without_symbol};
+ghost use Rattle.gimli_build.specs.declared.unit.refusal.Symbols.{Symbols};
+ghost use Rattle.gimli_build.specs.Unit.{opcode_bytes};
 ghost use Rattle.gimli_build.specs.Version5Tables.{first_form, sources as sources_of};
 
 use crate::built::items::BuiltItem;
 use crate::built::line_program::LineProgram;
 use crate::built::line_string::LineString;
+use crate::rows::sizes::items_size;
+use crate::tables::sizes::tables_size;
 use crate::tables::version_5::{directory_form, path_form, source_form};
+use crate::unit::is_incompatible;
+use crate::unit::refusal::{Refusal, Symbols};
 use gimli_bytes::{Address, Error, LineStringTable, StringTable};
-use gimli_core::{DwForm, Format, constants};
+use gimli_core::{DwForm, Encoding, Format, constants};
 
 impl LineProgram {
-    /// The first directory that `write` refuses, by its index, and why: its text has another form
-    /// than that of the first one, stands in a table up to version 4, or has too large an offset.
-    /// Requires a program that can be written with these tables.
-    pub fn refused_directory(
+    /// Returns the first part of the program that `write` refuses, for a unit of this encoding, and
+    /// why; or `None`, and then `write` fails only if memory is short, or with an error of its
+    /// writer. Requires a program that `can_write` with these tables.
+    ///
+    /// `symbols` says whether the writer takes symbols as addresses. The parts come in the order in
+    /// which `write` asks for them: what the header says of the encoding, the directories, the
+    /// files, the header length, the items, and the unit length (DWARF 5, section 6.2.4). The
+    /// errors are those of `write`; `laws::first_refusal_is_first_cause` states it. A call takes
+    /// time in proportion to the program, and no memory.
+    pub fn first_refusal(
+        &self,
+        encoding: Encoding,
+        line_strings: &LineStringTable,
+        strings: &StringTable,
+        symbols: Symbols,
+    ) -> Option<Refusal>
+        requires { CanWrite self.now (texts_in strings.now line_strings.now) }
+        ensures { (is_big : Bool) → result
+            ≡ first_refusal symbols is_big encoding self.now
+            (texts_in strings.now line_strings.now) }
+    {
+        if let Some(error) = encoding_cause(encoding, self) {
+            return Some(Refusal::Header(error));
+        }
+        if let Some((number, error)) = self.first_directory(line_strings, strings) {
+            return Some(Refusal::Directory(number, error));
+        }
+        if let Some((number, error)) = self.first_file(line_strings, strings) {
+            return Some(Refusal::File(number, error));
+        }
+        if let Some(error) = header_length_cause(self) {
+            return Some(Refusal::Header(error));
+        }
+        if let Some((number, error)) = self.first_item(symbols) {
+            return Some(Refusal::Item(number, error));
+        }
+        match unit_length_cause(self) {
+            Some(error) => Some(Refusal::Header(error)),
+            None => None,
+        }
+    }
+
+    /// The first directory that is refused, by its index, and why: its text has another form than
+    /// that of the first one, stands in a table up to version 4, or has too large an offset.
+    fn first_directory(
         &self,
         line_strings: &LineStringTable,
         strings: &StringTable,
@@ -67,10 +117,10 @@ impl LineProgram {
         cause
     }
 
-    /// The first file that `write` refuses, by its index, and why: its path is refused as a
-    /// directory is, or its source, or the empty text that stands for no source, whose offset may
-    /// be too large. Requires a program that can be written with these tables.
-    pub fn refused_file(
+    /// The first file that is refused, by its index, and why: its path is refused as a directory
+    /// is, or its source, or the empty text that stands for no source, whose offset may be too
+    /// large.
+    fn first_file(
         &self,
         line_strings: &LineStringTable,
         strings: &StringTable,
@@ -133,15 +183,14 @@ impl LineProgram {
         }
     }
 
-    /// The first set address that a writer without relocations refuses, by its index among the
-    /// items, and why: a symbol, or an address that is wider than those of the program. Requires a
-    /// program that isn't a placeholder.
-    pub fn refused_item(&self) -> Option<(usize, Error)>
+    /// The first set address that is refused, by its index among the items, and why: a symbol that
+    /// isn't taken, or an address that is wider than those of the program.
+    fn first_item(&self, symbols: Symbols) -> Option<(usize, Error)>
         requires { self.now.is_none ≡ false }
-        ensures { FindsFirst (cause_of_item self.now) result }
+        ensures { FindsFirst (cause_of_item (program_seen symbols self.now)) result }
     {
         for index in 0..self.built_items().len() {
-            if let Some(cause) = self.item_cause(index) {
+            if let Some(cause) = self.item_cause(symbols, index) {
                 return Some((index, cause));
             }
         }
@@ -149,13 +198,115 @@ impl LineProgram {
     }
 
     /// Why the item with an index is refused.
-    fn item_cause(&self, index: usize) -> Option<Error>
+    fn item_cause(&self, symbols: Symbols, index: usize) -> Option<Error>
         requires program { self.now.is_none ≡ false }
         requires there { index < length self.now.items }
-        ensures { result ≡ cause_of_item self.now index }
+        ensures { result ≡ cause_of_item (program_seen symbols self.now) index }
     {
-        let encoding = self.encoding();
-        item_cause(encoding.address_size, &self.built_items()[index])
+        let size = self.encoding().address_size;
+        let item = &self.built_items()[index];
+        match symbols {
+            Symbols::Taken => constant_cause(size, item),
+            Symbols::Refused => item_cause(size, item),
+        }
+    }
+}
+
+/// Why a program is refused for a unit of an encoding, whatever its parts are.
+fn encoding_cause(unit: Encoding, program: &LineProgram) -> Option<Error>
+    ensures { result ≡ encoding_cause unit program.now }
+{
+    let version = program.version();
+    if is_incompatible(unit, program.encoding()) {
+        return Some(Error::IncompatibleLineProgramEncoding);
+    }
+    if !(2..=5).contains(&version) {
+        return Some(Error::UnsupportedVersion(version));
+    }
+    let operations = program.line_encoding().maximum_operations_per_instruction;
+    (version < 4 && operations != 1).then_some(Error::NeedVersion(4))
+}
+
+/// Why the header length is refused. It is counted in the 32-bit format alone, since a word of the
+/// other holds each.
+fn header_length_cause(program: &LineProgram) -> Option<Error>
+    ensures { (texts : StringTables) → result
+        ≡ word_cause program.now.encoding.format (header_length program.now texts) }
+{
+    if program.format() == Format::Dwarf64 {
+        return None;
+    }
+    word_cause(program.format(), header_length(program) as usize)
+}
+
+/// Why the unit length is refused, where no item is. It is counted in the 32-bit format alone too.
+fn unit_length_cause(program: &LineProgram) -> Option<Error>
+    requires { program.now.is_none ≡ false }
+    ensures { (symbols : Symbols) (is_big : Bool) (texts : StringTables) →
+        FindsFirst (cause_of_item (program_seen symbols program.now)) None →
+        result ≡ unit_length_cause program.now.encoding.format
+        (unit_length is_big (program_seen symbols program.now) texts) }
+{
+    if program.format() == Format::Dwarf64 {
+        return None;
+    }
+    length_cause(program.format(), unit_length(program))
+}
+
+/// Why a unit length is refused.
+fn length_cause(format: Format, length: u64) -> Option<Error>
+    ensures { result ≡ unit_length_cause format length }
+{
+    if format == Format::Dwarf64 {
+        return None;
+    }
+    if length > 0xffff_ffff {
+        return Some(Error::ValueTooLarge);
+    }
+    (length >= 0xffff_fff0).then_some(Error::InitialLengthOverflow)
+}
+
+/// How many bytes the header length counts, up to the greatest number of 64 bits.
+fn header_length(program: &LineProgram) -> u64
+    ensures { (texts : StringTables) → result
+        ≡ min (header_length program.now texts) (2 ^ 64 - 1) }
+{
+    tables_size(program).saturating_add(fixed_size(program.version()))
+}
+
+/// How many bytes of the fields that the header length counts stand before the tables.
+fn fixed_size(version: u16) -> u64
+    ensures { result ≡ (if nat_le 4 version then 5 else 4) + length opcode_bytes }
+{
+    if version >= 4 { 18 } else { 17 }
+}
+
+/// How many bytes the unit length counts where no item is refused, up to the greatest number of 64
+/// bits.
+fn unit_length(program: &LineProgram) -> u64
+    requires { program.now.is_none ≡ false }
+    ensures { (symbols : Symbols) (is_big : Bool) (texts : StringTables) →
+        FindsFirst (cause_of_item (program_seen symbols program.now)) None →
+        result ≡ min (unit_length is_big (program_seen symbols program.now) texts) (2 ^ 64 - 1) }
+{
+    let opening = opening_size(program.encoding());
+    let items = program.built_items();
+    let size = items_size(program.encoding(), program.line_encoding(), items);
+    header_length(program)
+        .saturating_add(size)
+        .saturating_add(opening)
+}
+
+/// How many bytes stand after the unit length and before what the header length counts.
+fn opening_size(encoding: Encoding) -> u64
+    ensures { result
+        ≡ (if nat_le encoding.version 4 then 2 else 4) + word_size encoding.format }
+{
+    let word = u64::from(encoding.format.word_size());
+    if encoding.version <= 4 {
+        2 + word
+    } else {
+        4 + word
     }
 }
 
@@ -233,6 +384,19 @@ fn item_cause(size: u8, item: &BuiltItem) -> Option<Error>
             (*address > greatest_address(size)).then_some(Error::ValueTooLarge)
         }
         BuiltItem::SetAddress(Address::Symbol { .. }) => Some(Error::InvalidAddress),
+        _ => None,
+    }
+}
+
+/// Why an item is refused by a writer that takes symbols.
+fn constant_cause(size: u8, item: &BuiltItem) -> Option<Error>
+    requires { IsTrue (is_address_size size) }
+    ensures { result ≡ item_cause size (without_symbol item.now) }
+{
+    match item {
+        BuiltItem::SetAddress(Address::Constant(address)) => {
+            (*address > greatest_address(size)).then_some(Error::ValueTooLarge)
+        }
         _ => None,
     }
 }
