@@ -27,7 +27,7 @@ TOP = os.path.dirname(os.path.dirname(os.path.realpath(__file__)))
 WIDTH, LINES, WORDS = 100, 120, 1000
 BLOCK = re.compile(r"<!-- contracts of ([^>]*?) -->\n```text\n(.*?)```\n", re.S)
 
-Function = collections.namedtuple("Function", "name head clauses")
+Function = collections.namedtuple("Function", "name head clauses lines")
 
 
 def squeezed(text):
@@ -66,15 +66,16 @@ def end_of_answer(text, start):
 
 
 def clauses_at(text, start):
-    """The clauses of a function, whose signature ends at `start`."""
+    """The clauses of a function, whose signature ends at `start`, and the lines that they take."""
     bounds = re.match(r"\s*where\b.*?(?=\b(?:requires|ensures)\b|\{)", text[start:], re.S)
     i, found = start + (bounds.end() if bounds else 0), []
+    first = i
     while m := re.match(r"\s*((?:requires|ensures)\*?(?: [a-z_0-9]+)?)\s*\{", text[i:]):
         opening = i + m.end() - 1
         i = end_of(text, opening, "{", "}")
         term = re.sub(r",? (?=\))", "", re.sub(r"(?<=\() ", "", squeezed(text[opening + 1 : i - 1])))
         found.append((m[1], re.sub(r"\bself\.(now|old)\b", "S", re.sub(r"\bself\.new\b", "S'", term))))
-    return found
+    return found, sum(bool(line.strip()) for line in text[first:i].split("\n"))
 
 
 def functions(crate):
@@ -93,7 +94,7 @@ def functions(crate):
                 arrow = re.match(r"\s*->\s*", text[closing:])
                 end = end_of_answer(text, closing + arrow.end()) if arrow else closing
                 head = squeezed(text[m.end() : end]).replace("( ", "(").replace(", )", ")")
-                found.append(Function(name, f"fn {name}{head}", clauses_at(text, end)))
+                found.append(Function(name, f"fn {name}{head}", *clauses_at(text, end)))
     return found
 
 

@@ -6,10 +6,11 @@ use Common.{ℕ, Bool, List, [], length, drop, map, refl, sym, ap, ◌∙◌, su
 use Common.{append-nil, IfOk-weaker, MatchResult-weaker, OrderAndLimit, Value, Error, StringTables, Header, UnitEntry}
 use Common.{SpellsUnit, ReadFile, Event, row, fault, Events, program_events, ReadRow, one_header, one_decoding}
 use Common.{bytes_in, Built, AddressesFit, RowsMatch, Sections, IsText, IsOptionalText, OneByOne, ConvertError, Read}
-use Common.{NoMemory, RoundTrip, FileAnswer, file_answer, built_file, Answers, IsFileAnswer, AreAnswers, AnswersUnit}
+use Common.{NoMemory, RoundTrip, FileAnswer, built_file, Answers, answers, IsFileAnswer, AreAnswers, AnswersUnit}
 use Common.{AnswersProgram, IsRunRefusal, RefusesUnit, slice_layout, unit_entry_of, sections_of}
 use Rattle.gimli_build.specs.Tables.{File}
 use Rattle.gimli_build.specs.ReadsBack.{IsUnit, IsFile, ReadsBack, ReadsBackAs}
+use Rattle.gimli_write.specs.RoundTrip.{IsAsBuilt}
 use proofs.ReadTexts.{text_there}
 use proofs.ReadUnits.{read_back, AreShort}
 
@@ -135,6 +136,13 @@ module _ (layout : OrderAndLimit) (unit_entry : UnitEntry) (sections : Sections)
       let same = rows_same _ _ (events_same rows.1 (answered is).rows) in
       subst (λ xs. RowsMatch p.encoding.version [] p.items xs) same rows.2
 
+  as_built : (a : Answers) → AnswersUnit layout unit_entry sections unit a → IsAsBuilt p texts a
+  as_built a is = record {
+    directories = directories_built a is;
+    files = files_built a is;
+    rows = rows_built a is;
+  }
+
   refused_for_memory : (e : ConvertError) → AddressesFit p.encoding.address_size 0 (0, 0) p.items
       → RefusesUnit layout unit_entry unit e → e ≡ NoMemory
   refused_for_memory e held refused =
@@ -149,18 +157,9 @@ module _ (is_big : Bool) (p : Built) (texts : StringTables) (section : List ℕ)
   read_again : ReadsBack (slice_layout is_big) (unit_entry_of p texts) (sections_of texts) p texts (drop n section)
   read_again = read_back is_big p texts section n whole fits held
 
-  pub built_directories : (r : Result RoundTrip ConvertError) → IfOk r (AnswersProgram is_big p texts (drop n section))
-      → IfOk r (λ answer. map (λ text. text.items) answer.directories.items ≡ map (bytes_in texts) p.directories)
-  built_directories r is = IfOk-weaker r _ _ (λ answer a. directories_built _ _ _ p texts _ read_again _ a) is
-
-  pub built_files : (r : Result RoundTrip ConvertError) → IfOk r (AnswersProgram is_big p texts (drop n section))
-      → IfOk r (λ answer. map file_answer answer.files.items ≡ map (built_file p texts) p.files)
-  built_files r is = IfOk-weaker r _ _ (λ answer a. files_built _ _ _ p texts _ read_again _ a) is
-
-  pub built_rows : (r : Result RoundTrip ConvertError) → IfOk r (AnswersProgram is_big p texts (drop n section))
-      → IfOk r (λ answer.
-      AddressesFit p.encoding.address_size 0 (0, 0) p.items → RowsMatch p.encoding.version [] p.items answer.rows.items)
-  built_rows r is = IfOk-weaker r _ _ (λ answer a. rows_built _ _ _ p texts _ read_again _ a) is
+  pub built : (r : Result RoundTrip ConvertError) → IfOk r (AnswersProgram is_big p texts (drop n section))
+      → IfOk r (λ answer. IsAsBuilt p texts (answers answer))
+  built r is = IfOk-weaker r _ _ (λ answer a. as_built _ _ _ p texts _ read_again _ a) is
 
   pub never_read : (r : Result RoundTrip ConvertError)
       → IfErr r (RefusesUnit (slice_layout is_big) (unit_entry_of p texts) (drop n section))

@@ -58,7 +58,6 @@ pub use Rattle.gimli_line.specs.header.HeaderGrammar.{HasUnitFault, SpellsUnit}
 pub use Rattle.gimli_line.specs.run.Events.{Event, defined_files, events_after, fault, past_at_end, program_events}
 pub use Rattle.gimli_line.specs.run.Instruction.{defines_file, files_after, ins_seen}
 pub use Rattle.gimli_line.specs.run.InstructionGrammar.{SpellsInstruction, instruction_production}
-pub use Rattle.gimli_line.specs.run.InstructionReading.{ins_at}
 pub use Rattle.gimli_line.specs.run.Machine.{is_refused, next_registers, registers_after, reset_row, step_of}
 pub use Rattle.gimli_line.specs.run.OperationPointer.{OperationPointer, address_limit, is_tombstone, is_too_large}
 pub use Rattle.gimli_line.specs.run.OperationPointer.{next_pointer, pointer_at, pointer_at_overflow}

@@ -5,7 +5,7 @@ use Common.{true, List, [], length, map, refl, sym, ap, ◌∙◌, inl, inr, ari
 use Common.{OrderAndLimit, Error, OutOfMemory, Header, File, row, fault, Event, Events, live_events, FaultIs}
 use Common.{events_left, events_of, HasFirstFault, ConvertError, Read, NoMemory, IsRunRefusal}
 use Rattle.gimli_line.specs.declared.run.row.LineRow.{LineRow}
-use Rattle.gimli_line.specs.run.RunState.{RunState}
+use Rattle.gimli_line.specs.run.Passing.{RunState}
 use Rattle.gimli_line.specs.run.Passing.{with_reset_row}
 use Rattle.gimli_line.specs.run.Rows.{RowIs}
 use Rattle.gimli_line.specs.run.EventsWithFiles.{EventWithFiles, EventsWithFiles}

@@ -4,13 +4,14 @@ use Rattle.gimli_write.proofs
 use proofs.Common
 use Common.{◌∙◌, ℕ, Bool, true, false, List, length, refl, sym, ap, subst, Some, None}
 use Common.{Result, Ok, Err, OnOk, IfErr, IfOk, Error, AddressOverflow, SetAddress, DefineFile, Header, Ins}
-use Common.{defines_file, files_after, ins_at, is_refused, reset_row, step_of, Unread, reads_instruction, ConvertError}
+use Common.{defines_file, files_after, instruction_production, is_refused, reset_row, step_of, Unread}
+use Common.{reads_instruction, ConvertError}
 use Common.{Read, SourceStep, More, Made, address_operand, SourceRun, state_after, step_made, StepsSource}
 use Rattle.gimli_line.specs.declared.run.from_bytes.Executed.{Executed}
 use Rattle.gimli_line.specs.declared.run.from_bytes.Executed.TheVariants.{Quiet, Address, Row}
 use Rattle.gimli_line.specs.declared.run.row.LineRow.{LineRow}
 use Rattle.gimli_line.specs.run.Execution.{IsExecuted, RefusesNext, told_of}
-use Rattle.gimli_line.specs.run.NextInstruction.{TakesNext}
+use Rattle.gimli_line.specs.run.InstructionGrammar.{TakesNext}
 use Rattle.gimli_line.proofs.Executions.{told_address, told_quiet, told_row}
 use Rattle.gimli_write.specs.inside.convert.SourceRun.{source_row}
 use proofs.SourceSteps.{
@@ -66,7 +67,8 @@ module _ {R Offset Endian : Type 0} (bytes : R → List ℕ) (number : Offset �
 -- k is the header that was lent, r2 the registers after the instruction
 module _ (s : SourceRun) (k : Header) (lent : k ≡ s.header) (r2 : LineRow) (u : Unread) where
   module _ (refused : Bool)
-      (x : IsExecuted k.parameters (ins_at s.unread.layout k s.unread.bytes) u.bytes s.row r2 refused) where
+      (x : IsExecuted k.parameters ((instruction_production s.unread.layout k).read s.unread.bytes) u.bytes s.row r2
+      refused) where
     taken : TakesNext s.header s.unread u (Some x.instruction)
     taken =
         let f = (reads_instruction s.unread.layout k).found s.unread.bytes x.instruction u.bytes x.reading in
@@ -78,7 +80,9 @@ module _ (s : SourceRun) (k : Header) (lent : k ≡ s.header) (r2 : LineRow) (u 
     steps : r2 ≡ step_of s.header.parameters x.instruction s.row
     steps = subst (λ j. r2 ≡ step_of j.parameters x.instruction s.row) lent x.registers
 
-  module _ (x : IsExecuted k.parameters (ins_at s.unread.layout k s.unread.bytes) u.bytes s.row r2 false) where
+  module _
+      (x : IsExecuted k.parameters ((instruction_production s.unread.layout k).read s.unread.bytes) u.bytes s.row r2
+      false) where
     address_step : (a : ℕ) → Address a ≡ told_of x.instruction → r2 ≡ step_of s.header.parameters (SetAddress a) s.row
     address_step a told =
         subst (λ i. r2 ≡ step_of s.header.parameters i s.row) (told_address x.instruction a told) (steps false x)
@@ -92,7 +96,9 @@ module _ (s : SourceRun) (k : Header) (lent : k ≡ s.header) (r2 : LineRow) (u 
 module _ {R Offset Endian : Type 0} (bytes : R → List ℕ) (number : Offset → ℕ) (s : SourceRun) (k : Header)
     (lent : k ≡ s.header) (r2 : LineRow) (u : Unread)
     (layout : u.layout ≡ s.unread.layout) where
-  module _ (x : IsExecuted k.parameters (ins_at s.unread.layout k s.unread.bytes) u.bytes s.row r2 false) where
+  module _
+      (x : IsExecuted k.parameters ((instruction_production s.unread.layout k).read s.unread.bytes) u.bytes s.row r2
+      false) where
     pub quiet_steps : Quiet ≡ told_of x.instruction
         → StepsSource {Endian = Endian} bytes number s (state s.header r2 s.base s.pending u) (Ok More)
     quiet_steps told =

@@ -61,7 +61,7 @@ pub use Rattle.gimli_line.specs.run.Events.{Events, row, row_at}
 pub use Rattle.gimli_line.specs.run.EventsWithFiles.{FilesAtEnd}
 pub use Rattle.gimli_line.specs.run.Instruction.{Ins, is_end, makes_row}
 pub use Rattle.gimli_line.specs.run.InstructionGrammar.{Decodes}
-pub use Rattle.gimli_line.specs.run.InstructionReading.{decoded_at}
+pub use Rattle.gimli_line.specs.run.InstructionGrammar.{decoded_at}
 pub use Rattle.gimli_line.specs.run.OperationPointer.{is_under_tombstone, overflows}
 pub use Rattle.gimli_build.specs.Built.{Built, address_value, empty_built, previous_position}
 pub use Rattle.gimli_build.specs.Conditions.{CanBuild, CanWrite}

@@ -2,19 +2,21 @@
 use Rattle.std.specs.Prelude.{◌≡◌, ◌^◌, ◌++◌}
 use Rattle.gimli_write.specs
 use specs.Prelude
-use Prelude.{ℕ, List, [], map, slice_get, Option, Some, None, option_map, Result}
+use Prelude.{ℕ, List, [], length, map, slice_get, Option, Some, None, option_map, Result}
 use Prelude.{Ok, Bool, OrderAndLimit, Encoding, Header, UnitEntry, ReadFile, Events, row, ReadRow}
 use Prelude.{table_bytes, StringTables, bytes_in, Sections, IsText, IsOptionalText, OneByOne}
 use Prelude.{IsUnit, directories_from_zero, Built, texts_after, RowsMatch, ConvertError, Read}
 use Prelude.{Write, OutOfMemory}
 use Rattle.gimli_line.specs.run.Sequences.{HasFirstFault}
 use Rattle.gimli_bytes.specs.Hand.{plain}
+use Rattle.gimli_bytes.specs.Written.{Appends}
 use Rattle.gimli_bytes.specs.declared.error.Error.{Error}
 use Rattle.gimli_build.specs.Tables.{File}
 use Rattle.gimli_build.specs.Stored.{stored_details}
 use Rattle.gimli_build.specs.Unit.{unit_bytes}
 use Rattle.gimli_build.specs.Cause.{first_cause}
 use Rattle.gimli_build.specs.Items.{AddressesFit}
+use Rattle.gimli_build.specs.WrittenTables.{HaveEmptySource}
 use specs.declared.read_back.RoundTrip.{RoundTrip}
 use specs.declared.read_back.RoundTripFile.{RoundTripFile}
 
@@ -131,6 +133,28 @@ HasFittingAddresses p = AddressesFit p.encoding.address_size 0 (0, 0) p.items
 abbrev pub AreBuiltRows : Built → List ReadRow → Type 0
 AreBuiltRows p rows = HasFittingAddresses p → RowsMatch p.encoding.version [] p.items rows
 
+-- what is answered is what was built, with these tables
+pub record IsAsBuilt (p : Built) (texts : StringTables) (a : Answers) : Type 0 where
+  pub directories : a.directories ≡ map (bytes_in texts) p.directories
+  pub files : a.files ≡ map (built_file p texts) p.files
+  pub rows : AreBuiltRows p a.rows
+
+-- ---- a program is written and read again
+
+-- in this order and for a unit of this encoding; the tables are those before it and after it, and
+-- so are the bytes of the section
+pub record IsRoundTrip (is_big : Bool) (encoding : Encoding) (p : Built)
+    (texts texts_then : StringTables) (old new : List ℕ) (answer : RoundTrip)
+    : Type 0 where
+  -- no cause forbids to write it, and its unit was appended
+  pub no_cause : first_cause is_big encoding p texts ≡ None
+  pub unit : Appends (unit_bytes plain is_big encoding p texts) old new
+  pub offset : answer.offset.0 ≡ length old
+  pub tables : HaveEmptySource p texts texts_then
+  -- what is read is what the unit says, and what was built
+  pub read : AnswersAppended is_big p texts_then old new answer
+  pub built : IsAsBuilt p texts_then (answers answer)
+
 -- ---- refusals
 
 -- why the rows of a program aren't answered: its first fault, or `OutOfMemory`
@@ -156,14 +180,15 @@ pub record WasWritten (wanted : ToWrite) (old new unit : List ℕ) : Type 0 wher
   pub appended : new ≡ old ++ unit
 
 -- why a program isn't written or not read again: the cause why it can't be written, if there is
--- one; where there is none, the first fault of its unit, which was appended; or `OutOfMemory`
-abbrev pub IsRefusal : Bool → ToWrite → UnitEntry → List ℕ → List ℕ → ConvertError → Type 0
-IsRefusal is_big wanted unit_entry old new OutOfMemory = Unit {0}
-IsRefusal is_big wanted unit_entry old new (Write e) = wanted.cause ≡ Some e
-IsRefusal is_big wanted unit_entry old new (Read fault) =
+-- one; where there is none, the first fault of its unit, which was appended, and which no program
+-- has whose addresses fit; or `OutOfMemory`
+abbrev pub IsRefusal : Bool → Built → ToWrite → UnitEntry → List ℕ → List ℕ → ConvertError → Type 0
+IsRefusal is_big p wanted unit_entry old new OutOfMemory = Unit {0}
+IsRefusal is_big p wanted unit_entry old new (Write e) = wanted.cause ≡ Some e
+IsRefusal is_big p wanted unit_entry old new (Read fault) =
     (unit : List ℕ) × WasWritten wanted old new unit
-    × RefusesUnit (slice_layout is_big) unit_entry unit (Read fault)
-IsRefusal is_big wanted unit_entry old new e = ⊥
+    × RefusesUnit (slice_layout is_big) unit_entry unit (Read fault) × ¬ HasFittingAddresses p
+IsRefusal is_big p wanted unit_entry old new e = ⊥
 
 -- what is to be written of a program in this order and for a unit of this encoding, with these
 -- tables
@@ -178,7 +203,7 @@ to_write is_big encoding p texts = record {
 abbrev pub IsRoundTripRefusal : Bool → Encoding → Built → StringTables → List ℕ → List ℕ
     → ConvertError → Type 0
 IsRoundTripRefusal is_big encoding p texts old new =
-    IsRefusal is_big (to_write is_big encoding p texts)
+    IsRefusal is_big p (to_write is_big encoding p texts)
     (unit_entry_of p (texts_after p texts)) old new
 
 -- why a program isn't written: the cause why it can't be, if there is one, or `OutOfMemory`

@@ -1,17 +1,22 @@
 //! Laws of conversions: a converted program meets what `write` asks; it says what its source says;
-//! and so do the rows that are read back of it. And laws of equality and of clones.
+//! and so do the rows that are read back of it. And laws of round trips, of equality and of clones.
 
-ghost use Rattle.std.specs.Prelude.{◌≡◌, ℕ, List, map, Some};
+ghost use Rattle.std.specs.Prelude.{◌≡◌, ℕ, Bool, List, map, Some};
 ghost use Rattle.std.specs.Bool.{Decides};
 ghost use Rattle.gimli_core.specs.Equality.{ClonesGiveSame, IsExact};
+ghost use Rattle.gimli_core.specs.declared.common.Encoding.{Encoding};
 ghost use Rattle.gimli_core.specs.declared.common.LineEncoding.{LineEncoding};
-ghost use Rattle.gimli_bytes.specs.Texts.{texts_in};
+ghost use Rattle.gimli_bytes.specs.Texts.{StringTables, texts_in};
 ghost use Rattle.gimli_line.specs.header.File.{File};
 ghost use Rattle.gimli_line.specs.declared.run.row.LineRow.{LineRow as ReadRow};
+ghost use Rattle.gimli_build.specs.Built.{Built};
+ghost use Rattle.gimli_build.specs.Cause.{first_cause};
 ghost use Rattle.gimli_build.specs.Conditions.{CanBuild, CanWrite};
 ghost use Rattle.gimli_build.specs.FileNumber.{file_number};
 ghost use Rattle.gimli_build.specs.declared.built.items.BuiltItem.{BuiltItem};
-ghost use Rattle.gimli_write.specs.RoundTrip.{AreBuiltRows};
+ghost use Rattle.gimli_write.specs.RoundTrip.{AreBuiltRows, HasFittingAddresses};
+ghost use Rattle.gimli_write.specs.RoundTrip.{IsRoundTripRefusal, IsCausedRefusal};
+ghost use Rattle.gimli_write.specs.declared.convert_error.ConvertError.{ConvertError};
 ghost use Rattle.gimli_write.specs.convert.Outcome.{can_build};
 ghost use Rattle.gimli_write.specs.convert.Sequences.{sequence_read};
 ghost use Rattle.gimli_write.specs.convert.FileNumbers.{written_number};
@@ -104,6 +109,15 @@ pub fn written_numbers_are_of_ids()
     ensures only { (source version n m : ℕ) (file_ids : List ℕ)
         → written_number source version file_ids n ≡ Some m
         → (id : ℕ) × IsFileId source file_ids n id × (m ≡ file_number version id) }
+{}
+
+/// `round_trip` never refuses a program whose addresses fit by `Read`: what is written of it is
+/// read, unless memory is missing.
+pub fn fitting_programs_are_read()
+    ensures { (is_big : Bool) (encoding : Encoding) (p : Built) (texts : StringTables)
+        (old new : List ℕ) (e : ConvertError) → HasFittingAddresses p
+        → IsRoundTripRefusal is_big encoding p texts old new e
+        → IsCausedRefusal (first_cause is_big encoding p texts) e }
 {}
 
 /// `==` holds of what `read_row` gives, and of the ends of sequences, exactly where both are of one

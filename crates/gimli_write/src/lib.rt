@@ -18,7 +18,7 @@ pub use convert::tombstones::no_sequence_ends_under_tombstone;
 pub use convert_error::{ConvertError, ConvertResult};
 pub use gimli_build::{
     BuiltItem, BuiltItems, DirectoryId, FileId, FileInfo, Files, LineProgram, LineRow, LineString,
-    Trap, Traps, laws,
+    Refusal, Symbols, Trap, Traps, laws,
 };
 pub use gimli_bytes::{
     Addends, Address, DebugLine, DebugLineStr, DebugStr, EndianVec, Error, InitialLengthOffset,

@@ -1,20 +1,18 @@
 //! A unit that is written, and read again.
 
-ghost use Rattle.std.specs.Prelude.{◌≡◌, ◌<◌, ◌^◌, false, length, map, drop, option_map, IsTrue};
-ghost use Rattle.std.specs.Prelude.{IfOk, IfErr, OnOk, All, Some, None, Err};
+ghost use Rattle.std.specs.Prelude.{◌≡◌, ◌<◌, ◌^◌, false, map, drop, option_map, IsTrue, All};
+ghost use Rattle.std.specs.Prelude.{IfOk, IfErr, Some, Err};
 ghost use Rattle.gimli_core.specs.Numbers.{is_address_size};
 ghost use Rattle.gimli_core.specs.Values.{value_seen};
-ghost use Rattle.gimli_bytes.specs.Hand.{plain};
-ghost use Rattle.gimli_bytes.specs.Written.{Begins, Appends};
+ghost use Rattle.gimli_bytes.specs.Written.{Begins};
 ghost use Rattle.gimli_line.specs.header.Header.{Header};
 ghost use Rattle.gimli_line.specs.header.File.{file_seen};
 ghost use Rattle.gimli_line.specs.run.Events.{Events, row};
-ghost use Rattle.gimli_build.specs.LineText.{IsWithin, bytes_in};
+ghost use Rattle.gimli_build.specs.LineText.{IsWithin};
 ghost use Rattle.gimli_build.specs.Conditions.{CanWrite};
-ghost use Rattle.gimli_build.specs.Unit.{is_incompatible, unit_bytes};
+ghost use Rattle.gimli_build.specs.Unit.{is_incompatible};
 ghost use Rattle.gimli_bytes.specs.Texts.{byte_count, texts_in};
-ghost use Rattle.gimli_build.specs.WrittenTables.{HaveEmptySource, KeepTables};
-ghost use Rattle.gimli_build.specs.Cause.{first_cause};
+ghost use Rattle.gimli_build.specs.WrittenTables.{KeepTables};
 ghost use Rattle.gimli_build.specs.Texts.{Sections, IsText, IsOptionalText, OneByOne};
 ghost use Rattle.gimli_write.specs.inside.TextReading.{HasText, HasOptionalText, HasFileTexts};
 ghost use Rattle.gimli_build.specs.ReadsBack.{ReadsBackAs, directories_from_zero};
@@ -65,8 +63,8 @@ pub struct RoundTripFile {
 ghost use Rattle.gimli_write.specs.RoundTrip.{answers, file_answer, IsFileAnswer, AreAnswers};
 ghost use Rattle.gimli_write.specs.RoundTrip.{slice_layout, unit_entry_of, sections_of};
 ghost use Rattle.gimli_write.specs.RoundTrip.{IsRunRefusal, RefusesUnit, IsRoundTripRefusal};
-ghost use Rattle.gimli_write.specs.RoundTrip.{IsCausedRefusal, built_file, HasFittingAddresses};
-ghost use Rattle.gimli_write.specs.RoundTrip.{AreBuiltRows, AnswersProgram, AnswersAppended};
+ghost use Rattle.gimli_write.specs.RoundTrip.{HasFittingAddresses, AnswersProgram, IsAsBuilt};
+ghost use Rattle.gimli_write.specs.RoundTrip.{IsRoundTrip};
 ghost use Rattle.gimli_write.specs.inside.RoundTrip.{HasTexts, unit_entry_with, BeginsUnit};
 ghost use Rattle.gimli_write.specs.inside.RoundTrip.{CanRead};
 
@@ -355,11 +353,8 @@ fn read_unit<E: Endianity>(
     ensures err { IfErr result (RefusesUnit (slice_layout (E.is_big section.now.endian))
         (unit_entry_of program.now (texts_in strings.now line_strings.now))
         (drop offset.0 section.now.bytes)) }
-    ensures directories { IfOk result (λ answer. map (λ text. text.items) answer.directories.items
-        ≡ map (bytes_in (texts_in strings.now line_strings.now)) program.now.directories) }
-    ensures files { IfOk result (λ answer. map file_answer answer.files.items
-        ≡ map (built_file program.now (texts_in strings.now line_strings.now)) program.now.files) }
-    ensures built { IfOk result (λ answer. AreBuiltRows program.now answer.rows.items) }
+    ensures built { IfOk result (λ answer.
+        IsAsBuilt program.now (texts_in strings.now line_strings.now) (answers answer)) }
     ensures never_read { HasFittingAddresses program.now
         → IfErr result (λ e. e ≡ ConvertError.OutOfMemory) }
 {
@@ -401,31 +396,15 @@ pub fn round_trip<E: Endianity>(
     requires { CanWrite program.now (texts_in strings.old line_strings.old) }
     ensures keeps { Begins w.old.0.bytes w.new.0.bytes }
     ensures ordered { E.is_big w.new.0.endian ≡ E.is_big w.old.0.endian }
-    ensures offset { IfOk result (λ answer. answer.offset.0 ≡ length w.old.0.bytes) }
-    ensures unit { OnOk result
-        (Appends (unit_bytes plain (E.is_big w.old.0.endian) encoding program.now
-        (texts_in strings.old line_strings.old)) w.old.0.bytes w.new.0.bytes) }
-    ensures answers { IfOk result (AnswersAppended (E.is_big w.old.0.endian) program.now
-        (texts_in strings.new line_strings.new) w.old.0.bytes w.new.0.bytes) }
-    ensures directories { IfOk result (λ answer. map (λ text. text.items) answer.directories.items
-        ≡ map (bytes_in (texts_in strings.new line_strings.new)) program.now.directories) }
-    ensures files { IfOk result (λ answer. map file_answer answer.files.items
-        ≡ map (built_file program.now (texts_in strings.new line_strings.new)) program.now.files) }
-    ensures built { IfOk result (λ answer. AreBuiltRows program.now answer.rows.items) }
-    ensures no_cause { OnOk result (first_cause (E.is_big w.old.0.endian) encoding program.now
-        (texts_in strings.old line_strings.old) ≡ None) }
-    ensures incompatible { IsTrue (is_incompatible encoding program.now.encoding)
-        → result ≡ Err (ConvertError.Write Error.IncompatibleLineProgramEncoding) }
-    ensures nothing_appended { IsTrue (is_incompatible encoding program.now.encoding)
-        → w.new ≡ w.old }
-    ensures never_read { HasFittingAddresses program.now → IfErr result (IsCausedRefusal
-        (first_cause (E.is_big w.old.0.endian) encoding program.now
-        (texts_in strings.old line_strings.old))) }
+    ensures ok { IfOk result (IsRoundTrip (E.is_big w.old.0.endian) encoding program.now
+        (texts_in strings.old line_strings.old) (texts_in strings.new line_strings.new)
+        w.old.0.bytes w.new.0.bytes) }
+    ensures incompatible { IsTrue (is_incompatible encoding program.now.encoding) →
+        (result ≡ Err (ConvertError.Write Error.IncompatibleLineProgramEncoding))
+        × (w.new ≡ w.old) }
     ensures refusal { IfErr result
         (IsRoundTripRefusal (E.is_big w.old.0.endian) encoding program.now
         (texts_in strings.old line_strings.old) w.old.0.bytes w.new.0.bytes) }
-    ensures tables { OnOk result (HaveEmptySource program.now
-        (texts_in strings.old line_strings.old) (texts_in strings.new line_strings.new)) }
     ensures tables_kept { KeepTables program.now encoding
         (texts_in strings.old line_strings.old) (texts_in strings.new line_strings.new) }
 {

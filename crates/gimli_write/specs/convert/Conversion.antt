@@ -3,7 +3,8 @@ use Rattle.std.specs.Prelude.{◌≡◌, ◌⊎◌}
 use Rattle.gimli_write.specs
 use specs.Prelude
 use Prelude.{ℕ, true, List, Option, Some, None, Result, Ok, Err, IfErr, OnOk, MatchResult, Vec}
-use Prelude.{Global, Address, Built, previous_position, CanBuild, LineRow, Row, Sections}
+use Prelude.{Global, Address, Built, previous_position, CanBuild, CanWrite, LineRow, Row, Sections}
+use Prelude.{texts_in}
 use Prelude.{ConvertError, OutOfMemory, UnsupportedLineInstruction, SourceRow, ConvertLineRow}
 use specs.convert.SourceTables.{SourceTables, TablesAndTexts, tables_with}
 use specs.convert.Items.{
@@ -57,6 +58,14 @@ beside line_strings c = record { conversion = c; line_strings = line_strings }
 -- the program that was built so far
 abbrev pub built_so_far : Progress → Built
 built_so_far p = p.conversion.tables.program
+
+-- a program can be written, whatever the table of strings is, which it names no text of
+pub record IsWritable (p : Built) (line_strings : List (List ℕ)) : Type 0 where
+  pub can : (strings : List (List ℕ)) → CanWrite p (texts_in strings line_strings)
+
+-- so can the program that a conversion has built so far
+abbrev pub HasWritable : Progress → Type 0
+HasWritable p = IsWritable (built_so_far p) p.line_strings
 
 -- ---- what is still to be read
 
@@ -163,6 +172,8 @@ pub record IsBegun (s : ToConvert) (old : List (List ℕ)) (new : Progress) : Ty
   pub reads : ReadsWhole s new
   -- nothing of it was read
   pub unread : IsUnread s new.conversion
+  -- its program can be written
+  pub writable : HasWritable new
 
 -- what comes of a source, where nothing is built before: the refusal of a step of its header, else
 -- what comes of reading its program

@@ -3,16 +3,11 @@
 -- before. And the program can be written, whatever was read.
 use Rattle.std.specs.Prelude.{◌≡◌, if◌then◌else◌}
 use Rattle.gimli_write.specs
-use specs.Prelude.{ℕ, is_some, List, texts_in, Built, CanWrite}
+use specs.Prelude.{ℕ, is_some, List, texts_in, CanWrite}
 use Rattle.gimli_build.specs.Tables.{keys_of, Keeps}
 use specs.convert.SourceTables.{SourceTables, TablesAndTexts, tables_with}
 use specs.convert.TablesAtEnd.{tables_at_end, tables_after_row}
-use specs.convert.Conversion.{
-  Conversion,
-  Progress,
-  built_so_far,
-  version_of_source,
-}
+use specs.convert.Conversion.{Conversion, Progress, version_of_source}
 
 -- a file that was there keeps its id, and its number in the source; the ids of directories stay
 pub record KeepsFiles (old new : SourceTables) : Type 0 where
@@ -44,16 +39,8 @@ abbrev pub KeepsFinalTables : Progress → Progress → Type 0
 KeepsFinalTables old new =
     final_tables new.conversion new.line_strings ≡ final_tables old.conversion old.line_strings
 
--- a program can be written, whatever the table of strings is, which it names no text of
-pub record IsWritable (p : Built) (line_strings : List (List ℕ)) : Type 0 where
-  pub can : (strings : List (List ℕ)) → CanWrite p (texts_in strings line_strings)
-
 -- a program that could be written still can be
 pub record StaysWritable (old : SourceTables) (old_strings : List (List ℕ)) (new : SourceTables)
     (new_strings : List (List ℕ)) : Type 0 where
   pub still : (strings : List (List ℕ)) → CanWrite old.program (texts_in strings old_strings)
       → CanWrite new.program (texts_in strings new_strings)
-
--- so can the program that a conversion has built so far
-abbrev pub HasWritable : Progress → Type 0
-HasWritable p = IsWritable (built_so_far p) p.line_strings

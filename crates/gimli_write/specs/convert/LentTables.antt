@@ -1,6 +1,6 @@
 -- The two tables of strings that a conversion is lent.
 use Rattle.std.specs.Prelude.{◌≡◌}
-use Rattle.gimli_write.specs.Prelude.{ℕ, List, KeepsTexts}
+use Rattle.gimli_write.specs.Prelude.{ℕ, List, KeepsTexts, StringTables}
 use Rattle.std.specs.Borrow.{MutBor}
 
 -- both, as they are lent
@@ -10,6 +10,12 @@ pub record LentTables : Type 0 where
 
 abbrev pub lent : MutBor (List (List ℕ)) → MutBor (List (List ℕ)) → LentTables
 lent line_strings strings = record { line_strings = line_strings; strings = strings }
+
+-- texts may have been added to the line strings, after those that they had; the strings are as they
+-- were
+pub record AddsLineStrings (old new : StringTables) : Type 0 where
+  pub line_strings : KeepsTexts old.line_strings new.line_strings
+  pub strings : new.strings ≡ old.strings
 
 -- both are still the tables that were lent, with the texts that they had
 pub record SameStringTables (old new : LentTables) : Type 0 where

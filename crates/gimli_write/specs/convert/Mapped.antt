@@ -24,7 +24,7 @@ use specs.RoundTrip.{FileAnswer, HasFittingAddresses}
 use specs.convert.Outcome.{Outcome}
 use specs.convert.Preparation.{encoding_of, has_before_5}
 use specs.convert.Sources.{ToConvert}
-use specs.convert.Conversion.{AnswersAs, outcome_with, SourceComesTo, ConvertsTo}
+use specs.convert.Conversion.{AnswersAs, outcome_with, SourceComesTo, ConvertsTo, IsWritable}
 
 -- ---- what is asked
 
@@ -245,10 +245,12 @@ pub record IsFaithful (s : ToConvert) (strings : List (List ℕ)) (c : Outcome) 
 
 -- a source is converted to this answer: by what this map of addresses answers, and, for each
 -- function that gives what it may answer, as that function says; and then it says what the source
--- says, where what is asked for that holds. The old line strings are those before it
+-- says, where what is asked for that holds. It can be written. The old line strings are those
+-- before it
 pub record ConvertsWell (map : ℕ → Option Address → Type 0) (s : ToConvert) (old : List (List ℕ))
     (answer : Built × Vec ℕ Global) (texts : StringTables) : Type 0 where
   pub answers : SourceComesTo map s old (Ok (outcome_with answer texts.line_strings))
   pub converts : ConvertsTo map s old answer texts.line_strings
+  pub writable : IsWritable answer.0 texts.line_strings
   pub faithful : (g : ℕ → Option Address) → AnswersAs map g → CanBeFaithful g s
       → IsFaithful s texts.strings (outcome_with answer texts.line_strings)

@@ -4,7 +4,8 @@ use Rattle.gimli_write.specs
 use specs.Prelude
 use Prelude.{ℕ, List, [], Bool, false, Option, Some, None, option_map, ok_or, unwrap_or}
 use Prelude.{Result, Ok, Err, nat_eq, nat_le, nat_lt, pos, int_lt, int_le}
-use Prelude.{option_map_or, Encoding, LineEncoding, Value, File, Header, directory_of, file_of}
+use Prelude.{option_map_or, IfSome, Encoding, LineEncoding, Value, File, Header, directory_of}
+use Prelude.{file_of}
 use Prelude.{has_content, LineText, made_text, made_table, Built, empty_built, Sections}
 use Prelude.{ConvertError, MissingCompilationDirectory, MissingCompilationName}
 use Prelude.{InvalidDirectoryIndex, InvalidLineBase}
@@ -14,6 +15,9 @@ use Rattle.gimli_line.specs.LineNumbers.{
   DW_LNCT_MD5,
   DW_LNCT_LLVM_source,
 }
+use Rattle.std.specs.Prelude.{IsTrue}
+use Rattle.gimli_core.specs.Numbers.{is_address_size}
+use Rattle.gimli_build.specs.Advance.{CanEncode}
 use Rattle.gimli_build.specs.FirstTables.{first_directories, first_files}
 use specs.convert.Texts.{◌>>=◌, without_zero, source_text, source_path}
 use specs.convert.SourceTables.{
@@ -148,6 +152,12 @@ start_of_tables encoding line_encoding h texts = record {
 }
 
 -- ---- all of it
+
+-- a program may have these encodings, where they are handed in
+pub record CanBeHanded (encoding : Option Encoding) (line_encoding : Option LineEncoding)
+    : Type 0 where
+  pub address_size : IfSome encoding (λ e. IsTrue (is_address_size e.address_size))
+  pub lines : IfSome line_encoding CanEncode
 
 -- what is handed in: the encodings of the program that is built, and the name of the source file
 pub record Handed : Type 0 where

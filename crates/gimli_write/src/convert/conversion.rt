@@ -1,15 +1,11 @@
 //! A source that is read, and the program that is built of it.
 
-ghost use Rattle.std.specs.Prelude.{◌≡◌, ◌≢◌, ◌⊎◌, ℕ, List, Option, None, Some, Ok, Err};
-ghost use Rattle.std.specs.Prelude.{IfErr, IfOk, OnErr, OnOk, true, false};
+ghost use Rattle.std.specs.Prelude.{◌≡◌, ◌⊎◌, Option, None, Some, Ok, Err, IfErr, IfOk, OnOk};
 ghost use Rattle.gimli_bytes.specs.Texts.{KeepsTexts};
-ghost use Rattle.gimli_write.specs.convert.SourceTables.{tables_with};
-ghost use Rattle.gimli_write.specs.convert.KeptTables.{IsWritable, HasWritable, StaysWritable};
-ghost use Rattle.gimli_write.specs.convert.KeptTables.{final_tables_of_source};
+ghost use Rattle.gimli_write.specs.convert.Conversion.{IsWritable, HasWritable};
+ghost use Rattle.gimli_write.specs.convert.KeptTables.{StaysWritable};
 ghost use Rattle.gimli_write.specs.convert.Reads.{ReadsOn, LeavesTables, RepeatsRefusal};
-ghost use Rattle.gimli_write.specs.convert.Items.{Reading, stops, offers, row_or_end_offered};
 ghost use Rattle.gimli_write.specs.convert.SourceRun.{start_of_source};
-ghost use Rattle.gimli_write.specs.convert.TablesAtEnd.{lacks_file, tables_after_row};
 ghost use Rattle.gimli_write.specs.convert.Conversion.{start_of_conversion, tables_of};
 ghost use Rattle.gimli_write.specs.convert.Conversion.{version_of_source};
 ghost use Rattle.gimli_write.specs.convert.Conversion.{source_left, still_to_read, beside};
@@ -17,7 +13,7 @@ ghost use Rattle.gimli_write.specs.convert.Conversion.{with_program};
 ghost use Rattle.gimli_write.specs.convert.Conversion.{GivesNext, IsReadRefusal};
 ghost use Rattle.gimli_write.specs.convert.Conversion.{RestComesTo, RestConvertsTo};
 ghost use Rattle.gimli_write.specs.convert.Conversion.{IsRestRefusal};
-ghost use Rattle.gimli_write.specs.inside.convert.Conversion.{TakesRow};
+ghost use Rattle.gimli_write.specs.inside.convert.Conversion.{TakesRow, HandsRow, LeavesSource};
 ghost use Rattle.gimli_write.specs.convert.Sequences.{GathersNext, IsGatherRefusal};
 ghost use Rattle.gimli_write.specs.convert.Outcome.{ItemComesTo, without_items};
 
@@ -161,23 +157,7 @@ impl<R: Reader> Conversion<R> {
     /// A row or an end of the source, as it is handed out. Refused as `InvalidFileIndex` where the
     /// source has no file of the row's number so far.
     fn row_or_end(&self, row: &SourceRow) -> ConvertResult<ConvertLineRow>
-        ensures ok { IfOk result (λ offered. (line_strings : List (List ℕ)) (rest : Reading) →
-            row_or_end_offered (version_of_source self.now) (tables_of self.now line_strings)
-            row.now rest
-            ≡ offers offered (tables_of self.now line_strings) rest) }
-        ensures err { IfErr result (λ e. (line_strings : List (List ℕ)) (rest : Reading) →
-            row_or_end_offered (version_of_source self.now) (tables_of self.now line_strings)
-            row.now rest
-            ≡ stops e) }
-        // Whether its file is there.
-        ensures found { OnOk result ((line_strings : List (List ℕ)) →
-            lacks_file (version_of_source self.now) (tables_with line_strings self.now.tables)
-            row.now
-            ≡ false) }
-        ensures lacks { OnErr result ((line_strings : List (List ℕ)) →
-            lacks_file (version_of_source self.now) (tables_with line_strings self.now.tables)
-            row.now
-            ≡ true) }
+        ensures { HandsRow self.now row.now result }
     {
         if row.row.end_sequence() {
             return Ok(ConvertLineRow::EndSequence(row.address_offset));
@@ -205,17 +185,8 @@ impl<R: Reader> Conversion<R> {
         ensures failed { self.new.failed ≡ self.old.failed }
         ensures reads_on { ReadsOn (beside line_strings.old self.old)
             (beside line_strings.new self.new) }
-        // The tables that the source leaves.
-        ensures last { IfOk result (λ row. tables_after_row (version_of_source self.new)
-            (tables_with line_strings.new self.new.tables) row
-            (final_tables_of_source self.new line_strings.new)
-            ≡ final_tables_of_source self.old line_strings.old) }
-        ensures ended { IfOk result (λ row. row ≡ None →
-            tables_with line_strings.new self.new.tables
-            ≡ final_tables_of_source self.old line_strings.old) }
-        ensures stopped { IfErr result (λ e. e ≢ ConvertError.OutOfMemory →
-            tables_with line_strings.new self.new.tables
-            ≡ final_tables_of_source self.old line_strings.old) }
+        ensures leaves { LeavesSource (beside line_strings.old self.old) result
+            (beside line_strings.new self.new) }
     {
         'steps: loop {
             match self.source.step()? {

@@ -1,19 +1,19 @@
 //! The conversion of a line program, as its callers see it.
 
-ghost use Rattle.std.specs.Prelude.{◌≡◌, false, IfErr, IfOk, IfSome, IsTrue};
-ghost use Rattle.gimli_core.specs.Numbers.{is_address_size};
+ghost use Rattle.std.specs.Prelude.{◌≡◌, false, IfErr, IfOk};
 ghost use Rattle.gimli_bytes.specs.Texts.{KeepsTexts, texts_in};
 ghost use Rattle.gimli_build.specs.Calls.{after_begin, after_address, after_row, after_end};
-ghost use Rattle.gimli_build.specs.Advance.{CanEncode};
 ghost use Rattle.gimli_build.specs.Conditions.{CanEndSequence};
 ghost use Rattle.gimli_write.specs.declared.convert_error.ConvertError.TheVariants.{OutOfMemory};
-ghost use Rattle.gimli_write.specs.convert.KeptTables.{IsWritable, HasWritable};
+ghost use Rattle.gimli_write.specs.convert.Preparation.{CanBeHanded};
 ghost use Rattle.gimli_write.specs.convert.LentTables.{lent, SameStringTables, KeepsStringTables};
+ghost use Rattle.gimli_write.specs.convert.LentTables.{AddsLineStrings};
 ghost use Rattle.gimli_write.specs.convert.Reads.{ReadsOn, LeavesTables, RepeatsRefusal};
 ghost use Rattle.gimli_write.specs.convert.Converter.{progress, lent_tables, program_of, Builds};
 ghost use Rattle.gimli_write.specs.convert.Sources.{to_convert};
 ghost use Rattle.gimli_write.specs.convert.Mapped.{ConvertsWell};
 ghost use Rattle.gimli_write.specs.convert.Conversion.{beside, reading_of, Asks, CanBuildRow};
+ghost use Rattle.gimli_write.specs.convert.Conversion.{IsWritable, HasWritable};
 ghost use Rattle.gimli_write.specs.convert.Conversion.{IsBegun, IsHeaderRefusal};
 ghost use Rattle.gimli_write.specs.convert.Conversion.{GivesNext, IsReadRefusal};
 ghost use Rattle.gimli_write.specs.convert.Conversion.{IsConvertRefusal, RestConvertsTo};
@@ -98,15 +98,12 @@ impl<R: Reader> ConvertLineHeader<R> {
         line_encoding: Option<LineEncoding>,
         line_strings: &mut LineStringTable,
     ) -> ConvertResult<Self>
-        requires address_size { IfSome encoding (λ e. IsTrue (is_address_size e.address_size)) }
-        requires lines { IfSome line_encoding CanEncode }
+        requires { CanBeHanded encoding line_encoding }
         ensures ok { IfOk result (λ header. IsBegun (to_convert R.bytes debug_str debug_line_str
             from_program from_comp_name encoding line_encoding) line_strings.old
             (beside line_strings.new header)) }
         ensures err { IfErr result (IsHeaderRefusal (to_convert R.bytes debug_str debug_line_str
             from_program from_comp_name encoding line_encoding) line_strings.old) }
-        // What was begun can be written.
-        ensures writable { IfOk result (λ header. HasWritable (beside line_strings.new header)) }
         ensures stays { KeepsTexts line_strings.old line_strings.new }
     {
         let sections = TextSections {
@@ -173,15 +170,12 @@ impl<'a, 'b, R: Reader> ConvertLineProgram<'a, 'b, R, Conversion<R>> {
         line_strings: &'a mut LineStringTable,
         strings: &'b mut StringTable,
     ) -> ConvertResult<Self>
-        requires address_size { IfSome encoding (λ e. IsTrue (is_address_size e.address_size)) }
-        requires lines { IfSome line_encoding CanEncode }
+        requires { CanBeHanded encoding line_encoding }
         ensures ok { IfOk result (λ convert. IsBegun (to_convert R.bytes debug_str debug_line_str
             from_program from_comp_name encoding line_encoding)
             line_strings.old (progress convert)) }
         ensures err { IfErr result (IsHeaderRefusal (to_convert R.bytes debug_str debug_line_str
             from_program from_comp_name encoding line_encoding) line_strings.old) }
-        // What was begun can be written, and both tables are those that were handed.
-        ensures writable { IfOk result (λ convert. HasWritable (progress convert)) }
         ensures string_tables { IfOk result (λ convert.
             KeepsStringTables (lent line_strings.entry strings.entry) (lent_tables convert)) }
     {
@@ -351,8 +345,7 @@ pub fn convert_program<R: Reader, F: Fn(u64) -> Option<Address>>(
     strings: &mut StringTable,
     convert_address: F,
 ) -> ConvertResult<(LineProgram, Vec<FileId>)>
-    requires address_size { IfSome encoding (λ e. IsTrue (is_address_size e.address_size)) }
-    requires lines { IfSome line_encoding CanEncode }
+    requires handed { CanBeHanded encoding line_encoding }
     requires callable { F.IsAlwaysCallable convert_address }
     ensures outcome { IfOk result (λ answer. ConvertsWell (F.post convert_address)
         (to_convert R.bytes debug_str debug_line_str
@@ -361,9 +354,8 @@ pub fn convert_program<R: Reader, F: Fn(u64) -> Option<Address>>(
     ensures refusal { IfErr result (IsConvertRefusal (F.post convert_address)
         (to_convert R.bytes debug_str debug_line_str
         from_program from_comp_name encoding line_encoding) line_strings.old) }
-    ensures writable { IfOk result (λ answer. IsWritable answer.0 line_strings.new) }
-    ensures stays { KeepsTexts line_strings.old line_strings.new }
-    ensures strings { strings.new ≡ strings.old }
+    ensures tables { AddsLineStrings
+        (texts_in strings.old line_strings.old) (texts_in strings.new line_strings.new) }
 {
     // The program names no text of this table.
     let _strings = strings;

@@ -1,11 +1,10 @@
 //! A conversion that is written and read back in one call.
 
-ghost use Rattle.std.specs.Prelude.{IfErr, IfOk, IfSome, IsTrue};
-ghost use Rattle.gimli_core.specs.Numbers.{is_address_size};
+ghost use Rattle.std.specs.Prelude.{IfErr, IfOk};
 ghost use Rattle.gimli_bytes.specs.Texts.{KeepsTexts, texts_in};
 ghost use Rattle.gimli_bytes.specs.Written.{Begins};
-ghost use Rattle.gimli_build.specs.Advance.{CanEncode};
 ghost use Rattle.gimli_write.specs.RoundTrip.{answers};
+ghost use Rattle.gimli_write.specs.convert.Preparation.{CanBeHanded};
 ghost use Rattle.gimli_write.specs.convert.Sources.{to_convert};
 ghost use Rattle.gimli_write.specs.convert.SourceReadBack.{ReadsBackSource, IsSourceRefusal};
 
@@ -46,8 +45,7 @@ pub fn convert_and_read_back<R: Reader, E: Endianity, F: Fn(u64) -> Option<Addre
     strings: &mut StringTable,
     convert_address: F,
 ) -> ConvertResult<(RoundTrip, Vec<FileId>)>
-    requires address_size { IfSome encoding (λ e. IsTrue (is_address_size e.address_size)) }
-    requires lines { IfSome line_encoding CanEncode }
+    requires handed { CanBeHanded encoding line_encoding }
     requires callable { F.IsAlwaysCallable convert_address }
     ensures faithful { IfOk result (λ answer. ReadsBackSource (F.post convert_address)
         (to_convert R.bytes debug_str debug_line_str

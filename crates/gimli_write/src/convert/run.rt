@@ -122,9 +122,7 @@ impl<R: Reader> SourceRun<R> {
     ghost use Rattle.gimli_line.specs.run.Machine.{IsAllowed, is_refused};
     ghost use Rattle.gimli_build.specs.Texts.{Sections};
     ghost use Rattle.gimli_write.specs.convert.SourceTables.{TablesAndTexts};
-    ghost use Rattle.gimli_write.specs.convert.Items.{stops, address_operand, ReadsItems};
-    ghost use Rattle.gimli_write.specs.convert.TablesAtEnd.{tables_at_end};
-    ghost use Rattle.gimli_write.specs.inside.convert.TablesAtEnd.{step_tables};
+    ghost use Rattle.gimli_write.specs.convert.Items.{address_operand, ReadsItems};
     ghost use Rattle.gimli_write.specs.convert.SourceRun.{
       start_of_source,
       state_after,
@@ -133,8 +131,6 @@ impl<R: Reader> SourceRun<R> {
     ghost use Rattle.gimli_write.specs.inside.convert.SourceRun.{
       source_row,
       step_made,
-      step_reading,
-      Shortens,
       StepsSource,
     };
 
@@ -169,19 +165,7 @@ impl<R: Reader> SourceRun<R> {
     /// the instruction is, or by `AddressOverflow`. Takes no memory.
     #[inline(always)]
     pub(crate) fn step(&mut self) -> ConvertResult<SourceStep<R>>
-        ensures reading { IfOk result (λ step. (sections : Sections) (tables : TablesAndTexts)
-            → reading_left sections self.old tables
-            ≡ step_reading R.bytes R.Offset.number sections tables step self.new) }
-        ensures refusal { IfErr result (λ e. (sections : Sections) (tables : TablesAndTexts)
-            → reading_left sections self.old tables ≡ stops e) }
-        ensures tables { IfOk result (λ step. (sections : Sections) (tables : TablesAndTexts)
-            → tables_at_end sections self.old tables
-            ≡ step_tables R.bytes R.Offset.number sections tables step self.new) }
-        ensures stopped { IfErr result (λ e. (sections : Sections) (tables : TablesAndTexts)
-            → tables_at_end sections self.old tables ≡ tables) }
-        ensures shorter { IfOk result (λ step. Shortens step self.old self.new) }
-        ensures header { self.new.header ≡ self.old.header }
-        ensures layout { self.new.unread.layout ≡ self.old.unread.layout }
+        ensures { StepsSource R.bytes R.Offset.number self.old self.new result }
     {
         let header = self.program.header();
         let executed = match self.instructions.execute_next(header, &mut self.row) {

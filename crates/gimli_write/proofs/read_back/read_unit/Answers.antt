@@ -2,7 +2,7 @@ use Rattle.std.specs.Prelude.{◌<◌, ◌^◌}
 use Rattle.gimli_write.proofs
 use proofs.Common.{length, ap, subst, List, ℕ, ◌∙◌, err_from_is_err_and, texts_in}
 use proofs.ReadUnits.{can_read, program_answered, program_refused, unread_refused}
-use proofs.BuiltAnswers.{built_directories, built_files, built_rows, never_read}
+use proofs.BuiltAnswers.{built, never_read}
 use proofs.read_back.read_unit.Goals as goal
 
 pub returns-in_err-sections-clause-err : goal.returns-in_err-sections-clause-err
@@ -46,24 +46,10 @@ returns-clause-err g c =
     (ap (λ e. e.address_size) c.encoding.ensures.encoding) c.working_directory.ensures
     c.in_ok-sections.ensures.ok c.requires.unit lt c.in_ok-sections.ensures.held _ c.read_section.ensures.err
 
-pub returns-clause-directories : goal.returns-clause-directories
-returns-clause-directories g c =
-    let lt = subst (λ xs. length xs < 2 ^ 64) c.slice-bytes.ensures c.slice-bytes.type_inv.0 in
-    built_directories (g.E.Endianity.is_big c.args.section.now.endian) c.args.program.now
-    (texts_in c.args.strings.now c.args.line_strings.now)
-    c.args.section.now.bytes c.args.offset.0 c.requires.unit lt c.in_ok-sections.ensures.held _ (returns-clause-ok g c)
-
-pub returns-clause-files : goal.returns-clause-files
-returns-clause-files g c =
-    let lt = subst (λ xs. length xs < 2 ^ 64) c.slice-bytes.ensures c.slice-bytes.type_inv.0 in
-    built_files (g.E.Endianity.is_big c.args.section.now.endian) c.args.program.now
-    (texts_in c.args.strings.now c.args.line_strings.now) c.args.section.now.bytes
-    c.args.offset.0 c.requires.unit lt c.in_ok-sections.ensures.held _ (returns-clause-ok g c)
-
 pub returns-clause-built : goal.returns-clause-built
 returns-clause-built g c =
     let lt = subst (λ xs. length xs < 2 ^ 64) c.slice-bytes.ensures c.slice-bytes.type_inv.0 in
-    built_rows (g.E.Endianity.is_big c.args.section.now.endian) c.args.program.now
+    built (g.E.Endianity.is_big c.args.section.now.endian) c.args.program.now
     (texts_in c.args.strings.now c.args.line_strings.now) c.args.section.now.bytes
     c.args.offset.0 c.requires.unit lt c.in_ok-sections.ensures.held _ (returns-clause-ok g c)
 

@@ -1,11 +1,11 @@
 use Rattle.gimli_write.proofs
 use proofs.Common
-use Common.{drop, refl, subst, Result, Ok, Err, OnOk, IfErr, texts_in, RefusesUnit, slice_layout, unit_entry_of}
+use Common.{drop, refl, subst, IfErr, texts_in, RefusesUnit, slice_layout, unit_entry_of}
 use Rattle.gimli_build.specs.Version5Tables.{texts_after}
 use Rattle.gimli_bytes.specs.Hand.{plain}
 use Rattle.gimli_build.specs.Unit.{unit_bytes}
 use Rattle.gimli_build.proofs.refusals.Causes.{no-cause, refused-for}
-use proofs.RoundTrips.{write_refused, unit_not_answered}
+use proofs.RoundTrips.{write_refused, unit_not_answered, round_trip_answered}
 use Rattle.gimli_build.proofs.building.SourceLemmas.{can-write-after}
 use proofs.read_back.round_trip.Goals as goal
 
@@ -22,18 +22,17 @@ returns-in-Ok-clause-refusal g c =
     c.in-Ok.ensures.tables.strings (subst (λ line_strings. IfErr c.read_unit.result
     (RefusesUnit (slice_layout other) (unit_entry_of program (texts_in c.write.new.strings line_strings)) later))
     c.in-Ok.ensures.tables.line_strings c.read_unit.ensures.err) in
-    unit_not_answered _ _ _ _ _ _ _ c.in-Ok.ensures.writes.ordered (no-cause _ _ _ _ c.in-Ok.ensures.cause
+    unit_not_answered _ program _ _ _ _ _ _ c.in-Ok.ensures.writes.ordered (no-cause _ _ _ _ c.in-Ok.ensures.cause
     (c.in-Ok.ensures.writes.ok refl)) (c.in-Ok.ensures.writes.ok refl) c.in-Ok.ensures.offset read
+    c.read_unit.ensures.never_read
 
-always : {X E P : Type 0} (r : Result X E) → P → OnOk r P
-always (Ok x) p = p
-always (Err e) p = tt
-
-pub returns-in-Ok-clause-no_cause : goal.returns-in-Ok-clause-no_cause
-returns-in-Ok-clause-no_cause g c =
-    let unit = unit_bytes plain (g.E.Endianity.is_big c.args.w.now.0.endian) c.args.encoding c.args.program.now
-    (texts_in c.args.strings.now c.args.line_strings.now) in
-    always _ (no-cause _ _ _ _ c.in-Ok.ensures.cause (c.in-Ok.ensures.writes.ok refl))
+pub returns-in-Ok-clause-ok : goal.returns-in-Ok-clause-ok
+returns-in-Ok-clause-ok g c =
+    let done = c.in-Ok.ensures in
+    round_trip_answered (g.E.Endianity.is_big c.write.new.w.0.endian) c.args.encoding c.args.program.now
+    (texts_in c.args.strings.now c.args.line_strings.now) (texts_in c.write.new.strings c.write.new.line_strings) _ _
+    c.in-Ok.offset _ done.writes.ordered (no-cause _ _ _ _ done.cause (done.writes.ok refl)) (done.writes.ok refl)
+    done.offset done.tables c.read_unit.ensures.offset c.read_unit.ensures.ok c.read_unit.ensures.built
 
 pub returns-in-Err-clause-refusal : goal.returns-in-Err-clause-refusal
 returns-in-Err-clause-refusal g c =
@@ -41,7 +40,7 @@ returns-in-Err-clause-refusal g c =
     let program = c.args.program.now in
     let unit = unit_bytes plain is_big c.args.encoding program (texts_in c.args.strings.now c.args.line_strings.now) in
     let why = refused-for _ _ _ c.in-Err.ensures.cause (c.in-Err.ensures.writes.err refl refl) in
-    write_refused _ _ _ _ _ _ _ why c.from_write.ensures.memory c.from_write.ensures.other
+    write_refused _ program _ _ _ _ _ _ why c.from_write.ensures.memory c.from_write.ensures.other
 
 pub read_unit-requires-clause-within : goal.read_unit-requires-clause-within
 read_unit-requires-clause-within g c =

@@ -1,10 +1,17 @@
 use Rattle.gimli_write.proofs
 use proofs.Common
-use Common.{err_from_is_err_and, IfOk-weaker, IfErr-weaker, tables_with, ToConvert, to_convert, still_to_read}
+use Common.{refl, Result, Ok, Err, IfOk, err_from_is_err_and, IfErr-weaker, tables_with, ToConvert, to_convert}
+use Common.{still_to_read}
 use proofs.ConvertSteps.{kept_then}
 use proofs.Outcomes.{all_converted, all_comes, header_refused, rows_refused}
 use proofs.MappedLaws.{conversion_faithful}
 use proofs.convert.program.convert_program.Goals as goal
+
+-- what follows of an answer from two facts of it
+both : {X E : Type 0} {P Q S : X → Type 0} (r : Result X E) → ((x : X) → P x → Q x → S x) → IfOk r P → IfOk r Q
+    → IfOk r S
+both (Ok x) f p q = f x p q
+both (Err e) f p q = tt
 
 pub returns-in_err-header-clause-refusal : goal.returns-in_err-header-clause-refusal
 returns-in_err-header-clause-refusal g c =
@@ -27,13 +34,16 @@ returns-clause-outcome g c =
     let map = goal.F-post g c.args.convert_address in
     let prepared = c.in_ok-header.ensures.ok.prepared in
     let reads = c.in_ok-header.ensures.ok.reads in
-    IfOk-weaker c.convert_all.result _ _ (λ answer comes. record {
+    let writable =
+    (rw c.into_conversion.ensures at c.convert_all.ensures.writable) c.in_ok-header.ensures.ok.writable in
+    both c.convert_all.result (λ answer comes can_write. record {
       answers = all_comes map source before first reading prepared reads _ comes.answers;
       converts = λ m says. all_converted map source before first reading prepared reads m _ (comes.as_function m says);
+      writable = can_write;
       faithful = λ m says can. conversion_faithful m source before _
           (all_converted map source before first reading prepared reads m _ (comes.as_function m says)) can
           c.args.strings.now;
-    }) (rw c.into_conversion.ensures at c.convert_all.ensures.ok)
+    }) (rw c.into_conversion.ensures at c.convert_all.ensures.ok) writable
 
 pub returns-clause-refusal : goal.returns-clause-refusal
 returns-clause-refusal g c =
@@ -46,9 +56,8 @@ returns-clause-refusal g c =
     c.in_ok-header.ensures.ok.prepared c.in_ok-header.ensures.ok.reads e refused.answers refused.as_function)
     (rw c.into_conversion.ensures at c.convert_all.ensures.err)
 
-pub returns-clause-stays : goal.returns-clause-stays
-returns-clause-stays g c = kept_then c.in_ok-header.ensures.stays c.convert_all.ensures.stays
-
-pub returns-clause-writable : goal.returns-clause-writable
-returns-clause-writable g c =
-    (rw c.into_conversion.ensures at c.convert_all.ensures.writable) c.in_ok-header.ensures.writable
+pub returns-clause-tables : goal.returns-clause-tables
+returns-clause-tables g c = record {
+  line_strings = kept_then c.in_ok-header.ensures.stays c.convert_all.ensures.stays;
+  strings = refl;
+}

@@ -65,13 +65,18 @@ returns-in_err-add_file-in-Defines-clause-err g c =
     (read a.sections (without_built before)) c.steps.invariant.left c.steps.invariant.first
     c.in_err-add_file-in-Defines.ensures.err)
 
-pub returns-in-Done-clause-last : goal.returns-in-Done-clause-last
-returns-in-Done-clause-last g c =
+pub returns-in-Done-clause-leaves : goal.returns-in-Done-clause-leaves
+returns-in-Done-clause-leaves g c =
     let a = c.steps.self-inside in
     let tables = tables_with c.steps.line_strings a.tables in
     let leaves = rw c.in-Done.is at c.in_ok-step.ensures.tables in
     let over = rw c.in-Done.is at c.in_ok-step.ensures.shorter in
-    none_last a.sections tables c.step.new.self over ∙ sym (leaves a.sections tables) ∙ c.steps.invariant.last
+    let there = sym (leaves a.sections tables) ∙ c.steps.invariant.last in
+    record {
+      last = none_last a.sections tables c.step.new.self over ∙ there;
+      ended = λ _. there;
+      stopped = tt;
+    }
 
 pub returns-in_err-add_file-in-Defines-clause-reads_on : goal.returns-in_err-add_file-in-Defines-clause-reads_on
 returns-in_err-add_file-in-Defines-clause-reads_on g c =

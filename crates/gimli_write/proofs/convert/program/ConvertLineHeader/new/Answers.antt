@@ -33,19 +33,8 @@ returns-clause-ok g c =
           (reading_left sections (start_of_source h (record { bytes = h.program; layout = layout })) x))
           (sym same) (start_reads layout sections h tables h.program);
       unread = refl;
-    })
-
-pub returns-clause-writable : goal.returns-clause-writable
-returns-clause-writable g c =
-    let sections : Sections = record {
-      strings = g.R.Reader.bytes c.args.debug_str;
-      line_strings = g.R.Reader.bytes c.args.debug_line_str;
-    } in
-    let h = c.args.from_program.meaning in
-    let tables = tables_with c.prepare.new.line_strings c.in_ok-tables.tables in
-    let given = handed_of c.args.encoding c.args.line_encoding (option_map g.R.Reader.bytes c.args.from_comp_name) in
-    let is = rw c.header.ensures at c.in_ok-tables.ensures.ok in
-    rw c.start-conversion.ensures (record {
-      can = λ strings. ready_written strings (encoding_of h given) tables
-          (prepared_ready strings sections h given c.args.line_strings.now is);
+      writable = record {
+        can = λ strings. ready_written strings (encoding_of h given) tables
+            (prepared_ready strings sections h given c.args.line_strings.now is);
+      };
     })

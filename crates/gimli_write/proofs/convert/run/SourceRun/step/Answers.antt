@@ -10,18 +10,9 @@ returns-in-Err g c =
     state c.self.inside.program.meaning c.self.inside.row c.self.inside.base c.self.inside.pending
     c.self.inside.instructions in
     let lent : c.header-header.result.now.meaning ≡ c.self.inside.program.meaning = rw c.header-header.ensures refl in
-    let x =
-    refused_steps {Endian = Unit {0}} g.R.Reader.bytes g.R.Offset.ReaderOffset.number s _ lent _ _
-    c.in-Err.ensures.layout _ c.in-Err.ensures.err in
-    rw (← c.self.view_is) (record {
-      reading = x.reading;
-      refusal = x.refusal;
-      tables = x.tables;
-      stopped = x.stopped;
-      shorter = x.shorter;
-      header = x.header;
-      layout = x.layout;
-    })
+    rw (← c.self.view_is)
+    (refused_steps g.R.Reader.bytes g.R.Offset.ReaderOffset.number s _ lent _ _
+    c.in-Err.ensures.layout _ c.in-Err.ensures.err)
 
 pub returns-in-Quiet : goal.returns-in-Quiet
 returns-in-Quiet g c =
@@ -30,18 +21,9 @@ returns-in-Quiet g c =
     c.self.inside.instructions in
     let lent : c.header-header.result.now.meaning ≡ c.self.inside.program.meaning = rw c.header-header.ensures refl in
     let q = rw c.in-Quiet.is at c.in-Ok.ensures.ok in
-    let x =
-    quiet_steps {Endian = Unit {0}} g.R.Reader.bytes g.R.Offset.ReaderOffset.number s _ lent _ _
-    c.in-Ok.ensures.layout q.0 q.1 in
-    rw (← c.self.view_is) (record {
-      reading = x.reading;
-      refusal = x.refusal;
-      tables = x.tables;
-      stopped = x.stopped;
-      shorter = x.shorter;
-      header = x.header;
-      layout = x.layout;
-    })
+    rw (← c.self.view_is)
+    (quiet_steps g.R.Reader.bytes g.R.Offset.ReaderOffset.number s _ lent _ _
+    c.in-Ok.ensures.layout q.0 q.1)
 
 pub returns-in-Address : goal.returns-in-Address
 returns-in-Address g c =
@@ -50,18 +32,9 @@ returns-in-Address g c =
     c.self.inside.instructions in
     let lent : c.header-header.result.now.meaning ≡ c.self.inside.program.meaning = rw c.header-header.ensures refl in
     let q = rw c.in-Address.is at c.in-Ok.ensures.ok in
-    let x =
-    address_steps {Endian = Unit {0}} g.R.Reader.bytes g.R.Offset.ReaderOffset.number s _ lent _ _
-    c.in-Ok.ensures.layout q.0 _ q.1 in
-    rw (← c.self.view_is) (record {
-      reading = x.reading;
-      refusal = x.refusal;
-      tables = x.tables;
-      stopped = x.stopped;
-      shorter = x.shorter;
-      header = x.header;
-      layout = x.layout;
-    })
+    rw (← c.self.view_is)
+    (address_steps g.R.Reader.bytes g.R.Offset.ReaderOffset.number s _ lent _ _
+    c.in-Ok.ensures.layout q.0 _ q.1)
 
 pub returns-in-Row : goal.returns-in-Row
 returns-in-Row g c =
@@ -70,33 +43,16 @@ returns-in-Row g c =
     c.self.inside.instructions in
     let lent : c.header-header.result.now.meaning ≡ c.self.inside.program.meaning = rw c.header-header.ensures refl in
     let q = rw c.in-Row.is at c.in-Ok.ensures.ok in
-    let x =
-    row_steps g.R.Reader.bytes g.R.Offset.ReaderOffset.number s _ lent _ _ c.in-Ok.ensures.layout q.0 c.self.invariant
+    rw (← c.self.view_is)
+    (row_steps g.R.Reader.bytes g.R.Offset.ReaderOffset.number s _ lent _ _ c.in-Ok.ensures.layout q.0 c.self.invariant
     q.1 c.header.result.now.meaning
-    (rw c.header.ensures refl) c.reset.ensures _ _ c.made.ensures.step c.made.ensures.new in
-    rw (← c.self.view_is) (record {
-      reading = x.reading;
-      refusal = x.refusal;
-      tables = x.tables;
-      stopped = x.stopped;
-      shorter = x.shorter;
-      header = x.header;
-      layout = x.layout;
-    })
+    (rw c.header.ensures refl) c.reset.ensures _ _ c.made.ensures.step c.made.ensures.new)
 
 pub returns-in-No : goal.returns-in-No
 returns-in-No g c =
     let q = rw c.in-No.is at c.in-Ok.ensures.ok in
-    let x = rw (q.0, q.1) at c.step_parsed.ensures in
-    rw (← c.self.view_is) (record {
-      reading = x.reading;
-      refusal = x.refusal;
-      tables = x.tables;
-      stopped = x.stopped;
-      shorter = x.shorter;
-      header = x.header;
-      layout = x.layout;
-    })
+    rw (← c.self.view_is)
+    (rw (q.0, q.1) at c.step_parsed.ensures)
 
 pub invariant_of-self : goal.invariant_of-self
 invariant_of-self g c =
