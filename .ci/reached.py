@@ -5,6 +5,7 @@
   .ci/reached.py CRATE..       the definitions of these crates that aren't reached and stand elsewhere, and those in specs/inside/ that are
   .ci/reached.py --from NAME.. what these definitions reach, themselves among it
   .ci/reached.py --to NAME     a chain from a public item to a definition
+  .ci/reached.py --headline    how many the headline reaches, and their lines; with --check, whether PROMISES says so
 
 A definition is reached where a clause of a public function names it, or a `ghost` line of a public type or trait, or a
 definition that is reached. Names are resolved by the `use` lines of their file. A name that is bound where it stands, and the
@@ -224,6 +225,10 @@ def public_clauses(text, public_types):
                 yield "%s::%s" % (name, function.group(2)), clauses_of(body, function.end())
 
 
+# What the headline rests on: a unit that is read back, sequences and what refuses them, and why a unit can't be written.
+HEADLINE = ("ReadsBackAs", "AreSequences", "HasFirstFault", "first_cause", "WritesOr")
+
+
 def roots_of(specs):
     roots = {}
     for crate in LIBRARIES:
@@ -247,6 +252,14 @@ def main(words):
         found = specs.reach({full: full for full in named})
         print("%s: they reach %d definitions" % (", ".join(named), len(found)))
         print("".join("    %s\n" % name for name in sorted(found)), end="")
+    elif words[:1] == ["--headline"]:
+        found = specs.reach({full: full for full in specs.all if full.rpartition(".")[2] in HEADLINE})
+        said = "%d definitions of %s lines" % (len(found), format(sum(len(specs.all[full].text) for full in found), ","))
+        with open(os.path.join(TOP, "docs", "PROMISES.md"), encoding="utf8") as file:
+            is_told = said in " ".join(file.read().split())
+        if "--check" not in words or not is_told:
+            print(said if "--check" not in words else "docs/PROMISES.md doesn't say that the headline rests on " + said)
+        return 0 if is_told or "--check" not in words else 1
     elif words[:1] == ["--to"]:
         for full in named:
             chain = [full]
@@ -267,4 +280,4 @@ def main(words):
         print("all: %d definitions, %d reached, %d in specs/inside" % tuple(total))
 
 
-main(sys.argv[1:])
+sys.exit(main(sys.argv[1:]))
