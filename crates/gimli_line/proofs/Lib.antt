@@ -22,6 +22,7 @@ pub mod Operands
 pub mod Runs
 pub mod RunLists
 pub mod GivenRows
+pub mod ExecutionLaws
 pub mod Executions
 pub mod EventsWithFilesLaws
 pub mod SequenceLaws

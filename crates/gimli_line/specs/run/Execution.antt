@@ -1,8 +1,8 @@
 -- What is done where an instruction is refused, and instructions that are executed from their
 -- bytes, without a value of their own between.
-use Rattle.std.specs.Prelude.{◌≡◌, ◌≢◌}
+use Rattle.std.specs.Prelude.{◌≡◌, ◌⊎◌, if◌then◌else◌}
 use Rattle.gimli_line.specs
-use specs.Prelude.{ℕ, List, Bool, true, false, Ok, Error, AddressOverflow, OutOfMemory, Read}
+use specs.Prelude.{ℕ, List, Bool, true, false, Result, Ok, Err, Error, AddressOverflow, OutOfMemory, Read}
 use specs.declared.run.from_bytes.Executed.{Executed}
 use specs.declared.run.from_bytes.Executed.TheVariants.{No, Quiet, Address, Row}
 use specs.declared.run.instruction.LineInstruction.TheVariants.{
@@ -14,23 +14,27 @@ use specs.declared.run.instruction.LineInstruction.TheVariants.{
 use specs.declared.run.row.LineRow.{LineRow}
 use specs.header.Header.{Header}
 use specs.header.Parameters.{Parameters}
-use specs.run.Instruction.{Ins, defines_file}
+use specs.run.Instruction.{Ins, defines_file, makes_row, header_after}
 use specs.run.InstructionGrammar.{instruction_production}
 use specs.run.Machine.{step_of, is_refused}
 use specs.run.Unread.{Unread}
 
--- a refusal that is `AddressOverflow`: the address would pass the greatest one of its size; the
--- registers go on, but for the address
-abbrev pub OverflowIs : Parameters → Ins → LineRow → LineRow → Error → Type 0
-OverflowIs parameters i old new e =
-    e ≡ AddressOverflow → (is_refused parameters i old ≡ true) × (new ≡ step_of parameters i old)
+-- what executing an instruction returns, and the registers and the header after it: it is refused
+-- where the address would pass the greatest one of its size, and the registers go on then, but for
+-- the address
+abbrev pub execution : Bool → Ins → LineRow → Header → Result Bool Error × LineRow × Header
+execution appends i row h = (
+  (if is_refused h.parameters i row then Err AddressOverflow else Ok (makes_row i)),
+  step_of h.parameters i row,
+  header_after appends i h,
+)
 
--- any other refusal: memory was missing to add the file that the instruction defines, and no
--- register changes
-abbrev pub OtherRefusalIs : Bool → Ins → LineRow → LineRow → Error → Type 0
-OtherRefusalIs appends i old new e =
-    e ≢ AddressOverflow
-    → (e ≡ OutOfMemory) × (appends ≡ true) × (defines_file i ≡ true) × (new ≡ old)
+-- an instruction was executed; or memory was missing to add the file that it defines, and nothing
+-- changed
+abbrev pub IsExecution : Bool → Ins → LineRow → Header → Result Bool Error × LineRow × Header → Type 0
+IsExecution appends i row h after =
+    (after ≡ execution appends i row h)
+    ⊎ ((appends ≡ true) × (defines_file i ≡ true) × (after ≡ (Err OutOfMemory, row, h)))
 
 -- ---- instructions that are executed from their bytes, without a value of their own between
 

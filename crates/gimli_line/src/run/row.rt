@@ -59,13 +59,13 @@ fn sum_of_size(address: u64, length: u64, size: u8) -> Result<u64>
 impl LineRow {
     ghost use Rattle.gimli_line.specs.header.Header.{file_of, own_file_of};
     ghost use Rattle.gimli_line.specs.header.Orders.{KeepsSource};
-    ghost use Rattle.gimli_line.specs.run.Instruction.{ins_seen, makes_row, header_after};
+    ghost use Rattle.gimli_line.specs.run.Instruction.{ins_seen};
     ghost use Rattle.gimli_line.specs.run.Instruction.{InsHasOrder};
     ghost use Rattle.gimli_line.specs.header.File.{file_seen};
     ghost use Rattle.gimli_line.specs.run.Machine.{initial, reset_row, rebase_of, IsAllowed};
     ghost use Rattle.gimli_line.specs.run.Machine.{is_refused, step_of, with_register};
     ghost use Rattle.gimli_line.specs.run.OperationPointer.{is_too_large};
-    ghost use Rattle.gimli_line.specs.run.Execution.{OverflowIs, OtherRefusalIs};
+    ghost use Rattle.gimli_line.specs.run.Execution.{IsExecution};
     ghost use Rattle.gimli_line.specs.run.Row.{column_number};
     ghost use Rattle.gimli_line.specs.run.Registers.{advanced_line};
 
@@ -214,19 +214,8 @@ impl LineRow {
     ) -> Result<bool>
         requires { IsAllowed (P.meaning program.old).parameters
             (ins_seen R.bytes R.Offset.number instruction) }
-        ensures made { IfOk result
-            (λ made. made ≡ makes_row (ins_seen R.bytes R.Offset.number instruction)) }
-        ensures step { OnOk result (self.new ≡ step_of (P.meaning program.old).parameters
-            (ins_seen R.bytes R.Offset.number instruction) self.old) }
-        ensures fits { OnOk result (is_refused (P.meaning program.old).parameters
-            (ins_seen R.bytes R.Offset.number instruction) self.old ≡ false) }
-        ensures files { OnOk result (P.meaning program.new ≡ header_after P.appends
-            (ins_seen R.bytes R.Offset.number instruction) (P.meaning program.old)) }
-        ensures overflow { IfErr result (OverflowIs (P.meaning program.old).parameters
-            (ins_seen R.bytes R.Offset.number instruction) self.old self.new) }
-        ensures memory { IfErr result (OtherRefusalIs P.appends
-            (ins_seen R.bytes R.Offset.number instruction) self.old self.new) }
-        ensures kept { OnErr result (P.meaning program.new ≡ P.meaning program.old) }
+        ensures executed { IsExecution P.appends (ins_seen R.bytes R.Offset.number instruction)
+            self.old (P.meaning program.old) (result, self.new, P.meaning program.new) }
         ensures source { KeepsSource (λ order.
             P.appends ≡ true → InsHasOrder R.is_big order instruction)
             (P.source program.old) (P.source program.new) }
