@@ -1,7 +1,7 @@
 -- What follows of an execution, by what it returned.
 use Rattle.std.specs.Prelude.{◌≡◌, ◌⊎◌, if◌then◌else◌}
 use Rattle.gimli_line.proofs.Common
-use Common.{Bool, true, false, inl, inr, refl, sym, ap, ◌∙◌, Result, Ok, Err, Error, AddressOverflow, OutOfMemory}
+use Common.{Bool, true, false, inl, inr, refl, ap, ◌∙◌, Result, Ok, Err, Error, AddressOverflow, OutOfMemory}
 use Common.{Header, LineRow, Ins, makes_row, defines_file, header_after, step_of, is_refused}
 use Rattle.gimli_line.proofs.Runs.{no_file_at_refusal}
 use Rattle.gimli_line.specs.run.Execution.{IsExecution}
@@ -70,3 +70,10 @@ module _ (appends : Bool) (i : Ins) (old new : LineRow) (h h2 : Header) where
         cc,
         record { adds = lacks.0; defines = lacks.1; same = ap (λ t. t.1) lacks.2; kept = ap (λ t. t.2) lacks.2 },
       )
+
+  pub overflow_of : (e : Error) → defines_file i ≡ false → IsExecution appends i old h (Err e, new, h2)
+      → (e ≡ AddressOverflow) × IsOverflow
+  overflow_of e file x = elim (refused_of e x) [
+    | inl over ↦ over
+    | inr lacks ↦ absurd (let defines = lacks.1.defines in cc)
+  ]

@@ -3,7 +3,7 @@ use Rattle.std.specs.Prelude.{◌≡◌, ◌≢◌, ◌<◌, ◌∷◌, ◌++◌
 use Rattle.gimli_line.proofs
 use proofs.Common
 use Common.{ℕ, Bool, true, false, List, [], length, Option, Some, None, refl, sym, ap, ◌∙◌, append_assoc, arith, inl}
-use Common.{inr, filter, length-append, append-nil, OrderAndLimit, Each, Error, AddressOverflow, OutOfMemory, LineRow}
+use Common.{inr, filter, length-append, append-nil, OrderAndLimit, Each, Error, AddressOverflow, LineRow}
 use Common.{DefineFile, Parameters, HeaderSource, Header, without_files, files_after, Ins, makes_row, defines_file}
 use Common.{File, decoded_at, Event, row, EventWithFiles, is_given, step_of, reset_row, is_refused, made_step}
 use Common.{next_registers, Unread, RunState, PassesOver, with_reset_row, registers_from, files_from, live_made}
@@ -193,11 +193,6 @@ module _ (a : Bool) (h k : Header) (same : k ≡ h) (c c2 : HeaderSource) (r : L
             rw (kept, layout) (sym at_end),
             λ other. absurd (other refl),
           )
-
--- ---- errors
-
-pub only_overflow : (e : Error) → (e ≢ OutOfMemory) → ((e ≢ AddressOverflow) → e ≡ OutOfMemory) → e ≡ AddressOverflow
-only_overflow e other is = grind (arith)
 
 -- ---- passing over several instructions
 

@@ -90,8 +90,7 @@ module _ (s : SourceRun) (k : Header) (lent : k ≡ s.header) (r2 : LineRow) (u 
   pub refused_ready : (e : Error) → RefusesNext k s.unread u s.row r2 e → IsReady s.row → IsReady r2
   refused_ready e refused ready =
       let x = refused.1 in
-      ready_at_refusal x.instruction s.row r2 ready s.header.parameters _ x.defines (λ n. absurd (n refl)) (λ _.
-      (fits true x, steps true x))
+      ready_at_refusal x.instruction s.row r2 ready s.header.parameters (fits true x) (steps true x)
 
 module _ {R Offset Endian : Type 0} (bytes : R → List ℕ) (number : Offset → ℕ) (s : SourceRun) (k : Header)
     (lent : k ≡ s.header) (r2 : LineRow) (u : Unread)

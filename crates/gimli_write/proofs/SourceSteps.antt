@@ -2,13 +2,14 @@
 use Rattle.std.specs.Prelude.{◌≡◌, ◌≢◌, ◌<◌, ◌≤◌, ◌-◌, ◌&&◌, if◌then◌else◌, ◌∷◌, ◌++◌}
 use Rattle.gimli_write.proofs.Common
 use Common.{ℕ, Bool, true, false, not, List, [], length, refl, sym, ap, ◌∙◌, append_assoc, arith, Option, Some, None}
-use Common.{Result, Ok, Err, OnOk, OnErr, IfOk, IfErr, length-append, append-nil, OrderAndLimit, Error, AddressOverflow}
-use Common.{OutOfMemory, Header, File, Parameters, EndSequence, DefineFile, SetAddress, Ins, ins_seen, is_end}
+use Common.{Result, Ok, Err, OnOk, IfOk, IfErr, length-append, append-nil, OrderAndLimit, Error, AddressOverflow}
+use Common.{Header, File, Parameters, EndSequence, DefineFile, SetAddress, Ins, ins_seen, is_end}
 use Common.{makes_row, defines_file, files_after, SpellsInstruction, instruction_production, decoded_at, step_of}
 use Common.{reset_row, is_refused, next_registers, Unread, is_decoded, one_decoding, instructions_bounded, Sections}
 use Common.{ConvertError, Read, SourceStep, More, Made, TablesAndTexts, file_added, Reading, defines, with_definition}
 use Common.{ends, stops, address_operand, source_row_offered, tables_after_definition, SourceRun, row_made, state_after}
 use Common.{instruction_reading, reading_from, reading_upon, reading_left, step_reading, step_made, Shortens}
+use Rattle.gimli_line.specs.run.Execution.{IsExecution}
 use Rattle.gimli_line.specs.declared.run.row.LineRow.{LineRow}
 use Rattle.gimli_line.specs.declared.run.instruction.LineInstruction.{LineInstruction}
 use Rattle.gimli_line.specs.declared.header.file_entry.FileEntry.{FileEntry}
@@ -169,20 +170,13 @@ header_same : (i : Ins) (h : Header) {h2 : Header} → defines_file i ≡ false
 header_same i h file is = grind arith
 
 -- a refusal of an instruction that defines no file
-pub is_overflow : (i : Ins) (e : Error) → (e ≢ AddressOverflow → defines_file i ≡ true) → defines_file i ≡ false
-    → e ≡ AddressOverflow
-is_overflow i AddressOverflow memory file = refl
-is_overflow i e memory file = grind arith
-
 -- registers that are ready don't end a sequence
 abbrev pub IsReady : LineRow → Type 0
 IsReady r = r.end_sequence ≡ false
 
 module _ (i : Ins) (old new : LineRow) (ready : IsReady old) where
-  pub ready_at_refusal : (p : Parameters) (e : Error) → defines_file i ≡ false
-      → (e ≢ AddressOverflow → defines_file i ≡ true)
-      → (e ≡ AddressOverflow → (is_refused p i old ≡ true) × (new ≡ step_of p i old)) → IsReady new
-  ready_at_refusal p e file memory over = grind arith
+  pub ready_at_refusal : (p : Parameters) → is_refused p i old ≡ true → new ≡ step_of p i old → IsReady new
+  ready_at_refusal p over step = grind arith
 
   pub ready_when_quiet : (p : Parameters) → makes_row i ≡ false → new ≡ step_of p i old → IsReady new
   ready_when_quiet p quiet step = grind arith
@@ -225,23 +219,14 @@ module _ (i : Ins) (h h2 : Header) (r r2 : LineRow) (b : ℕ) (p : Option ℕ) (
 
 -- ---- what is done of a set address
 
-module _ (p : Parameters) (a : ℕ) (old new : LineRow) where
-  pub address_done : (r : Result Bool Error) → OnOk r (new ≡ step_of p (SetAddress a) old) → IfErr r (λ e.
-      e ≡ AddressOverflow → (is_refused p (SetAddress a) old ≡ true) × (new ≡ step_of p (SetAddress a) old))
-      → IfErr r (λ e.
-      e ≢ AddressOverflow → (e ≡ OutOfMemory) × (true ≡ true) × (defines_file (SetAddress a) ≡ true) × (new ≡ old))
-      → new ≡ step_of p (SetAddress a) old
-  address_done (Ok m) step over memory = step
-  address_done (Err e) step over memory = grind arith
+module _ (a : ℕ) (old new : LineRow) (h h2 : Header) where
+  pub address_done : (r : Result Bool Error) → IsExecution true (SetAddress a) old h (r, new, h2)
+      → (new ≡ step_of h.parameters (SetAddress a) old) × (h2 ≡ h)
+  address_done r (inl same) = (ap (λ t. t.1) same, ap (λ t. t.2) same)
+  address_done r (inr lacks) = absurd cc
 
-  pub address_ready : IsReady old → new ≡ step_of p (SetAddress a) old → IsReady new
+  pub address_ready : IsReady old → new ≡ step_of h.parameters (SetAddress a) old → IsReady new
   address_ready ready step = grind arith
-
-pub address_header : (a : ℕ) (h h2 : Header) (r : Result Bool Error)
-    → OnOk r (h2 ≡ record h { files = files_after true (SetAddress a) h.files })
-    → OnErr r (h2 ≡ h) → h2 ≡ h
-address_header a h h2 (Ok m) files kept = files
-address_header a h h2 (Err e) files kept = kept
 
 pub address_state : (a : ℕ) (h h2 : Header) (r : LineRow) {r2 : LineRow} (b : ℕ) (p : Option ℕ) (u : Unread) → h2 ≡ h
     → r2 ≡ step_of h.parameters (SetAddress a) r

@@ -1,7 +1,7 @@
 //! Rows, and what each instruction does to the registers: the state machine of DWARF 5, 6.2.2.
 
-ghost use Rattle.std.specs.Prelude.{◌≡◌, ◌<◌, ◌≤◌, ◌+◌, Bool, true, false, IfErr, IfOk, IsTrue};
-ghost use Rattle.std.specs.Prelude.{MatchOption, OnErr, OnOk, option_map};
+ghost use Rattle.std.specs.Prelude.{◌≡◌, ◌<◌, ◌≤◌, ◌+◌, true, false, IfErr, IsTrue};
+ghost use Rattle.std.specs.Prelude.{MatchOption, OnOk, option_map};
 ghost use Rattle.std.specs.Int.NonZero.{non_zero_u64_get};
 ghost use Rattle.gimli_core.specs.Numbers.{is_address_size};
 ghost use Rattle.gimli_core.specs.Reading.{result_map, sized_sum};
@@ -59,8 +59,7 @@ fn sum_of_size(address: u64, length: u64, size: u8) -> Result<u64>
 impl LineRow {
     ghost use Rattle.gimli_line.specs.header.Header.{file_of, own_file_of};
     ghost use Rattle.gimli_line.specs.header.Orders.{KeepsSource};
-    ghost use Rattle.gimli_line.specs.run.Instruction.{ins_seen};
-    ghost use Rattle.gimli_line.specs.run.Instruction.{InsHasOrder};
+    ghost use Rattle.gimli_line.specs.run.Instruction.{ins_seen, InsHasOrder};
     ghost use Rattle.gimli_line.specs.header.File.{file_seen};
     ghost use Rattle.gimli_line.specs.run.Machine.{initial, reset_row, rebase_of, IsAllowed};
     ghost use Rattle.gimli_line.specs.run.Machine.{is_refused, step_of, with_register};

@@ -53,12 +53,12 @@ returns-in-OutOfMemory g c =
     elim (refused_of _ _ _ _ _ _ _ c.in-Err-execute.ensures.executed) [
       | inl over ↦ absurd (apart (sym c.in-OutOfMemory.is ∙ over.0))
       | inr m ↦ rw (c.in-OutOfMemory.is, ← c.self.view_is)
-      (step_wants _ _ _ c.header.ensures.meaning _ _ (refl, refl, refl) _ c.next_instruction.new.self n m.1.defines _
-      m.1.kept m.1.adds
-      (ap (λ (s : Unread). s.bytes) c.clear.ensures) (refl, refl, refl)
-      (keeps_run _ _ _ _ _ (refl, refl, refl) (refl, refl, refl) (ap without_files m.1.kept)
-      (ap (λ (u : Unread). u.layout) c.clear.ensures ∙ c.in-Ok-Some.ensures.layout)
-      (λ is_big. InsHasOrder g.R.Reader.is_big is_big c.in-Ok-Some.instruction) c.execute.ensures.source operands))
+          (step_wants _ _ _ c.header.ensures.meaning _ _ (refl, refl, refl) _ c.next_instruction.new.self n m.1.defines _
+          m.1.kept m.1.adds
+          (ap (λ (s : Unread). s.bytes) c.clear.ensures) (refl, refl, refl)
+          (keeps_run _ _ _ _ _ (refl, refl, refl) (refl, refl, refl) (ap without_files m.1.kept)
+          (ap (λ (u : Unread). u.layout) c.clear.ensures ∙ c.in-Ok-Some.ensures.layout)
+          (λ is_big. InsHasOrder g.R.Reader.is_big is_big c.in-Ok-Some.instruction) c.execute.ensures.source operands))
     ]
 
 pub returns-in_default : goal.returns-in_default
@@ -68,9 +68,9 @@ returns-in_default g c =
     elim (refused_of _ _ _ _ _ _ _ c.in-Err-execute.ensures.executed) [
       | inr lacks ↦ absurd (c.in_default.not-OutOfMemory lacks.0)
       | inl o ↦ rw (o.0, ← c.self.view_is)
-      (step_overflows _ _ _ c.header.ensures.meaning _ _ (refl, refl, refl) _ n c.in-Ok-Some.ensures.layout _
-      o.1.kept o.1.over o.1.step (refl, refl, refl)
-      (keeps_run _ _ _ _ _ (refl, refl, refl) (refl, refl, refl) (ap without_files o.1.kept)
-      c.in-Ok-Some.ensures.layout
-      (λ is_big. InsHasOrder g.R.Reader.is_big is_big c.in-Ok-Some.instruction) c.execute.ensures.source operands))
+          (step_overflows _ _ _ c.header.ensures.meaning _ _ (refl, refl, refl) _ n c.in-Ok-Some.ensures.layout _
+          o.1.kept o.1.over o.1.step (refl, refl, refl)
+          (keeps_run _ _ _ _ _ (refl, refl, refl) (refl, refl, refl) (ap without_files o.1.kept)
+          c.in-Ok-Some.ensures.layout
+          (λ is_big. InsHasOrder g.R.Reader.is_big is_big c.in-Ok-Some.instruction) c.execute.ensures.source operands))
     ]
