@@ -2,7 +2,8 @@
 -- bytes, without a value of their own between.
 use Rattle.std.specs.Prelude.{◌≡◌, ◌⊎◌, if◌then◌else◌}
 use Rattle.gimli_line.specs
-use specs.Prelude.{ℕ, List, Bool, true, false, Result, Ok, Err, Error, AddressOverflow, OutOfMemory, Read}
+use specs.Prelude.{ℕ, List, Bool, true, false, Result, Ok, Err, Error, AddressOverflow, OutOfMemory}
+use specs.Prelude.{Read}
 use specs.declared.run.from_bytes.Executed.{Executed}
 use specs.declared.run.from_bytes.Executed.TheVariants.{No, Quiet, Address, Row}
 use specs.declared.run.instruction.LineInstruction.TheVariants.{
@@ -31,7 +32,8 @@ execution appends i row h = (
 
 -- an instruction was executed; or memory was missing to add the file that it defines, and nothing
 -- changed
-abbrev pub IsExecution : Bool → Ins → LineRow → Header → Result Bool Error × LineRow × Header → Type 0
+abbrev pub IsExecution : Bool → Ins → LineRow → Header → Result Bool Error × LineRow × Header
+    → Type 0
 IsExecution appends i row h after =
     (after ≡ execution appends i row h)
     ⊎ ((appends ≡ true) × (defines_file i ≡ true) × (after ≡ (Err OutOfMemory, row, h)))

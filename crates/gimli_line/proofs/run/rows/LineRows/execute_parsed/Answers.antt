@@ -1,6 +1,7 @@
 use Rattle.std.specs.Prelude.{◌≡◌, ◌≢◌}
 use Rattle.gimli_line.proofs
-use proofs.Common.{inl, inr, refl, sym, ap, ◌∙◌, true, false, without_files, InsHasOrder, Unread, AddressOverflow, OutOfMemory}
+use proofs.Common.{inl, inr, refl, sym, ap, ◌∙◌, true, false, without_files, InsHasOrder, Unread, AddressOverflow}
+use proofs.Common.{OutOfMemory}
 use proofs.ExecutionLaws.{done_of, refused_of}
 use proofs.Runs.{source_same}
 use proofs.Steps.{keeps_rest, keeps_run, step_done, step_faults, step_goes, step_overflows, step_wants}
@@ -53,7 +54,8 @@ returns-in-OutOfMemory g c =
     elim (refused_of _ _ _ _ _ _ _ c.in-Err-execute.ensures.executed) [
       | inl over ↦ absurd (apart (sym c.in-OutOfMemory.is ∙ over.0))
       | inr m ↦ rw (c.in-OutOfMemory.is, ← c.self.view_is)
-          (step_wants _ _ _ c.header.ensures.meaning _ _ (refl, refl, refl) _ c.next_instruction.new.self n m.1.defines _
+          (step_wants _ _ _ c.header.ensures.meaning _ _ (refl, refl, refl) _ c.next_instruction.new.self n m.1.defines
+          _
           m.1.kept m.1.adds
           (ap (λ (s : Unread). s.bytes) c.clear.ensures) (refl, refl, refl)
           (keeps_run _ _ _ _ _ (refl, refl, refl) (refl, refl, refl) (ap without_files m.1.kept)
