@@ -54,6 +54,15 @@ returns-then-not-made-clause-step g c =
     c.requires.address c.requires.file d.fits d.files d.step
     (d.makes ∙ c.if-not-made.true))
 
+pub returns-then-not-made-clause-header : goal.returns-then-not-made-clause-header
+returns-then-not-made-clause-header g c =
+    let d = done_of _ _ _ _ _ _ _ c.in-Ok.ensures.executed in
+    subst (λ s. c.execute.new.program.meaning ≡ s.header) c.self.view_is
+    (header_kept (ins_seen g.R.Reader.bytes g.R.Offset.ReaderOffset.number c.args.instruction)
+    c.self.inside.program.meaning c.execute.new.program.meaning
+    c.self.inside.row c.execute.new.self c.self.inside.base c.self.inside.pending c.self.inside.instructions
+    c.requires.address c.requires.file d.fits d.files d.step)
+
 pub returns-clause-fits : goal.returns-clause-fits
 returns-clause-fits g c =
     let d = done_of _ _ _ _ _ _ _ c.in-Ok.ensures.executed in
