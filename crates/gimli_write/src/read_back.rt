@@ -408,6 +408,8 @@ pub fn round_trip<E: Endianity>(
     ensures tables_kept { KeepTables program.now encoding
         (texts_in strings.old line_strings.old) (texts_in strings.new line_strings.new) }
 {
+    // For the prover alone: the address size is one that `accepts` takes.
+    let _encoding = program.encoding();
     match program.write(w, encoding, line_strings, strings) {
         Ok(offset) => read_unit(program, &w.0, offset, line_strings, strings),
         Err(e) => Err(from_write(e)),
