@@ -5,7 +5,7 @@
 use gimli_core::{Encoding, Format, LineEncoding, LittleEndian};
 use gimli_write::{
     Address, DebugLine, DebugLineStr, EndianVec, Error, FileId, FileInfo, LineProgram, LineString,
-    LineStringTable, Refusal, Result, StringTable, Symbols, Writer,
+    LineStringTable, Refusal, Result, StringTable, Symbols, Trap, Writer,
 };
 use std::alloc::Global;
 use std::fmt::Write;
@@ -221,7 +221,41 @@ fn print_refused_of(
     print_first(program, line_strings, &strings, Symbols::Refused, text)?;
     print_first(program, line_strings, &strings, Symbols::Taken, text)?;
     add_other_file(alloc, program)?;
-    print_first(program, line_strings, &strings, Symbols::Refused, text)
+    print_first(program, line_strings, &strings, Symbols::Refused, text)?;
+    print_open_rows(program, text)
+}
+
+/// Adds the lines 3 and 4 to a program whose sequence doesn't end, and prints what readers drop of
+/// them.
+fn print_open_rows(program: &mut LineProgram, text: &mut String) -> Result<()> {
+    add_rows(program, program.default_file(), &[(0, 3), (4, 4)])?;
+    print_traps(program, text)
+}
+
+/// Adds rows of a file, each with its offset in bytes and its line.
+fn add_rows(program: &mut LineProgram, file: FileId, rows: &[(u64, u64)]) -> Result<()> {
+    for (offset, line) in rows {
+        add_row(program, file, *offset, *line)?;
+    }
+    Ok(())
+}
+
+/// Adds a line for each item that `write` takes, and readers drop or misread.
+fn print_traps(program: &LineProgram, text: &mut String) -> Result<()> {
+    if program.is_none() {
+        return Err(Error::InvalidRange);
+    }
+    for (item, trap) in program.traps() {
+        let why = match trap {
+            Trap::OpenSequence => "no end after it",
+            Trap::AddressOverflow => "its address is too wide",
+            Trap::MissingFile => "its file isn't there",
+            Trap::LaterOpcode => "readers of this version skip a part of it",
+            Trap::UnsetAddress => "no address was set before it",
+        };
+        writeln!(text, "item {item}: {why}")?;
+    }
+    Ok(())
 }
 
 /// Adds to a program an address that is a symbol.
