@@ -25,9 +25,11 @@ CanBuild e position (Row r) =
     CanFollow e position.0 position.1 r.address_offset r.op_index × (r.line < 2 ^ 63)
 CanBuild e position (End offset op_index) = CanFollow e position.0 position.1 offset op_index
 
+-- the current row can be built next
 abbrev pub CanGenerateRow : Built → Type 0
 CanGenerateRow p = CanBuild p.line_encoding (previous_position p.items) (Row p.row)
 
+-- so can an end at this offset
 abbrev pub CanEndSequence : Built → ℕ → Type 0
 CanEndSequence p offset =
     CanBuild p.line_encoding (previous_position p.items) (End offset p.row.op_index)

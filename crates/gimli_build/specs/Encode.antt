@@ -41,6 +41,7 @@ marks row =
     ++ when row.prologue_end SetPrologueEnd
     ++ when row.epilogue_begin SetEpilogueBegin
 
+-- two flags aren't the same
 abbrev pub differ : Bool → Bool → Bool
 differ true b = not b
 differ false b = b

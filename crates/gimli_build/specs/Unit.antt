@@ -18,6 +18,7 @@ use specs.Built.{Built}
 
 -- ---- the fixed fields
 
+-- the version, which is 2 to 5
 abbrev pub version_bytes : Bool → ℕ → Result (List ℕ) Error
 version_bytes is_big version =
     if nat_le 2 version && nat_le version 5 then Ok (number_bytes is_big 2 version)
@@ -36,6 +37,7 @@ operations_bytes version operations =
     if nat_le 4 version then Ok (operations ∷ [])
     else (if nat_eq operations 1 then Ok [] else Err (NeedVersion 4))
 
+-- the byte of a flag
 abbrev pub flag_byte : Bool → ℕ
 flag_byte flag = if flag then 1 else 0
 

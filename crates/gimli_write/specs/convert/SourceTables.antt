@@ -24,6 +24,7 @@ pub record TablesAndTexts : Type 0 where
   pub file_ids : List ℕ
   pub line_strings : List (List ℕ)
 
+-- tables with these line strings
 abbrev pub tables_with : List (List ℕ) → SourceTables → TablesAndTexts
 tables_with line_strings c = record {
   program = c.program;
@@ -32,6 +33,7 @@ tables_with line_strings c = record {
   line_strings = line_strings;
 }
 
+-- the version of the program that is built
 abbrev pub version_of : TablesAndTexts → ℕ
 version_of tables = tables.program.encoding.version
 
@@ -50,6 +52,7 @@ with_path tables path =
       line_strings = made_table (version_of tables) tables.line_strings path;
     }
 
+-- the tables after a directory of the source
 abbrev pub directory_added : Sections → TablesAndTexts → Value → Result TablesAndTexts ConvertError
 directory_added sections tables v =
     source_path (version_of tables) sections v >>= λ path. Ok (with_path tables path)
@@ -92,6 +95,7 @@ with_parts tables f parts =
       line_strings = option_map_or (after paths) parts.source paths;
     }
 
+-- the tables after a file of the source
 abbrev pub file_added : Sections → TablesAndTexts → File → Result TablesAndTexts ConvertError
 file_added sections tables f =
     file_parts (version_of tables) sections tables.directory_ids f >>= λ parts.
