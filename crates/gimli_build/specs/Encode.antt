@@ -22,7 +22,7 @@ use Rattle.gimli_line.specs.declared.run.instruction.LineInstruction.TheVariants
   SetDiscriminator,
 }
 use specs.declared.built.row.LineRow.{LineRow}
-use specs.Due.{when}
+use specs.Joined.{when}
 use specs.FileNumber.{file_number}
 use specs.Advance.{operations}
 

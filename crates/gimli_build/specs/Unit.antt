@@ -7,7 +7,7 @@ use Prelude.{ℕ, List, [], Bool, not, nat_eq, nat_le, nat_lt, Result, Ok, Err, 
 use Prelude.{Encoding, LineEncoding, Format, Dwarf32, Dwarf64, length_word, Hand, Error}
 use Prelude.{IncompatibleLineProgramEncoding, UnsupportedVersion, NeedVersion, StringTables}
 use Rattle.std.specs.Int.{w8, cast_unsigned}
-use specs.FormatWord.{format_word}
+use specs.Joined.{format_word}
 use specs.Joined.{result_append, after_length}
 use specs.Version4Tables.{directories_bytes, files_bytes}
 use specs.Version5Tables.{texts_after, directory_table_bytes, file_table_bytes}

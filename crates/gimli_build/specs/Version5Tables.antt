@@ -21,7 +21,7 @@ use Rattle.gimli_line.specs.LineNumbers.{
   DW_LNCT_size,
   DW_LNCT_timestamp,
 }
-use specs.Due.{when}
+use specs.Joined.{when}
 use specs.LineText.{LineText, Inline, InStrings, InLineStrings}
 use specs.Tables.{File}
 use specs.Joined.{result_append, result_concat}

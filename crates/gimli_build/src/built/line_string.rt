@@ -56,6 +56,13 @@ impl LineString {
         }
     }
 
+    /// Whether `new` takes these bytes: none of them is zero, which would end the text.
+    pub fn accepts(text: &[u8]) -> bool
+        ensures { IsTrue result ↔ All (λ b. b ≢ 0) text.now }
+    {
+        has_no_zero(text)
+    }
+
     /// The form that the text is written in, in a program of version 5.
     pub fn form(&self) -> DwForm
         ensures { result.0 ≡ text_form (line_text self.now) }

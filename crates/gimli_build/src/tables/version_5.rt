@@ -19,7 +19,7 @@ ghost use Rattle.gimli_build.specs.Version5Tables.{text_in_form, directory_table
 ghost use Rattle.gimli_build.specs.Version5Tables.{source_bytes, file_entry_bytes};
 ghost use Rattle.gimli_build.specs.Version5Tables.{file_table_bytes};
 ghost use Rattle.gimli_build.specs.WrittenTables.{HaveEmptySource};
-ghost use Rattle.gimli_build.specs.inside.DueFormats.{due_formats};
+ghost use Rattle.gimli_build.specs.inside.Tables.{due_formats};
 ghost use Rattle.gimli_build.specs.inside.EmptySource.{StandsForNone};
 ghost use Rattle.gimli_build.specs.inside.Writes.{Writes, always};
 

@@ -1,7 +1,8 @@
 -- The directories and files of a source, as they are added to the program that is built of it.
-use Rattle.std.specs.Prelude.{◌∷◌, ◌++◌}
+use Rattle.std.specs.Prelude.{◌≡◌, ◌∷◌, ◌++◌, ◌&&◌, if◌then◌else◌}
 use Rattle.gimli_write.specs.Prelude
-use Prelude.{ℕ, List, [], Option, Some, option_map, ok_or, slice_get, Result, Ok}
+use Prelude.{ℕ, nat_eq, nat_le, List, [], Option, Some, None, IfSome, option_map, ok_or, slice_get}
+use Prelude.{Result, Ok, file_number}
 use Prelude.{option_map_or, Value, File, made_text, made_table, Built, Sections, ConvertError}
 use Prelude.{InvalidDirectoryIndex}
 use Rattle.gimli_build.specs.Tables
@@ -108,3 +109,17 @@ abbrev pub all_added : {A : Type 0} → (TablesAndTexts → A → Result TablesA
     → List A → TablesAndTexts → Result TablesAndTexts ConvertError
 all_added add [] tables = Ok tables
 all_added add (x ∷ xs) tables = add tables x >>= λ next. all_added add xs next
+
+-- ---- the numbers that the files of a source have once it is converted
+
+-- the number in a program of a version that a file of a source has, by the ids of the source's
+-- files; up to version 4 of the source none has number 0
+abbrev pub written_number : ℕ → ℕ → List ℕ → ℕ → Option ℕ
+written_number source_version version file_ids number =
+    if nat_le source_version 4 && nat_eq number 0 then None
+    else option_map (file_number version) (slice_get file_ids number)
+
+-- each file of the source has its own number
+abbrev pub AreNumbersKept : ℕ → ℕ → List ℕ → Type 0
+AreNumbersKept source_version version file_ids =
+    (n : ℕ) → IfSome (written_number source_version version file_ids n) (λ m. m ≡ n)
