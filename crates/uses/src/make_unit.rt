@@ -174,10 +174,7 @@ fn add_function(
     address: Address,
     lines: [u64; 2],
 ) -> Result<()> {
-    if program.is_none() {
-        return Err(Error::InvalidRange);
-    }
-    program.set_address(address)?;
+    program.try_set_address(address)?;
     add_row(program, file, 0, lines[0])?;
     program.row().prologue_end = true;
     add_row(program, file, 4, lines[1])?;
@@ -185,10 +182,7 @@ fn add_function(
     row.is_statement = false;
     row.discriminator = 2;
     add_row(program, file, 9, lines[1])?;
-    if program.is_none() || !program.can_end_sequence(10) {
-        return Err(Error::InvalidRange);
-    }
-    program.end_sequence(10)
+    program.try_end_sequence(10)
 }
 
 /// Prints what `write` refuses of a program: a file whose path isn't in a table, as that of the
@@ -260,11 +254,8 @@ fn print_traps(program: &LineProgram, text: &mut String) -> Result<()> {
 
 /// Adds to a program an address that is a symbol.
 fn add_symbol(program: &mut LineProgram) -> Result<()> {
-    if program.is_none() {
-        return Err(Error::InvalidRange);
-    }
     let (symbol, addend) = (1, 0);
-    program.set_address(Address::Symbol { symbol, addend })
+    program.try_set_address(Address::Symbol { symbol, addend })
 }
 
 /// Adds to a program the file `b.c`, whose path is in the program itself.
@@ -307,8 +298,5 @@ fn add_row(program: &mut LineProgram, file: FileId, offset: u64, line: u64) -> R
     row.file = file;
     row.address_offset = offset;
     row.line = line;
-    if program.is_none() || !program.can_generate_row() {
-        return Err(Error::InvalidRange);
-    }
-    program.generate_row()
+    program.try_generate_row()
 }
