@@ -4,7 +4,7 @@ use Rattle.gimli_build.specs
 use specs.Prelude
 use Prelude.{ℕ, true, false, [], Option, option_map, option_to_list, Encoding, LineEncoding}
 use Prelude.{Address, Result, OnOk, IfErr, Error, OutOfMemory}
-use Rattle.std.specs.Prelude.{OnErr}
+use Rattle.std.specs.Prelude.{OnErr, IsOkUnless}
 use Rattle.gimli_bytes.specs.declared.error.Error.TheVariants.{InvalidRange}
 use specs.LineText.{LineText}
 use specs.Tables.{FileKey, Details, Tables, with_directory, with_file}
@@ -19,7 +19,7 @@ pub record Builds {A : Type 0} (wanted old : Built) (result : Result A Error) (n
     : Type 0 where
   pub ok : OnOk result (new ≡ wanted)
   pub kept : OnErr result (new ≡ old)
-  pub memory : IfErr result (λ e. e ≡ OutOfMemory)
+  pub memory : IsOkUnless result OutOfMemory
 
 -- a call tests what is asked of one that builds: where that holds it builds, or lacks memory, and
 -- else it fails by `InvalidRange`; a call that fails changes nothing

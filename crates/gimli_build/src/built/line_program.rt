@@ -1,7 +1,7 @@
 //! A line program that is built: gimli's `LineProgram`, its tables, its rows and its flags.
 
 ghost use Rattle.std.specs.Prelude.{◌≡◌, ◌≢◌, ℕ, ◌+◌, ◌/◌, ◌%◌, ◌<◌, ◌≤◌, true, false, nat_eq, []};
-ghost use Rattle.std.specs.Prelude.{length, option_map, slice_get, IfOk, IfErr, OnOk};
+ghost use Rattle.std.specs.Prelude.{length, option_map, slice_get, IfOk, IsOkUnless, OnOk};
 ghost use Rattle.std.specs.Prelude.{IfSome, Some, None, IsTrue, ◌↔◌};
 ghost use Rattle.gimli_core.specs.Numbers.{is_address_size};
 ghost use Rattle.gimli_build.specs.Advance.{CanEncode, IsPosition, CanFollow};
@@ -93,7 +93,7 @@ impl LineProgram {
         requires source_file_ends { HasNoZero (line_text source_file) }
         ensures ok { IfOk result (λ program. program ≡ new_program encoding line_encoding
             (first_tables encoding.version working_dir source_dir source_file source_file_info)) }
-        ensures memory { IfErr result (λ e. e ≡ Error.OutOfMemory) }
+        ensures memory { IsOkUnless result Error.OutOfMemory }
     {
         let mut tables = FileTable::new(alloc);
         tables.add_first(

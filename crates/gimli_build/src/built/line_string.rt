@@ -1,7 +1,7 @@
 //! Texts of directories and files: in the table itself, or references to `.debug_str` and
 //! `.debug_line_str`.
 
-ghost use Rattle.std.specs.Prelude.{◌≡◌, ◌≢◌, ℕ, List, IfOk, IfErr, OnOk, OnErr, All};
+ghost use Rattle.std.specs.Prelude.{◌≡◌, ◌≢◌, ℕ, List, IfOk, IsOkUnless, OnOk, OnErr, All};
 ghost use Rattle.std.specs.Prelude.{IsTrue, ◌↔◌};
 
 use gimli_bytes::{Error, LineStringId, LineStringTable, Result, StringId, StringTable};
@@ -46,7 +46,7 @@ impl LineString {
         ensures no_zero { IfOk result (λ made. HasNoZero (line_text made)) }
         ensures stays { OnOk result (KeepsTexts line_strings.old line_strings.new) }
         ensures err { OnErr result (line_strings.new ≡ line_strings.old) }
-        ensures memory { IfErr result (λ e. e ≡ Error.OutOfMemory) }
+        ensures memory { IsOkUnless result Error.OutOfMemory }
     {
         if encoding.version <= 4 {
             let alloc = *line_strings.allocator();
