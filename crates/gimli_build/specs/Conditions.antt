@@ -54,6 +54,17 @@ pub record IsProgram (is_none : Bool) (encoding : Encoding) (e : LineEncoding)
   pub paths_not_empty : encoding.version ≤ 4 → All (λ k. IsNotEmpty k.0) keys
   pub items_built : AreBuilt e (0, 0) items
 
+-- a directory or a file of this text can be added
+pub record CanAdd (p : Built) (text : LineText) : Type 0 where
+  pub program : p.is_none ≡ false
+  pub no_zero : HasNoZero text
+  pub not_empty : p.encoding.version ≤ 4 → IsNotEmpty text
+
+-- so can a file, in this directory
+pub record CanAddFile (p : Built) (text : LineText) (directory : ℕ) : Type 0 where
+  pub text : CanAdd p text
+  pub within : directory < length p.directories
+
 -- a program can be written with these tables: each text that it names is there; and a source that
 -- is written has no zero byte, which would end it
 pub record CanWrite (p : Built) (texts : StringTables) : Type 0 where

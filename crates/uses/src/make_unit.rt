@@ -133,9 +133,6 @@ fn with_source(alloc: Global, line_strings: &mut LineStringTable) -> Result<Line
 /// Gives the source file the MD5 digest of `abc`, and returns its id: a file that is there takes
 /// what is handed of it.
 fn with_digest(program: &mut LineProgram, line_strings: &mut LineStringTable) -> Result<FileId> {
-    if program.is_none() {
-        return Err(Error::InvalidRange);
-    }
     let path = line_strings.add(b"a.c")?;
     let directory = program.default_directory();
     let info = FileInfo {
@@ -144,24 +141,21 @@ fn with_digest(program: &mut LineProgram, line_strings: &mut LineStringTable) ->
         md5: *b"\x90\x01\x50\x98\x3c\xd2\x4f\xb0\xd6\x96\x3f\x7d\x28\xe1\x7f\x72",
         source: None,
     };
-    program.add_file(LineString::LineStringRef(path), directory, Some(info))
+    program.try_add_file(LineString::LineStringRef(path), directory, Some(info))
 }
 
 /// Adds the file `a.h` in the directory `inc`, with the MD5 digest of an empty file.
 fn add_header(program: &mut LineProgram, line_strings: &mut LineStringTable) -> Result<FileId> {
-    if program.is_none() {
-        return Err(Error::InvalidRange);
-    }
     let include = line_strings.add(b"inc")?;
     let path = line_strings.add(b"a.h")?;
-    let directory = program.add_directory(LineString::LineStringRef(include))?;
+    let directory = program.try_add_directory(LineString::LineStringRef(include))?;
     let info = FileInfo {
         timestamp: 0,
         size: 0,
         md5: *b"\xd4\x1d\x8c\xd9\x8f\0\xb2\x04\xe9\x80\x09\x98\xec\xf8\x42\x7e",
         source: None,
     };
-    let file = program.add_file(LineString::LineStringRef(path), directory, Some(info))?;
+    let file = program.try_add_file(LineString::LineStringRef(path), directory, Some(info))?;
     program.file_has_md5 = true;
     Ok(file)
 }
@@ -261,10 +255,7 @@ fn add_symbol(program: &mut LineProgram) -> Result<()> {
 /// Adds to a program the file `b.c`, whose path is in the program itself.
 fn add_other_file(alloc: Global, program: &mut LineProgram) -> Result<()> {
     let path = LineString::String(b"b.c".to_vec(alloc)?);
-    if program.is_none() || !path.has_no_zero() || program.version() < 5 {
-        return Err(Error::InvalidRange);
-    }
-    program.add_file(path, program.default_directory(), None)?;
+    program.try_add_file(path, program.default_directory(), None)?;
     Ok(())
 }
 

@@ -21,7 +21,7 @@ pub enum LineString {
 
 impl LineString {
     ghost use Rattle.gimli_build.specs.LineText.{line_text, made_text, made_table, IsWithin};
-    ghost use Rattle.gimli_build.specs.LineText.{bytes_in, HasNoZero};
+    ghost use Rattle.gimli_build.specs.LineText.{bytes_in, HasNoZero, IsNotEmpty};
     ghost use Rattle.gimli_bytes.specs.Texts.{KeepsTexts, texts_in};
     ghost use Rattle.gimli_build.specs.Version5Tables.{text_form};
 
@@ -93,6 +93,16 @@ impl LineString {
     {
         match self {
             LineString::String(text) => has_no_zero(text.as_slice()),
+            _ => true,
+        }
+    }
+
+    /// Whether a text in the program itself has a byte, as each text of a table counts to have.
+    pub(crate) fn is_not_empty(&self) -> bool
+        ensures { IsTrue result ↔ IsNotEmpty (line_text self.now) }
+    {
+        match self {
+            LineString::String(text) => !text.is_empty(),
             _ => true,
         }
     }
