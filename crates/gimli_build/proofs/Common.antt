@@ -23,11 +23,11 @@ pub use specs.Cause.{
   word_cause,
 }
 pub use specs.Conditions.{AreBuilt, CanBuild, CanEndSequence, CanGenerateRow, CanWrite, IsProgram}
-pub use specs.Due.{when}
+pub use specs.Joined.{when}
 pub use specs.Encode.{changes, constant_advance, differ, end_instructions, is_special_advance, line_opcode, line_part}
 pub use specs.Encode.{marks, operation_part, row_instructions, row_maker, still_opcode}
 pub use specs.FileNumber.{file_number}
-pub use specs.FormatWord.{format_word}
+pub use specs.Joined.{format_word}
 pub use specs.InstructionBytes.{FitsInstructions, IsWritten, instruction_bytes, instructions_bytes, set_address_bytes}
 pub use specs.Items.{AddressesFit, AreFit, FitsItem, item_bytes, item_instructions, items_bytes, items_instructions}
 pub use specs.Items.{items_rows, next_previous}
@@ -97,7 +97,7 @@ pub use specs.declared.built.row.LineRow.{LineRow}
 pub use specs.inside.Conditions.{IsBuilt}
 pub use specs.inside.TableFields.{directories_of, files_of, key}
 pub use specs.inside.Tables.{FitsFile}
-pub use specs.inside.Writable.{IsFileWritable}
+pub use specs.inside.Tables.{IsFileWritable}
 pub use specs.inside.Writes.{Writes, always}
 pub use Rattle.gimli_bytes.proofs.LebLemmas.{sleb_one, uleb_one}
 pub use Rattle.gimli_bytes.proofs.ShortestUleb.{uleb_shortest}

@@ -11,6 +11,7 @@ use specs.declared.built.row.LineRow.{LineRow}
 use specs.declared.built.items.BuiltItem.{BuiltItem}
 use specs.declared.built.items.BuiltItem.TheVariants.{SetAddress, Row, End}
 
+-- a line program, as lists and flags
 pub record Built : Type 0 where
   -- it was made to be no program
   pub is_none : Bool

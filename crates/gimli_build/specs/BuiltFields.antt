@@ -5,6 +5,7 @@ use specs.Tables.{keys_of}
 use specs.Conditions.{IsProgram}
 use specs.declared.built.line_program.LineProgram.TheInside.{Inside}
 
+-- the program that these fields hold
 abbrev pub built_of : Inside → Built
 built_of a = record {
   is_none = a.none;
@@ -21,6 +22,7 @@ built_of a = record {
   in_sequence = a.in_sequence;
 }
 
+-- what is true of every program, of these fields
 abbrev pub IsKept : Inside → Type 0
 IsKept a =
     IsProgram a.none a.encoding a.line_encoding a.tables.directories (keys_of a.tables.files)

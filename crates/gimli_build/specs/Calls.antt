@@ -1,15 +1,36 @@
--- A program after a call of the builder that returns Ok.
-use Rattle.std.specs.Prelude.{◌∷◌, ◌++◌}
+-- A program after a call of the builder.
+use Rattle.std.specs.Prelude.{◌≡◌, ◌⊎◌, ◌∷◌, ◌++◌}
 use Rattle.gimli_build.specs
 use specs.Prelude
 use Prelude.{ℕ, true, false, [], Option, option_map, option_to_list, Encoding, LineEncoding}
-use Prelude.{Address}
+use Prelude.{Address, Result, OnOk, IfErr, Error, OutOfMemory}
+use Rattle.std.specs.Prelude.{OnErr, IsOkUnless}
+use Rattle.gimli_bytes.specs.declared.error.Error.TheVariants.{InvalidRange}
 use specs.LineText.{LineText}
 use specs.Tables.{FileKey, Details, Tables, with_directory, with_file}
 use specs.Rows.{initial_row, without_marks, row_after_address}
 use specs.Built.{Built, empty_built}
 use specs.declared.built.row.LineRow.{LineRow}
 use specs.declared.built.items.BuiltItem.TheVariants.{SetAddress, Row, End}
+
+-- a call that returned Ok makes this program of the old one; one that fails, which is for memory,
+-- changes nothing
+pub record Builds {A : Type 0} (wanted old : Built) (result : Result A Error) (new : Built)
+    : Type 0 where
+  pub ok : OnOk result (new ≡ wanted)
+  pub kept : OnErr result (new ≡ old)
+  pub memory : IsOkUnless result OutOfMemory
+
+-- a call tests what is asked of one that builds: where that holds it builds, or lacks memory, and
+-- else it fails by `InvalidRange`; a call that fails changes nothing
+pub record Tries {A : Type 0} (asked : Type 0) (wanted old : Built) (result : Result A Error)
+    (new : Built) : Type 0 where
+  pub holds : OnOk result asked
+  pub ok : OnOk result (new ≡ wanted)
+  pub kept : OnErr result (new ≡ old)
+  pub why : IfErr result (λ e. ((e ≡ OutOfMemory) × asked) ⊎ ((e ≡ InvalidRange) × ¬ asked))
+
+-- ---- what each call makes
 
 -- after `new`: these tables, and nothing else is built yet
 abbrev pub new_program : Encoding → LineEncoding → Tables → Built

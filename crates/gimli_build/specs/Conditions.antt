@@ -25,9 +25,11 @@ CanBuild e position (Row r) =
     CanFollow e position.0 position.1 r.address_offset r.op_index × (r.line < 2 ^ 63)
 CanBuild e position (End offset op_index) = CanFollow e position.0 position.1 offset op_index
 
+-- the current row can be built next
 abbrev pub CanGenerateRow : Built → Type 0
 CanGenerateRow p = CanBuild p.line_encoding (previous_position p.items) (Row p.row)
 
+-- so can an end at this offset
 abbrev pub CanEndSequence : Built → ℕ → Type 0
 CanEndSequence p offset =
     CanBuild p.line_encoding (previous_position p.items) (End offset p.row.op_index)
@@ -51,6 +53,17 @@ pub record IsProgram (is_none : Bool) (encoding : Encoding) (e : LineEncoding)
   pub directories_not_empty : encoding.version ≤ 4 → All IsNotEmpty (drop 1 directories)
   pub paths_not_empty : encoding.version ≤ 4 → All (λ k. IsNotEmpty k.0) keys
   pub items_built : AreBuilt e (0, 0) items
+
+-- a directory or a file of this text can be added
+pub record CanAdd (p : Built) (text : LineText) : Type 0 where
+  pub program : p.is_none ≡ false
+  pub no_zero : HasNoZero text
+  pub not_empty : p.encoding.version ≤ 4 → IsNotEmpty text
+
+-- so can a file, in this directory
+pub record CanAddFile (p : Built) (text : LineText) (directory : ℕ) : Type 0 where
+  pub text : CanAdd p text
+  pub within : directory < length p.directories
 
 -- a program can be written with these tables: each text that it names is there; and a source that
 -- is written has no zero byte, which would end it

@@ -22,7 +22,7 @@ use Rattle.gimli_line.specs.declared.run.instruction.LineInstruction.TheVariants
   SetDiscriminator,
 }
 use specs.declared.built.row.LineRow.{LineRow}
-use specs.Due.{when}
+use specs.Joined.{when}
 use specs.FileNumber.{file_number}
 use specs.Advance.{operations}
 
@@ -41,6 +41,7 @@ marks row =
     ++ when row.prologue_end SetPrologueEnd
     ++ when row.epilogue_begin SetEpilogueBegin
 
+-- two flags aren't the same
 abbrev pub differ : Bool → Bool → Bool
 differ true b = not b
 differ false b = b

@@ -23,6 +23,7 @@ next_previous version is_stmt previous (SetAddress a) = record previous {
 next_previous version is_stmt previous (Row r) = r
 next_previous version is_stmt previous (End offset op_index) = initial_row version is_stmt
 
+-- the instructions of an item, after this row
 abbrev pub item_instructions : ℕ → LineEncoding → LineRow → BuiltItem → List Ins
 item_instructions version e previous (SetAddress a) = read.SetAddress (address_value a) ∷ []
 item_instructions version e previous (Row r) = row_instructions version e previous r
@@ -64,6 +65,7 @@ AddressesFit size base position (End offset op_index ∷ items) =
 
 -- ---- their bytes
 
+-- the bytes of an item, after this row, or the refusal of its address
 abbrev pub item_bytes : Hand → Bool → Encoding → LineEncoding → LineRow → BuiltItem
     → Result (List ℕ) Error
 item_bytes hand is_big encoding e previous (SetAddress a) =
@@ -87,6 +89,7 @@ abbrev pub FitsItem : ℕ → BuiltItem → Type 0
 FitsItem version (Row r) = FitsInstructions version r
 FitsItem version item = Unit {0}
 
+-- they hold those of each of these items
 abbrev pub AreFit : ℕ → List BuiltItem → Type 0
 AreFit version [] = Unit {0}
 AreFit version (item ∷ items) = FitsItem version item × AreFit version items

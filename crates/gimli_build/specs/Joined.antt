@@ -1,7 +1,8 @@
 -- Bytes that are written one part after the other, where each part may be refused: the first
 -- refusal counts.
-use Rattle.std.specs.Prelude.{◌∷◌, ◌++◌}
-use Rattle.gimli_build.specs.Prelude.{ℕ, List, [], length, Result, Ok, Err, Error}
+use Rattle.std.specs.Prelude.{if◌then◌else◌, ◌∷◌, ◌++◌}
+use Rattle.gimli_build.specs.Prelude
+use Prelude.{ℕ, Bool, List, [], length, Result, Ok, Err, Error, word_size, Format, section_word}
 
 -- one after the other, or the first refusal
 abbrev pub result_append : Result (List ℕ) Error → Result (List ℕ) Error → Result (List ℕ) Error
@@ -20,3 +21,12 @@ abbrev pub after_length : (ℕ → Result (List ℕ) Error) → Result (List ℕ
     → Result (List ℕ) Error
 after_length length_of (Ok bytes) = result_append (length_of (length bytes)) (Ok bytes)
 after_length length_of (Err e) = Err e
+
+-- an element where it is due, and else none
+abbrev pub when : {A : Type 0} → Bool → A → List A
+when due x = if due then x ∷ [] else []
+
+-- the word of a length or an offset (DWARF 5, section 7.4): four bytes in the 32-bit format; eight
+-- in the 64-bit format, which hold the length of any section
+abbrev pub format_word : Bool → Format → ℕ → Result (List ℕ) Error
+format_word is_big format n = section_word is_big n (word_size format)

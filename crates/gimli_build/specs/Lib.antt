@@ -1,5 +1,4 @@
 pub mod Prelude
-pub mod Due
 pub mod FileNumber
 pub mod Rows
 pub mod Advance
@@ -12,7 +11,6 @@ pub mod FirstTables
 pub mod Built
 pub mod Calls
 pub mod SameRow
-pub mod FormatWord
 pub mod Joined
 pub mod Writes
 pub mod WrittenTables

@@ -13,11 +13,13 @@ pub data LineText : Type 0 where
   InStrings : ℕ → LineText
   InLineStrings : ℕ → LineText
 
+-- the text that a value of the code is
 abbrev pub line_text : LineString → LineText
 line_text (String v) = Inline v.items
 line_text (StringRef id) = InStrings id.0
 line_text (LineStringRef id) = InLineStrings id.0
 
+-- whether two are the same text: by bytes, or by index in one table
 abbrev pub line_text_eq : LineText → LineText → Bool
 line_text_eq (Inline s) (Inline t) = bytes_eq s t
 line_text_eq (InStrings i) (InStrings j) = nat_eq i j
@@ -43,6 +45,7 @@ abbrev pub made_text : ℕ → List (List ℕ) → List ℕ → LineText
 made_text version line_strings bytes =
     if nat_le version 4 then Inline bytes else InLineStrings (index_of_text line_strings bytes)
 
+-- those line strings
 abbrev pub made_table : ℕ → List (List ℕ) → List ℕ → List (List ℕ)
 made_table version line_strings bytes =
     if nat_le version 4 then line_strings else with_text line_strings bytes

@@ -3,10 +3,11 @@ use Rattle.std.specs.Prelude.{◌≡◌, ◌+◌, ◌≤◌, ◌^◌, ◌++◌}
 use Rattle.gimli_build.specs
 use specs.Prelude
 use Prelude.{ℕ, List, length, map, All, word_size, Format, DebugStr, DebugLineStr, Placement}
-use Prelude.{unplaced, table_bytes, StringTables}
-use Rattle.gimli_bytes.specs.Relocations.{AddressOf, CallFits, address_placed}
+use Prelude.{unplaced, table_bytes, StringTables, IsTrue, OnOk, Result, Error, Ghosts}
+use Rattle.gimli_bytes.specs.Relocations.{AddressOf, CallFits, address_placed, placed}
+use Rattle.gimli_bytes.specs.Written.{AppendsThat}
 use specs.LineText.{LineText}
-use specs.ReadsBack.{IsOffsetHeld}
+use specs.ReadsBack.{IsOffsetHeld, ReadsBackAs, ReadsBackAt}
 use specs.Built.{Built}
 use specs.Cause.{emitted_texts}
 use specs.declared.built.items.BuiltItem.{BuiltItem}
@@ -52,3 +53,17 @@ pub record HasTable (section : List ℕ) (placed : ℕ → ℕ) (texts : List (L
   pub after : List ℕ
   pub whole : section ≡ before ++ (table_bytes texts ++ after)
   pub counted : (n : ℕ) → placed n ≡ length before + n
+
+-- ---- what was appended is read back
+
+-- a call that returned Ok appended a unit that whoever reads it well reads back, with these tables
+pub record IsReadBack {W X : Type 0} (sink : Ghosts W) (p : Built) (texts : StringTables)
+    (old new : W) (result : Result X Error) : Type 0 where
+  -- in a writer that keeps its bytes, as they are
+  pub written : IsTrue sink.keeps_bytes → OnOk result (AppendsThat
+      (ReadsBackAs (sink.is_big old) p texts) (sink.contents old) (sink.contents new))
+  -- and once a linker has placed symbols and sections, where each sum fits its size
+  pub linked : (at : Placement) → IsTrue (sink.completes old) → sink.hand at ≡ placed at
+      → SumsFit at p texts → OnOk result (AppendsThat
+      (ReadsBackAt at (sink.is_big old) (placed_program at p) texts)
+      (sink.completed at old) (sink.completed at new))

@@ -62,7 +62,6 @@ module _ (p : Built) (texts : StringTables) where
       else None
 
   -- why a file is refused: for its path, else for its source
-
   abbrev pub file_cause : File → Option Error
   file_cause f =
       first_of (text_cause p.encoding.format texts
@@ -73,9 +72,11 @@ module _ (p : Built) (texts : StringTables) where
   abbrev pub cause_of_directory : ℕ → Option Error
   cause_of_directory i = option_and_then (directory_cause i) (slice_get p.directories i)
 
+  -- the same of files
   abbrev pub cause_of_file : ℕ → Option Error
   cause_of_file i = option_and_then file_cause (slice_get p.files i)
 
+-- why the item at an index is refused
 abbrev pub cause_of_item : Built → ℕ → Option Error
 cause_of_item p i = option_and_then (item_cause p.encoding.address_size) (slice_get p.items i)
 
@@ -128,6 +129,7 @@ abbrev pub items_seen : Symbols → List BuiltItem → List BuiltItem
 items_seen Taken items = map without_symbol items
 items_seen Refused items = items
 
+-- a program with its items so
 abbrev pub program_seen : Symbols → Built → Built
 program_seen symbols p = record p { items = items_seen symbols p.items }
 

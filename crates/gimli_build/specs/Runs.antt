@@ -93,6 +93,7 @@ pub record AreNext (here : Run) (items : List BuiltItem) : Type 0 where
 abbrev pub written_row : Run → LineRow → List Ins
 written_row here r = row_instructions here.encoding.version here.line_encoding here.previous r
 
+-- that row
 abbrev pub given_row : Run → LineRow → ReadRow
 given_row here r = read_row here.encoding.version here.base r
 
@@ -100,6 +101,7 @@ given_row here r = read_row here.encoding.version here.base r
 abbrev pub written_end : Run → ℕ → ℕ → List Ins
 written_end here o i = end_instructions here.line_encoding here.previous o i
 
+-- the row of that end
 abbrev pub given_end : Run → ℕ → ℕ → ReadRow
 given_end here o i = read_end here.encoding.version here.base here.previous o i
 
@@ -108,6 +110,7 @@ abbrev pub written_items : Run → List BuiltItem → List Ins
 written_items here items =
     items_instructions here.encoding.version here.line_encoding here.previous items
 
+-- the rows of those items
 abbrev pub given_items : Run → List BuiltItem → List ReadRow
 given_items here items =
     items_rows here.encoding.version here.line_encoding here.base here.previous items

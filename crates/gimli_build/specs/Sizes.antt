@@ -44,6 +44,7 @@ pub record IsMove (here : Run) (r : LineRow) : Type 0 where
 abbrev pub lines_to : Run → LineRow → ℤ
 lines_to here r = pos r.line -ℤ pos here.previous.line
 
+-- those operations
 abbrev pub operations_to : Run → LineRow → ℕ
 operations_to here r =
     operations here.line_encoding here.previous.address_offset here.previous.op_index

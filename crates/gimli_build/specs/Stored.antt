@@ -7,6 +7,7 @@ use specs.LineText.{bytes_in}
 use specs.Tables.{Details}
 use specs.Built.{Built}
 
+-- what is kept of a file
 pub record Stored : Type 0 where
   pub timestamp : ℕ
   pub size : ℕ

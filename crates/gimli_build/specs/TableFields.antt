@@ -6,6 +6,7 @@ use specs.Tables.{Details}
 use specs.declared.built.line_string.LineString.{LineString}
 use specs.declared.built.files.FileInfo.{FileInfo}
 
+-- what a value of the code says of a file
 abbrev pub details : FileInfo → Details
 details i = record {
   timestamp = i.timestamp;

@@ -35,12 +35,15 @@ pub record Details : Type 0 where
 abbrev pub no_details : Details
 no_details = record { timestamp = 0; size = 0; md5 = replicate 16 0; source = None }
 
+-- a file, with what else is known of it
 abbrev pub File : Type 0
 File = FileKey × Details
 
+-- whether two keys have the same path and the same directory
 abbrev pub key_eq : FileKey → FileKey → Bool
 key_eq k l = line_text_eq k.0 l.0 && nat_eq k.1 l.1
 
+-- whether a file with this key is there
 abbrev pub has_file : List File → FileKey → Bool
 has_file files key = list_any (λ f. key_eq key f.0) files
 
@@ -65,10 +68,12 @@ with_file files key given =
 
 -- ---- both
 
+-- the directories and the files
 pub record Tables : Type 0 where
   pub directories : List LineText
   pub files : List File
 
+-- the keys of files
 abbrev pub keys_of : List File → List FileKey
 keys_of files = map (λ f. f.0) files
 

@@ -26,6 +26,7 @@ IsText sections (DebugStrRef offset) text = IsTextAt sections.strings offset.0 t
 IsText sections (DebugLineStrRef offset) text = IsTextAt sections.line_strings offset.0 text
 IsText sections v text = ⊥
 
+-- the same of a value that may be missing: then the text is too
 abbrev pub IsOptionalText : Sections → Option Value → Option (List ℕ) → Type 0
 IsOptionalText sections (Some v) (Some text) = IsText sections v text
 IsOptionalText sections None None = Unit {0}

@@ -19,6 +19,7 @@ use specs.declared.built.trap.Trap.TheVariants.{
   UnsetAddress,
 }
 
+-- whether an item sets an address
 abbrev pub is_set_address : BuiltItem → Bool
 is_set_address (SetAddress a) = true
 is_set_address (Row r) = false

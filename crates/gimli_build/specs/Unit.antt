@@ -7,7 +7,7 @@ use Prelude.{ℕ, List, [], Bool, not, nat_eq, nat_le, nat_lt, Result, Ok, Err, 
 use Prelude.{Encoding, LineEncoding, Format, Dwarf32, Dwarf64, length_word, Hand, Error}
 use Prelude.{IncompatibleLineProgramEncoding, UnsupportedVersion, NeedVersion, StringTables}
 use Rattle.std.specs.Int.{w8, cast_unsigned}
-use specs.FormatWord.{format_word}
+use specs.Joined.{format_word}
 use specs.Joined.{result_append, after_length}
 use specs.Version4Tables.{directories_bytes, files_bytes}
 use specs.Version5Tables.{texts_after, directory_table_bytes, file_table_bytes}
@@ -18,6 +18,7 @@ use specs.Built.{Built}
 
 -- ---- the fixed fields
 
+-- the version, which is 2 to 5
 abbrev pub version_bytes : Bool → ℕ → Result (List ℕ) Error
 version_bytes is_big version =
     if nat_le 2 version && nat_le version 5 then Ok (number_bytes is_big 2 version)
@@ -36,6 +37,7 @@ operations_bytes version operations =
     if nat_le 4 version then Ok (operations ∷ [])
     else (if nat_eq operations 1 then Ok [] else Err (NeedVersion 4))
 
+-- the byte of a flag
 abbrev pub flag_byte : Bool → ℕ
 flag_byte flag = if flag then 1 else 0
 

@@ -21,7 +21,7 @@ use Rattle.gimli_line.specs.LineNumbers.{
   DW_LNCT_size,
   DW_LNCT_timestamp,
 }
-use specs.Due.{when}
+use specs.Joined.{when}
 use specs.LineText.{LineText, Inline, InStrings, InLineStrings}
 use specs.Tables.{File}
 use specs.Joined.{result_append, result_concat}
@@ -134,6 +134,7 @@ module _ (hand : Hand) (is_big : Bool) (format : Format) (texts : StringTables) 
       text_in_form form (unwrap_or f.1.source (empty_text form texts)))
       else Ok []
 
+  -- a file: its path, what else is known of it, and its source
   abbrev pub file_entry_bytes : Built → File → Result (List ℕ) Error
   file_entry_bytes p f =
       result_append (text_in_form (first_form (path_texts p.files)) f.0.0)

@@ -1,7 +1,7 @@
 -- What `write` leaves of the two tables of texts that it is handed.
 use Rattle.std.specs.Prelude.{◌≡◌, ◌⊎◌, ◌≤◌}
 use Rattle.gimli_build.specs
-use specs.Prelude.{IsTrue, Encoding, StringTables}
+use specs.Prelude.{IsTrue, OnOk, Result, Encoding, Error, StringTables}
 use specs.Built.{Built}
 use specs.Unit.{is_incompatible}
 use specs.Version5Tables.{texts_after}
@@ -23,3 +23,9 @@ pub record KeepTables (p : Built) (unit : Encoding) (old new : StringTables) : T
   pub incompatible : IsTrue (is_incompatible unit p.encoding) → new.strings ≡ old.strings
   pub line_incompatible : IsTrue (is_incompatible unit p.encoding)
       → new.line_strings ≡ old.line_strings
+
+-- a call that returned Ok leaves both tables as its unit needs them, and each call keeps them
+pub record LeavesTables {X : Type 0} (p : Built) (unit : Encoding) (old new : StringTables)
+    (result : Result X Error) : Type 0 where
+  pub ok : OnOk result (HaveEmptySource p old new)
+  pub kept : KeepTables p unit old new

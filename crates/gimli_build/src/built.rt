@@ -5,4 +5,5 @@ pub(crate) mod items;
 pub(crate) mod line_program;
 pub(crate) mod line_string;
 pub(crate) mod row;
+mod tested;
 pub(crate) mod trap;

@@ -3,10 +3,11 @@
 //! laws of equality and of clones.
 
 ghost use Rattle.std.specs.Prelude.{◌≡◌, ℕ, Bool, false, All, ◌≤◌, List, [], ◌∷◌, length, map};
-ghost use Rattle.std.specs.Prelude.{IfOk, option_map};
+ghost use Rattle.std.specs.Prelude.{IfOk, IsTrue, option_map};
 ghost use Rattle.std.specs.Bool.{Decides};
 ghost use Rattle.gimli_core.specs.Equality.{ClonesGiveSame, IsSameClone};
 ghost use Rattle.gimli_core.specs.Layout.{OrderAndLimit};
+ghost use Rattle.gimli_core.specs.Numbers.{is_address_size};
 ghost use Rattle.gimli_bytes.specs.HashAlike.{HashAlike};
 ghost use Rattle.gimli_core.specs.declared.error.Error.{Error};
 ghost use Rattle.gimli_core.specs.declared.error.Error.TheVariants.{AddressOverflow};
@@ -45,7 +46,7 @@ ghost use Rattle.gimli_build.specs.Sizes.{IsMove, SpecialSuffices, SpecialAndCon
 ghost use Rattle.gimli_build.specs.Sizes.{row_size};
 ghost use Rattle.gimli_build.specs.Built.{Built};
 ghost use Rattle.gimli_build.specs.Conditions.{CanWrite};
-ghost use Rattle.gimli_build.specs.Cause.{first_cause};
+ghost use Rattle.gimli_build.specs.Cause.{first_cause, refusal};
 ghost use Rattle.gimli_build.specs.Refused.{first_refusal, program_seen, error_of};
 ghost use Rattle.gimli_build.specs.declared.unit.refusal.Symbols.TheVariants.{Taken, Refused};
 ghost use Rattle.gimli_build.specs.ReadsBack.{DecodesAs, IsFound};
@@ -248,7 +249,7 @@ pub fn placed_units_are_numbers()
         ≡ unit_bytes plain is_big unit (placed_program at p) handed }
 {}
 
-/// The texts that a program refers to are found, as `linked` and `reads_back` ask, in sections that
+/// The texts that a program refers to are found, as `reads_back` of `write` asks, in sections that
 /// have the bytes of the tables after others, from where references are counted then; and in those
 /// that are just these bytes, by references as they are.
 pub fn texts_are_found()
@@ -260,6 +261,15 @@ pub fn texts_are_found()
         sections.strings ≡ table_bytes texts.strings →
         sections.line_strings ≡ table_bytes texts.line_strings →
         (t : LineText) → IsFound sections unplaced texts t }
+{}
+
+/// What `write` is refused for, beside memory and its writer's own refusals, is the first cause, in
+/// the order of what is written, where addresses have 1, 2, 4 or 8 bytes, as those of each program
+/// have.
+pub fn first_cause_is_refusal()
+    ensures { (is_big : Bool) (unit : Encoding) (p : Built) (handed : StringTables) →
+        IsTrue (is_address_size p.encoding.address_size) →
+        first_cause is_big unit p handed ≡ refusal (unit_bytes plain is_big unit p handed) }
 {}
 
 /// The error that `first_refusal` returns is the first cause of what `write` returns, of the

@@ -1,18 +1,15 @@
 //! The unit of a line program as it is written.
 
 ghost use Rattle.std.specs.Prelude.{◌≡◌, ◌<◌, ◌^◌, length, IsTrue, IfOk, OnOk, Err};
-ghost use Rattle.gimli_bytes.specs.Hand.{Placement, plain};
-ghost use Rattle.gimli_bytes.specs.Relocations.{placed};
-ghost use Rattle.gimli_bytes.specs.Written.{AppendsThat, IsOwn};
+ghost use Rattle.gimli_bytes.specs.Hand.{Placement};
+ghost use Rattle.gimli_bytes.specs.Written.{IsOwn};
 ghost use Rattle.gimli_bytes.specs.Texts.{texts_in};
 ghost use Rattle.gimli_build.specs.Conditions.{CanWrite};
 ghost use Rattle.gimli_build.specs.inside.Conditions.{IsBuilt};
 ghost use Rattle.gimli_build.specs.Unit.{version_bytes, opening_bytes, inside_bytes};
 ghost use Rattle.gimli_build.specs.Unit.{whole_bytes, is_incompatible, unit_bytes};
-ghost use Rattle.gimli_build.specs.Cause.{first_cause, refusal};
-ghost use Rattle.gimli_build.specs.ReadsBack.{ReadsBackAs, ReadsBackAt};
-ghost use Rattle.gimli_build.specs.Linked.{placed_program, SumsFit};
-ghost use Rattle.gimli_build.specs.WrittenTables.{HaveEmptySource, KeepTables};
+ghost use Rattle.gimli_build.specs.Linked.{IsReadBack};
+ghost use Rattle.gimli_build.specs.WrittenTables.{LeavesTables};
 ghost use Rattle.gimli_build.specs.Writes.{WritesOr, OfMemoryOr};
 ghost use Rattle.gimli_build.specs.inside.Writes.{Writes, always};
 
@@ -60,25 +57,12 @@ impl LineProgram {
             (λ hand. unit_bytes hand (W.is_big w.old.0) encoding self.now
             (texts_in strings.old line_strings.old)) }
         ensures offset { IfOk result (λ offset. offset.0 ≡ length (W.contents w.old.0)) }
-        ensures reads_back { IsTrue W.keeps_bytes → OnOk result (AppendsThat
-            (ReadsBackAs (W.is_big w.old.0) self.now (texts_in strings.new line_strings.new))
-            (W.contents w.old.0) (W.contents w.new.0)) }
-        ensures linked { (at : Placement) → IsTrue (W.completes w.old.0) → W.hand at ≡ placed at →
-            SumsFit at self.now (texts_in strings.new line_strings.new) →
-            OnOk result
-            (AppendsThat (ReadsBackAt at (W.is_big w.old.0) (placed_program at self.now)
-            (texts_in strings.new line_strings.new))
-            (W.completed at w.old.0) (W.completed at w.new.0)) }
-        ensures cause { first_cause (W.is_big w.old.0) encoding self.now
-            (texts_in strings.old line_strings.old)
-            ≡ refusal (unit_bytes plain (W.is_big w.old.0) encoding self.now
-            (texts_in strings.old line_strings.old)) }
+        ensures reads_back { IsReadBack W.Sink self.now (texts_in strings.new line_strings.new)
+            w.old.0 w.new.0 result }
         ensures incompatible { IsTrue (is_incompatible encoding self.now.encoding) →
             (result ≡ Err Error.IncompatibleLineProgramEncoding) × (w.new ≡ w.old) }
-        ensures tables { OnOk result (HaveEmptySource self.now
-            (texts_in strings.old line_strings.old) (texts_in strings.new line_strings.new)) }
-        ensures tables_kept { KeepTables self.now encoding
-            (texts_in strings.old line_strings.old) (texts_in strings.new line_strings.new) }
+        ensures tables { LeavesTables self.now encoding (texts_in strings.old line_strings.old)
+            (texts_in strings.new line_strings.new) result }
     {
         if is_incompatible(encoding, self.encoding()) {
             return Err(Error::IncompatibleLineProgramEncoding);

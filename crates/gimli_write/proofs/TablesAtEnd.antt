@@ -14,7 +14,7 @@ use specs.convert.TablesAtEnd.{
   tables_at_end,
   tables_after_row,
 }
-use specs.inside.convert.TablesAtEnd.{step_tables}
+use specs.inside.convert.SourceRun.{step_tables}
 use Rattle.gimli_write.proofs.SourceSteps.{decoded_none, decoded_some, decoded_fault, no_file, with_unread}
 
 -- bytes that are unread count by their instructions alone

@@ -22,6 +22,7 @@ use specs.declared.read_back.RoundTripFile.{RoundTripFile}
 
 -- ---- answers, as lists
 
+-- a file, as it is answered
 pub record FileAnswer : Type 0 where
   pub path : List ℕ
   pub directory_index : ℕ
@@ -30,6 +31,7 @@ pub record FileAnswer : Type 0 where
   pub md5 : List ℕ
   pub source : Option (List ℕ)
 
+-- the file that a value of the code is
 abbrev pub file_answer : RoundTripFile → FileAnswer
 file_answer f = record {
   path = f.path.items;
@@ -40,11 +42,13 @@ file_answer f = record {
   source = option_map (λ text. text.items) f.source;
 }
 
+-- directories, files and rows, as they are answered
 pub record Answers : Type 0 where
   pub directories : List (List ℕ)
   pub files : List FileAnswer
   pub rows : List ReadRow
 
+-- those of a value of the code
 abbrev pub answers : RoundTrip → Answers
 answers r = record {
   directories = map (λ text. text.items) r.directories.items;

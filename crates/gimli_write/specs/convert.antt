@@ -4,7 +4,6 @@ pub mod SourceTables
 pub mod Preparation
 pub mod Sources
 pub mod Items
-pub mod FileNumbers
 pub mod SourceRun
 pub mod TablesAtEnd
 pub mod Outcome

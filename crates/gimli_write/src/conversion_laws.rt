@@ -19,7 +19,7 @@ ghost use Rattle.gimli_write.specs.RoundTrip.{IsRoundTripRefusal, IsCausedRefusa
 ghost use Rattle.gimli_write.specs.declared.convert_error.ConvertError.{ConvertError};
 ghost use Rattle.gimli_write.specs.convert.Outcome.{can_build};
 ghost use Rattle.gimli_write.specs.convert.Sequences.{sequence_read};
-ghost use Rattle.gimli_write.specs.convert.FileNumbers.{written_number};
+ghost use Rattle.gimli_write.specs.convert.SourceTables.{written_number};
 ghost use Rattle.gimli_write.specs.convert.Mapped.{IsFaithful, IsFileId};
 ghost use Rattle.gimli_write.specs.convert.Preparation.{encoding_of};
 ghost use Rattle.gimli_write.specs.convert.DoneConversions.{DoneConversion, IsToBeFaithful};

@@ -1,7 +1,7 @@
 //! A unit that is written, and read again.
 
 ghost use Rattle.std.specs.Prelude.{◌≡◌, ◌<◌, ◌^◌, false, map, drop, option_map, IsTrue, All};
-ghost use Rattle.std.specs.Prelude.{IfOk, IfErr, Some, Err};
+ghost use Rattle.std.specs.Prelude.{IfOk, IfErr, IsOkUnless, Some, Err};
 ghost use Rattle.gimli_core.specs.Numbers.{is_address_size};
 ghost use Rattle.gimli_core.specs.Values.{value_seen};
 ghost use Rattle.gimli_bytes.specs.Written.{Begins};
@@ -91,7 +91,7 @@ fn directory_values<R: Reader>(
 ) -> ConvertResult<Vec<AttributeValue<R>>>
     ensures ok { IfOk result (λ values. map (value_seen R.bytes R.Offset.number) values.items
         ≡ directories_from_zero header.now.meaning) }
-    ensures err { IfErr result (λ e. e ≡ ConvertError.OutOfMemory) }
+    ensures err { IsOkUnless result ConvertError.OutOfMemory }
 {
     let mut directories = Vec::new(alloc);
     if header.version() <= 4 {
@@ -113,7 +113,7 @@ fn text_there<R: Reader>(
     requires { HasText sections.now (value_seen R.bytes R.Offset.number value) }
     ensures ok { IfOk result (λ text.
         IsText sections.now (value_seen R.bytes R.Offset.number value) text.items) }
-    ensures err { IfErr result (λ e. e ≡ ConvertError.OutOfMemory) }
+    ensures err { IsOkUnless result ConvertError.OutOfMemory }
 {
     text(alloc, value, sections)
 }
@@ -129,7 +129,7 @@ fn texts<R: Reader>(
     ensures ok { IfOk result (λ texts. OneByOne (IsText sections.now)
         (map (value_seen R.bytes R.Offset.number) values.now)
         (map (λ text. text.items) texts.items)) }
-    ensures err { IfErr result (λ e. e ≡ ConvertError.OutOfMemory) }
+    ensures err { IsOkUnless result ConvertError.OutOfMemory }
 {
     let mut texts = Vec::new(alloc);
     for value in values {
@@ -150,7 +150,7 @@ fn source_text<R: Reader>(
     ensures ok { IfOk result (λ text. IsOptionalText sections.now
         (option_map (value_seen R.bytes R.Offset.number) source)
         (option_map (λ text. text.items) text)) }
-    ensures err { IfErr result (λ e. e ≡ ConvertError.OutOfMemory) }
+    ensures err { IsOkUnless result ConvertError.OutOfMemory }
 {
     match source {
         Some(value) => Ok(Some(text_there(alloc, value, sections)?)),
@@ -167,7 +167,7 @@ fn read_file<R: Reader>(
     requires { HasFileTexts sections.now (file_seen R.bytes R.Offset.number file.now) }
     ensures ok { IfOk result (λ answer. IsFileAnswer sections.now
         (file_seen R.bytes R.Offset.number file.now) (file_answer answer)) }
-    ensures err { IfErr result (λ e. e ≡ ConvertError.OutOfMemory) }
+    ensures err { IsOkUnless result ConvertError.OutOfMemory }
 {
     let path = text_there(alloc, file.path_name(), sections)?;
     let source = source_text(alloc, file.source(), sections)?;
@@ -190,7 +190,7 @@ fn read_files<R: Reader>(
     requires { All (HasFileTexts sections.now) (map (file_seen R.bytes R.Offset.number) files.now) }
     ensures ok { IfOk result (λ answers. OneByOne (IsFileAnswer sections.now)
         (map (file_seen R.bytes R.Offset.number) files.now) (map file_answer answers.items)) }
-    ensures err { IfErr result (λ e. e ≡ ConvertError.OutOfMemory) }
+    ensures err { IsOkUnless result ConvertError.OutOfMemory }
 {
     let mut answers = Vec::new(alloc);
     for file in files {
@@ -274,7 +274,7 @@ impl StringSections {
     ) -> ConvertResult<StringSections>
         ensures ok { IfOk result (λ sections.
             sections ≡ sections_of (texts_in strings.now line_strings.now)) }
-        ensures err { IfErr result (λ e. e ≡ ConvertError.OutOfMemory) }
+        ensures err { IsOkUnless result ConvertError.OutOfMemory }
         ensures held { (byte_count strings.now < 2 ^ 64) × (byte_count line_strings.now < 2 ^ 64) }
     {
         // Neither table has more bytes than a section holds.
@@ -356,7 +356,7 @@ fn read_unit<E: Endianity>(
     ensures built { IfOk result (λ answer.
         IsAsBuilt program.now (texts_in strings.now line_strings.now) (answers answer)) }
     ensures never_read { HasFittingAddresses program.now
-        → IfErr result (λ e. e ≡ ConvertError.OutOfMemory) }
+        → IsOkUnless result ConvertError.OutOfMemory }
 {
     let alloc = *line_strings.allocator();
     let endian = section.endian();
@@ -408,6 +408,8 @@ pub fn round_trip<E: Endianity>(
     ensures tables_kept { KeepTables program.now encoding
         (texts_in strings.old line_strings.old) (texts_in strings.new line_strings.new) }
 {
+    // For the prover alone: the address size is one that `accepts` takes.
+    let _encoding = program.encoding();
     match program.write(w, encoding, line_strings, strings) {
         Ok(offset) => read_unit(program, &w.0, offset, line_strings, strings),
         Err(e) => Err(from_write(e)),

@@ -1,6 +1,6 @@
 //! The texts of a header that is read.
 
-ghost use Rattle.std.specs.Prelude.{◌≡◌, ◌⊎◌, IfOk, IfErr, Ok, Err};
+ghost use Rattle.std.specs.Prelude.{◌≡◌, ◌⊎◌, IfOk, IfErr, IsOkUnless, Ok, Err};
 ghost use Rattle.gimli_core.specs.Reading.{result_map};
 ghost use Rattle.gimli_core.specs.Values.{value_seen};
 ghost use Rattle.gimli_write.specs.TextReading.{text_from, text_of};
@@ -76,7 +76,7 @@ fn text_from<R: Reader>(section: R, offset: R::Offset) -> gimli_core::Result<R>
 /// The bytes of a text. Refused by `OutOfMemory` alone.
 pub(crate) fn copy_of<R: Reader>(alloc: Global, text: R) -> ConvertResult<Vec<u8>>
     ensures ok { IfOk result (λ copy. copy.items ≡ R.bytes text) }
-    ensures err { IfErr result (λ e. e ≡ ConvertError.OutOfMemory) }
+    ensures err { IsOkUnless result ConvertError.OutOfMemory }
 {
     let Ok(bytes) = text.to_slice() else {
         return Err(ConvertError::OutOfMemory);

@@ -1,7 +1,7 @@
 //! The calls of a script that build a program. Conditions are tested before each call of the
 //! library.
 
-ghost use Rattle.std.specs.Prelude.{◌≡◌, ◌≢◌, ◌<◌, ◌≤◌, length, false, All, IsTrue, IfOk, IfSome};
+ghost use Rattle.std.specs.Prelude.{◌≡◌, ◌<◌, ◌≤◌, length, false, IsTrue, IfOk, IfSome};
 ghost use Rattle.gimli_write.specs.LineText.{line_text, HasNoZero, IsNotEmpty};
 
 use crate::script::Script;
@@ -80,7 +80,7 @@ impl Script {
         if matches!(form, Form::Inside) || !words.is_fine() {
             return LineString::String(bytes);
         }
-        if !has_no_zero(&bytes) {
+        if !LineString::accepts(&bytes) {
             words.refuse(Stop::Condition);
             return LineString::String(bytes);
         }
@@ -184,13 +184,6 @@ impl Script {
     }
 }
 
-/// Whether bytes have no zero byte.
-fn has_no_zero(bytes: &[u8]) -> bool
-    ensures { IsTrue result → All (λ b. b ≢ 0) bytes.now }
-{
-    bytes.iter().all(|byte| *byte != 0)
-}
-
 /// Whether a text that may be absent has no zero byte.
 fn is_optional_name(text: &Option<LineString>) -> bool
     ensures { IsTrue result → IfSome text.now (λ text. HasNoZero (line_text text)) }
@@ -213,7 +206,7 @@ fn can_be_added(program: &LineProgram, text: &LineString) -> bool
     }
     match text {
         LineString::String(bytes) => {
-            has_no_zero(bytes) && (program.version() > 4 || !bytes.is_empty())
+            LineString::accepts(bytes) && (program.version() > 4 || !bytes.is_empty())
         }
         _ => true,
     }

@@ -5,7 +5,7 @@
 use gimli_core::{Encoding, Format, LineEncoding, LittleEndian};
 use gimli_write::{
     Address, DebugLine, DebugLineStr, EndianVec, Error, FileId, FileInfo, LineProgram, LineString,
-    LineStringTable, Refusal, Result, StringTable, Symbols, Writer,
+    LineStringTable, Refusal, Result, StringTable, Symbols, Trap, Writer,
 };
 use std::alloc::Global;
 use std::fmt::Write;
@@ -133,9 +133,6 @@ fn with_source(alloc: Global, line_strings: &mut LineStringTable) -> Result<Line
 /// Gives the source file the MD5 digest of `abc`, and returns its id: a file that is there takes
 /// what is handed of it.
 fn with_digest(program: &mut LineProgram, line_strings: &mut LineStringTable) -> Result<FileId> {
-    if program.is_none() {
-        return Err(Error::InvalidRange);
-    }
     let path = line_strings.add(b"a.c")?;
     let directory = program.default_directory();
     let info = FileInfo {
@@ -144,24 +141,21 @@ fn with_digest(program: &mut LineProgram, line_strings: &mut LineStringTable) ->
         md5: *b"\x90\x01\x50\x98\x3c\xd2\x4f\xb0\xd6\x96\x3f\x7d\x28\xe1\x7f\x72",
         source: None,
     };
-    program.add_file(LineString::LineStringRef(path), directory, Some(info))
+    program.try_add_file(LineString::LineStringRef(path), directory, Some(info))
 }
 
 /// Adds the file `a.h` in the directory `inc`, with the MD5 digest of an empty file.
 fn add_header(program: &mut LineProgram, line_strings: &mut LineStringTable) -> Result<FileId> {
-    if program.is_none() {
-        return Err(Error::InvalidRange);
-    }
     let include = line_strings.add(b"inc")?;
     let path = line_strings.add(b"a.h")?;
-    let directory = program.add_directory(LineString::LineStringRef(include))?;
+    let directory = program.try_add_directory(LineString::LineStringRef(include))?;
     let info = FileInfo {
         timestamp: 0,
         size: 0,
         md5: *b"\xd4\x1d\x8c\xd9\x8f\0\xb2\x04\xe9\x80\x09\x98\xec\xf8\x42\x7e",
         source: None,
     };
-    let file = program.add_file(LineString::LineStringRef(path), directory, Some(info))?;
+    let file = program.try_add_file(LineString::LineStringRef(path), directory, Some(info))?;
     program.file_has_md5 = true;
     Ok(file)
 }
@@ -174,10 +168,7 @@ fn add_function(
     address: Address,
     lines: [u64; 2],
 ) -> Result<()> {
-    if program.is_none() {
-        return Err(Error::InvalidRange);
-    }
-    program.set_address(address)?;
+    program.try_set_address(address)?;
     add_row(program, file, 0, lines[0])?;
     program.row().prologue_end = true;
     add_row(program, file, 4, lines[1])?;
@@ -185,10 +176,7 @@ fn add_function(
     row.is_statement = false;
     row.discriminator = 2;
     add_row(program, file, 9, lines[1])?;
-    if program.is_none() || !program.can_end_sequence(10) {
-        return Err(Error::InvalidRange);
-    }
-    program.end_sequence(10)
+    program.try_end_sequence(10)
 }
 
 /// Prints what `write` refuses of a program: a file whose path isn't in a table, as that of the
@@ -221,25 +209,53 @@ fn print_refused_of(
     print_first(program, line_strings, &strings, Symbols::Refused, text)?;
     print_first(program, line_strings, &strings, Symbols::Taken, text)?;
     add_other_file(alloc, program)?;
-    print_first(program, line_strings, &strings, Symbols::Refused, text)
+    print_first(program, line_strings, &strings, Symbols::Refused, text)?;
+    print_open_rows(program, text)
+}
+
+/// Adds the lines 3 and 4 to a program whose sequence doesn't end, and prints what readers drop of
+/// them.
+fn print_open_rows(program: &mut LineProgram, text: &mut String) -> Result<()> {
+    add_rows(program, program.default_file(), &[(0, 3), (4, 4)])?;
+    print_traps(program, text)
+}
+
+/// Adds rows of a file, each with its offset in bytes and its line.
+fn add_rows(program: &mut LineProgram, file: FileId, rows: &[(u64, u64)]) -> Result<()> {
+    for (offset, line) in rows {
+        add_row(program, file, *offset, *line)?;
+    }
+    Ok(())
+}
+
+/// Adds a line for each item that `write` takes, and readers drop or misread.
+fn print_traps(program: &LineProgram, text: &mut String) -> Result<()> {
+    if program.is_none() {
+        return Err(Error::InvalidRange);
+    }
+    for (item, trap) in program.traps() {
+        let why = match trap {
+            Trap::OpenSequence => "no end after it",
+            Trap::AddressOverflow => "its address is too wide",
+            Trap::MissingFile => "its file isn't there",
+            Trap::LaterOpcode => "readers of this version skip a part of it",
+            Trap::UnsetAddress => "no address was set before it",
+        };
+        writeln!(text, "item {item}: {why}")?;
+    }
+    Ok(())
 }
 
 /// Adds to a program an address that is a symbol.
 fn add_symbol(program: &mut LineProgram) -> Result<()> {
-    if program.is_none() {
-        return Err(Error::InvalidRange);
-    }
     let (symbol, addend) = (1, 0);
-    program.set_address(Address::Symbol { symbol, addend })
+    program.try_set_address(Address::Symbol { symbol, addend })
 }
 
 /// Adds to a program the file `b.c`, whose path is in the program itself.
 fn add_other_file(alloc: Global, program: &mut LineProgram) -> Result<()> {
     let path = LineString::String(b"b.c".to_vec(alloc)?);
-    if program.is_none() || !path.has_no_zero() || program.version() < 5 {
-        return Err(Error::InvalidRange);
-    }
-    program.add_file(path, program.default_directory(), None)?;
+    program.try_add_file(path, program.default_directory(), None)?;
     Ok(())
 }
 
@@ -273,8 +289,5 @@ fn add_row(program: &mut LineProgram, file: FileId, offset: u64, line: u64) -> R
     row.file = file;
     row.address_offset = offset;
     row.line = line;
-    if program.is_none() || !program.can_generate_row() {
-        return Err(Error::InvalidRange);
-    }
-    program.generate_row()
+    program.try_generate_row()
 }

@@ -5,7 +5,7 @@ use Common.{ℕ, Bool, true, false, List, [], length, take, get_or, refl, sym, a
 use Common.{take-suc, append-nil, flat_map-append, uleb, when}
 use Rattle.gimli_core.specs.declared.constants.DwForm.{DwForm}
 use Rattle.gimli_core.specs.declared.constants.DwLnct.{DwLnct}
-use Rattle.gimli_build.specs.inside.DueFormats.{due_formats}
+use Rattle.gimli_build.specs.inside.Tables.{due_formats}
 
 -- a content type and a form
 abbrev pub one_format : ℕ × ℕ → List ℕ

@@ -20,6 +20,7 @@ use specs.declared.rows.instruction.LineInstruction.TheVariants.{
   SetDiscriminator,
 }
 
+-- the same instruction there
 abbrev pub read_as : LineInstruction → Ins
 read_as (Special o) = read.Special o
 read_as Copy = read.Copy

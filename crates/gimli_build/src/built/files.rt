@@ -2,7 +2,7 @@
 //! 13 to 20).
 
 ghost use Rattle.std.specs.Prelude.{◌≡◌, ℕ, ◌<◌, List, [], length, map, replicate, option_map};
-ghost use Rattle.std.specs.Prelude.{IfOk, IfErr, OnOk, OnErr, IfSome, Some, None, slice_get};
+ghost use Rattle.std.specs.Prelude.{IfOk, IsOkUnless, OnOk, OnErr, IfSome, Some, None, slice_get};
 ghost use Rattle.std.specs.Prelude.{nat_lt};
 ghost use Rattle.gimli_build.specs.FileNumber.{file_number, initial_file};
 
@@ -192,7 +192,7 @@ impl FileTable {
         requires source_file_ends { HasNoZero (line_text source_file) }
         ensures ok { OnOk result (self.new
             ≡ first_tables version working_dir source_dir source_file source_file_info) }
-        ensures memory { IfErr result (λ e. e ≡ Error.OutOfMemory) }
+        ensures memory { IsOkUnless result Error.OutOfMemory }
     {
         let working_dir = self.add_directory(working_dir)?;
         if version <= 4 {
@@ -216,7 +216,7 @@ impl FileTable {
         ensures id { IfOk result (λ id.
             id ≡ index_of_directory self.old.directories (line_text directory)) }
         ensures err { OnErr result (self.new ≡ self.old) }
-        ensures memory { IfErr result (λ e. e ≡ Error.OutOfMemory) }
+        ensures memory { IsOkUnless result Error.OutOfMemory }
     {
         let (index, _) = self.directories.insert_full(directory)?;
         Ok(DirectoryId(index))
@@ -253,7 +253,7 @@ impl FileTable {
         ensures id { IfOk result (λ id.
             id ≡ index_of_file self.old.files (line_text path, directory)) }
         ensures err { OnErr result (self.new ≡ self.old) }
-        ensures memory { IfErr result (λ e. e ≡ Error.OutOfMemory) }
+        ensures memory { IsOkUnless result Error.OutOfMemory }
     {
         // For the prover alone: the keys are distinct.
         let _count = self.files.len();
@@ -272,7 +272,7 @@ impl FileTable {
         ensures id { IfOk result (λ id.
             id ≡ index_of_file self.old.files (line_text path, directory)) }
         ensures err { OnErr result (self.new ≡ self.old) }
-        ensures memory { IfErr result (λ e. e ≡ Error.OutOfMemory) }
+        ensures memory { IsOkUnless result Error.OutOfMemory }
     {
         // For the prover alone: the keys are distinct.
         let _count = self.files.len();
@@ -300,7 +300,7 @@ impl FileTable {
         ensures id { IfOk result (λ id.
             id ≡ index_of_file self.old.files (line_text path, directory)) }
         ensures err { OnErr result (self.new ≡ self.old) }
-        ensures memory { IfErr result (λ e. e ≡ Error.OutOfMemory) }
+        ensures memory { IsOkUnless result Error.OutOfMemory }
     {
         match info {
             Some(info) => self.set_file(path, directory, info),

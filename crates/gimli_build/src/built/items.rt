@@ -58,7 +58,7 @@ impl Model for ItemList {
 }
 
 impl ItemList {
-    ghost use Rattle.std.specs.Prelude.{◌≡◌, [], ◌∷◌, ◌++◌, IsTrue, ◌↔◌, OnOk, OnErr, IfErr};
+    ghost use Rattle.std.specs.Prelude.{◌≡◌, [], ◌∷◌, ◌++◌, IsTrue, ◌↔◌, OnOk, OnErr, IsOkUnless};
     ghost use Rattle.gimli_build.specs.Built.{previous_position};
 
     /// No items.
@@ -97,7 +97,7 @@ impl ItemList {
     pub(crate) fn push(&mut self, item: BuiltItem) -> Result<()>
         ensures ok { OnOk result (self.new ≡ self.old ++ item ∷ []) }
         ensures err { OnErr result (self.new ≡ self.old) }
-        ensures memory { IfErr result (λ e. e ≡ Error.OutOfMemory) }
+        ensures memory { IsOkUnless result Error.OutOfMemory }
     {
         self.items.reserve(1)?;
         self.position = item.position();

@@ -1,7 +1,7 @@
 //! A line program that is built: gimli's `LineProgram`, its tables, its rows and its flags.
 
 ghost use Rattle.std.specs.Prelude.{◌≡◌, ◌≢◌, ℕ, ◌+◌, ◌/◌, ◌%◌, ◌<◌, ◌≤◌, true, false, nat_eq, []};
-ghost use Rattle.std.specs.Prelude.{length, option_map, slice_get, IfOk, IfErr, OnOk, OnErr};
+ghost use Rattle.std.specs.Prelude.{length, option_map, slice_get, IfOk, IsOkUnless, OnOk};
 ghost use Rattle.std.specs.Prelude.{IfSome, Some, None, IsTrue, ◌↔◌};
 ghost use Rattle.gimli_core.specs.Numbers.{is_address_size};
 ghost use Rattle.gimli_build.specs.Advance.{CanEncode, IsPosition, CanFollow};
@@ -93,7 +93,7 @@ impl LineProgram {
         requires source_file_ends { HasNoZero (line_text source_file) }
         ensures ok { IfOk result (λ program. program ≡ new_program encoding line_encoding
             (first_tables encoding.version working_dir source_dir source_file source_file_info)) }
-        ensures memory { IfErr result (λ e. e ≡ Error.OutOfMemory) }
+        ensures memory { IsOkUnless result Error.OutOfMemory }
     {
         let mut tables = FileTable::new(alloc);
         tables.add_first(
@@ -193,7 +193,7 @@ impl LineProgram {
     ghost use Rattle.gimli_build.specs.Tables.{index_of_directory, index_of_file, with_indexes};
     ghost use Rattle.gimli_build.specs.Tables.{keys_of, Keeps, AreTables};
     ghost use Rattle.gimli_build.specs.TableFields.{details};
-    ghost use Rattle.gimli_build.specs.Calls.{after_directory, after_file};
+    ghost use Rattle.gimli_build.specs.Calls.{Builds, after_directory, after_file};
     ghost use Rattle.gimli_build.specs.LentRow.{lends_info};
 
     /// The id of the working directory, 0.
@@ -227,15 +227,14 @@ impl LineProgram {
         requires program { self.old.is_none ≡ false }
         requires text { HasNoZero (line_text directory) }
         requires not_empty { self.old.encoding.version ≤ 4 → IsNotEmpty (line_text directory) }
-        ensures ok { OnOk result (self.new ≡ after_directory (line_text directory) self.old) }
+        ensures builds { Builds (after_directory (line_text directory) self.old)
+            self.old result self.new }
         ensures id { IfOk result (λ id.
             id ≡ index_of_directory self.old.directories (line_text directory)) }
         ensures within { IfOk result (λ id. id < length self.new.directories) }
         ensures found { IfOk result (λ id.
             slice_get self.new.directories id ≡ Some (line_text directory)) }
         ensures keeps { OnOk result (Keeps self.old.directories self.new.directories) }
-        ensures err { OnErr result (self.new ≡ self.old) }
-        ensures memory { IfErr result (λ e. e ≡ Error.OutOfMemory) }
     {
         let id = self.tables.add_directory(directory)?;
         Ok(id)
@@ -271,8 +270,8 @@ impl LineProgram {
         requires text { HasNoZero (line_text file) }
         requires not_empty { self.old.encoding.version ≤ 4 → IsNotEmpty (line_text file) }
         requires within { directory < length self.old.directories }
-        ensures ok { OnOk result (self.new
-            ≡ after_file (line_text file, directory) (option_map details info) self.old) }
+        ensures builds { Builds (after_file (line_text file, directory) (option_map details info)
+            self.old) self.old result self.new }
         ensures id { IfOk result (λ id.
             id ≡ index_of_file self.old.files (line_text file, directory)) }
         ensures within { IfOk result (λ id. id < length self.new.files) }
@@ -281,8 +280,6 @@ impl LineProgram {
         ensures keeps { OnOk result (Keeps (keys_of self.old.files) (keys_of self.new.files)) }
         ensures others { IfOk result (λ id. (i : ℕ) → i < length self.old.files → i ≢ id →
             slice_get self.new.files i ≡ slice_get self.old.files i) }
-        ensures err { OnErr result (self.new ≡ self.old) }
-        ensures memory { IfErr result (λ e. e ≡ Error.OutOfMemory) }
     {
         let id = self.tables.add_file(file, directory, info)?;
         Ok(id)
@@ -327,6 +324,7 @@ impl LineProgram {
 impl LineProgram {
     ghost use Rattle.std.specs.Borrow.{sem};
     ghost use Rattle.gimli_build.specs.Calls.{after_begin, after_address, after_row, after_end};
+    ghost use Rattle.gimli_build.specs.Calls.{Builds};
     ghost use Rattle.gimli_build.specs.Conditions.{CanGenerateRow, CanEndSequence, AreBuilt};
     ghost use Rattle.gimli_build.specs.Conditions.{IsProgram};
     ghost use Rattle.gimli_build.specs.Tables.{keys_of, AreTables};
@@ -338,9 +336,7 @@ impl LineProgram {
     pub fn begin_sequence(&mut self, address: Option<Address>) -> Result<()>
         requires program { self.old.is_none ≡ false }
         requires outside { self.old.in_sequence ≡ false }
-        ensures ok { OnOk result (self.new ≡ after_begin address self.old) }
-        ensures err { OnErr result (self.new ≡ self.old) }
-        ensures memory { IfErr result (λ e. e ≡ Error.OutOfMemory) }
+        ensures { Builds (after_begin address self.old) self.old result self.new }
     {
         match address {
             Some(address) => self.set_address(address),
@@ -357,9 +353,7 @@ impl LineProgram {
     /// Fails only with `OutOfMemory`; then nothing changes.
     pub fn set_address(&mut self, address: Address) -> Result<()>
         requires { self.old.is_none ≡ false }
-        ensures ok { OnOk result (self.new ≡ after_address address self.old) }
-        ensures err { OnErr result (self.new ≡ self.old) }
-        ensures memory { IfErr result (λ e. e ≡ Error.OutOfMemory) }
+        ensures { Builds (after_address address self.old) self.old result self.new }
     {
         self.items.push(BuiltItem::SetAddress(address))?;
         self.row = self.row.row_after_address(self.in_sequence);
@@ -399,9 +393,7 @@ impl LineProgram {
     pub fn generate_row(&mut self) -> Result<()>
         requires program { self.old.is_none ≡ false }
         requires can { CanGenerateRow self.old }
-        ensures ok { OnOk result (self.new ≡ after_row self.old.row self.old) }
-        ensures err { OnErr result (self.new ≡ self.old) }
-        ensures memory { IfErr result (λ e. e ≡ Error.OutOfMemory) }
+        ensures { Builds (after_row self.old.row self.old) self.old result self.new }
     {
         self.items.push(BuiltItem::Row(self.row))?;
         self.row.clear();
@@ -430,9 +422,7 @@ impl LineProgram {
     pub fn end_sequence(&mut self, address_offset: u64) -> Result<()>
         requires program { self.old.is_none ≡ false }
         requires can { CanEndSequence self.old address_offset }
-        ensures ok { OnOk result (self.new ≡ after_end address_offset self.old) }
-        ensures err { OnErr result (self.new ≡ self.old) }
-        ensures memory { IfErr result (λ e. e ≡ Error.OutOfMemory) }
+        ensures { Builds (after_end address_offset self.old) self.old result self.new }
     {
         let op_index = self.row.op_index;
         self.items.push(BuiltItem::End {

@@ -1,7 +1,7 @@
 //! Texts of directories and files: in the table itself, or references to `.debug_str` and
 //! `.debug_line_str`.
 
-ghost use Rattle.std.specs.Prelude.{◌≡◌, ◌≢◌, ℕ, List, IfOk, IfErr, OnOk, OnErr, All};
+ghost use Rattle.std.specs.Prelude.{◌≡◌, ◌≢◌, ℕ, List, IfOk, IsOkUnless, OnOk, OnErr, All};
 ghost use Rattle.std.specs.Prelude.{IsTrue, ◌↔◌};
 
 use gimli_bytes::{Error, LineStringId, LineStringTable, Result, StringId, StringTable};
@@ -21,7 +21,7 @@ pub enum LineString {
 
 impl LineString {
     ghost use Rattle.gimli_build.specs.LineText.{line_text, made_text, made_table, IsWithin};
-    ghost use Rattle.gimli_build.specs.LineText.{bytes_in, HasNoZero};
+    ghost use Rattle.gimli_build.specs.LineText.{bytes_in, HasNoZero, IsNotEmpty};
     ghost use Rattle.gimli_bytes.specs.Texts.{KeepsTexts, texts_in};
     ghost use Rattle.gimli_build.specs.Version5Tables.{text_form};
 
@@ -46,7 +46,7 @@ impl LineString {
         ensures no_zero { IfOk result (λ made. HasNoZero (line_text made)) }
         ensures stays { OnOk result (KeepsTexts line_strings.old line_strings.new) }
         ensures err { OnErr result (line_strings.new ≡ line_strings.old) }
-        ensures memory { IfErr result (λ e. e ≡ Error.OutOfMemory) }
+        ensures memory { IsOkUnless result Error.OutOfMemory }
     {
         if encoding.version <= 4 {
             let alloc = *line_strings.allocator();
@@ -54,6 +54,13 @@ impl LineString {
         } else {
             Ok(LineString::LineStringRef(line_strings.add(text)?))
         }
+    }
+
+    /// Whether `new` takes these bytes: none of them is zero, which would end the text.
+    pub fn accepts(text: &[u8]) -> bool
+        ensures { IsTrue result ↔ All (λ b. b ≢ 0) text.now }
+    {
+        has_no_zero(text)
     }
 
     /// The form that the text is written in, in a program of version 5.
@@ -86,6 +93,16 @@ impl LineString {
     {
         match self {
             LineString::String(text) => has_no_zero(text.as_slice()),
+            _ => true,
+        }
+    }
+
+    /// Whether a text in the program itself has a byte, as each text of a table counts to have.
+    pub(crate) fn is_not_empty(&self) -> bool
+        ensures { IsTrue result ↔ IsNotEmpty (line_text self.now) }
+    {
+        match self {
+            LineString::String(text) => !text.is_empty(),
             _ => true,
         }
     }

@@ -10,7 +10,7 @@ ghost use Rattle.gimli_build.specs.Items.{FitsItem, AreFit};
 ghost use Rattle.gimli_build.specs.Built.{position_after};
 ghost use Rattle.gimli_build.specs.Rows.{initial_row, at_position};
 ghost use Rattle.gimli_build.specs.Advance.{CanEncode, IsPosition, CanFollow, operations};
-ghost use Rattle.gimli_build.specs.Due.{when};
+ghost use Rattle.gimli_build.specs.Joined.{when};
 ghost use Rattle.gimli_build.specs.Encode.{marks, changes, is_special_advance, line_opcode};
 ghost use Rattle.gimli_build.specs.Encode.{line_part, row_maker, operation_part, row_instructions};
 ghost use Rattle.gimli_build.specs.InstructionBytes.{instructions_bytes, FitsInstructions};

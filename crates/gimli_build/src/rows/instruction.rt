@@ -8,7 +8,7 @@ ghost use Rattle.gimli_build.specs.InstructionBytes.{
   instructions_bytes,
   set_address_bytes,
 };
-ghost use Rattle.gimli_build.specs.Due.{when};
+ghost use Rattle.gimli_build.specs.Joined.{when};
 ghost use Rattle.gimli_build.specs.inside.ReadAs.{read_as};
 ghost use Rattle.gimli_build.specs.inside.Writes.{Writes, always};
 ghost use Rattle.gimli_line.specs.declared.run.instruction.LineInstruction.TheVariants.{

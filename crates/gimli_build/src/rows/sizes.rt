@@ -7,7 +7,7 @@ ghost use Rattle.gimli_core.specs.Numbers.{is_address_size};
 ghost use Rattle.gimli_bytes.specs.Number.{uleb, sleb};
 ghost use Rattle.gimli_build.specs.Advance.{CanEncode, CanFollow, IsPosition};
 ghost use Rattle.gimli_build.specs.Conditions.{CanBuild, AreBuilt};
-ghost use Rattle.gimli_build.specs.Due.{when};
+ghost use Rattle.gimli_build.specs.Joined.{when};
 ghost use Rattle.gimli_build.specs.Encode.{marks, changes, line_part, line_opcode, operation_part};
 ghost use Rattle.gimli_build.specs.Encode.{row_instructions};
 ghost use Rattle.gimli_build.specs.InstructionBytes.{instruction_bytes, instructions_bytes};

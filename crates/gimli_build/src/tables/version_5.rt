@@ -2,7 +2,8 @@
 //! number.
 
 ghost use Rattle.std.specs.Prelude.{◌≡◌, ◌<◌, ◌≤◌, ◌^◌, true, [], ◌∷◌, ◌++◌, length, map};
-ghost use Rattle.std.specs.Prelude.{if◌then◌else◌, nat_eq, IfOk, IfErr, IfSome, OnOk, OnErr, Ok};
+ghost use Rattle.std.specs.Prelude.{if◌then◌else◌, nat_eq, IfOk, IsOkUnless, IfSome, OnOk, OnErr};
+ghost use Rattle.std.specs.Prelude.{Ok};
 ghost use Rattle.std.specs.Prelude.{Err, Some, None, All, Contains, unwrap_or};
 ghost use Rattle.std.specs.Option.{is_none};
 ghost use Rattle.std.specs.List.{list_any, flat_map};
@@ -19,7 +20,7 @@ ghost use Rattle.gimli_build.specs.Version5Tables.{text_in_form, directory_table
 ghost use Rattle.gimli_build.specs.Version5Tables.{source_bytes, file_entry_bytes};
 ghost use Rattle.gimli_build.specs.Version5Tables.{file_table_bytes};
 ghost use Rattle.gimli_build.specs.WrittenTables.{HaveEmptySource};
-ghost use Rattle.gimli_build.specs.inside.DueFormats.{due_formats};
+ghost use Rattle.gimli_build.specs.inside.Tables.{due_formats};
 ghost use Rattle.gimli_build.specs.inside.EmptySource.{StandsForNone};
 ghost use Rattle.gimli_build.specs.inside.Writes.{Writes, always};
 
@@ -49,7 +50,7 @@ pub(crate) fn add_empty_source(
     ensures line_short { OnOk result (byte_count line_strings.new < 2 ^ 64) }
     ensures strings_kept { OnErr result (strings.new ≡ strings.old) }
     ensures line_strings_kept { OnErr result (line_strings.new ≡ line_strings.old) }
-    ensures memory { IfErr result (λ e. e ≡ OutOfMemory) }
+    ensures memory { IsOkUnless result OutOfMemory }
 {
     let empty = add_empty(empty_form(program), line_strings, strings)?;
     // For the prover alone: a table has no more bytes than memory (`short`, `line_short`).
@@ -85,7 +86,7 @@ fn add_empty(
         IsWithin (texts_in strings.new line_strings.new) (line_text empty)) }
     ensures strings_kept { OnErr result (strings.new ≡ strings.old) }
     ensures line_strings_kept { OnErr result (line_strings.new ≡ line_strings.old) }
-    ensures memory { IfErr result (λ e. e ≡ OutOfMemory) }
+    ensures memory { IsOkUnless result OutOfMemory }
 {
     match form {
         constants::DW_FORM_strp => Ok(LineString::StringRef(strings.add(&[])?)),

@@ -5,7 +5,7 @@ ghost use Rattle.gimli_bytes.specs.Texts.{texts_in};
 ghost use Rattle.gimli_build.specs.LineText.{line_text, IsWithin};
 ghost use Rattle.gimli_build.specs.TableFields.{details};
 ghost use Rattle.gimli_build.specs.Conditions.{CanWrite};
-ghost use Rattle.gimli_build.specs.inside.Writable.{IsFileWritable};
+ghost use Rattle.gimli_build.specs.inside.Tables.{IsFileWritable};
 
 use crate::built::files::{FileInfo, FileTable};
 use crate::built::line_program::LineProgram;

@@ -24,6 +24,7 @@ use specs.convert.Preparation.{tables_of_header}
 use specs.convert.Sources.{ToConvert}
 use specs.convert.Texts.{IsRefusedBy}
 
+-- how far a conversion got
 pub record Conversion : Type 0 where
   pub sections : Sections
   pub source : SourceRun
@@ -52,6 +53,7 @@ pub record Progress : Type 0 where
   pub conversion : Conversion
   pub line_strings : List (List ℕ)
 
+-- a conversion beside these line strings
 abbrev pub beside : List (List ℕ) → Conversion → Progress
 beside line_strings c = record { conversion = c; line_strings = line_strings }
 
@@ -73,12 +75,15 @@ HasWritable p = IsWritable (built_so_far p) p.line_strings
 abbrev pub without_built : TablesAndTexts → TablesAndTexts
 without_built tables = record tables { program = without_items tables.program }
 
+-- those of a conversion, with these line strings
 abbrev pub tables_of : Conversion → List (List ℕ) → TablesAndTexts
 tables_of c line_strings = without_built (tables_with line_strings c.tables)
 
+-- the version of its source
 abbrev pub version_of_source : Conversion → ℕ
 version_of_source c = c.source.header.parameters.encoding.version
 
+-- what is read after a row that is held back: that row first
 abbrev pub after_held : ℕ → TablesAndTexts → Option SourceRow → Reading → Reading
 after_held version tables (Some r) rest = row_or_end_offered version tables r rest
 after_held version tables None rest = rest
@@ -88,6 +93,7 @@ abbrev pub unless_failed : Option ConvertError → Reading → Reading
 unless_failed (Some e) rest = stops e
 unless_failed None rest = rest
 
+-- what the source still has, with these line strings
 abbrev pub source_left : Conversion → List (List ℕ) → Reading
 source_left c line_strings = reading_left c.sections c.source (tables_of c line_strings)
 
@@ -98,6 +104,7 @@ still_to_read c line_strings =
     unless_failed c.failed (address_offered c.address tables
     (after_held (version_of_source c) tables c.held (source_left c line_strings)))
 
+-- the same of one that got so far
 abbrev pub reading_of : Progress → Reading
 reading_of p = still_to_read p.conversion p.line_strings
 

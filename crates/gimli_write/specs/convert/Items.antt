@@ -20,6 +20,7 @@ use specs.declared.convert.rows.ConvertLineRow.TheVariants.{Row}
 
 -- ---- set addresses
 
+-- the address that an instruction sets, if it sets one
 abbrev pub address_operand : Ins → Option ℕ
 address_operand (SetAddressIns a) = Some a
 address_operand i = None
@@ -86,14 +87,17 @@ pub data Reading : Type 0 where
   -- an address, a row or an end, with the tables at its point, and what is read after it
   offers : ConvertLineRow → TablesAndTexts → Reading → Reading
 
+-- an address, if there is one, and what is read after it
 abbrev pub address_offered : Option ℕ → TablesAndTexts → Reading → Reading
 address_offered (Some a) tables rest = offers (SetAddress a) tables rest
 address_offered None tables rest = rest
 
+-- a row, which may be refused, and what is read after it
 abbrev pub row_offered : Result LineRow ConvertError → TablesAndTexts → Reading → Reading
 row_offered (Ok row) tables rest = offers (Row row) tables rest
 row_offered (Err e) tables rest = stops e
 
+-- a row of the source, or an end, and what is read after it
 abbrev pub row_or_end_offered : ℕ → TablesAndTexts → SourceRow → Reading → Reading
 row_or_end_offered version tables r rest =
     if r.row.end_sequence then offers (EndSequence r.address_offset) tables rest
@@ -113,6 +117,7 @@ reading_at parameters tables past i rest =
     then source_row_offered parameters.encoding.version tables (source_row parameters past i) rest
     else rest)
 
+-- what is read at the end of a program, or at the fault that it stops at
 abbrev pub end_reading : Option Error → TablesAndTexts → Reading
 end_reading None tables = ends tables
 end_reading (Some e) tables = stops (Read e)

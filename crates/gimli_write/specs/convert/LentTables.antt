@@ -8,6 +8,7 @@ pub record LentTables : Type 0 where
   pub line_strings : MutBor (List (List ℕ))
   pub strings : MutBor (List (List ℕ))
 
+-- these two
 abbrev pub lent : MutBor (List (List ℕ)) → MutBor (List (List ℕ)) → LentTables
 lent line_strings strings = record { line_strings = line_strings; strings = strings }
 

@@ -169,6 +169,7 @@ pub record IsReadAs (source_version version : ℕ) (file_ids : List ℕ) (source
 abbrev pub keeps_before_5 : ℕ → Header → ℕ → Bool
 keeps_before_5 version h content = nat_le version 4 || has_before_5 content h
 
+-- digests and sources: a program up to version 4 keeps none
 abbrev pub keeps_from_5 : ℕ → Header → ℕ → Bool
 keeps_from_5 version h content = not (nat_le version 4) && has_content content h.file_formats
 

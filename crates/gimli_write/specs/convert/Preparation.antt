@@ -40,6 +40,7 @@ first_path version sections h v =
 
 -- ---- the working directory, which is directory 0
 
+-- its path, for a program of this version
 abbrev pub working_directory : ℕ → Sections → Header → Result (List ℕ) ConvertError
 working_directory version sections h =
     option_map_or (first_path version sections h) (directory_of h 0)
@@ -52,18 +53,21 @@ pub record SourceFile : Type 0 where
   pub directory : Option (List ℕ)
   pub path : List ℕ
 
+-- the path of the directory with this index, unless that is the working directory
 abbrev pub file_directory : ℕ → Sections → Header → ℕ → Result (Option (List ℕ)) ConvertError
 file_directory version sections h index =
     if nat_eq index 0 then Ok None
     else (ok_or (directory_of h index) InvalidDirectoryIndex >>= λ v.
     source_path version sections v >>= λ path. Ok (Some path))
 
+-- the source file of a header, which is this file
 abbrev pub own_source_file : ℕ → Sections → Header → File → Result SourceFile ConvertError
 own_source_file version sections h f =
     file_directory version sections h f.directory_index >>= λ directory.
     first_path version sections h f.path_name >>= λ path.
     Ok (record { directory = directory; path = path })
 
+-- the source file of a name that is handed in
 abbrev pub named_source_file : List ℕ → Result SourceFile ConvertError
 named_source_file name = without_zero name >>= λ path. Ok (record { directory = None; path = path })
 
@@ -71,6 +75,7 @@ named_source_file name = without_zero name >>= λ path. Ok (record { directory =
 abbrev pub name_for : ℕ → Option (List ℕ) → Option (List ℕ)
 name_for source_version name = if nat_le source_version 4 then name else None
 
+-- the one that is handed in, else that of the header
 abbrev pub source_file : ℕ → Sections → Header → Option (List ℕ) → Result SourceFile ConvertError
 source_file version sections h name =
     option_map_or named_source_file (name_for h.parameters.encoding.version name)
@@ -90,6 +95,7 @@ abbrev pub chosen_line_encoding : LineEncoding → Option LineEncoding
 chosen_line_encoding own (Some handed) = Ok handed
 chosen_line_encoding own None = if is_out_of_range own then Err InvalidLineBase else Ok own
 
+-- it, which has no positive line base
 abbrev pub line_encoding_of : LineEncoding → Option LineEncoding → Result LineEncoding ConvertError
 line_encoding_of own handed =
     if int_lt (pos 0) own.line_base then Err InvalidLineBase else chosen_line_encoding own handed
@@ -132,6 +138,7 @@ with_flags h p = record p {
   file_has_source = has_content DW_LNCT_LLVM_source h.file_formats;
 }
 
+-- a program with these texts, which has no row yet
 abbrev pub start_of_program : Encoding → LineEncoding → Header → FirstTexts → Built
 start_of_program encoding line_encoding h texts =
     with_flags h (empty_built false encoding line_encoding
@@ -143,6 +150,7 @@ start_of_program encoding line_encoding h texts =
 abbrev pub first_ids : ℕ → List ℕ
 first_ids source_version = if nat_le source_version 4 then 0 ∷ [] else []
 
+-- the tables of that program, where nothing else of the source is added
 abbrev pub start_of_tables : Encoding → LineEncoding → Header → FirstTexts → TablesAndTexts
 start_of_tables encoding line_encoding h texts = record {
   program = start_of_program encoding line_encoding h texts;
@@ -165,6 +173,7 @@ pub record Handed : Type 0 where
   pub line_encoding : Option LineEncoding
   pub name : Option (List ℕ)
 
+-- these three
 abbrev pub handed_of : Option Encoding → Option LineEncoding → Option (List ℕ) → Handed
 handed_of encoding line_encoding name = record {
   encoding = encoding;

@@ -22,9 +22,11 @@ pub record SequenceRead : Type 0 where
   pub rows : List LineRow
   pub end : ConvertLineSequenceEnd
 
+-- such rows, with their start and their end
 abbrev pub sequence_with : Option ℕ → List LineRow → ConvertLineSequenceEnd → SequenceRead
 sequence_with start rows end = record { start = start; rows = rows; end = end }
 
+-- those that a value of the code holds
 abbrev pub sequence_read : ConvertLineSequence → SequenceRead
 sequence_read s = sequence_with s.start s.rows.items s.end
 

@@ -20,6 +20,7 @@ use specs.convert.Items.{
   with_definition,
 }
 
+-- a point of a source's program
 pub record SourceRun : Type 0 where
   pub header : Header
   -- the registers, ready for the next instruction
@@ -49,9 +50,11 @@ row_made s i =
     let row = step_of s.header.parameters i s.row in
     record { set_address = s.pending; address_offset = row.address - s.base; row = row }
 
+-- the address that offsets count from after an instruction
 abbrev pub base_after : Ins → ℕ → ℕ
 base_after i base = if is_end i then 0 else unwrap_or (address_operand i) base
 
+-- the address that was set after the last point that made a row, after an instruction
 abbrev pub pending_after : Ins → Option ℕ → Option ℕ
 pending_after i pending =
     if makes_row i then None else (elim (address_operand i) [ Some a ↦ Some a | None ↦ pending ])
@@ -88,5 +91,6 @@ reading_upon sections s there =
     let c = decoded_at s.unread.layout s.header s.unread.bytes in
     reading_from sections s there c.0 c.1
 
+-- the same, with tables that aren't refused
 abbrev pub reading_left : Sections → SourceRun → TablesAndTexts → Reading
 reading_left sections s tables = reading_upon sections s (Ok tables)

@@ -1,7 +1,8 @@
 -- The directories and files of a source, as they are added to the program that is built of it.
-use Rattle.std.specs.Prelude.{◌∷◌, ◌++◌}
+use Rattle.std.specs.Prelude.{◌≡◌, ◌∷◌, ◌++◌, ◌&&◌, if◌then◌else◌}
 use Rattle.gimli_write.specs.Prelude
-use Prelude.{ℕ, List, [], Option, Some, option_map, ok_or, slice_get, Result, Ok}
+use Prelude.{ℕ, nat_eq, nat_le, List, [], Option, Some, None, IfSome, option_map, ok_or, slice_get}
+use Prelude.{Result, Ok, file_number}
 use Prelude.{option_map_or, Value, File, made_text, made_table, Built, Sections, ConvertError}
 use Prelude.{InvalidDirectoryIndex}
 use Rattle.gimli_build.specs.Tables
@@ -24,6 +25,7 @@ pub record TablesAndTexts : Type 0 where
   pub file_ids : List ℕ
   pub line_strings : List (List ℕ)
 
+-- tables with these line strings
 abbrev pub tables_with : List (List ℕ) → SourceTables → TablesAndTexts
 tables_with line_strings c = record {
   program = c.program;
@@ -32,6 +34,7 @@ tables_with line_strings c = record {
   line_strings = line_strings;
 }
 
+-- the version of the program that is built
 abbrev pub version_of : TablesAndTexts → ℕ
 version_of tables = tables.program.encoding.version
 
@@ -50,6 +53,7 @@ with_path tables path =
       line_strings = made_table (version_of tables) tables.line_strings path;
     }
 
+-- the tables after a directory of the source
 abbrev pub directory_added : Sections → TablesAndTexts → Value → Result TablesAndTexts ConvertError
 directory_added sections tables v =
     source_path (version_of tables) sections v >>= λ path. Ok (with_path tables path)
@@ -92,6 +96,7 @@ with_parts tables f parts =
       line_strings = option_map_or (after paths) parts.source paths;
     }
 
+-- the tables after a file of the source
 abbrev pub file_added : Sections → TablesAndTexts → File → Result TablesAndTexts ConvertError
 file_added sections tables f =
     file_parts (version_of tables) sections tables.directory_ids f >>= λ parts.
@@ -104,3 +109,17 @@ abbrev pub all_added : {A : Type 0} → (TablesAndTexts → A → Result TablesA
     → List A → TablesAndTexts → Result TablesAndTexts ConvertError
 all_added add [] tables = Ok tables
 all_added add (x ∷ xs) tables = add tables x >>= λ next. all_added add xs next
+
+-- ---- the numbers that the files of a source have once it is converted
+
+-- the number in a program of a version that a file of a source has, by the ids of the source's
+-- files; up to version 4 of the source none has number 0
+abbrev pub written_number : ℕ → ℕ → List ℕ → ℕ → Option ℕ
+written_number source_version version file_ids number =
+    if nat_le source_version 4 && nat_eq number 0 then None
+    else option_map (file_number version) (slice_get file_ids number)
+
+-- each file of the source has its own number
+abbrev pub AreNumbersKept : ℕ → ℕ → List ℕ → Type 0
+AreNumbersKept source_version version file_ids =
+    (n : ℕ) → IfSome (written_number source_version version file_ids n) (λ m. m ≡ n)

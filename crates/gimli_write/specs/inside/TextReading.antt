@@ -5,6 +5,7 @@ use Rattle.gimli_write.specs.Prelude.{ℕ, List, Option, Some, None, Value, File
 abbrev pub HasText : Sections → Value → Type 0
 HasText sections v = (text : List ℕ) × IsText sections v text
 
+-- so does a value that may be missing, if it is there
 abbrev pub HasOptionalText : Sections → Option Value → Type 0
 HasOptionalText sections (Some v) = HasText sections v
 HasOptionalText sections None = Unit {0}

@@ -1,4 +1,3 @@
 pub mod Conversion
 pub mod SourceRun
-pub mod TablesAtEnd
 pub mod Tombstones

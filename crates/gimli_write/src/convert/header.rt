@@ -1,6 +1,6 @@
 //! What is made of the header of a source, before its program is read.
 
-ghost use Rattle.std.specs.Prelude.{◌≡◌, ◌≢◌, All, IfOk, IfErr, IfSome, IsTrue, OnOk};
+ghost use Rattle.std.specs.Prelude.{◌≡◌, ◌≢◌, All, IfOk, IfErr, IsOkUnless, IfSome, IsTrue, OnOk};
 ghost use Rattle.std.specs.Prelude.{[], Ok, None, Some, false, option_map};
 ghost use Rattle.gimli_core.specs.Numbers.{is_address_size};
 ghost use Rattle.gimli_core.specs.Values.{value_seen};
@@ -243,7 +243,7 @@ fn first_program<R: Reader>(
         ≡ (first_texts encoding.version line_strings.old directory.now file.now).line_strings) }
     // However it ends.
     ensures stays { KeepsTexts line_strings.old line_strings.new }
-    ensures memory { IfErr result (λ e. e ≡ ConvertError.OutOfMemory) }
+    ensures memory { IsOkUnless result ConvertError.OutOfMemory }
 {
     let alloc = *line_strings.allocator();
     let working_dir = program_text(directory, encoding, line_strings)?;
@@ -295,7 +295,7 @@ fn first_tables(
     ensures program { IfOk result (λ tables. tables.program ≡ program) }
     ensures directories { IfOk result (λ tables. tables.directory_ids ≡ first_ids source_version) }
     ensures files { IfOk result (λ tables. tables.file_ids ≡ first_ids source_version) }
-    ensures memory { IfErr result (λ e. e ≡ ConvertError.OutOfMemory) }
+    ensures memory { IsOkUnless result ConvertError.OutOfMemory }
 {
     let mut tables = SourceTables {
         program,
@@ -315,7 +315,7 @@ fn add_first(alloc: Global, tables: &mut SourceTables, source_version: u16) -> C
     ensures program { OnOk result (tables.new.program ≡ tables.old.program) }
     ensures directories { OnOk result (tables.new.directory_ids ≡ first_ids source_version) }
     ensures files { OnOk result (tables.new.file_ids ≡ first_ids source_version) }
-    ensures memory { IfErr result (λ e. e ≡ ConvertError.OutOfMemory) }
+    ensures memory { IsOkUnless result ConvertError.OutOfMemory }
 {
     if source_version <= 4 {
         tables.directories.push(tables.program.default_directory())?;

@@ -2,7 +2,7 @@
 
 ghost use Rattle.std.specs.Prelude.{IsTrue, ◌≡◌, ◌↔◌, nat_le, nat_eq, ◌&&◌, ◌||◌};
 ghost use Rattle.gimli_build.specs.FileNumber.{file_number};
-ghost use Rattle.gimli_write.specs.convert.FileNumbers.{written_number, AreNumbersKept};
+ghost use Rattle.gimli_write.specs.convert.SourceTables.{written_number, AreNumbersKept};
 
 use crate::convert::tables::file_at;
 use gimli_build::{FileId, LineProgram};

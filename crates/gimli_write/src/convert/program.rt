@@ -1,6 +1,6 @@
 //! The conversion of a line program, as its callers see it.
 
-ghost use Rattle.std.specs.Prelude.{◌≡◌, false, IfErr, IfOk};
+ghost use Rattle.std.specs.Prelude.{◌≡◌, false, IfErr, IsOkUnless, IfOk};
 ghost use Rattle.gimli_bytes.specs.Texts.{KeepsTexts, texts_in};
 ghost use Rattle.gimli_build.specs.Calls.{after_begin, after_address, after_row, after_end};
 ghost use Rattle.gimli_build.specs.Conditions.{CanEndSequence};
@@ -206,7 +206,7 @@ impl<'a, 'b, R: Reader> ConvertLineProgram<'a, 'b, R, Conversion<R>> {
     pub fn set_address(&mut self, address: Address) -> ConvertResult<()>
         ensures builds { Builds (after_address address (program_of self.old))
             self.old result self.new }
-        ensures memory { IfErr result (λ e. e ≡ ConvertError.OutOfMemory) }
+        ensures memory { IsOkUnless result ConvertError.OutOfMemory }
     {
         self.conversion.tables.set_address(address)
     }

@@ -1,6 +1,7 @@
 //! The directories and files of a source, as they are added to the program that is built of it.
 
-ghost use Rattle.std.specs.Prelude.{◌≡◌, ◌≢◌, ◌≤◌, ℕ, List, [], false, All, IfOk, IfErr, IfSome};
+ghost use Rattle.std.specs.Prelude.{◌≡◌, ◌≢◌, ◌≤◌, ℕ, List, [], false, All, IfOk, IfErr};
+ghost use Rattle.std.specs.Prelude.{IsOkUnless, IfSome};
 ghost use Rattle.std.specs.Prelude.{OnErr, OnOk, Ok, length, map, slice_get, ◌<◌};
 ghost use Rattle.gimli_core.specs.Values.{value_seen};
 ghost use Rattle.gimli_line.specs.header.File.{file_seen};
@@ -154,7 +155,7 @@ impl SourceTables {
         ensures ok { OnOk result (with_parts (tables_with line_strings.old self.old)
             (file_seen R.bytes R.Offset.number file.now) parts.now
             ≡ tables_with line_strings.new self.new) }
-        ensures memory { IfErr result (λ e. e ≡ ConvertError.OutOfMemory) }
+        ensures memory { IsOkUnless result ConvertError.OutOfMemory }
         // However it ends.
         ensures adds { AddsFiles self.old.program self.new.program }
         ensures keeps { KeepsFiles self.old self.new }
@@ -285,7 +286,7 @@ impl SourceTables {
     pub(crate) fn set_address(&mut self, address: Address) -> ConvertResult<()>
         ensures ok { OnOk result
             (self.new ≡ record self.old { program = after_address address self.old.program }) }
-        ensures memory { IfErr result (λ e. e ≡ ConvertError.OutOfMemory) }
+        ensures memory { IsOkUnless result ConvertError.OutOfMemory }
         ensures kept { OnErr result (self.new ≡ self.old) }
     {
         match self.program.set_address(address) {

@@ -1,6 +1,7 @@
 //! The texts of a source that is converted, and those of the program that is built of it.
 
-ghost use Rattle.std.specs.Prelude.{◌≡◌, ◌≢◌, ◌≤◌, ℕ, List, [], All, IfOk, IfErr, IfSome, OnOk, Ok};
+ghost use Rattle.std.specs.Prelude.{◌≡◌, ◌≢◌, ◌≤◌, ℕ, List, [], All, IfOk, IfErr, IsOkUnless};
+ghost use Rattle.std.specs.Prelude.{IfSome, OnOk, Ok};
 ghost use Rattle.std.specs.Prelude.{option_map};
 ghost use Rattle.std.specs.Option.{option_map_or};
 ghost use Rattle.gimli_core.specs.Reading.{result_map};
@@ -117,7 +118,7 @@ pub(crate) fn program_text(
         → IfOk result (λ made. IsNotEmpty (line_text made)) }
     // However it ends.
     ensures stays { KeepsTexts line_strings.old line_strings.new }
-    ensures memory { IfErr result (λ e. e ≡ ConvertError.OutOfMemory) }
+    ensures memory { IsOkUnless result ConvertError.OutOfMemory }
 {
     match LineString::new(text, encoding, line_strings) {
         Ok(made) => Ok(made),
@@ -144,7 +145,7 @@ pub(crate) fn optional_program_text(
     ensures no_zero { IfOk result (λ made. IfSome made (λ made. HasNoZero (line_text made))) }
     // However it ends.
     ensures stays { KeepsTexts line_strings.old line_strings.new }
-    ensures memory { IfErr result (λ e. e ≡ ConvertError.OutOfMemory) }
+    ensures memory { IsOkUnless result ConvertError.OutOfMemory }
 {
     match text {
         Some(text) => Ok(Some(program_text(text.as_slice(), encoding, line_strings)?)),

@@ -2,13 +2,13 @@
 use Rattle.std.specs.Prelude.{◌≡◌, ◌<◌, ◌-◌, ◌&&◌, if◌then◌else◌}
 use Rattle.gimli_write.specs
 use specs.Prelude
-use Prelude.{ℕ, not, List, [], length, IfErr, IfOk, Result, file_seen, Ins, makes_row, Sections}
+use Prelude.{ℕ, not, List, [], Some, length, IfErr, IfOk, Result, file_seen, Ins, makes_row}
+use Prelude.{Sections}
 use Prelude.{ConvertError, SourceRow, SourceStep, Done, More, Defines, Made}
 use Rattle.gimli_line.specs.declared.run.row.LineRow.{LineRow}
 use specs.convert.SourceTables.{TablesAndTexts, file_added}
 use specs.convert.Items.{Reading, ends, defines, source_row_offered, stops}
-use specs.convert.TablesAtEnd.{tables_at_end}
-use specs.inside.convert.TablesAtEnd.{step_tables}
+use specs.convert.TablesAtEnd.{unless_refused, tables_at_end, tables_after_row}
 use specs.convert.SourceRun.{SourceRun, row_made, reading_upon, reading_left}
 
 module _ {R Offset Endian : Type 0} (bytes : R → List ℕ) (number : Offset → ℕ) where
@@ -22,6 +22,18 @@ module _ {R Offset Endian : Type 0} (bytes : R → List ℕ) (number : Offset �
   step_reading sections tables (Made r) s =
       source_row_offered s.header.parameters.encoding.version tables r
       (reading_left sections s tables)
+
+  -- these tables, from a step on after which this state is
+  abbrev pub step_tables : Sections → TablesAndTexts → SourceStep R Endian Offset → SourceRun
+      → TablesAndTexts
+  step_tables sections tables Done s = tables
+  step_tables sections tables More s = tables_at_end sections s tables
+  step_tables sections tables (Defines f) s =
+      unless_refused tables (file_added sections tables (file_seen bytes number f)) (λ next.
+      tables_at_end sections s next)
+  step_tables sections tables (Made r) s =
+      tables_after_row s.header.parameters.encoding.version tables (Some r)
+      (tables_at_end sections s tables)
 
 -- a row that was made, from where addresses count
 abbrev pub source_row : SourceRun → LineRow → SourceRow

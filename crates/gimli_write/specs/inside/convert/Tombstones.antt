@@ -15,6 +15,7 @@ pub record Watched : Type 0 where
   pub gave_row : Bool
   pub unread : Unread
 
+-- the point that a value of the code is at
 abbrev pub watched : {R Endian Offset : Type 0} → Watch R Endian Offset → Watched
 watched w = record { row = w.row; gave_row = w.gave_row; unread = w.instructions }
 

@@ -1,6 +1,6 @@
 use Rattle.std.specs.Prelude.{◌≡◌, ◌<◌}
 use Rattle.gimli_write.proofs.Common.{ℕ, IfSome}
-use Rattle.gimli_write.specs.convert.FileNumbers.{written_number}
+use Rattle.gimli_write.specs.convert.SourceTables.{written_number}
 use Rattle.gimli_write.proofs.convert.numbers.keeps_numbers.Given as goal
 
 abbrev pub invariant-loop-number : goal.invariant-loop-number

@@ -9,7 +9,6 @@ use proofs.reading.ReadBack.{appended-back}
 use proofs.linking.PlacedUnits.{placed-counted, placed-short, is-built, can-write}
 use proofs.linking.FoundTexts.{written-held}
 use proofs.writing.Writes.{refused_or_memory}
-use proofs.refusals.Causes.{cause-is}
 use proofs.built.line_program.LineProgram.write.Goals as goal
 
 told : (unit : Encoding) {own program : Encoding} {answer b : Bool} → own ≡ program
@@ -21,50 +20,50 @@ new-input-requires-clause-can g c = rw (c.in_ok-empty.ensures.tables.strings, c.
     (can-write-after _ _ c.requires)
 
 pub returns-clause-reads_back : goal.returns-clause-reads_back
-returns-clause-reads_back g c = λ keeps_bytes.
-    let contents = g.W.Sink.contents in
-    let is_big = g.W.Sink.is_big c.args.w.now.0 in
-    let p = c.args.self.now in
-    let texts = texts_in c.args.strings.now c.args.line_strings.now in
-    let empty = c.in_ok-empty.ensures in
-    let whole = c.in_ok-write_whole.ensures in
-    let same = empty.tables.strings in
-    let line_same = empty.tables.line_strings in
-    let compatible = told c.args.encoding c.encoding.ensures.encoding c.is_incompatible.ensures
-    c.if-is_incompatible.false in
-    let written =
-    rw (c.new-input.ensures.program, c.new-input.ensures.texts, same, line_same) at (whole.writes.ok keeps_bytes) in
-    let appended : Appends (unit_bytes plain is_big c.args.encoding p texts) (contents c.args.w.now.0)
-    (contents c.write_whole.new.w) = rw compatible written in
-    rw (same, line_same) (appended-back unplaced is_big c.args.encoding p texts _ _ whole.short
-    (rw c.new-input.ensures.program at whole.built) c.requires (rw same at empty.texts)
-    (rw line_same at empty.line_texts)
-    (λ new i d lt. written-held _ (rw same at empty.short) (rw line_same at empty.line_short) _) appended)
-
-pub returns-clause-linked : goal.returns-clause-linked
-returns-clause-linked g c = λ at completes is_placed fit.
-    let is_big = g.W.Sink.is_big c.args.w.now.0 in
-    let p = c.args.self.now in
-    let texts = texts_in c.args.strings.now c.args.line_strings.now in
-    let old = g.W.Sink.completed at c.args.w.now.0 in
-    let new = g.W.Sink.completed at c.write_whole.new.w in
-    let empty = c.in_ok-empty.ensures in
-    let whole = c.in_ok-write_whole.ensures in
-    let same = empty.tables.strings in
-    let line_same = empty.tables.line_strings in
-    let compatible = told c.args.encoding c.encoding.ensures.encoding c.is_incompatible.ensures
-    c.if-is_incompatible.false in
-    let sums : SumsFit at p (texts_after p texts) = rw (same, line_same) at fit in
-    let written = rw (c.new-input.ensures.program, c.new-input.ensures.texts, same, line_same, is_placed) at
-    (whole.writes.completed at completes) in
-    let by_hand : Appends (unit_bytes (placed at) is_big c.args.encoding p texts) old new = rw compatible written in
-    let appended : Appends (unit_bytes (counted at) is_big c.args.encoding (placed_program at p) texts) old new =
-    subst (λ r. Appends r old new) (placed-counted at is_big c.args.encoding p texts sums) by_hand in
-    rw (same, line_same)
-    (appended-back at is_big c.args.encoding (placed_program at p) texts old new (whole.completed_short at completes)
-    (is-built at p (rw c.new-input.ensures.program at whole.built)) (can-write at p texts c.requires)
-    (rw same at empty.texts) (rw line_same at empty.line_texts) (placed-short at is_big c.args.encoding p texts sums)
-    appended)
+returns-clause-reads_back g c = record {
+  written = λ keeps_bytes.
+      let contents = g.W.Sink.contents in
+      let is_big = g.W.Sink.is_big c.args.w.now.0 in
+      let p = c.args.self.now in
+      let texts = texts_in c.args.strings.now c.args.line_strings.now in
+      let empty = c.in_ok-empty.ensures in
+      let whole = c.in_ok-write_whole.ensures in
+      let same = empty.tables.strings in
+      let line_same = empty.tables.line_strings in
+      let compatible = told c.args.encoding c.encoding.ensures.encoding c.is_incompatible.ensures
+      c.if-is_incompatible.false in
+      let written =
+      rw (c.new-input.ensures.program, c.new-input.ensures.texts, same, line_same) at (whole.writes.ok keeps_bytes) in
+      let appended : Appends (unit_bytes plain is_big c.args.encoding p texts) (contents c.args.w.now.0)
+      (contents c.write_whole.new.w) = rw compatible written in
+      rw (same, line_same) (appended-back unplaced is_big c.args.encoding p texts _ _ whole.short
+      (rw c.new-input.ensures.program at whole.built) c.requires (rw same at empty.texts)
+      (rw line_same at empty.line_texts)
+      (λ new i d lt. written-held _ (rw same at empty.short) (rw line_same at empty.line_short) _) appended);
+  linked = λ at completes is_placed fit.
+      let is_big = g.W.Sink.is_big c.args.w.now.0 in
+      let p = c.args.self.now in
+      let texts = texts_in c.args.strings.now c.args.line_strings.now in
+      let old = g.W.Sink.completed at c.args.w.now.0 in
+      let new = g.W.Sink.completed at c.write_whole.new.w in
+      let empty = c.in_ok-empty.ensures in
+      let whole = c.in_ok-write_whole.ensures in
+      let same = empty.tables.strings in
+      let line_same = empty.tables.line_strings in
+      let compatible = told c.args.encoding c.encoding.ensures.encoding c.is_incompatible.ensures
+      c.if-is_incompatible.false in
+      let sums : SumsFit at p (texts_after p texts) = rw (same, line_same) at fit in
+      let written = rw (c.new-input.ensures.program, c.new-input.ensures.texts, same, line_same, is_placed) at
+      (whole.writes.completed at completes) in
+      let by_hand : Appends (unit_bytes (placed at) is_big c.args.encoding p texts) old new = rw compatible written in
+      let appended : Appends (unit_bytes (counted at) is_big c.args.encoding (placed_program at p) texts) old new =
+      subst (λ r. Appends r old new) (placed-counted at is_big c.args.encoding p texts sums) by_hand in
+      rw (same, line_same)
+      (appended-back at is_big c.args.encoding (placed_program at p) texts old new (whole.completed_short at completes)
+      (is-built at p (rw c.new-input.ensures.program at whole.built)) (can-write at p texts c.requires)
+      (rw same at empty.texts) (rw line_same at empty.line_texts) (placed-short at is_big c.args.encoding p texts sums)
+      appended);
+}
 
 pub returns-in_err-write_whole-clause-writes : goal.returns-in_err-write_whole-clause-writes
 returns-in_err-write_whole-clause-writes g c =
@@ -77,23 +76,3 @@ returns-in_err-write_whole-clause-writes g c =
     let refused =
     rw (input.program, input.texts, tables.strings, tables.line_strings) at c.in_err-write_whole.ensures.writes in
     rw (q.1, q.2, compatible) (refused_or_memory refused)
-
-pub returns-clause-cause : goal.returns-clause-cause
-returns-clause-cause g c =
-    cause-is _ c.args.encoding c.args.self.now (texts_in c.args.strings.now c.args.line_strings.now)
-    (c.encoding.ensures.accepted c.requires.program).address_size
-
-pub returns-in_err-write_whole-clause-cause : goal.returns-in_err-write_whole-clause-cause
-returns-in_err-write_whole-clause-cause g c =
-    cause-is _ c.args.encoding c.args.self.now (texts_in c.args.strings.now c.args.line_strings.now)
-    (c.encoding.ensures.accepted c.requires.program).address_size
-
-pub returns-in_err-empty-clause-cause : goal.returns-in_err-empty-clause-cause
-returns-in_err-empty-clause-cause g c =
-    cause-is _ c.args.encoding c.args.self.now (texts_in c.args.strings.now c.args.line_strings.now)
-    (c.encoding.ensures.accepted c.requires.program).address_size
-
-pub returns-then-is_incompatible-clause-cause : goal.returns-then-is_incompatible-clause-cause
-returns-then-is_incompatible-clause-cause g c =
-    cause-is _ c.args.encoding c.args.self.now (texts_in c.args.strings.now c.args.line_strings.now)
-    (c.encoding.ensures.accepted c.requires.program).address_size

@@ -33,7 +33,7 @@ returns-in-Ok-clause-ok g c =
     let path = rw c.encoding-encoding.ensures.encoding at c.in_ok-path.ensures.ok in
     let made = rw (c.encoding-encoding.ensures.encoding, c.as_slice.ensures.value) at c.in_ok-text.ensures.ok in
     let after = rw (c.encoding-encoding.ensures.encoding, c.as_slice.ensures.value) at c.in_ok-text.ensures.table in
-    rw (← c.self.view_is) (directory_done _ tables v path made after c.in-Ok.ensures.ok c.in-Ok.ensures.id
+    rw (← c.self.view_is) (directory_done _ tables v path made after c.in-Ok.ensures.builds.ok c.in-Ok.ensures.id
     c.in_ok-push-in-Ok.ensures.items)
 
 pub returns-in_err-path : goal.returns-in_err-path

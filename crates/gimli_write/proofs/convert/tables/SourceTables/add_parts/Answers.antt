@@ -58,9 +58,9 @@ returns-in_err-source g c =
 pub returns-in-Err : goal.returns-in-Err
 returns-in-Err g c =
     let kept = kept_then c.in_ok-path.ensures.stays c.in_ok-source.ensures.stays in
-    rw (c.in-Err.ensures.err, ← c.self.view_is) (record {
+    rw (c.in-Err.ensures.builds.kept, ← c.self.view_is) (record {
       ok = tt;
-      memory = c.from_write.ensures.memory c.in-Err.ensures.memory;
+      memory = c.from_write.ensures.memory c.in-Err.ensures.builds.memory;
       adds = refl;
       keeps = files_self;
       writable = record { still = λ strings. written_later strings _ _ kept };
@@ -74,14 +74,14 @@ returns-in_err-push-in-Ok g c =
     record {
       ok = rw p.1 tt;
       memory = rw p.1 p.2;
-      adds = rw (← c.self.view_is, c.in-Ok.ensures.ok) refl;
+      adds = rw (← c.self.view_is, c.in-Ok.ensures.builds.ok) refl;
       keeps = rw (← c.self.view_is) (record {
         files = c.in-Ok.ensures.keeps;
         numbers = rw c.in_err-push-in-Ok.ensures.items (record { grows = omega arith; stays = λ i lt. refl });
         directories = refl;
       });
       writable = record {
-        still = λ strings can. moved c.in-Ok.ensures.ok (written_with_parts line_text _ _ _ _ _ _ _
+        still = λ strings can. moved c.in-Ok.ensures.builds.ok (written_with_parts line_text _ _ _ _ _ _ _
             c.in_ok-path.ensures.stays c.in_ok-source.ensures.stays c.in_ok-path.ensures.within
             c.in_ok-source.ensures.within c.in_ok-source.ensures.no_zero
             (moved (ap (λ (t : SourceTables). t.program) c.self.view_is) can));
@@ -103,7 +103,7 @@ returns-in_ok-push-in-Ok-clause-ok g c =
     let source_made = rw c.encoding-encoding.ensures.encoding at c.in_ok-source.ensures.ok in
     let source_after = rw c.encoding-encoding.ensures.encoding at c.in_ok-source.ensures.table in
     rw (← c.self.view_is, ← c.parts.view_is) (parts_done tables f _ made after source_made source_after
-    c.in-Ok.ensures.ok c.timestamp.ensures c.size.ensures c.md5.ensures c.in-Ok.ensures.id
+    c.in-Ok.ensures.builds.ok c.timestamp.ensures c.size.ensures c.md5.ensures c.in-Ok.ensures.id
     c.in_ok-push-in-Ok.ensures.items)
 
 pub returns-in_ok-push-in-Ok-clause-keeps : goal.returns-in_ok-push-in-Ok-clause-keeps
@@ -117,7 +117,7 @@ returns-in_ok-push-in-Ok-clause-keeps g c =
 pub returns-in_ok-push-in-Ok-clause-writable : goal.returns-in_ok-push-in-Ok-clause-writable
 returns-in_ok-push-in-Ok-clause-writable g c =
     record {
-      still = λ strings can. moved c.in-Ok.ensures.ok (written_with_parts line_text _ _ _ _ _ _ _
+      still = λ strings can. moved c.in-Ok.ensures.builds.ok (written_with_parts line_text _ _ _ _ _ _ _
           c.in_ok-path.ensures.stays c.in_ok-source.ensures.stays c.in_ok-path.ensures.within
           c.in_ok-source.ensures.within c.in_ok-source.ensures.no_zero
           (moved (ap (λ (t : SourceTables). t.program) c.self.view_is) can));
@@ -127,7 +127,7 @@ pub returns-in_ok-push-in-Ok-clause-stays : goal.returns-in_ok-push-in-Ok-clause
 returns-in_ok-push-in-Ok-clause-stays g c = kept_then c.in_ok-path.ensures.stays c.in_ok-source.ensures.stays
 
 pub invariant_of-self : goal.invariant_of-self
-invariant_of-self g c = rw c.in-Ok.ensures.ok c.self.invariant
+invariant_of-self g c = rw c.in-Ok.ensures.builds.ok c.self.invariant
 
 pub invariant_of-self-in-Ok : goal.invariant_of-self-in-Ok
-invariant_of-self-in-Ok g c = rw c.in-Ok.ensures.ok c.self.invariant
+invariant_of-self-in-Ok g c = rw c.in-Ok.ensures.builds.ok c.self.invariant

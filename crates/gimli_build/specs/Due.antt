@@ -1,6 +1,0 @@
--- What stands in a list only where it is due.
-use Rattle.std.specs.Prelude.{if◌then◌else◌, ◌∷◌}
-use Rattle.gimli_build.specs.Prelude.{Bool, List, []}
-
-abbrev pub when : {A : Type 0} → Bool → A → List A
-when due x = if due then x ∷ [] else []
