@@ -53,7 +53,9 @@ def at_the_edge(lines):
 
 
 def is_part(block, source):
-    parts = (source[i : i + len(block)] for i in range(len(source)))
+    """Whether a block stands in a source, in code or in a comment of C."""
+    parts = [source[i : i + len(block)] for i in range(len(source))]
+    parts += [[re.sub(r"^ \*( |$)", "", line) for line in part] for part in parts if all(line.startswith(" *") for line in part)]
     return bool(block) and any(part == block or at_the_edge(part) == block for part in parts)
 
 
