@@ -1,5 +1,5 @@
 #!/usr/bin/env python3
-"""Compares what docs/DIFFERENCES.md lists as "Only here" with the sources and with gimli's names.
+"""Compares what docs/explanation/DIFFERENCES.md lists as "Only here" with the sources and with gimli's names.
 
     .ci/only_here.py                  prints what is wrong; the status is then 1
     .ci/only_here.py --names FOLDER   prints gimli's names, from a folder with its sources of this layer
@@ -81,7 +81,7 @@ def here():
 
 def listed():
     """What the page names in code, in all and under "Only here"."""
-    page = open(f"{TOP}/docs/DIFFERENCES.md", encoding="utf8").read()
+    page = open(f"{TOP}/docs/explanation/DIFFERENCES.md", encoding="utf8").read()
     part = page.split("\n## Only here\n")[1].split("\n- `gimli_lookup`")[0]
     # The type after `of` is gimli's.
     return [set(CODE.findall(it)) for it in (page, re.sub(r"\bof\s+`\w+`", "", part))]
@@ -104,13 +104,13 @@ def main(words):
     for name in sorted(own - gimli):
         owner, _, call = name.rpartition("::")
         if (call not in last) and not (owner and owner not in gimli and owner in last):
-            wrong.append(f"docs/DIFFERENCES.md: {name} is public, gimli has no such name, and the page doesn't name it")
+            wrong.append(f"docs/explanation/DIFFERENCES.md: {name} is public, gimli has no such name, and the page doesn't name it")
     for name in sorted(part):
         fits = {it for it in own if it == name or it.endswith(f"::{name}")}
         if not fits:
-            wrong.append(f"docs/DIFFERENCES.md: {name} is listed under \"Only here\", and no public item has that name")
+            wrong.append(f"docs/explanation/DIFFERENCES.md: {name} is listed under \"Only here\", and no public item has that name")
         elif fits <= gimli:
-            wrong.append(f"docs/DIFFERENCES.md: {name} is listed under \"Only here\", and gimli has it too")
+            wrong.append(f"docs/explanation/DIFFERENCES.md: {name} is listed under \"Only here\", and gimli has it too")
     print(*wrong, sep="\n", end="\n" if wrong else "")
     return 1 if wrong else 0
 

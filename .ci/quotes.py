@@ -29,7 +29,7 @@ LIBRARIES = (
     "inflate",
     "debug_files",
 )
-PAGES = ("*.md", "docs/*.md", "crates/*/CALLING.md", "crates/*/data/*.md", "tried/*/README.md", "bindings/*/*.md")
+PAGES = ("*.md", "docs/*/*.md", "crates/*/CALLING.md", "crates/*/data/*.md", "tried/*/README.md", "bindings/*/*.md")
 CODE = ("rust", "antt", "c", "cpp")
 MARK = re.compile(r"<!-- (part of |lines of |items [\w, ]+ of |)(\S+)(?: with (\S+) for (\S+))? -->")
 

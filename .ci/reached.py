@@ -255,10 +255,10 @@ def main(words):
     elif words[:1] == ["--headline"]:
         found = specs.reach({full: full for full in specs.all if full.rpartition(".")[2] in HEADLINE})
         said = "%d definitions of %s lines" % (len(found), format(sum(len(specs.all[full].text) for full in found), ","))
-        with open(os.path.join(TOP, "docs", "PROMISES.md"), encoding="utf8") as file:
+        with open(os.path.join(TOP, "docs", "explanation", "PROMISES.md"), encoding="utf8") as file:
             is_told = said in " ".join(file.read().split())
         if "--check" not in words or not is_told:
-            print(said if "--check" not in words else "docs/PROMISES.md doesn't say that the headline rests on " + said)
+            print(said if "--check" not in words else "docs/explanation/PROMISES.md doesn't say that the headline rests on " + said)
         return 0 if is_told or "--check" not in words else 1
     elif words[:1] == ["--to"]:
         for full in named:

@@ -65,7 +65,7 @@ for file in ${FILES-}; do
 done
 
 if command -v gdb >/dev/null && command -v g++ >/dev/null; then
-    # At -O0 the functions of a class in an unnamed namespace may stand side by side and be all of one line: one run (docs/INDEX.md).
+    # At -O0 the functions of a class in an unnamed namespace may stand side by side and be all of one line: one run (docs/reference/INDEX.md).
     g++ -g -O1 one.cc two.cc -o shared && g++ -g -O1 words.cc -o words || exit 1
     counts "$here/breakpoints.py" gdb shared "$lines" "$ask shared" one.cc:7 two.cc:19 shared.h:23
     counts "$here/breakpoints.py" gdb words "$lines" "$ask words" words.cc:"$(wc -l <words.cc)"
