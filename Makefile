@@ -16,7 +16,7 @@ archive = crates/gimli_c/out/libgimli_c.a
 man = build/lines.1
 version = $(shell sed -n 's/^\#define GIMLI_LINE_VERSION_\(MAJOR\|MINOR\|PATCH\) \([0-9]*\)$$/\2/p' crates/gimli_c/include/gimli_line.h | paste -sd.)
 name = notsimbera-$(version)-x86_64
-pages = README.md CHANGELOG.md LICENSE-APACHE LICENSE-MIT docs/reference/LINES.md docs/reference/INDEX.md
+pages = README.md CHANGELOG.md LICENSE-APACHE LICENSE-MIT docs/reference/LINES.md docs/reference/INDEX.md docs/guide/signal-handler.md docs/guide/look-up-from-c.md
 
 .PHONY: all program library install install-lines install-library uninstall dist
 

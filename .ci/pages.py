@@ -35,7 +35,7 @@ FILE = re.compile(r"`((?![^`]*\b[A-Z]{4,}\b)[\w./-]+\.(?:antt|rt|sh|py|rows))`")
 NAME = re.compile(r"`((?!test_|[0-9a-f_]+`)[A-Za-z_]\w*(?:::\w+)*)`")
 OTHERS = set(
     "BaseId Deref DerefMut RelocateWriter read_u8_array ConvertUnit SHN_ABS SHT_SYMTAB_SHNDX also_shares ADD SET SUB uncompress"
-    " DW_FORM_ DW_LNCT_ DW_LNE_ DW_LNS_ DW_AT_decl_file PT_LOAD dl_iterate_phdr dlpi_addr dlopen backtrace_symbols".split()
+    " DW_FORM_ DW_LNCT_ DW_LNE_ DW_LNS_ DW_AT_decl_file PT_LOAD dl_iterate_phdr dlpi_addr dlopen backtrace_symbols Context find_frames".split()
 )
 CITED = re.compile(r"((?:`[\w:]+`, )*`[\w:]+`)(?:, | \()clauses? (`\w+`(?:(?:, | and )`\w+`)*)")
 
