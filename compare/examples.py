@@ -1,5 +1,5 @@
 #!/usr/bin/env python3
-"""Runs the examples of docs/reference/LINES.md and the blocks of README.md, and compares what they print to the byte.
+"""Runs the examples of docs/reference/LINES.md and JSON.md, and the blocks of README.md, and compares what they print to the byte.
 
     compare/examples.py
 
@@ -49,8 +49,8 @@ def text_of(page):
 
 
 def examples():
-    """The commands of docs/reference/LINES.md, each with what it prints."""
-    for block in BLOCK.findall(text_of("docs/reference/LINES.md")):
+    """The commands of the pages, each with what it prints."""
+    for block in BLOCK.findall(text_of("docs/reference/LINES.md") + text_of("docs/reference/JSON.md")):
         for part in re.split(r"^\$ ", block, flags=re.M)[1:]:
             command, _, output = part.partition("\n")
             yield command, output
@@ -70,7 +70,7 @@ def is_as_written(command, output, folder, environment):
 
 
 def run_page(environment):
-    """Whether each command of docs/reference/LINES.md printed what the page says. Its first one shows the source, which is made so."""
+    """Whether each command of these pages printed what the page says. Its first one shows the source, which is made so."""
     os.mkdir(FOLDER)
     try:
         commands = list(examples())
