@@ -5,9 +5,10 @@
   .ci/pages.py --wrap PAGE..   wraps the prose of pages anew
 
 Refused are, on the pages of NARROW, a line of prose above 100 characters (what stands in a block of code or in a table is
-none) and a cell of a table above 300; on every page a link to a file of the tree, or to a heading, that isn't there, the name
-of a source or a script that no file has, a name in code that no source has, and a clause that a call hasn't (`CALL`, clause
-`NAME`); in ARCHITECTURE.md a line `A <- B, C` from which, with what B and C stand on, A doesn't stand on what crates.txt says; in
+none) and a cell of a table above 300; README.md with more than 600 words; on every page a word of STILTED, in prose, and a link
+to a file of the tree, or to a heading, that isn't there; the name of a source or a script that no file has, a name in code that
+no source has, and a clause that a call hasn't (`CALL`, clause `NAME`); a block of README.md that nothing runs, as
+compare/examples.py runs its commands and its C, and compares what they print; in ARCHITECTURE.md a line `A <- B, C` from which, with what B and C stand on, A doesn't stand on what crates.txt says; in
 CHANGELOG.md a version that neither the header for C nor `lines` has; in CONTRIBUTING.md a limit that isn't that of the scripts,
 or that the tree passes; and in a table whose last column is headed `Run by`, a name there that is neither a row of
 crates/vectors/data/ nor a check of crates/checks (one that begins with `none: ` says why there is none).
@@ -24,7 +25,23 @@ TOP = os.path.dirname(os.path.dirname(os.path.realpath(__file__)))
 PAGES = ("*.md", "docs/*/*.md", "crates/*/*.md", "crates/*/data/*.md", "tried/*.md", "tried/*/*.md", "bindings/*/*.md")
 # The pages whose width is looked at.
 NARROW = ("*.md", "docs/*/*.md", "crates/*/CALLING.md")
-WIDTH, CELL = 100, 300
+WIDTH, CELL, README = 100, 300, 600
+# What an engineer wouldn't say to a colleague, and what to say instead. Prose alone is looked at, and no name of a test.
+STILTED = (
+    (r"\b(?:tells?|told)\b", "says, reports, names or prints"),
+    (r"\banswer(?:s|ed|ing)\b", "returns"),
+    (r"\b(?:made|makes?|making) (?:[\w ]{0,20} )?whole(?: again)?(?=[ .,;:]*$|[,.;:(]| at| again| that| once)", "decompressed"),
+    (r"\bdear(?:er|est)?\b", "expensive"),
+    (r"\banew\b", "again"),
+    (r"\bin the place of\b", "instead of"),
+    (r"\bbeside\b", "next to, with, or compared with"),
+    (r"\bpass(?:es|ed|ing)? over\b", "skips"),
+    (r"\bunsaid\b", "unless stated otherwise"),
+    (r"\b(?:a|the) stroke\b", "a hyphen"),
+    (r"\bbut (?:that|for)\b", "except"),
+    (r"(?:^|[.!?:] |\*)Who [a-z]+(?! \?)", "an actor: the caller, the program, you"),
+    (r"\bmostly\b", "usually, or a number"),
+)
 # What stands together on a line: a piece of code, a link, a name in quotes, a word.
 WORD = re.compile(r"(?:`[^`]*`|!?\[[^\]]*\]\([^)]*\)|\"[^\"]{1,70}\"|\S)+")
 ITEM = re.compile(r"(\s*)([-*+]|\d+[.)])( +)")
@@ -70,6 +87,30 @@ def wide(page):
                 yield f"{page}:{number}: a cell of {longest} characters"
         elif len(line) > WIDTH:
             yield f"{page}:{number}: a line of {len(line)} characters"
+
+
+def stilted(page):
+    """The words of a page that nobody says."""
+    is_named = False
+    for number, line, is_code in lines_of(page):
+        is_table = line.startswith("|") and not is_code
+        is_named = is_table and (is_named or line.rstrip("| ").endswith("| Run by"))
+        line = line.rstrip("| ").rpartition("|")[0] if is_named else line
+        said = re.sub(r"\]\([^)]*\)", "]", re.sub(r"`[^`]*`|\"[^\"]*\"", "`x`", line))
+        for word, better in [] if is_code else STILTED:
+            yield from (f"{page}:{number}: '{it[0].strip()}'; better: {better}" for it in re.finditer(word, said))
+
+
+def unread():
+    """What README.md has too much of, and its blocks that nothing runs."""
+    page = open(os.path.join(TOP, "README.md"), encoding="utf8").read()
+    if len(page.split()) > README:
+        yield f"README.md: {len(page.split())} words; at most {README}"
+    for mark, language, block in re.findall(r"(<!-- [^>]* -->\n)?^```(\w+)\n(.*?)^```$", page, re.M | re.S):
+        # compare/examples.py runs these; what is quoted is a part of a program that it runs, or compiles itself.
+        commands = re.fullmatch(r"(?:(?:gcc [^&\n]* && )?\(cd crates/(?:uses|lines) && rt try -- [^)\n]*\).*\n)+\.ci/test\b.*\n", block)
+        if not (commands if language == "sh" else mark and language in ("c", "rust")):
+            yield f"README.md: compare/examples.py doesn't run the block {block.splitlines()[0]!r}"
 
 
 def headings(page):
@@ -272,11 +313,11 @@ def main(words):
             wrap(os.path.relpath(os.path.realpath(page), TOP))
         return
     narrow = found(NARROW)
-    told = [it for page in narrow for it in wide(page)] + [it for page in found(PAGES) for it in lost(page)]
+    told = [it for page in narrow for it in wide(page)] + [it for page in found(PAGES) for it in [*lost(page), *stilted(page)]]
     ends = files()
     words = words_of_sources() | OTHERS
     told += [it for page in found(NARROW) for it in [*unknown(page, ends), *unnamed(page, words)]]
-    told += [*uncited(found(NARROW)), *untested(found(PAGES)), *misdrawn(), *other_versions(), *other_limits()]
+    told += [*unread(), *uncited(found(NARROW)), *untested(found(PAGES)), *misdrawn(), *other_versions(), *other_limits()]
     print("\n".join(told), end="\n" if told else "")
     sys.exit(1 if told else 0)
 
