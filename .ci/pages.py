@@ -5,13 +5,14 @@
   .ci/pages.py --wrap PAGE..   wraps the prose of pages anew
 
 Refused are, on the pages of NARROW, a line of prose above 100 characters (what stands in a block of code or in a table is
-none) and a cell of a table above 300; README.md with more than 600 words; on every page a word of STILTED, in prose, and a link
-to a file of the tree, or to a heading, that isn't there; the name of a source or a script that no file has, a name in code that
-no source has, and a clause that a call hasn't (`CALL`, clause `NAME`); a block of README.md that nothing runs, as
-compare/examples.py runs its commands and its C, and compares what they print; in ARCHITECTURE.md a line `A <- B, C` from which, with what B and C stand on, A doesn't stand on what crates.txt says; in
-CHANGELOG.md a version that neither the header for C nor `lines` has; in CONTRIBUTING.md a limit that isn't that of the scripts,
-or that the tree passes; and in a table whose last column is headed `Run by`, a name there that is neither a row of
-crates/vectors/data/ nor a check of crates/checks (one that begins with `none: ` says why there is none).
+none) and a cell of a table above 300; README.md with more than 600 words, or a block of it that nothing runs (compare/examples.py
+runs its commands and its C, and compares what they print); on every page a word of STILTED, in prose, and a link to a file of the
+tree, or to a heading, that isn't there; the name of a source or a script that no file has, a name in code that no source has, and
+a clause that a call hasn't (`CALL`, clause `NAME`); in ARCHITECTURE.md a line `A <- B, C` from which, with what B and C stand on,
+A doesn't stand on what crates.txt says; in CHANGELOG.md a version that neither the header for C nor `lines` has; in ROWS.md another
+number of rows than crates/vectors/data has; in CONTRIBUTING.md a limit that isn't that of the scripts, or that the tree passes; and
+in a table whose last column is headed `Run by`, a name there that is neither a row of crates/vectors/data/ nor a check of
+crates/checks (one that begins with `none: ` says why there is none).
 """
 import glob
 import os
@@ -206,6 +207,15 @@ def untested(pages):
             is_asked = bool(cells) and (is_asked or cells[-1] == "Run by")
 
 
+def miscounted():
+    """The rows of test data that crates/vectors/ROWS.md counts, where it counts others."""
+    texts = [open(os.path.join(TOP, it), encoding="utf8").read() for it in found(["crates/vectors/data/*.rows"])]
+    rows = sum(len(re.findall(r"^== ", it, re.M)) for it in texts)
+    page = " ".join(open(os.path.join(TOP, "crates/vectors/ROWS.md"), encoding="utf8").read().split())
+    if f"{rows:,} of them stand in `crates/vectors/data/`, in {len(texts)} files" not in page:
+        yield f"crates/vectors/ROWS.md: crates/vectors/data has {rows:,} rows in {len(texts)} files"
+
+
 def other_versions():
     """The versions of CHANGELOG.md that aren't those of the header for C and of `lines`."""
     page = open(os.path.join(TOP, "CHANGELOG.md"), encoding="utf8").read()
@@ -317,7 +327,7 @@ def main(words):
     ends = files()
     words = words_of_sources() | OTHERS
     told += [it for page in found(NARROW) for it in [*unknown(page, ends), *unnamed(page, words)]]
-    told += [*unread(), *uncited(found(NARROW)), *untested(found(PAGES)), *misdrawn(), *other_versions(), *other_limits()]
+    told += [*unread(), *uncited(found(NARROW)), *untested(found(PAGES)), *misdrawn(), *miscounted(), *other_versions(), *other_limits()]
     print("\n".join(told), end="\n" if told else "")
     sys.exit(1 if told else 0)
 
