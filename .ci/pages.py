@@ -40,7 +40,7 @@ STILTED = (
     (r"\bunsaid\b", "unless stated otherwise"),
     (r"\b(?:a|the) stroke\b", "a hyphen"),
     (r"\bbut (?:that|for)\b", "except"),
-    (r"(?:^|[.!?:] |\*)Who [a-z]+(?! \?)", "an actor: the caller, the program, you"),
+    (r"(?:^|[.!?:] |\*)(?-i:Who [a-z]+)", "an actor: the caller, the program, you"),
     (r"\bmostly\b", "usually, or a number"),
 )
 # What stands together on a line: a piece of code, a link, a name in quotes, a word.
@@ -99,7 +99,7 @@ def stilted(page):
         line = line.rstrip("| ").rpartition("|")[0] if is_named else line
         said = re.sub(r"\]\([^)]*\)", "]", re.sub(r"`[^`]*`|\"[^\"]*\"", "`x`", line))
         for word, better in [] if is_code else STILTED:
-            yield from (f"{page}:{number}: '{it[0].strip()}'; better: {better}" for it in re.finditer(word, said))
+            yield from (f"{page}:{number}: '{it[0].strip()}'; better: {better}" for it in re.finditer(word, said, re.I))
 
 
 def unread():
