@@ -28,7 +28,7 @@ program:
 
 # The archive of `make dist` has the object that is made of it, and no archive.
 library:
-	[ ! -f crates.txt ] || install/fresh gimli_c $(archive) || .ci/library
+	[ ! -f crates.txt ] || install/fresh gimli_c $(archive) || .ci/proof/library
 	$(MAKE) -C crates/gimli_c
 
 $(man): docs/reference/LINES.md docs/reference/JSON.md

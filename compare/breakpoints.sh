@@ -22,7 +22,7 @@ trap 'rm -rf "$work"' EXIT
 ask=${ASK-$work/ask}
 if [ -z "${ASK-}" ]; then
     command -v cc >/dev/null || { echo "breakpoints: passed over: without cc"; exit 0; }
-    [ -f "$crate/out/libgimli_c.a" ] || "$top/.ci/library" >/dev/null
+    [ -f "$crate/out/libgimli_c.a" ] || "$top/.ci/proof/library" >/dev/null
     kit=$(dirname "$(rt doc)")/c
     cc -std=c11 -Wall -Wextra -Werror -O2 -I "$crate/include" -I "$crate/examples/c" "$here/breakpoints/ask.c" "$crate/make/calls.c" \
         "$crate/out/libgimli_c.a" "$kit/liblibc_c.a" -o "$ask" || exit 1

@@ -7,7 +7,7 @@
 # It needs a C compiler, objcopy and addr2line, and a C++ compiler for the one in C++.
 # Where one is missing it says so, and ends well. The examples in Rust are those of bindings/rust.
 #
-# The library is built by .ci/library, and linetool by (cd crates/linetool && rt run -- demo); both are built here where they
+# The library is built by .ci/proof/library, and linetool by (cd crates/linetool && rt run -- demo); both are built here where they
 # aren't there.
 set -eu
 here=$(cd "$(dirname "$0")" && pwd)
@@ -28,7 +28,7 @@ for tool in cc objcopy addr2line; do
     command -v $tool >/dev/null || { echo "gimli_c: not tried, since $tool is missing"; exit 0; }
 done
 library=$crate/out/libgimli_c.a
-[ -f "$library" ] || "$top/.ci/library" >/dev/null
+[ -f "$library" ] || "$top/.ci/proof/library" >/dev/null
 program=$top/crates/linetool/out/linetool
 [ -x "$program" ] || (cd "$top/crates/linetool" && rt run -- demo >/dev/null)
 # The kit's folder: its c/ has the heap that Rattle's allocator calls.

@@ -1,4 +1,4 @@
-"""Breaks a line of a term, in antt or in a clause of .rt, where it is too long (`.ci/columns.py`).
+"""Breaks a line of a term, in antt or in a clause of .rt, where it is too long (`.ci/pages/columns.py`).
 
 A line is broken at the loosest operator that stands in the fewest brackets: before an operator, `then` and `else`, after the
 dot of a λ, `;` and `,`. Where there is none it is broken before an argument, or within the brackets of the last one. A break

@@ -1,12 +1,12 @@
 #!/usr/bin/env python3
 """Lines that fit on a screen: at most 100 characters in src and specs, and at most 120 in proofs.
 
-  .ci/columns.py --check [CRATE..]   lists each line that is longer, and ends with status 1 where there is one
-  .ci/columns.py --write [CRATE..]   lays such lines out, and lists those that it leaves
+  .ci/pages/columns.py --check [CRATE..]   lists each line that is longer, and ends with status 1 where there is one
+  .ci/pages/columns.py --write [CRATE..]   lays such lines out, and lists those that it leaves
 
 Only what is too long is laid out, so a second run changes nothing: the paragraphs of comments are wrapped, a list of imports
 becomes several lines of one module, a text that stands alone is broken by a backslash, and a term, which is a clause of .rt or
-anything of .antt, at its operators (`.ci/terms.py`). `rt fmt` formats the crates that changed. Another longer line of code in
+anything of .antt, at its operators (`.ci/pages/terms.py`). `rt fmt` formats the crates that changed. Another longer line of code in
 .rt is a person's to break.
 
 What a wrong body names by its text (`old:` of an edit) is never broken, and may be longer. A belief may have line breaks: where
@@ -23,7 +23,7 @@ sys.dont_write_bytecode = True
 import pages
 import terms
 
-TOP = os.path.dirname(os.path.dirname(os.path.realpath(__file__)))
+TOP = os.path.dirname(os.path.dirname(os.path.dirname(os.path.realpath(__file__))))
 LIMITS = {"src": 100, "specs": 100, "proofs": 120}
 COMMENT = re.compile(r"(\s*)(///|//!|//|--)(?: |$)")
 TEXT = re.compile(r'(\s*)"((?:[^"\\]|\\.)*)"(,?)')

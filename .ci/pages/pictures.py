@@ -1,8 +1,8 @@
 #!/usr/bin/env python3
 """The pictures of the pages, drawn from data of the tree, into docs/pictures/.
 
-  .ci/pictures.py --write   draws them
-  .ci/pictures.py --check   says which one isn't what the data gives; the status is then 1
+  .ci/pages/pictures.py --write   draws them
+  .ci/pages/pictures.py --check   says which one isn't what the data gives; the status is then 1
 
 layers.svg has the libraries, each above those that it stands on (crates.txt); lookups.svg the instructions of so many lookups, by
 each way of bench/peers/counts.tsv; index.svg the parts of an index, by the tables of docs/reference/INDEX.md.
@@ -13,7 +13,7 @@ import os
 import re
 import sys
 
-TOP = os.path.dirname(os.path.dirname(os.path.realpath(__file__)))
+TOP = os.path.dirname(os.path.dirname(os.path.dirname(os.path.realpath(__file__))))
 FOLDER = "docs/pictures"
 # Where users begin; a picture marks these.
 ENTRIES = ("gimli_line", "gimli_lookup", "gimli_index", "gimli_write", "gimli_c")
@@ -169,7 +169,7 @@ def main(words):
             with open(path, "w", encoding="utf8") as file:
                 file.write(draw())
         elif not os.path.exists(path) or text_of(f"{FOLDER}/{name}") != draw():
-            print(f"{FOLDER}/{name} isn't what its data gives: .ci/pictures.py --write")
+            print(f"{FOLDER}/{name} isn't what its data gives: .ci/pages/pictures.py --write")
             wrong = 1
     return wrong
 

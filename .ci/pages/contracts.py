@@ -1,9 +1,9 @@
 #!/usr/bin/env python3
 """The contracts that the pages CALLING.md quote from the sources of their crates.
 
-  .ci/contracts.py CRATE [CALL..]   prints the contracts of a crate, or of some of its calls
-  .ci/contracts.py --write          puts the contracts, and the files that are quoted whole, into the pages
-  .ci/contracts.py --check          says which page has another text than its source; the status is then 1
+  .ci/pages/contracts.py CRATE [CALL..]   prints the contracts of a crate, or of some of its calls
+  .ci/pages/contracts.py --write          puts the contracts, and the files that are quoted whole, into the pages
+  .ci/pages/contracts.py --check          says which page has another text than its source; the status is then 1
 
 A page names the calls in a comment, and the block of code after it has their contracts:
 
@@ -11,7 +11,7 @@ A page names the calls in a comment, and the block of code after it has their co
 
 A signature and each clause stand as in the source, with two changes: `S` is `self.now` or `self.old`, and `S'` is `self.new`. What
 is longer than a line is broken, and the rest of it stands four columns to the right. The quotes of code are checked too, by
-`.ci/quotes.py`.
+`.ci/pages/quotes.py`.
 """
 import collections
 import glob
@@ -23,7 +23,7 @@ sys.dont_write_bytecode = True
 import quotes
 import terms
 
-TOP = os.path.dirname(os.path.dirname(os.path.realpath(__file__)))
+TOP = os.path.dirname(os.path.dirname(os.path.dirname(os.path.realpath(__file__))))
 WIDTH = 100
 BLOCK = re.compile(r"<!-- contracts of ([^>]*?) -->\n```text\n(.*?)```\n", re.S)
 

@@ -1,7 +1,7 @@
 #!/usr/bin/env python3
 """Prints rows of a file of rows, by their names, with the definitions that they need.
 
-    .ci/chosen_rows.py FILE NAME..
+    .ci/wrong/chosen_rows.py FILE NAME..
 """
 import re
 import sys

@@ -1,11 +1,11 @@
 #!/usr/bin/env python3
 """Compares what docs/explanation/DIFFERENCES.md lists as "Only here" with the sources and with gimli's names.
 
-    .ci/only_here.py                  prints what is wrong; the status is then 1
-    .ci/only_here.py --names FOLDER   prints gimli's names, from a folder with its sources of this layer
+    .ci/pages/only_here.py                  prints what is wrong; the status is then 1
+    .ci/pages/only_here.py --names FOLDER   prints gimli's names, from a folder with its sources of this layer
 
 The names are the public items of gimli_line, gimli_bytes, gimli_build and gimli_write: `Type::call`, or a type, a trait or a
-function alone. gimli's are in .ci/gimli_names.txt. Each that gimli lacks has to be named in code somewhere on the page, by its
+function alone. gimli's are in .ci/pages/gimli_names.txt. Each that gimli lacks has to be named in code somewhere on the page, by its
 last part, unless its type is named there and is only here. Each name that stands under "Only here" has to be in these crates,
 and not in gimli.
 """
@@ -14,9 +14,9 @@ import os
 import re
 import sys
 
-TOP = os.path.dirname(os.path.dirname(os.path.realpath(__file__)))
+TOP = os.path.dirname(os.path.dirname(os.path.dirname(os.path.realpath(__file__))))
 CRATES = ("gimli_line", "gimli_bytes", "gimli_build", "gimli_write")
-NAMES = f"{TOP}/.ci/gimli_names.txt"
+NAMES = f"{TOP}/.ci/pages/gimli_names.txt"
 BLOCK = re.compile(r"^( *)(?:pub )?(?:unsafe )?(impl|trait)\b(.*)")
 CALL = re.compile(r"^( *)(pub )?(?:const )?(?:unsafe )?fn (\w+)")
 ITEM = re.compile(r"^ *pub (?:struct|enum|trait|type) (\w+)")

@@ -1,11 +1,11 @@
 #!/usr/bin/env python3
 """Which definitions of specs/ the clauses of public items reach.
 
-  .ci/reached.py               for each library: its definitions, how many are reached, and how many stand in specs/inside/
-  .ci/reached.py CRATE..       the definitions of these crates that aren't reached and stand elsewhere, and those in specs/inside/ that are
-  .ci/reached.py --from NAME.. what these definitions reach, themselves among it
-  .ci/reached.py --to NAME     a chain from a public item to a definition
-  .ci/reached.py --headline    how many the headline reaches, and their lines; with --check, whether PROMISES says so
+  .ci/proof/reached.py               for each library: its definitions, how many are reached, and how many stand in specs/inside/
+  .ci/proof/reached.py CRATE..       the definitions of these crates that aren't reached and stand elsewhere, and those in specs/inside/ that are
+  .ci/proof/reached.py --from NAME.. what these definitions reach, themselves among it
+  .ci/proof/reached.py --to NAME     a chain from a public item to a definition
+  .ci/proof/reached.py --headline    how many the headline reaches, and their lines; with --check, whether PROMISES says so
 
 A definition is reached where a clause of a public function names it, or a `ghost` line of a public type or trait, or a
 definition that is reached. Names are resolved by the `use` lines of their file. A name that is bound where it stands, and the
@@ -16,7 +16,7 @@ import os
 import re
 import sys
 
-TOP = os.path.join(os.path.dirname(os.path.abspath(__file__)), "..")
+TOP = os.path.join(os.path.dirname(os.path.abspath(__file__)), "../..")
 LIBRARIES = ("gimli_core", "gimli_bytes", "gimli_line", "gimli_lookup", "gimli_index", "gimli_build", "gimli_write", "gimli_c", "gimli_compilation", "inflate", "elf_sections", "debug_files")
 HEAD = re.compile(r"(?:(?:abbrev pub|abbrev|unfoldable pub|pub unfoldable) |(pub record|record|pub data|data) )([^\s{]\S*)")
 USE = re.compile(r"^[ \t]*(?:pub |ghost |pub ghost )?use (Rattle[\w.+]*?)(?:\.\{([^}]*)\})?;?$", re.M)

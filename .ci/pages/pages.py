@@ -1,8 +1,8 @@
 #!/usr/bin/env python3
 """Sees that a person can read the pages.
 
-  .ci/pages.py                 says what is wrong, each with its file and line, and ends with status 1 where something is
-  .ci/pages.py --wrap PAGE..   wraps the prose of pages anew
+  .ci/pages/pages.py                 says what is wrong, each with its file and line, and ends with status 1 where something is
+  .ci/pages/pages.py --wrap PAGE..   wraps the prose of pages anew
 
 Refused are, on the pages of NARROW, a line of prose above 100 characters (what stands in a block of code or in a table is
 none) and a cell of a table above 300; README.md with more than 600 words, or a block of it that nothing runs (compare/examples.py
@@ -22,7 +22,7 @@ import sys
 sys.dont_write_bytecode = True
 import contracts
 
-TOP = os.path.dirname(os.path.dirname(os.path.realpath(__file__)))
+TOP = os.path.dirname(os.path.dirname(os.path.dirname(os.path.realpath(__file__))))
 PAGES = ("*.md", "docs/*/*.md", "crates/*/*.md", "crates/*/data/*.md", "tried/*.md", "tried/*/*.md", "bindings/*/*.md")
 # The pages whose width is looked at.
 NARROW = ("*.md", "docs/*/*.md", "crates/*/CALLING.md")
