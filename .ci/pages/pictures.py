@@ -61,24 +61,56 @@ def all_below(name, below):
     return {it for one in below[name] for it in (one, *all_below(one, below))}
 
 
+def chains(drawn, depth):
+    """The lines of the picture: for each pair of libraries the nodes on its way down. A row between has a node for the line alone."""
+    for name, named in drawn.items():
+        for it in named:
+            yield [name, *(f"{name} {it} {at}" for at in range(depth[name] - 1, depth[it], -1)), it]
+
+
+def placed(rows, ways, width, top, step):
+    """Where each node of the rows stands, the lowest row first: above the middle of those below it, with no two at one place."""
+    below = {}
+    for way in ways:
+        for it, under in zip(way, way[1:]):
+            below.setdefault(it, []).append(under)
+    place = {}
+    for at, names in enumerate(rows):
+        middle = {it: sum(place[one][0] for one in below[it]) / len(below[it]) if it in below else 0 for it in names}
+        names.sort(key=lambda it: (middle[it], it))
+        sizes = [24 if " " in it else width for it in names]
+        gap, x = (780 - sum(sizes)) / len(names), 10
+        for it, size in zip(names, sizes):
+            place[it] = x + (gap + size) / 2, top - step * at
+            x += gap + size
+    return place
+
+
 def layers():
     below = libraries()
     # What another one brings along has no line of its own.
     drawn = {name: [it for it in named if not any(it in all_below(other, below) for other in named)] for name, named in below.items()}
 
-    def depth(name):
-        return 1 + max(map(depth, drawn[name]), default=-1)
+    def depth_of(name):
+        return 1 + max(map(depth_of, drawn[name]), default=-1)
 
-    rows = [[it for it in below if depth(it) == at] for at in range(1 + max(map(depth, below)))]
+    depth = {it: depth_of(it) for it in below}
+    ways = list(chains(drawn, depth))
+    rows = [[it for it in below if depth[it] == at] for at in range(1 + max(depth.values()))]
+    for way in ways:
+        for i, it in enumerate(way[1:-1], 1):
+            rows[depth[way[0]] - i].append(it)
     width, height, step = 150, 36, 90
-    top, place = 40 + step * (len(rows) - 1), {}
-    for at, names in enumerate(rows):
-        middle = {it: sum(place[one][0] for one in drawn[it]) / max(1, len(drawn[it])) for it in names}
-        names.sort(key=lambda it: (middle[it], it))
-        gap = 780 / len(names)
-        place.update({it: (10 + gap * (i + 0.5), top - step * at) for i, it in enumerate(names)})
-    parts = [line(place[it][0], place[it][1] + height, place[one][0], place[one][1]) for it in below for one in drawn[it]]
-    for it, (x, y) in place.items():
+    top = 40 + step * (len(rows) - 1)
+    place, parts = placed(rows, ways, width, top, step), []
+    for way in ways:
+        for it, under in zip(way, way[1:]):
+            (x, y), (to_x, to_y) = place[it], place[under]
+            parts.append(line(x, y + height, to_x, to_y))
+            if " " in under:
+                parts.append(line(to_x, to_y, to_x, to_y + height))
+    for it in below:
+        x, y = place[it]
         parts.append(box(x - width / 2, y, width, height, MARKED if it in ENTRIES else PALE))
         parts.append(text(x, y + 23, it, weight="bold" if it in ENTRIES else "normal"))
     parts.append(text(10, 22, "The libraries, each above those that it stands on. Users begin with one in bold.", anchor="start"))
@@ -111,7 +143,8 @@ def lookups():
     def y(number):
         return bottom - (bottom - top) * (math.log10(number) - low) / (high - low)
 
-    parts = [text(10, 22, "Instructions of so many lookups in one run, from opening on: 129,305 rows, both scales logarithmic", anchor="start")]
+    title = "Instructions of so many lookups in one run, from opening on: 129,305 rows, both scales logarithmic"
+    parts = [text(10, 22, title, anchor="start")]
     for power in range(low, high + 1):
         parts += [line(left, y(10**power), right, y(10**power), "#dddddd"), text(left - 8, y(10**power) + 4, f"10^{power}", 12, "end")]
     for power in range(7):
@@ -142,7 +175,7 @@ def table(page, heading):
 
 def index():
     page = text_of("docs/reference/INDEX.md")
-    parts, width, height = [text(10, 22, "An index, from its first byte to its last; the widths say nothing", anchor="start")], 108, 56
+    parts, width, height = [text(10, 22, "An index, from its first byte to its last; sizes are in bytes", anchor="start")], 108, 56
     for i, (name, size, _) in enumerate(table(page, "Parts")):
         x = 10 + i * (width + 4)
         size = size if size != "as the header says" else "size in the header"
