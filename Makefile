@@ -16,7 +16,7 @@ archive = crates/gimli_c/out/libgimli_c.a
 man = build/lines.1
 version = $(shell sed -n 's/^\#define GIMLI_LINE_VERSION_\(MAJOR\|MINOR\|PATCH\) \([0-9]*\)$$/\2/p' crates/gimli_c/include/gimli_line.h | paste -sd.)
 name = notsimbera-$(version)-x86_64
-pages = README.md CHANGELOG.md LICENSE-APACHE LICENSE-MIT docs/LINES.md docs/INDEX.md
+pages = README.md CHANGELOG.md LICENSE-APACHE LICENSE-MIT docs/reference/LINES.md docs/reference/JSON.md docs/reference/INDEX.md docs/guide/signal-handler.md docs/guide/look-up-from-c.md
 
 .PHONY: all program library install install-lines install-library uninstall dist
 
@@ -28,12 +28,12 @@ program:
 
 # The archive of `make dist` has the object that is made of it, and no archive.
 library:
-	[ ! -f crates.txt ] || install/fresh gimli_c $(archive) || .ci/library
+	[ ! -f crates.txt ] || install/fresh gimli_c $(archive) || .ci/proof/library
 	$(MAKE) -C crates/gimli_c
 
-$(man): docs/LINES.md
+$(man): docs/reference/LINES.md docs/reference/JSON.md
 	mkdir -p build
-	install/man docs/LINES.md > $@
+	install/man $^ > $@
 
 install: install-lines install-library
 

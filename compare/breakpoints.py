@@ -1,5 +1,5 @@
 #!/usr/bin/env python3
-"""Where code of each line of a program begins, worked out here from the rows that llvm-dwarfdump prints, by the rule of docs/INDEX.md.
+"""Where code of each line of a program begins, worked out here from the rows that llvm-dwarfdump prints, by the rule of docs/reference/INDEX.md.
 
     breakpoints.py asked PROGRAM                     a line 'LINE PATH' for each line of each file that has rows, and the one after the last
     breakpoints.py check PROGRAM ASKED ANSWERS       compares the answers to these, each the line that has code and its addresses, or 'none'

@@ -22,7 +22,7 @@ trap 'rm -rf "$work"' EXIT
 ask=${ASK-$work/ask}
 if [ -z "${ASK-}" ]; then
     command -v cc >/dev/null || { echo "breakpoints: passed over: without cc"; exit 0; }
-    [ -f "$crate/out/libgimli_c.a" ] || "$top/.ci/library" >/dev/null
+    [ -f "$crate/out/libgimli_c.a" ] || "$top/.ci/proof/library" >/dev/null
     kit=$(dirname "$(rt doc)")/c
     cc -std=c11 -Wall -Wextra -Werror -O2 -I "$crate/include" -I "$crate/examples/c" "$here/breakpoints/ask.c" "$crate/make/calls.c" \
         "$crate/out/libgimli_c.a" "$kit/liblibc_c.a" -o "$ask" || exit 1
@@ -65,7 +65,7 @@ for file in ${FILES-}; do
 done
 
 if command -v gdb >/dev/null && command -v g++ >/dev/null; then
-    # At -O0 the functions of a class in an unnamed namespace may stand side by side and be all of one line: one run (docs/INDEX.md).
+    # At -O0 the functions of a class in an unnamed namespace may stand side by side and be all of one line: one run (docs/reference/INDEX.md).
     g++ -g -O1 one.cc two.cc -o shared && g++ -g -O1 words.cc -o words || exit 1
     counts "$here/breakpoints.py" gdb shared "$lines" "$ask shared" one.cc:7 two.cc:19 shared.h:23
     counts "$here/breakpoints.py" gdb words "$lines" "$ask words" words.cc:"$(wc -l <words.cc)"

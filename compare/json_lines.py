@@ -1,5 +1,5 @@
 #!/usr/bin/env python3
-"""Holds the JSON of `lines` to the tables of docs/LINES.md, over programs. Outside the gate.
+"""Holds the JSON of `lines` to the tables of docs/reference/JSON.md, over programs. Outside the gate.
 
     compare/json_lines.py [PROGRAM..]
 
@@ -165,15 +165,15 @@ def check_program(program):
 
 
 def other_tables():
-    """The tables of docs/LINES.md that don't have the fields of the forms of their command, or aren't there."""
-    with open(f"{TOP}/docs/LINES.md", encoding="utf8") as file:
+    """The tables of docs/reference/JSON.md that don't have the fields of the forms of their command, or aren't there."""
+    with open(f"{TOP}/docs/reference/JSON.md", encoding="utf8") as file:
         found = re.findall(r"^\| Field of `(\w+)` .*\n\|[-|]+\n((?:\|.*\n)+)", file.read(), re.M)
     tables = {name: set(re.findall(r"`(\w+)`", " ".join(row.split("|")[1] for row in rows.splitlines()))) for name, rows in found}
     for name, forms in FORMS.items():
         forms = FORMS["where"] + FORMS["where -f"] if name == "where" else forms[:1] if name in ("check", "stat", "diff") else forms
         fields = {field for form in forms for field, _ in form} - {"text_bytes"}
         if " " not in name and tables.get(name) != fields:
-            yield f"docs/LINES.md: the fields of `{name}` are {' '.join(sorted(fields))}"
+            yield f"docs/reference/JSON.md: the fields of `{name}` are {' '.join(sorted(fields))}"
 
 
 def made(folder):

@@ -7,7 +7,7 @@ use crate::{CompilationSections, Elf, Sections};
 /// Why a place of an index has no path.
 #[derive(Clone, Copy, Debug, PartialEq, Eq, Hash)]
 pub enum NoPath {
-    /// It couldn't be told when the index was made, for the reason of this number of `docs/INDEX.md`.
+    /// It couldn't be told when the index was made, for the reason of this number of `docs/reference/INDEX.md`.
     Reason(u32),
     /// It isn't inside the index, which is damaged.
     Outside,
@@ -81,7 +81,7 @@ pub struct Addresses {
 }
 
 /// An index: from some addresses on a file, a line and a column, as bytes that are mapped from a file or linked into a program
-/// (`docs/INDEX.md`). Asking takes no memory and writes nothing but its answer: so threads ask one index at once, and a signal
+/// (`docs/reference/INDEX.md`). Asking takes no memory and writes nothing but its answer: so threads ask one index at once, and a signal
 /// handler may.
 ///
 /// ```

@@ -1,4 +1,4 @@
-//! Indexes, which are written here by docs/INDEX.md alone.
+//! Indexes, which are written here by docs/reference/INDEX.md alone.
 
 use gimli_line_proved::{Addresses, Error, Index, NoPath};
 

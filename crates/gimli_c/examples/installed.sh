@@ -25,7 +25,7 @@ declared "$header" | cmp - "$work/shared"
 declared "$header" "$crate/make/proved.h" | cmp - "$work/static"
 # The page of man names each call of the header, and the pages and examples that the header names are there.
 for call in $(cat "$work/shared"); do grep -qw "$call" "$installed/share/man/man3/gimli_line.3" || { echo "man: no $call"; exit 1; }; done
-for page in INDEX.md CALLING.md $(grep -oE 'examples/[a-z]+/[a-z_0-9]+\.c' "$installed/include/gimli_line.h" | sort -u); do
+for page in INDEX.md CALLING.md signal-handler.md look-up-from-c.md CHANGELOG.md $(grep -oE 'examples/[a-z]+/[a-z_0-9]+\.c' "$installed/include/gimli_line.h" | sort -u); do
     [ -s "$installed/share/doc/gimli_line/$page" ] || { echo "share/doc/gimli_line: no $page"; exit 1; }
 done
 

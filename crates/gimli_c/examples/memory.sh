@@ -3,7 +3,7 @@
 # that end at a page that can't be read (guarded.c); many threads over the same sections (directories.c), also under helgrind of valgrind;
 # and indexes (indexes.c): many threads and a signal handler over one, with a malloc that ends the program where a question asks for memory, and
 # indexes with bytes that were changed or cut. Over compiled programs of versions 2 to 5. What a machine lacks is said, and passed over. The
-# archive is that of .ci/library, and make/calls.c is built with each.
+# archive is that of .ci/proof/library, and make/calls.c is built with each.
 set -eu
 here=$(cd "$(dirname "$0")" && pwd)
 crate=$(dirname "$here")

@@ -7,7 +7,7 @@
 # It needs a C compiler, objcopy and addr2line, and a C++ compiler for the one in C++.
 # Where one is missing it says so, and ends well. The examples in Rust are those of bindings/rust.
 #
-# The library is built by .ci/library, and linetool by (cd crates/linetool && rt run -- demo); both are built here where they
+# The library is built by .ci/proof/library, and linetool by (cd crates/linetool && rt run -- demo); both are built here where they
 # aren't there.
 set -eu
 here=$(cd "$(dirname "$0")" && pwd)
@@ -18,9 +18,9 @@ top=$(cd "$crate/../.." && pwd)
 diff <(sed '/define GIMLI_LINE_NO_PATHS/,/^$/d' "$crate/include/gimli_line.h" | grep -oE '^ +X\([A-Z0-9_]+, [0-9]+|GIMLI_LINE_[A-Z0-9_]+ = [0-9]+' |
     sed -E 's/^ *(GIMLI_LINE_|X\()([A-Z0-9_]+)( =|,) ([0-9]+)/\2 \4/') \
     <(cd "$crate/src" && sed -nE 's/^pub const ([A-Z0-9_]+): u[0-9]+ = ([0-9]+);/\1 \2/p' status.rt row.rt file.rt check.rt)
-# Those of the reasons why a place has no path, and what they say, are those of docs/INDEX.md.
+# Those of the reasons why a place has no path, and what they say, are those of docs/reference/INDEX.md.
 diff <(sed -nE '/define GIMLI_LINE_NO_PATHS/,/^$/s/^ +X\([A-Z_]+, ([0-9]+), "(.*)"\).*/| \1 | \2 |/p' "$crate/include/gimli_line.h") \
-    <(sed -nE '/^\| Number \| Why \|/,/^$/s/^(\| [0-9]+ \| [^(|]*[^(| ]).* \|$/\1 |/p' "$top/docs/INDEX.md")
+    <(sed -nE '/^\| Number \| Why \|/,/^$/s/^(\| [0-9]+ \| [^(|]*[^(| ]).* \|$/\1 |/p' "$top/docs/reference/INDEX.md")
 # So is its version.
 [ "$(sed -nE 's/^#define GIMLI_LINE_VERSION_[A-Z]+ ([0-9]+)$/\1/p' "$crate/include/gimli_line.h" | awk '{v = v * 100 + $1} END {print v}')" = \
     "$(sed -nE 's/^pub const VERSION: u32 = ([0-9]+);/\1/p' "$crate/src/version.rt")" ]
@@ -28,7 +28,7 @@ for tool in cc objcopy addr2line; do
     command -v $tool >/dev/null || { echo "gimli_c: not tried, since $tool is missing"; exit 0; }
 done
 library=$crate/out/libgimli_c.a
-[ -f "$library" ] || "$top/.ci/library" >/dev/null
+[ -f "$library" ] || "$top/.ci/proof/library" >/dev/null
 program=$top/crates/linetool/out/linetool
 [ -x "$program" ] || (cd "$top/crates/linetool" && rt run -- demo >/dev/null)
 # The kit's folder: its c/ has the heap that Rattle's allocator calls.
@@ -226,7 +226,7 @@ if "$work/addr2line" "$work/refused" >"$work/answer" 2>"$work/said"; then exit 1
 cmp "$work/rows" "$work/answer"
 [ "$(cat "$work/said")" = "unit at 0: the version of a unit is none of 2 to 5" ]
 directories=$("$work/directories")
-echo "gimli_c: an index that was written by docs/INDEX.md alone is read as it was written"
+echo "gimli_c: an index that was written by docs/reference/INDEX.md alone is read as it was written"
 echo "gimli_c: $directories answers on directories, paths and lines are as made by hand"
 echo "gimli_c: $mapped places by indexes that make_index made are addr2line's, and each index has its program's build id"
 echo "gimli_c: $begins addresses of lines by those indexes have these lines by addr2line too"

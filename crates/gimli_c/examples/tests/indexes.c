@@ -1,4 +1,4 @@
-/* Indexes as threads, signal handlers and damaged files ask them. The indexes are written here, by docs/INDEX.md alone.
+/* Indexes as threads, signal handlers and damaged files ask them. The indexes are written here, by docs/reference/INDEX.md alone.
  *
  *   indexes            prints how many questions were answered as they had to be
  *   indexes FILE       writes a small index to the file, of the ranges that index.c is asked for by run.sh
@@ -30,7 +30,7 @@ void *malloc(size_t size) {
 }
 #endif
 
-/* ---- an index, by docs/INDEX.md */
+/* ---- an index, by docs/reference/INDEX.md */
 
 static void put(bytes *index, uint64_t number, size_t size) {
     for (size_t i = 0; i < size; i++) index->at[index->length++] = (uint8_t)(number >> 8 * i);
