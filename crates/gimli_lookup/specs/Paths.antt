@@ -9,7 +9,7 @@ use Rattle.gimli_core.specs.Reading.{result_map}
 use Rattle.gimli_line.specs.declared.run.row.LineRow.{LineRow}
 use Rattle.gimli_line.specs.header.File.{File}
 use Rattle.gimli_line.specs.header.Header.{Header, directory_of, file_of}
-use Rattle.gimli_lookup.specs.Strings.{Strings, string_of}
+use Rattle.gimli_lookup.specs.Strings.{Strings, has_no_bytes, string_of}
 use Rattle.gimli_lookup.specs.declared.path_error.PathError.{PathError}
 use Rattle.gimli_lookup.specs.declared.path_error.PathError.TheVariants.{
   InvalidDirectoryIndex,
@@ -104,11 +104,6 @@ abbrev pub row_path : Paths → LineRow → Result (List ℕ) PathError
 row_path p r = option_map_or (file_path p) (file_of p.header r.file) (Err (InvalidFileIndex r.file))
 
 -- ---- what can be said of a whole path
-
--- whether a string can be read and has no bytes
-abbrev pub has_no_bytes : Result (List ℕ) PathError → Bool
-has_no_bytes (Ok string) = nat_eq (length string) 0
-has_no_bytes (Err e) = false
 
 -- whether the caller's directory counts: directory 0 has no bytes
 abbrev pub needs_directory : Paths → Bool

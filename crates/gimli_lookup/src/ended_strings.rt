@@ -229,8 +229,7 @@ impl<R: Reader> EndedStrings<R> {
         ensures { result ≡ needs_directory
             (paths_in (strings R.bytes self.now) header.now.meaning None) }
     {
-        strings_end_alike();
-        Paths::new(header, self.sections.ended, None).needs_directory()
+        Paths::new(header, self.sections.whole, None).needs_directory()
     }
 
     /// The whole path of a file, by the directory of its compilation where that is known. Refused
