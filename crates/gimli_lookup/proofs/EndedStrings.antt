@@ -25,7 +25,7 @@ use Rattle.gimli_lookup.specs.Paths.{path_in, unwritten_directory, written_or, i
 use Rattle.gimli_lookup.specs.Strings.{Strings, front_string, string_at, string_of, HasNoStringEnd, IsStringAt}
 use Rattle.gimli_lookup.specs.declared.path_error.PathError.{PathError}
 use Rattle.gimli_lookup.specs.declared.path_error.PathError.TheVariants.{StringOffsetOutOfBounds, UnterminatedString}
-use Rattle.gimli_lookup.specs.inside.EndedStrings.{paths_in, AreEnded, IsEnded}
+use Rattle.gimli_lookup.specs.inside.Paths.{paths_in, AreEnded, IsEnded}
 
 -- ---- strings of a section
 

@@ -22,6 +22,7 @@ use Rattle.gimli_lookup.specs.declared.path_error.PathError.TheVariants.{
 abbrev pub is_separator : ℕ → Bool
 is_separator byte = nat_eq byte 0x2f || nat_eq byte 0x5c
 
+-- whether a path begins with a separator
 abbrev pub begins_with_separator : List ℕ → Bool
 begins_with_separator [] = false
 begins_with_separator (byte ∷ path) = is_separator byte
@@ -32,6 +33,7 @@ begins_with_drive (letter ∷ colon ∷ path) =
     is_ascii_alphabetic letter && nat_eq colon 0x3a && begins_with_separator path
 begins_with_drive path = false
 
+-- whether a path goes on from no directory: it begins with a separator or a drive
 abbrev pub is_absolute : List ℕ → Bool
 is_absolute path = begins_with_separator path || begins_with_drive path
 

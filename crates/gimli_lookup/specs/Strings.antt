@@ -27,6 +27,7 @@ use Rattle.gimli_lookup.specs.declared.string_sections.StringSections.{StringSec
 abbrev pub Strings : Type 0
 Strings = StringSections (List ℕ)
 
+-- the bytes of sections that are readers
 abbrev pub strings : {R : Type 0} → (R → List ℕ) → StringSections R → Strings
 strings bytes sections = record {
   debug_line_str = bytes sections.debug_line_str;
@@ -40,6 +41,7 @@ front_string [] = Err StringOffsetOutOfBounds
 front_string (byte ∷ bytes) =
     result_map_both (λ string. string) (λ e. UnterminatedString) (text_at (byte ∷ bytes)).0
 
+-- the string of a section at an offset
 abbrev pub string_at : List ℕ → ℕ → Result (List ℕ) PathError
 string_at section offset = front_string (drop offset section)
 

@@ -1,7 +1,7 @@
 use Rattle.std.proofs.Common.{ap, None, ◌∙◌}
 use Rattle.gimli_lookup.specs.Paths.{needs_directory}
 use Rattle.gimli_lookup.specs.Strings.{strings}
-use Rattle.gimli_lookup.specs.inside.EndedStrings.{paths_in}
+use Rattle.gimli_lookup.specs.inside.Paths.{paths_in}
 use Rattle.gimli_lookup.proofs.ended_strings.EndedStrings.need_directory.Goals as goal
 
 pub returns : goal.returns
