@@ -1,10 +1,10 @@
 -- What a look-up in a unit's program returns.
-use Rattle.std.specs.Prelude.{◌≡◌, ◌⊎◌, ℕ, List, All}
+use Rattle.std.specs.Prelude.{◌≡◌, ◌⊎◌, ℕ, List, None, Some}
 use Rattle.gimli_core.specs.declared.error.Error.{Error}
 use Rattle.gimli_line.specs.declared.run.row.LineRow.{LineRow}
 use Rattle.gimli_line.specs.header.Header.{Header}
 use Rattle.gimli_line.specs.run.Sequences.{HasFirstFault}
-use Rattle.gimli_lookup.specs.FirstPair.{HasNoPair, IsFirstPair}
+use Rattle.gimli_lookup.specs.FirstPair.{first_pair_of}
 use Rattle.gimli_lookup.specs.Run.{AreRowsOfSequences}
 use Rattle.gimli_c.specs.declared.row.GimliRow.{GimliRow}
 use Rattle.gimli_c.specs.Location.{Location, layout_at, HasUnit, HasNoUnit}
@@ -24,7 +24,7 @@ pub record GivesPair (p : Location) (address : ℕ) (first second : GimliRow) : 
   pub sequences : HasSequences p rows
   pub x : LineRow
   pub y : LineRow
-  pub is_first : IsFirstPair address rows x y
+  pub is_first : first_pair_of address rows ≡ Some (x, y)
   pub first_is : first ≡ row_seen x
   pub second_is : second ≡ row_seen y
 
@@ -32,7 +32,7 @@ pub record GivesPair (p : Location) (address : ℕ) (first second : GimliRow) : 
 pub record GivesNoPair (p : Location) (address : ℕ) : Type 0 where
   pub rows : List (List LineRow)
   pub sequences : HasSequences p rows
-  pub none : All (HasNoPair address) rows
+  pub none : first_pair_of address rows ≡ None
 
 -- the run of the unit's program has a fault, and this is the number of the first
 pub record HasFault (p : Location) (status : ℕ) : Type 0 where

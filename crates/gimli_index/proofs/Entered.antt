@@ -10,8 +10,9 @@ use Rattle.std.proofs.lemmas.List.Elements.{All-push}
 use Rattle.std.proofs.lemmas.List.Sums.{fold-append}
 use Rattle.std.proofs.lemmas.Option.{slice_get_within, slice_get-map}
 use Rattle.gimli_line.specs.declared.run.row.LineRow.{LineRow}
-use Rattle.gimli_lookup.specs.Ranges.{IsBefore, IsFoundAt, AreFoundIn}
-use Rattle.gimli_lookup.specs.Section.{KeptUnit}
+use Rattle.gimli_lookup.specs.Ranges.{IsBefore, AreFoundIn}
+use Rattle.gimli_lookup.specs.inside.FirstPair.{IsFoundAt}
+use Rattle.gimli_lookup.specs.Section.{KeptUnit, found_at}
 use Rattle.gimli_lookup.specs.declared.ranges.CoveredRange.{CoveredRange}
 use Rattle.gimli_lookup.specs.declared.section_lookup.CoveringRows.{CoveringRows}
 use Rattle.gimli_index.specs.Contents.{HasColumn, entry_start}
@@ -24,8 +25,8 @@ use Rattle.gimli_index.specs.declared.contents.SourceLine.{SourceLine}
 use Rattle.gimli_index.specs.Short.{IsShort}
 use Rattle.gimli_index.specs.inside.Table.{Table, AreSources, Entered, IsInside, IsPushed, Keeps, SayTheSame, last_said}
 use Rattle.gimli_index.specs.inside.Table.{place_in, starts_in, with_table}
+use Rattle.gimli_lookup.proofs.FirstPairs.{found_stands}
 use Rattle.gimli_index.proofs.CodeRows.{code_before}
-use Rattle.gimli_index.proofs.OneFound.{one_found}
 use Rattle.gimli_index.proofs.Lists.{get_pushed, get_seam}
 use Rattle.gimli_index.proofs.Sources.{inside_stays, place_stays, same_places, say_the_same}
 
@@ -84,7 +85,7 @@ none_entered t units table are = record {
   ascending = λ i j x y lt first second. absurd cc;
   columns = λ k d within. absurd (omega (arith, within));
   short = record { first = λ s there. absurd cc; merged = λ k s u first second. absurd cc };
-  says = λ a found before is. absurd (omega (arith, before));
+  says = λ a before. absurd (omega (arith, before));
 }
 
 pub same_starts : (old new : Table) (entries : List Entry)
@@ -114,10 +115,10 @@ still_entered t units old new entries from h keeps are = record {
       (sym (same_starts old new entries (λ k e there.
       place_stays t units old new e.place h.are keeps (h.inside k e there))))
       h.short;
-  says = λ a found before is.
+  says = λ a before.
       ap (place_at a) (same_starts old new entries (λ k e there.
       place_stays t units old new e.place h.are keeps (h.inside k e there)))
-      ∙ h.says a found before is;
+      ∙ h.says a before;
 }
 
 before_end : (a start : ℕ) (end : Option ℕ) → a < start → IfSome end (λ e. start < e) → IsBefore a end
@@ -185,9 +186,9 @@ module _ (t : Texts) (units : List KeptUnit) {limit : ℕ} (table : Table) (entr
   entry = record { address = range.start; place = place }
 
   -- what is found from the start on
-  from_start : (a : ℕ) (f : Option CoveringRows) → range.start ≤ a → IsBefore a range.end → IsFoundAt units a f
-      → place_in table place ≡ found_place t units f
-  from_start a f le before is = says ∙ ap (found_place t units) (one_found a units range.rows f (found a le before) is)
+  from_start : (a : ℕ) → range.start ≤ a → IsBefore a range.end
+      → place_in table place ≡ found_place t units (found_at a units)
+  from_start a le before = says ∙ ap (found_place t units) (found a le before)
 
   -- the last of the entries is inside
   last_inside : IsInside table (last_said entries)
@@ -222,15 +223,15 @@ module _ (t : Texts) (units : List KeptUnit) {limit : ℕ} (table : Table) (entr
         (short_push (starts_in table entries) (entry_start (with_table table) entry) h.short
         (λ same. other (say_the_same t units table (last_said entries) place h.are last_inside inside
         (sym (last_place_is table entries) ∙ same))));
-    says = λ a f before is. at_pushed table a entries entry ∙ elim (cases_lt a range.start) [
+    says = λ a before. at_pushed table a entries entry ∙ elim (cases_lt a range.start) [
       | inl low ↦
           cond-false (leb range.start a) (place_in table place) (place_at a (starts_in table entries))
           (lt-leb range.start a low)
-          ∙ h.says a f low is
+          ∙ h.says a low
       | inr high ↦
           cond-true (leb range.start a) (place_in table place) (place_at a (starts_in table entries))
           (le-leb range.start a high)
-          ∙ from_start a f high before is
+          ∙ from_start a high before
     ];
   }
     where
@@ -250,11 +251,11 @@ module _ (t : Texts) (units : List KeptUnit) {limit : ℕ} (table : Table) (entr
     ascending = h.ascending;
     columns = h.columns;
     short = h.short;
-    says = λ a f before is. elim (cases_lt a range.start) [
-      | inl low ↦ h.says a f low is
+    says = λ a before. elim (cases_lt a range.start) [
+      | inl low ↦ h.says a low
       | inr high ↦
           at_end table a entries (λ k e there. let low = h.below k e there in omega (arith, low, high)) ∙ same
-          ∙ from_start a f high before is
+          ∙ from_start a high before
     ];
   }
 
@@ -264,12 +265,18 @@ module _ (t : Texts) (units : List KeptUnit) {limit : ℕ} (table : Table) (entr
       subst (λ (es : List Entry). Entered t units limit table es range.end) (sym is.0)
       (same_said (same_places table (last_said entries) place is.1))
 
+stands_at : (units : List KeptUnit) (a : ℕ) (found : Option CoveringRows) → found ≡ found_at a units
+    → IsFoundAt units a found
+stands_at units a found is = subst (IsFoundAt units a) (sym is) (found_stands a units)
+
 -- what is found in a range stands in a sequence
 pub rows_found : (units : List KeptUnit) (range : CoveredRange) → IfSome range.end (λ e. range.start < e)
     → AreFoundIn units range
     → IfSome range.rows (AreFound units)
 rows_found units range above found =
-    by_rows range.rows (found range.start (omega arith) (start_before range.start range.end above))
+    by_rows range.rows
+    (stands_at units range.start range.rows
+    (found range.start (omega arith) (start_before range.start range.end above)))
   where
     by_rows : (rows : Option CoveringRows) → IsFoundAt units range.start rows → IfSome rows (AreFound units)
     by_rows None none = tt
@@ -289,7 +296,9 @@ pub unit_within : (units : List KeptUnit) (range : CoveredRange) → IfSome rang
     → AreFoundIn units range
     → IfSome range.rows (λ f. f.unit < length units)
 unit_within units range above found =
-    by_rows range.rows (found range.start (omega arith) (start_before range.start range.end above))
+    by_rows range.rows
+    (stands_at units range.start range.rows
+    (found range.start (omega arith) (start_before range.start range.end above)))
   where
     by_rows : (rows : Option CoveringRows) → IsFoundAt units range.start rows → IfSome rows (λ f. f.unit < length units)
     by_rows None none = tt

@@ -7,7 +7,6 @@ mod Numerals
 mod Slices
 mod ReadBack
 mod Puts
-mod OneFound
 mod LastComponents
 mod Once
 mod LineStatements

@@ -5,7 +5,7 @@ use Rattle.std.specs.List.{filter, list_any, range_with_len}
 use Rattle.std.specs.Option.{option_map_or}
 use Rattle.std.proofs.lemmas.Bool.{false≢true}
 use Rattle.gimli_lookup.specs.Statements.{ascending_once, HasNoLine, IsFirstLine}
-use Rattle.gimli_lookup.specs.inside.StatementLines.{IsFirstWith}
+use Rattle.gimli_lookup.specs.inside.Statements.{IsFirstWith}
 use Rattle.gimli_lookup.proofs.AscendingOnce.{ascending_once_some}
 use Rattle.gimli_index.specs.Lines.{addresses_in, addresses_of, is_of, without_repeats}
 use Rattle.gimli_index.specs.Meaning.{Statement, statement_at}

@@ -16,11 +16,11 @@ use Rattle.std.proofs.lemmas.List.Sorted.{IsNonDecreasingBy-from_default}
 use Rattle.std.proofs.lemmas.Slice.Eq.{bytes_eq-Decides}
 use Rattle.gimli_core.specs.Numbers.{le_value}
 use Rattle.gimli_lookup.specs.Components.{components}
-use Rattle.gimli_lookup.specs.inside.StatementLines.{IsFirstWith}
+use Rattle.gimli_lookup.specs.inside.Statements.{IsFirstWith}
 use Rattle.gimli_index.specs.Header.{highest_base, size_of, statement_size}
 use Rattle.gimli_index.specs.Lines.{addresses_of, begins_with, is_named, is_of, without_repeats}
 use Rattle.gimli_index.specs.Meaning.{Statement, path_of, source_at, statement_at, statement_from, statements_of}
-use Rattle.gimli_index.specs.Numbers.{number_at}
+use Rattle.gimli_index.specs.Header.{number_at}
 use Rattle.gimli_index.specs.Order.{key_of, last_number, name_at, path_number, rank_of, IsOrdered}
 use Rattle.gimli_index.specs.Parts.{Index}
 use Rattle.gimli_index.specs.declared.header.StartSize.{StartSize}

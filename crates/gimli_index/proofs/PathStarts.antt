@@ -4,7 +4,7 @@ use Rattle.std.proofs.Common.{sym, ap, subst, arith}
 use Rattle.std.specs.List.{slice_split}
 use Rattle.gimli_lookup.specs.Paths.{is_separator}
 use Rattle.gimli_lookup.specs.Components.{resolved, with_component}
-use Rattle.gimli_lookup.specs.inside.Components.{up_by}
+use Rattle.gimli_lookup.specs.inside.Paths.{up_by}
 use Rattle.gimli_lookup.proofs.ComponentLists.{up_by_root, up_by_nothing}
 use Rattle.std.proofs.lemmas.List.Splits.{slice_split_none}
 use Rattle.gimli_index.proofs.LastComponents.{HaveNoSeparator}

@@ -11,8 +11,8 @@ use Rattle.std.proofs.lemmas.Bool.Decides.{nat_tests}
 use Rattle.std.proofs.lemmas.Option.{slice_get_cases, slice_get_within}
 use Rattle.std.proofs.lemmas.List.Elements.{All-get_or}
 use Rattle.gimli_core.specs.Numbers.{is_address_size, le_value}
-use Rattle.gimli_index.specs.Numbers.{number_at}
-use Rattle.gimli_index.specs.Steps.{◌>>=◌}
+use Rattle.gimli_index.specs.Header.{number_at}
+use Rattle.gimli_index.specs.Header.{◌>>=◌}
 use Rattle.gimli_index.specs.Header.{size_of, statement_size, highest_base, address_size_of, start_size_of, base_of}
 use Rattle.gimli_index.specs.Header.{fields_at}
 use Rattle.gimli_index.specs.Header.{header_at}

@@ -12,11 +12,11 @@ use Rattle.std.proofs.lemmas.List.Elements.{Contains-append_left, Contains-appen
 use Rattle.std.proofs.lemmas.List.Sorted.{All-permutation, Contains-permutation, IsPermutation-map}
 use Rattle.std.proofs.lemmas.Option.{get_or_from_slice_get, slice_get_within, slice_get-map}
 use Rattle.gimli_line.specs.declared.run.row.LineRow.{LineRow}
-use Rattle.gimli_lookup.specs.FirstPair.{HasNoPair}
+use Rattle.gimli_lookup.specs.inside.FirstPair.{HasNoPair}
 use Rattle.gimli_lookup.specs.Probes.{never_go_below, never_go_down}
-use Rattle.gimli_lookup.specs.Ranges.{IsFoundAt}
-use Rattle.gimli_lookup.specs.Section.{KeptUnit, all_sequences}
-use Rattle.gimli_lookup.specs.SequenceRows.{rows_of}
+use Rattle.gimli_lookup.specs.inside.FirstPair.{IsFoundAt}
+use Rattle.gimli_lookup.specs.Section.{KeptUnit, all_sequences, found_at}
+use Rattle.gimli_lookup.specs.Section.{rows_of}
 use Rattle.gimli_lookup.specs.declared.section_lookup.CoveringRows.{CoveringRows}
 use Rattle.gimli_index.specs.Found.{found_place, row_place}
 use Rattle.gimli_lookup.specs.ProgramPaths.{Texts}
@@ -27,6 +27,7 @@ use Rattle.gimli_index.specs.inside.Table.{Entered, Table}
 use Rattle.gimli_index.specs.inside.Turns.{AreTurns, UnitRows, Walked, rows_in, rows_of_turns}
 use Rattle.gimli_index.specs.inside.Turns.{rows_of_units, starts_of_turn}
 use Rattle.gimli_index.specs.inside.Turns.{turn_rows}
+use Rattle.gimli_lookup.proofs.FirstPairs.{found_stands}
 use Rattle.gimli_index.proofs.Lists.{get_inside, get_seam}
 use Rattle.gimli_index.proofs.TurnPlaces.{none_round, one_round, rows_of_all}
 
@@ -163,5 +164,5 @@ module _ (t : Texts) (units : List KeptUnit) (turns : List Turn) (are : AreTurns
       ascending = h.ascending;
       columns = h.columns;
       short = h.short;
-      says = λ a found before is. h.agree a ∙ found_is_said a found is;
+      says = λ a before. h.agree a ∙ found_is_said a (found_at a units) (found_stands a units);
     }

@@ -8,7 +8,7 @@ use Rattle.std.proofs.lemmas.Bool.{not-true}
 use Rattle.std.proofs.lemmas.List.Sums.{fold-append}
 use Rattle.std.proofs.lemmas.Option.{same_Some}
 use Rattle.gimli_line.specs.declared.run.row.LineRow.{LineRow}
-use Rattle.gimli_lookup.specs.FirstPair.{HasNoPair, IsPairAt}
+use Rattle.gimli_lookup.specs.inside.FirstPair.{HasNoPair, IsPairAt}
 use Rattle.gimli_lookup.specs.Probes.{never_go_below}
 use Rattle.gimli_lookup.specs.Section.{ListedUnit}
 use Rattle.gimli_index.specs.Found.{row_place}

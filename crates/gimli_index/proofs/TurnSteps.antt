@@ -12,7 +12,7 @@ use Rattle.gimli_line.specs.declared.run.row.LineRow.{LineRow}
 use Rattle.gimli_lookup.specs.Covering.{last_address, range}
 use Rattle.gimli_lookup.specs.Probes.{never_go_below, never_go_down}
 use Rattle.gimli_lookup.specs.Section.{KeptUnit, ListedUnit}
-use Rattle.gimli_lookup.specs.SequenceRows.{rows_of}
+use Rattle.gimli_lookup.specs.Section.{rows_of}
 use Rattle.gimli_index.specs.Contents.{HasColumn, entry_start}
 use Rattle.gimli_index.specs.Found.{code_of, found_place, row_place}
 use Rattle.gimli_lookup.specs.ProgramPaths.{Texts}

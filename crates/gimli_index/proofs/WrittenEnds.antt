@@ -8,7 +8,7 @@ use Rattle.std.proofs.lemmas.List.{take-append-drop, get_or-drop, length-drop, l
 use Rattle.std.proofs.lemmas.Slice.{between_to_end}
 use Rattle.gimli_lookup.specs.Paths.{is_separator}
 use Rattle.gimli_lookup.specs.Components.{start_of, resolved, up, with_component}
-use Rattle.gimli_index.specs.inside.PathEnd.{EndsAsWritten}
+use Rattle.gimli_index.specs.inside.Components.{EndsAsWritten}
 use Rattle.gimli_index.proofs.LastComponents.{HaveNoSeparator, parted, whole_text, one_byte_more}
 
 and_false : (b : Bool) → (b && false) ≡ false

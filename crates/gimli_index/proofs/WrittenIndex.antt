@@ -57,7 +57,7 @@ index_of given c rest are =
       is_read = read.is_read;
       ascending = read.ascending are.ascending;
       ordered = read.ordered are.ordered;
-      says = λ a found is. ap (place_at a) read.starts ∙ are.says a found is;
+      says = λ a. ap (place_at a) read.starts ∙ are.says a;
       lines = subst (SayWhereLinesBegin given.texts given.units) (sym read.statements) are.lines;
       files = subst (All (IsFileOfRow given.texts given.units)) (sym read.files) are.files;
       named = read.named are.named;
@@ -119,7 +119,7 @@ module _ (given : Given) {limit : ℕ} (table : Table) (entries : List Entry) (s
   ascends = subst EntriesAscend (sym entries_are) h.ascending
 
   says : SayWhatIsFound given.texts given.units (map (entry_start c) c.entries)
-  says a found is = ap (place_at a) same_starts ∙ h.says a found tt is
+  says a = ap (place_at a) same_starts ∙ h.says a tt
 
   same_meanings : map (statement_in c) statements ≡ begun_in_units given.texts given.units
   same_meanings =

@@ -16,6 +16,8 @@ use Rattle.gimli_index.specs.declared.header.StartSize.{StartSize}
 use Rattle.gimli_index.specs.declared.place.NoPath.{NoPath}
 use Rattle.gimli_index.specs.declared.place.NoPath.TheVariants.{Reason, Outside}
 
+-- what an index is made of: sources, starts with the places that hold from them on, statements, the
+-- bytes of the paths, and the identity of the program
 pub record Contents : Type 0 where
   pub address_size : ℕ
   pub start_size : StartSize
@@ -28,10 +30,12 @@ pub record Contents : Type 0 where
 
 -- ---- what they mean
 
+-- the path of a source, among the bytes of paths; or the reason why it has none
 abbrev pub source_path : List ℕ → Source → Result (List ℕ) NoPath
 source_path paths s =
     if nat_eq s.reason 0 then path_in paths s.first s.size else Err (Reason s.reason)
 
+-- the place of a line in a source
 abbrev pub line_in : List ℕ → SourceLine → Source → Place
 line_in paths l s = record {
   path = source_path paths s;
@@ -46,6 +50,7 @@ line_in paths l s = record {
 abbrev pub line_place : Contents → SourceLine → Option Place
 line_place c l = option_map (line_in c.paths l) (slice_get c.sources l.source)
 
+-- the start that an entry stands for
 abbrev pub entry_start : Contents → Entry → Start
 entry_start c e = record { address = e.address; place = option_and_then (line_place c) e.place }
 
@@ -53,6 +58,7 @@ entry_start c e = record { address = e.address; place = option_and_then (line_pl
 abbrev pub path_at : Contents → ℕ → Result (List ℕ) NoPath
 path_at c k = option_map_or (source_path c.paths) (slice_get c.sources k) (Err Outside)
 
+-- what a statement says of a line
 abbrev pub statement_in : Contents → Statement → StatementMeaning
 statement_in c s = record { path = path_at c s.source; line = s.line; address = s.address }
 
@@ -62,6 +68,7 @@ statement_in c s = record { path = path_at c s.source; line = s.line; address = 
 abbrev pub le_bytes : ℕ → ℕ → List ℕ
 le_bytes size n = number_bytes false size n
 
+-- the header: 48 bytes
 abbrev pub header_bytes : Contents → List ℕ
 header_bytes c =
     magic
@@ -92,6 +99,7 @@ abbrev pub column_word : SourceLine → ℕ
 column_word l =
     l.column + (if l.is_stmt then 2 ^ 31 else 0) + (if l.prologue_end then 2 ^ 30 else 0)
 
+-- the place of a line: the number of its source, the line and the word of its column
 abbrev pub line_bytes : SourceLine → List ℕ
 line_bytes l = le_bytes 4 l.source ++ le_bytes 4 l.line ++ le_bytes 4 (column_word l)
 
@@ -100,13 +108,16 @@ abbrev pub place_bytes : Option SourceLine → List ℕ
 place_bytes None = le_bytes 4 0xffff_ffff ++ le_bytes 4 0 ++ le_bytes 4 0
 place_bytes (Some l) = line_bytes l
 
+-- the entry of a start: its place
 abbrev pub entry_bytes : Entry → List ℕ
 entry_bytes e = place_bytes e.place
 
+-- a statement: the number of its source, its line, and its address as far as it is above the base
 abbrev pub statement_bytes : StartSize → ℕ → Statement → List ℕ
 statement_bytes size base s =
     le_bytes 4 s.source ++ le_bytes 4 s.line ++ le_bytes (size_of size) (s.address - base)
 
+-- the bytes of an index: its header and its parts, one after the other
 abbrev pub index_bytes : Contents → List ℕ
 index_bytes c =
     header_bytes c
@@ -119,9 +130,11 @@ index_bytes c =
 
 -- ---- what fits
 
+-- the numbers of the place of a line fit their fields
 abbrev pub FitsLine : SourceLine → Type 0
 FitsLine l = (l.source < 2 ^ 32) × (l.line < 2 ^ 32) × (l.column < 2 ^ 30)
 
+-- so do those of a place, if there is one
 abbrev pub FitsPlace : Option SourceLine → Type 0
 FitsPlace None = Unit {0}
 FitsPlace (Some l) = FitsLine l
@@ -134,13 +147,16 @@ HasColumn place = IfSome place (λ l. l.column < 2 ^ 30)
 abbrev pub IsNear : StartSize → ℕ → ℕ → Type 0
 IsNear size base address = (base ≤ address) × (address < base + 256 ^ size_of size)
 
+-- so do those of a statement
 abbrev pub FitsStatement : StartSize → ℕ → Statement → Type 0
 FitsStatement size base s =
     (s.source < 2 ^ 32) × (s.line < 2 ^ 32) × IsNear size base s.address
 
+-- so do those of a source
 abbrev pub FitsSource : Source → Type 0
 FitsSource s = (s.unit < 2 ^ 64) × (s.first < 2 ^ 32) × (s.size < 2 ^ 32) × (s.reason < 2 ^ 32)
 
+-- each part has so few elements that 32 bits count them
 pub record FitsCounts (c : Contents) : Type 0 where
   pub entries : length c.entries < 2 ^ 32
   pub sources : length c.sources < 2 ^ 32

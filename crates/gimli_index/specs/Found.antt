@@ -22,8 +22,7 @@ use Rattle.gimli_index.specs.declared.place.NoPath.TheVariants.{Reason}
 use Rattle.gimli_line.specs.declared.run.row.LineRow.{LineRow}
 use Rattle.gimli_lookup.specs.Paths.{row_path}
 use Rattle.gimli_lookup.specs.ProgramPaths.{Texts, unit_paths}
-use Rattle.gimli_lookup.specs.Ranges.{IsFoundAt}
-use Rattle.gimli_lookup.specs.Section.{KeptHeader, KeptUnit, ListedUnit}
+use Rattle.gimli_lookup.specs.Section.{KeptHeader, KeptUnit, ListedUnit, found_at}
 use Rattle.gimli_lookup.specs.Statements.{addresses_in, ascending_once}
 use Rattle.gimli_lookup.specs.declared.path_error.PathError.{PathError}
 use Rattle.gimli_lookup.specs.declared.path_error.PathError.TheVariants.{
@@ -63,11 +62,13 @@ path_by t offset header r =
     option_map_or (λ (h : KeptHeader). path_said (row_path (unit_paths t offset h.meaning) r))
     header (Err (Reason 8))
 
+-- the path of a row's file in a unit
 abbrev pub unit_path : Texts → ListedUnit → LineRow → Result (List ℕ) NoPath
 unit_path t u r = path_by t u.offset u.header r
 
 -- ---- places
 
+-- the place that a row of a unit stands for
 abbrev pub row_place : Texts → ListedUnit → LineRow → Place
 row_place t u r = record {
   path = unit_path t u r;
@@ -86,9 +87,7 @@ found_place t units (Some f) =
 
 -- what starts say of each address is what is found there
 abbrev pub SayWhatIsFound : Texts → List KeptUnit → List Start → Type 0
-SayWhatIsFound t units starts =
-    (a : ℕ) (found : Option CoveringRows) → IsFoundAt units a found
-    → place_at a starts ≡ found_place t units found
+SayWhatIsFound t units starts = (a : ℕ) → place_at a starts ≡ found_place t units (found_at a units)
 
 -- ---- lines
 
@@ -120,6 +119,7 @@ is_one_path (Ok path) (Ok other) = bytes_eq path other
 is_one_path (Ok path) (Err e) = false
 is_one_path (Err e) other = false
 
+-- whether two numbers of files of a unit are of one path
 abbrev pub is_one_file : Texts → ListedUnit → ℕ → ℕ → Bool
 is_one_file t u file other = is_one_path (file_path t u file) (file_path t u other)
 
@@ -166,6 +166,7 @@ pub record Given : Type 0 where
   pub size : ℕ
   pub name : List ℕ
 
+-- the same, of these four
 abbrev pub given_by : Texts → List KeptUnit → ℕ → List ℕ → Given
 given_by texts units size name =
     record { texts = texts; units = units; size = size; name = name }

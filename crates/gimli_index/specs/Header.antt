@@ -1,23 +1,27 @@
--- The header of an index: its first 48 bytes (docs/INDEX.md, "Header").
-use Rattle.std.specs.Prelude.{ℕ, ◌+◌, List, [], ◌∷◌, length, nat_eq, nat_lt, not, if◌then◌else◌}
-use Rattle.std.specs.Prelude.{Result}
-use Rattle.std.specs.Prelude.{Ok, Err}
+-- The header of an index, its first 48 bytes (docs/INDEX.md, "Header"), and its numbers: the least
+-- significant byte comes first.
+use Rattle.std.specs.Prelude.{ℕ, List, take, drop, Result, Ok, Err, ◌+◌, [], ◌∷◌, length, nat_eq}
+use Rattle.std.specs.Prelude.{nat_lt, not, if◌then◌else◌}
+use Rattle.gimli_core.specs.Numbers.{le_value, is_address_size}
 use Rattle.std.specs.List.{starts_with}
-use Rattle.gimli_core.specs.Numbers.{is_address_size}
-use Rattle.gimli_index.specs.Numbers.{number_at}
-use Rattle.gimli_index.specs.Steps.{◌>>=◌}
 use Rattle.gimli_index.specs.declared.error.IndexError.{IndexError}
-use Rattle.gimli_index.specs.declared.error.IndexError.TheVariants.{
-  NotIndex,
-  HeaderCut,
-  Version,
-  AddressSize,
-  StartSize as UnknownStartSize,
-  Base,
-}
+use Rattle.gimli_index.specs.declared.error.IndexError.TheVariants.{NotIndex, HeaderCut, Version}
+use Rattle.gimli_index.specs.declared.error.IndexError.TheVariants.{AddressSize}
+use Rattle.gimli_index.specs.declared.error.IndexError.TheVariants.{StartSize as UnknownStartSize}
+use Rattle.gimli_index.specs.declared.error.IndexError.TheVariants.{Base}
 use Rattle.gimli_index.specs.declared.header.Header.{Header}
 use Rattle.gimli_index.specs.declared.header.StartSize.{StartSize}
 use Rattle.gimli_index.specs.declared.header.StartSize.TheVariants.{Four, Eight}
+
+-- the number in so many bytes at an offset
+abbrev pub number_at : ℕ → ℕ → List ℕ → ℕ
+number_at size offset bytes = le_value (take size (drop offset bytes))
+
+-- one answer after another, up to the first refusal
+infixl 10 ◌>>=◌
+abbrev pub ◌>>=◌ : {A B E : Type 0} → Result A E → (A → Result B E) → Result B E
+(Ok x) >>= f = f x
+(Err e) >>= f = Err e
 
 -- the bytes that each index begins with: those of LINEIDX, and a zero byte
 abbrev pub magic : List ℕ
@@ -40,13 +44,16 @@ highest_base Eight = 0
 
 -- ---- the fields
 
+-- the bytes of an address; other sizes are refused
 abbrev pub address_size_of : ℕ → Result ℕ IndexError
 address_size_of n = if is_address_size n then Ok n else Err (AddressSize n)
 
+-- the bytes of a start; other sizes are refused
 abbrev pub start_size_of : ℕ → Result StartSize IndexError
 start_size_of n =
     if nat_eq n 4 then Ok Four else (if nat_eq n 8 then Ok Eight else Err (UnknownStartSize n))
 
+-- the base, up to the highest one
 abbrev pub base_of : StartSize → ℕ → Result ℕ IndexError
 base_of size n = if nat_lt (highest_base size) n then Err (Base n) else Ok n
 

@@ -1,5 +1,3 @@
-pub mod Numbers
-pub mod Steps
 pub mod Header
 pub mod Parts
 pub mod Meaning

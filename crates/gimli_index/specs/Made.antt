@@ -38,6 +38,7 @@ abbrev pub least : List ℕ → ℕ
 least [] = 0
 least (n ∷ ns) = fold min n ns
 
+-- the greatest of numbers; 0 where there are none
 abbrev pub greatest : List ℕ → ℕ
 greatest ns = fold max 0 ns
 
@@ -45,6 +46,7 @@ greatest ns = fold max 0 ns
 abbrev pub size_for : ℕ → ℕ → StartSize
 size_for first last = if nat_lt (last - first) (2 ^ 32) then Four else Eight
 
+-- the base: the least address, where starts of this size allow it
 abbrev pub base_for : StartSize → ℕ → ℕ
 base_for size first = min first (highest_base size)
 

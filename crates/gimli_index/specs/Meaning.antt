@@ -5,7 +5,7 @@ use Rattle.std.specs.Prelude.{slice_range, nat_eq, nat_le, nat_lt, if◌then◌e
 use Rattle.std.specs.Prelude.{None, Result, Ok, Err}
 use Rattle.std.specs.List.{range_with_len}
 use Rattle.std.specs.Option.{option_map_or}
-use Rattle.gimli_index.specs.Numbers.{number_at}
+use Rattle.gimli_index.specs.Header.{number_at}
 use Rattle.gimli_index.specs.Header.{size_of, statement_size}
 use Rattle.gimli_index.specs.Parts.{Index}
 use Rattle.gimli_index.specs.declared.place.NoPath.{NoPath}
@@ -71,9 +71,11 @@ source_at index k = drop (24 * k) index.source_bytes
 abbrev pub column_in : ℕ → ℕ
 column_in word = word % 2 ^ 30
 
+-- whether the word of a column says that the code is a statement
 abbrev pub is_statement_in : ℕ → Bool
 is_statement_in word = nat_le (2 ^ 31) word
 
+-- whether it says that the prologue ends there
 abbrev pub ends_prologue_in : ℕ → Bool
 ends_prologue_in word = nat_le (2 ^ 30) (word % 2 ^ 31)
 
@@ -99,6 +101,7 @@ abbrev pub start_number : Index → ℕ → ℕ
 start_number index i =
     number_at (size_of index.start_size) (size_of index.start_size * i) index.start_bytes
 
+-- the start of a number: its address, and the place of its entry
 abbrev pub start_at : Index → ℕ → Start
 start_at index i = record {
   address = index.base + start_number index i;
@@ -127,6 +130,7 @@ source_path_at index k =
 abbrev pub statement_from : Index → ℕ → List ℕ
 statement_from index k = drop (statement_size index.start_size * k) index.statement_bytes
 
+-- the statement of a number: the path of its source, its line and its address
 abbrev pub statement_at : Index → ℕ → Statement
 statement_at index k =
     let bytes = statement_from index k in record {

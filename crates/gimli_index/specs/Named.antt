@@ -3,7 +3,7 @@ use Rattle.std.specs.Prelude.{◌≡◌, ◌⊎◌, ◌<◌, ◌*◌, ℕ, List,
 use Rattle.std.specs.Prelude.{Some}
 use Rattle.gimli_index.specs.Contents.{Contents}
 use Rattle.gimli_index.specs.Meaning.{statement_from}
-use Rattle.gimli_index.specs.Numbers.{number_at}
+use Rattle.gimli_index.specs.Header.{number_at}
 use Rattle.gimli_index.specs.Parts.{Index}
 use Rattle.gimli_index.specs.declared.contents.Entry.{Entry}
 use Rattle.gimli_index.specs.declared.contents.SourceLine.{SourceLine}
@@ -32,5 +32,6 @@ IsNamedBy entries statements k =
     ((i : ℕ) × (e : Entry) × (slice_get entries i ≡ Some e) × (number_in e.place ≡ k))
     ⊎ ((i : ℕ) × (s : Statement) × (slice_get statements i ≡ Some s) × (s.source ≡ k))
 
+-- an entry or a statement has the number of each source
 abbrev pub HasNamed : Contents → Type 0
 HasNamed c = (k : ℕ) → k < length c.sources → IsNamedBy c.entries c.statements k

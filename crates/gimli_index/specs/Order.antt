@@ -5,7 +5,7 @@ use Rattle.std.specs.Prelude.{Ok, Err}
 use Rattle.std.specs.List.Sorted.{IsNonDecreasingBy}
 use Rattle.gimli_lookup.specs.Components.{components}
 use Rattle.gimli_index.specs.Meaning.{Statement, path_of, source_at, statements_of}
-use Rattle.gimli_index.specs.Numbers.{number_at}
+use Rattle.gimli_index.specs.Header.{number_at}
 use Rattle.gimli_index.specs.Parts.{Index}
 use Rattle.gimli_index.specs.declared.place.NoPath.{NoPath}
 
@@ -18,6 +18,7 @@ abbrev pub last_number : List (List ℕ) → ℕ
 last_number [] = 0
 last_number (name ∷ before) = name_number name
 
+-- the number of the name of a path; 0 where there is no path
 abbrev pub path_number : Result (List ℕ) NoPath → ℕ
 path_number (Ok path) = last_number (components path)
 path_number (Err e) = 0

@@ -1,7 +1,7 @@
 -- The parts of an index after its header, one after the other (docs/INDEX.md, "Parts").
 use Rattle.std.specs.Prelude.{ℕ, ◌+◌, ◌*◌, List, length, nat_lt, slice_range, if◌then◌else◌, Result}
 use Rattle.std.specs.Prelude.{Ok, Err}
-use Rattle.gimli_index.specs.Steps.{◌>>=◌}
+use Rattle.gimli_index.specs.Header.{◌>>=◌}
 use Rattle.gimli_index.specs.Header.{header_at, size_of, statement_size}
 use Rattle.gimli_index.specs.declared.error.IndexError.{IndexError}
 use Rattle.gimli_index.specs.declared.error.IndexError.TheVariants.{Cut}
@@ -30,15 +30,19 @@ pub record Index : Type 0 where
 abbrev pub starts_offset : Header → ℕ
 starts_offset h = 48 + 24 * h.sources
 
+-- the entries of the starts come after the starts
 abbrev pub entries_offset : Header → ℕ
 entries_offset h = starts_offset h + size_of h.start_size * h.starts
 
+-- then the statements
 abbrev pub statements_offset : Header → ℕ
 statements_offset h = entries_offset h + 12 * h.starts
 
+-- then the bytes of the paths
 abbrev pub paths_offset : Header → ℕ
 paths_offset h = statements_offset h + statement_size h.start_size * h.statements
 
+-- and last the identity
 abbrev pub identity_offset : Header → ℕ
 identity_offset h = paths_offset h + h.paths
 

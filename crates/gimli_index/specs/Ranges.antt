@@ -37,5 +37,6 @@ ranges_of (s ∷ starts) =
 abbrev pub range_of : PlaceRange → Range
 range_of r = record { start = r.start; end = r.end; place = option_map place_of r.place }
 
+-- the ranges that are still to come
 abbrev pub ranges_left : PlaceRanges → List Range
 ranges_left ranges = ranges_of (drop ranges.next (starts_of (index_of ranges.index)))

@@ -13,6 +13,7 @@ abbrev pub ArePathsInside : Index → Type 0
 ArePathsInside index =
     (k : ℕ) → k < index.sources → path_of index.path_bytes (source_at index k) ≡ Err Outside → ⊥
 
+-- an index that is sound
 pub record IsSound (index : Index) : Type 0 where
   pub ascending : AreAscending (starts_of index)
   pub inside : ArePathsInside index

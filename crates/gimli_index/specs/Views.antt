@@ -7,6 +7,7 @@ use Rattle.gimli_index.specs.declared.place.Place.{Place}
 use Rattle.gimli_index.specs.declared.place.Start.{Start}
 use Rattle.gimli_index.specs.declared.line_index.LineIndex.{LineIndex}
 
+-- the index that is open
 abbrev pub index_of : LineIndex → Index
 index_of a = record {
   address_size = a.address_size;
@@ -23,6 +24,7 @@ index_of a = record {
   identity = a.identity.now;
 }
 
+-- a place, whose path is lent from the index
 abbrev pub place_of : Place → PlaceMeaning
 place_of p = record {
   path = result_map (λ path. path.now) p.path;
@@ -33,5 +35,6 @@ place_of p = record {
   unit = p.unit;
 }
 
+-- a start, and its place
 abbrev pub start_of : Start → StartMeaning
 start_of s = record { address = s.address; place = option_map place_of s.place }

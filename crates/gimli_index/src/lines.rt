@@ -6,7 +6,7 @@ ghost use Rattle.std.specs.List.{list_any};
 ghost use Rattle.std.specs.Option.{option_map_or};
 ghost use Rattle.gimli_core.specs.Reading.{result_map};
 ghost use Rattle.gimli_lookup.specs.Components.{components};
-ghost use Rattle.gimli_lookup.specs.inside.StatementLines.{IsFirstWith};
+ghost use Rattle.gimli_lookup.specs.inside.Statements.{IsFirstWith};
 ghost use Rattle.gimli_index.specs.Lines.{addresses_left, addresses_of, begins_with, is_named};
 ghost use Rattle.gimli_index.specs.Lines.{is_of};
 ghost use Rattle.gimli_index.specs.Lines.{AreAddressesFrom};

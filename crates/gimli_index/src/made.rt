@@ -15,7 +15,7 @@ ghost use Rattle.gimli_index.specs.inside.Turns.{end_after, row_start, rows_of_t
 ghost use Rattle.gimli_index.specs.inside.Turns.{starts_of_turn, turn_rows, IsTurn, Walked};
 ghost use Rattle.gimli_lookup.specs.Probes.{never_go_below, never_go_down};
 ghost use Rattle.gimli_lookup.specs.Section.{KeptUnit};
-ghost use Rattle.gimli_lookup.specs.SequenceRows.{rows_of};
+ghost use Rattle.gimli_lookup.specs.Section.{rows_of};
 
 use crate::contents::{Contents, Entry, Source, SourceLine};
 use crate::error::MakeError;

@@ -1,7 +1,7 @@
 //! The numbers of an index: the least significant byte first.
 
 ghost use Rattle.std.specs.Prelude.{◌≡◌, ◌+◌, ◌<◌, ◌≤◌, ℕ, length, slice_index_or};
-ghost use Rattle.gimli_index.specs.Numbers.{number_at};
+ghost use Rattle.gimli_index.specs.Header.{number_at};
 
 use gimli_core::{Endianity, LittleEndian};
 

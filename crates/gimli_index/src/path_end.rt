@@ -4,7 +4,7 @@ ghost use Rattle.std.specs.Prelude.{◌≡◌, List, ℕ, ◌++◌, true, false}
 ghost use Rattle.std.specs.List.{starts_with};
 ghost use Rattle.std.specs.Str.{bytes_eq};
 ghost use Rattle.gimli_lookup.specs.Components.{components};
-ghost use Rattle.gimli_index.specs.inside.PathEnd.{EndsAsWritten, IsLastComponent};
+ghost use Rattle.gimli_index.specs.inside.Components.{EndsAsWritten, IsLastComponent};
 
 use crate::components::Components;
 use crate::path_ends::{ends_with, is_separator};
@@ -24,7 +24,7 @@ pub struct PathEnd<'p> {
 
 impl<'p> Model for PathEnd<'p> {
     ghost use Rattle.std.specs.Prelude.{List, ℕ, IfSome};
-    ghost use Rattle.gimli_index.specs.inside.PathEnd.{IsLastComponent};
+    ghost use Rattle.gimli_index.specs.inside.Components.{IsLastComponent};
 
     ghost Value = { List ℕ };
 

@@ -7,7 +7,7 @@ ghost use Rattle.std.specs.List.{slice_split, starts_with};
 ghost use Rattle.std.specs.Str.{bytes_eq};
 ghost use Rattle.gimli_lookup.specs.Paths.{is_separator, begins_with_separator};
 ghost use Rattle.gimli_lookup.specs.Components.{components, resolved, with_component};
-ghost use Rattle.gimli_lookup.specs.inside.Components.{up_by};
+ghost use Rattle.gimli_lookup.specs.inside.Paths.{up_by};
 ghost use Rattle.gimli_index.specs.inside.Components.{components_left};
 
 use crate::components::Components;

@@ -12,7 +12,7 @@ ghost use Rattle.gimli_index.specs.inside.Begun.{GoesOnTo};
 ghost use Rattle.gimli_index.specs.inside.Table.{AreSources, IsTableFault, Keeps, with_table};
 ghost use Rattle.gimli_line.specs.declared.run.row.LineRow.{LineRow};
 ghost use Rattle.gimli_lookup.specs.Section.{KeptUnit};
-ghost use Rattle.gimli_lookup.specs.SequenceRows.{rows_of};
+ghost use Rattle.gimli_lookup.specs.Section.{rows_of};
 
 use crate::contents::{Source, Statement};
 use crate::error::MakeError;

@@ -8,7 +8,7 @@ ghost use Rattle.gimli_index.specs.inside.Turns.{rows_of_units, turn_rows};
 ghost use Rattle.gimli_lookup.specs.Covering.{range};
 ghost use Rattle.gimli_lookup.specs.Probes.{never_go_down};
 ghost use Rattle.gimli_lookup.specs.Section.{KeptUnit};
-ghost use Rattle.gimli_lookup.specs.SequenceRows.{rows_of};
+ghost use Rattle.gimli_lookup.specs.Section.{rows_of};
 
 use gimli_core::Reader;
 use gimli_lookup::{SectionLookup, SequenceRows};

@@ -1,7 +1,7 @@
 -- The components of a path from the last one on.
 use Rattle.std.proofs.Common.{arith, ◌≡◌, ◌+◌, ℕ, zero, suc, List, [], ◌∷◌, ◌++◌, refl, ap, ◌∙◌, codes}
 use Rattle.gimli_lookup.specs.Components.{up, with_component, resolved}
-use Rattle.gimli_lookup.specs.inside.Components.{up_by}
+use Rattle.gimli_lookup.specs.inside.Paths.{up_by}
 
 pub resolved_last : (before cs : List (List ℕ)) (c : List ℕ)
     → resolved before (cs ++ c ∷ []) ≡ with_component (resolved before cs) c

@@ -10,7 +10,7 @@ use Rattle.std.proofs.lemmas.List.{length-append, get_or-take, length-take-le}
 use Rattle.std.proofs.lemmas.Option.{get_or_from_slice_get, slice_get_within}
 use Rattle.gimli_line.specs.declared.run.row.LineRow.{LineRow}
 use Rattle.gimli_lookup.specs.declared.steps.Step.{Step}
-use Rattle.gimli_lookup.specs.FirstPair.{IsPairAt, HasNoPair}
+use Rattle.gimli_lookup.specs.inside.FirstPair.{IsPairAt, HasNoPair}
 use Rattle.gimli_lookup.specs.Covering.{last_address, range, is_between, covers, covering_index, covering_probes}
 use Rattle.gimli_lookup.specs.Probes.{never_go_down, binary_digits}
 use Rattle.gimli_lookup.specs.Steps.{step_at, AreStepsOf}

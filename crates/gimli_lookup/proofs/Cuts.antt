@@ -8,8 +8,8 @@ use Rattle.gimli_line.specs.declared.run.row.LineRow.{LineRow}
 use Rattle.gimli_lookup.specs.declared.run.PairSearch.{PairSearch}
 use Rattle.gimli_lookup.specs.declared.run.PairSearch.TheVariants.{Start}
 use Rattle.gimli_lookup.specs.Cut.{EndOnce, AreCutAtEnds}
-use Rattle.gimli_lookup.specs.inside.PairSearch.{HasPassed, Knows}
-use Rattle.gimli_lookup.specs.FirstPair.{HasNoPair}
+use Rattle.gimli_lookup.specs.inside.FirstPair.{HasPassed, Knows}
+use Rattle.gimli_lookup.specs.inside.FirstPair.{HasNoPair}
 
 by_recursion_push : {X : Type 0} (P : X → Type 0) (xs : List X) (x : X) → AllByRecursion P xs → P x
     → AllByRecursion P (xs ++ x ∷ [])

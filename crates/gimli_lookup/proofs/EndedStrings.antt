@@ -25,7 +25,7 @@ use Rattle.gimli_lookup.specs.Paths.{path_in, unwritten_directory, written_or, i
 use Rattle.gimli_lookup.specs.Strings.{Strings, front_string, string_at, string_of, HasNoStringEnd, IsStringAt}
 use Rattle.gimli_lookup.specs.declared.path_error.PathError.{PathError}
 use Rattle.gimli_lookup.specs.declared.path_error.PathError.TheVariants.{StringOffsetOutOfBounds, UnterminatedString}
-use Rattle.gimli_lookup.specs.inside.EndedStrings.{paths_in, AreEnded, IsEnded}
+use Rattle.gimli_lookup.specs.inside.Paths.{paths_in, AreEnded, IsEnded}
 
 -- ---- strings of a section
 
@@ -356,68 +356,3 @@ fault_whole whole offset result out within is_out is_within = elim (less_or_not 
   | inl h ↦ within h ∙ ap (λ x. Err x) (sym (is_within h))
   | inr h ↦ out h ∙ ap (λ x. Err x) (sym (is_out h))
 ]
-
--- ---- directories that are needed
-
--- nothing is told of the one, nor of the other
-abbrev RefusedToo : Said → Said → Type 0
-RefusedToo ended whole = (e : PathError) → ended ≡ Err e → (other : PathError) × (whole ≡ Err other)
-
-section_refused : ((whole ended : List ℕ) (offset : ℕ) (e : PathError) → IsEnded whole ended
-    → string_at ended offset ≡ Err e → offset < length whole → string_at whole offset ≡ Err UnterminatedString)
-    → ((section : List ℕ) (offset : ℕ) → length section ≤ offset
-    → string_at section offset ≡ Err StringOffsetOutOfBounds)
-    → (whole ended : List ℕ) (offset : ℕ) → IsEnded whole ended
-    → RefusedToo (string_at ended offset) (string_at whole offset)
-section_refused unended out whole ended offset has e is = elim (less_or_not offset (length whole)) [
-  | inl h ↦ (UnterminatedString, unended whole ended offset e has is h)
-  | inr h ↦ (StringOffsetOutOfBounds, out whole offset h)
-]
-
-abbrev SectionsRefused : Type 0
-SectionsRefused =
-    (whole ended : List ℕ) (offset : ℕ) → IsEnded whole ended
-    → RefusedToo (string_at ended offset) (string_at whole offset)
-
-value_refused : SectionsRefused → (whole ended : Strings) → AreEnded whole ended → (v : Value)
-    → RefusedToo (string_of ended v) (string_of whole v)
-value_refused refused whole ended are (Block x) e is = (e, is)
-value_refused refused whole ended are (Data1 x) e is = (e, is)
-value_refused refused whole ended are (Data2 x) e is = (e, is)
-value_refused refused whole ended are (Data4 x) e is = (e, is)
-value_refused refused whole ended are (Data8 x) e is = (e, is)
-value_refused refused whole ended are (Udata x) e is = (e, is)
-value_refused refused whole ended are (Sdata x) e is = (e, is)
-value_refused refused whole ended are (Flag x) e is = (e, is)
-value_refused refused whole ended are (SecOffset x) e is = (e, is)
-value_refused refused whole ended are (String x) e is = (e, is)
-value_refused refused whole ended are (DebugStrRef o) e is =
-    refused whole.debug_str ended.debug_str o.0 are.str e is
-value_refused refused whole ended are (DebugStrRefSup o) e is = (e, is)
-value_refused refused whole ended are (DebugLineStrRef o) e is =
-    refused whole.debug_line_str ended.debug_line_str o.0 are.line e is
-value_refused refused whole ended are (DebugStrOffsetsIndex o) e is = (e, is)
-
-bytes_alike : (ended whole : Said) → SaysToo ended whole → RefusedToo ended whole
-    → has_no_bytes ended ≡ has_no_bytes whole
-bytes_alike (Ok x) whole too refused = ap has_no_bytes (sym (too x refl))
-bytes_alike (Err e) whole too refused = ap has_no_bytes (sym (refused e refl).1)
-
-written_alike : (whole ended : Strings) → ValuesToo whole ended
-    → ((v : Value) → RefusedToo (string_of ended v) (string_of whole v)) → (v : Option Value) (none : Said)
-    → has_no_bytes (option_map_or (string_of ended) v none) ≡ has_no_bytes (option_map_or (string_of whole) v none)
-written_alike whole ended too refused (Some v) none =
-    bytes_alike (string_of ended v) (string_of whole v) (too v) (refused v)
-written_alike whole ended too refused None none = refl
-
--- a header needs the directory by the ended sections where it does by the whole ones
-pub need_alike : AreFoundWhole
-    → ((whole ended : List ℕ) (offset : ℕ) (e : PathError) → IsEnded whole ended
-    → string_at ended offset ≡ Err e → offset < length whole → string_at whole offset ≡ Err UnterminatedString)
-    → ((section : List ℕ) (offset : ℕ) → length section ≤ offset
-    → string_at section offset ≡ Err StringOffsetOutOfBounds)
-    → (whole ended : Strings) → AreEnded whole ended → (h : Header)
-    → needs_directory (paths_in ended h None) ≡ needs_directory (paths_in whole h None)
-need_alike found unended out whole ended are h =
-    written_alike whole ended (value_whole found whole ended are)
-    (value_refused (section_refused unended out) whole ended are) (directory_of h 0) (unwritten_directory h 0)

@@ -8,7 +8,7 @@ use Rattle.gimli_line.specs.header.Header.{Header}
 use Rattle.gimli_line.specs.run.Events.{Event, row, program_events}
 use Rattle.gimli_line.specs.run.Sequences.{Sequence, HaveRuns, AreSequences}
 use Rattle.gimli_line.proofs.ResumedRuns.{one_list_of_runs}
-use Rattle.gimli_lookup.specs.Kept.{AreRowsThroughLastEnd}
+use Rattle.gimli_lookup.specs.Run.{AreRowsThroughLastEnd}
 
 -- the rows of each sequence are its run, so that all of them are all runs
 pub joined_same : (c : Header) (rows : List (List LineRow)) (parts : List Sequence) (runs : List (List Event))

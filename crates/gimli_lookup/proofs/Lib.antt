@@ -1,7 +1,7 @@
 pub mod Digits
 pub mod Pairs
 pub mod KeptRows
-pub mod OnePair
+pub mod FirstPairs
 pub mod StringLaws
 pub mod EndedStrings
 pub mod WholePaths

@@ -7,8 +7,9 @@ use Rattle.std.proofs.lemmas.Bool.{cases_lt}
 use Rattle.std.proofs.lemmas.List.{length_push, get_or_default}
 use Rattle.std.proofs.lemmas.List.Elements.{All-push, All-weaker}
 use Rattle.std.proofs.lemmas.List.Sums.{fold_push, fold_more}
+use Rattle.std.specs.List.Sorted.{IsNonDecreasingBy}
 use Rattle.gimli_lookup.specs.declared.steps.Step.{Step}
-use Rattle.gimli_lookup.specs.Steps.{step_at, last_step, AreInOrder}
+use Rattle.gimli_lookup.specs.Steps.{step_at, last_step}
 use Rattle.gimli_lookup.proofs.StepLists.{push_from, push_before, more_from, more_before, in_order_push}
 
 -- so many steps of both lists are merged, of which the last has the address `from`
@@ -24,7 +25,7 @@ pub record Walked (left right : List Step) (next_left next_right : ℕ) (by_left
   pub left_last : last_step (take next_left left) ≡ by_left
   pub right_last : last_step (take next_right right) ≡ by_right
   pub last : last_step merged ≡ option_or by_left by_right
-  pub in_order : AreInOrder merged
+  pub in_order : IsNonDecreasingBy (λ (s : Step). s.from) merged
   pub below : All (λ (s : Step). s.from ≤ from) merged
   pub left_ahead : (k : ℕ) (d : Step) → next_left ≤ k → k < length left → from ≤ (slice_index_or left k d).from
   pub right_ahead : (k : ℕ) (d : Step) → next_right ≤ k → k < length right → from ≤ (slice_index_or right k d).from
@@ -36,7 +37,8 @@ module _ (left right merged : List Step) (next_left next_right : ℕ) (by_left b
       All-weaker (λ (t : Step). t.from ≤ from) (λ (t : Step). t.from ≤ s.from) (λ t below. omega arith) merged
       walked.below
 
-  pub walk_left : (s : Step) → AreInOrder left → AreInOrder right → next_left < length left
+  pub walk_left : (s : Step) → IsNonDecreasingBy (λ (s : Step). s.from) left
+      → IsNonDecreasingBy (λ (s : Step). s.from) right → next_left < length left
       → slice_index_or left next_left s ≡ s
       → (next_right < length right → (d : Step) → s.from ≤ (slice_index_or right next_right d).from)
       → Walked left right (next_left + 1) next_right s.sequence by_right s.from
@@ -79,7 +81,8 @@ module _ (left right merged : List Step) (next_left next_right : ℕ) (by_left b
         right_ahead = λ k d le within. omega (arith, first (omega arith) d, right_order next_right k d le within);
       }
 
-  pub walk_right : (s : Step) → AreInOrder left → AreInOrder right → next_right < length right
+  pub walk_right : (s : Step) → IsNonDecreasingBy (λ (s : Step). s.from) left
+      → IsNonDecreasingBy (λ (s : Step). s.from) right → next_right < length right
       → slice_index_or right next_right s ≡ s
       → (next_left < length left → (d : Step) → s.from ≤ (slice_index_or left next_left d).from)
       → Walked left right next_left (next_right + 1) by_left s.sequence s.from

@@ -1,7 +1,6 @@
 -- A program has one list of the rows of its sequences, and one answer at an address.
-use Rattle.std.proofs.Common.{◌≡◌, ℕ, true, List, [], ◌∷◌, ◌++◌, map, refl, sym, ap, subst, ◌∙◌, append_assoc, ◌<◌}
-use Rattle.std.proofs.Common.{length, length-append, arith}
-use Rattle.std.specs.Prelude.{Option, Some, None, All}
+use Rattle.std.proofs.Common.{◌≡◌, ℕ, true, List, [], ◌∷◌, ◌++◌, map, refl, sym, ap, ◌∙◌, append_assoc}
+use Rattle.std.specs.Prelude.{Option}
 use Rattle.std.proofs.lemmas.Bool.{false≢true}
 use Rattle.std.specs.List.{AllByRecursion, flat_map}
 use Rattle.gimli_core.specs.declared.error.Error.{Error}
@@ -12,9 +11,8 @@ use Rattle.gimli_line.specs.run.Events.{Event, row, Events, program_events}
 use Rattle.gimli_line.specs.run.Instruction.{Ins}
 use Rattle.gimli_line.specs.run.InstructionGrammar.{AreDecodedOnce}
 use Rattle.gimli_lookup.specs.Cut.{HaveNoEnd, EndOnce}
-use Rattle.gimli_lookup.specs.FirstPair.{HasNoPair, IsFirstPair}
-use Rattle.gimli_lookup.specs.Run.{IsFirstFound, AreRowsOfSequences, IsFoundInRun}
-use Rattle.gimli_lookup.proofs.OnePair.{stands_there, one_pair}
+use Rattle.gimli_lookup.specs.FirstPair.{first_pair_of}
+use Rattle.gimli_lookup.specs.Run.{AreRowsOfSequences, IsFoundInRun}
 
 -- ---- one list of rows
 
@@ -113,28 +111,8 @@ same_sequences once layout h s t x y =
 
 -- ---- one answer
 
--- a list of sequences that has a first pair isn't one where none has a pair
-pub not_none : (a : ℕ) (s : List (List LineRow)) (x y : LineRow) → IsFirstPair a s x y → All (HasNoPair a) s → ⊥
-not_none a s x y f none =
-    let within : length f.earlier
-    < length s = omega
-    (arith, ap (λ (t : List (List LineRow)). length t) f.parts, length-append f.earlier (f.rows ∷ f.later)) in
-    subst (HasNoPair a) (stands_there a s x y f f.rows) (none (length f.earlier) f.rows within) f.is_first.index x y
-    f.is_first.is_pair
-
-same_found : (a : ℕ) (s : List (List LineRow)) (x y : Option (LineRow × LineRow)) → IsFirstFound a s x
-    → IsFirstFound a s y → x ≡ y
-same_found a s None None f g = refl
-same_found a s None (Some q) f g = absurd (not_none a s q.0 q.1 g f)
-same_found a s (Some p) None f g = absurd (not_none a s p.0 p.1 f g)
-same_found a s (Some p) (Some q) f g =
-    let both = one_pair a s p.0 p.1 q.0 q.1 f g in
-    ap Some (λ i. (both.0 i, both.1 i))
-
 pub same_answer : AreAlwaysDecodedOnce
-    → (layout : OrderAndLimit) (h : Header) (a : ℕ) (rows : List (List LineRow)) (x y : Option (LineRow × LineRow))
-    → AreRowsOfSequences layout h rows → IsFirstFound a rows x → IsFoundInRun layout h a y → x ≡ y
-same_answer once layout h a rows x y are first found =
-    same_found a rows x y first
-    (subst (λ (s : List (List LineRow)). IsFirstFound a s y)
-    (same_sequences once layout h found.sequences rows found.are are) found.first)
+    → (layout : OrderAndLimit) (h : Header) (a : ℕ) (rows : List (List LineRow)) (found : Option (LineRow × LineRow))
+    → AreRowsOfSequences layout h rows → IsFoundInRun layout h a found → found ≡ first_pair_of a rows
+same_answer once layout h a rows found are in_run =
+    in_run.found_is ∙ ap (first_pair_of a) (same_sequences once layout h in_run.sequences rows in_run.are are)

@@ -1,11 +1,11 @@
 -- The units of a section keep one list of sequences each, and an address has one answer among them.
-use Rattle.std.proofs.Common.{◌≡◌, ℕ, zero, suc, true, List, [], ◌∷◌, ◌++◌, map, take, drop, refl, sym, ap, subst, ◌∙◌}
-use Rattle.std.proofs.Common.{inl, inr, arith}
+use Rattle.std.proofs.Common.{◌≡◌, ◌+◌, ℕ, true, List, [], ◌∷◌, ◌++◌, map, drop, refl, sym, ap, subst, ◌∙◌}
+use Rattle.std.proofs.Common.{inl, inr}
 use Rattle.std.specs.Prelude.{Option, Some, None, All}
 use Rattle.std.specs.List.{flat_map}
+use Rattle.std.specs.Option.{option_map, option_or}
 use Rattle.std.proofs.lemmas.List.{map-append, append-nil}
 use Rattle.std.proofs.lemmas.List.Elements.{All-head, All-tail}
-use Rattle.std.proofs.lemmas.Option.{slice_get_within, same_Some}
 use Rattle.gimli_core.specs.Layout.{OrderAndLimit}
 use Rattle.gimli_core.specs.declared.error.Error.{Error}
 use Rattle.gimli_line.specs.declared.run.row.LineRow.{LineRow}
@@ -19,15 +19,12 @@ use Rattle.gimli_line.specs.run.EventsWithFiles.{Makes, program_made}
 use Rattle.gimli_line.specs.run.Sequences.{events_of}
 use Rattle.gimli_line.specs.run.Unread.{Unread}
 use Rattle.gimli_line.specs.Units.{AreUnitsOnce}
-use Rattle.gimli_lookup.specs.declared.section_lookup.CoveringRows.{CoveringRows}
-use Rattle.gimli_lookup.specs.FirstPair.{HasNoPair, IsFirstPair}
-use Rattle.gimli_lookup.specs.Ranges.{IsFoundAt}
-use Rattle.gimli_lookup.specs.Section.{KeptUnit, IsFirstPairOfUnit}
+use Rattle.gimli_lookup.specs.FirstPair.{first_pair_of}
+use Rattle.gimli_lookup.specs.Section.{KeptUnit, found_at, found_from}
 use Rattle.gimli_lookup.specs.SectionUnits.{IsUnitOf, IsRun, IsRefused, AreUnitsOf}
 use Rattle.gimli_lookup.specs.UnitRun.{AreBeforeFault, IsKept, standing_parts}
-use Rattle.gimli_lookup.proofs.OneAnswer.{AreAlwaysDecodedOnce, same_cut, not_none}
-use Rattle.gimli_lookup.proofs.OnePair.{one_pair}
-use Rattle.gimli_lookup.proofs.SectionSearches.{of_each_unit}
+use Rattle.gimli_lookup.proofs.FirstPairs.{of_unit}
+use Rattle.gimli_lookup.proofs.OneAnswer.{AreAlwaysDecodedOnce, same_cut}
 
 -- ---- one list of rows before the first fault
 
@@ -160,82 +157,29 @@ module _ (once : AreAlwaysDecodedOnce) (never : AreNeverBoth) (one : IsOneHeader
 
 -- ---- one answer at an address
 
--- without the first unit
-later_first : (a : ℕ) (u : KeptUnit) (units : List KeptUnit) (i : ℕ) (x y : LineRow)
-    → IsFirstPairOfUnit a (u ∷ units) (suc i) x y
-    → IsFirstPairOfUnit a units i x y
-later_first a u units i x y f = record {
-  unit = f.unit;
-  there = f.there;
-  none_earlier = All-tail (λ (u : KeptUnit). All (HasNoPair a) u.sequences) u (take i units) f.none_earlier;
-  is_first = f.is_first;
-}
-
--- where no unit has a pair, no unit of the same sequences is the first that has one
-none_or_first : (a : ℕ) (units others : List KeptUnit) (j : ℕ) (z w : LineRow)
+-- what is found hangs on the sequences of units alone
+same_from : (a first : ℕ) (units others : List KeptUnit)
     → map (λ (u : KeptUnit). u.sequences) units ≡ map (λ (u : KeptUnit). u.sequences) others
-    → All (λ (u : KeptUnit). All (HasNoPair a) u.sequences) units → IsFirstPairOfUnit a others j z w → ⊥
-none_or_first a units [] j z w same none g = absurd (omega (arith, slice_get_within [] j g.unit g.there))
-none_or_first a [] (v ∷ others) j z w same none g = absurd cc
-none_or_first a (u ∷ units) (v ∷ others) zero z w same none g =
+    → found_from a first units ≡ found_from a first others
+same_from a first [] [] same = refl
+same_from a first [] (v ∷ others) same = absurd cc
+same_from a first (u ∷ units) [] same = absurd cc
+same_from a first (u ∷ units) (v ∷ others) same =
     let here : u.sequences ≡ v.sequences = cc in
-    let is : v ≡ g.unit = same_Some v g.unit g.there in
-    not_none a v.sequences z w (subst (λ (k : KeptUnit). IsFirstPair a k.sequences z w) (sym is) g.is_first)
-    (subst (All (HasNoPair a)) here (All-head (λ (u : KeptUnit). All (HasNoPair a) u.sequences) u units none))
-none_or_first a (u ∷ units) (v ∷ others) (suc j) z w same none g =
     let rest : map (λ (u : KeptUnit). u.sequences) units ≡ map (λ (u : KeptUnit). u.sequences) others = cc in
-    none_or_first a units others j z w rest (All-tail (λ (u : KeptUnit). All (HasNoPair a) u.sequences) u units none)
-    (later_first a v others j z w g)
-
-same_first : (a : ℕ) (units others : List KeptUnit) (i j : ℕ) (x y z w : LineRow)
-    → map (λ (u : KeptUnit). u.sequences) units ≡ map (λ (u : KeptUnit). u.sequences) others
-    → IsFirstPairOfUnit a units i x y → IsFirstPairOfUnit a others j z w → (i ≡ j) × (x ≡ z) × (y ≡ w)
-same_first a [] others i j x y z w same f g = absurd (omega (arith, slice_get_within [] i f.unit f.there))
-same_first a (u ∷ units) [] i j x y z w same f g = absurd (omega (arith, slice_get_within [] j g.unit g.there))
-same_first a (u ∷ units) (v ∷ others) zero zero x y z w same f g =
-    let here : u.sequences ≡ v.sequences = cc in
-    let one = subst (λ (k : KeptUnit). IsFirstPair a k.sequences x y) (sym (same_Some u f.unit f.there)) f.is_first in
-    let other = subst (λ (k : KeptUnit). IsFirstPair a k.sequences z w) (sym (same_Some v g.unit g.there)) g.is_first in
-    let both =
-    one_pair a v.sequences x y z w (subst (λ (s : List (List LineRow)). IsFirstPair a s x y) here one) other in
-    (refl, both.0, both.1)
-same_first a (u ∷ units) (v ∷ others) zero (suc j) x y z w same f g =
-    let here : u.sequences ≡ v.sequences = cc in
-    let one = subst (λ (k : KeptUnit). IsFirstPair a k.sequences x y) (sym (same_Some u f.unit f.there)) f.is_first in
-    absurd (not_none a v.sequences x y (subst (λ (s : List (List LineRow)). IsFirstPair a s x y) here one)
-    (All-head (λ (u : KeptUnit). All (HasNoPair a) u.sequences) v (take j others) g.none_earlier))
-same_first a (u ∷ units) (v ∷ others) (suc i) zero x y z w same f g =
-    let here : u.sequences ≡ v.sequences = cc in
-    let other = subst (λ (k : KeptUnit). IsFirstPair a k.sequences z w) (sym (same_Some v g.unit g.there)) g.is_first in
-    absurd (not_none a u.sequences z w (subst (λ (s : List (List LineRow)). IsFirstPair a s z w) (sym here) other)
-    (All-head (λ (u : KeptUnit). All (HasNoPair a) u.sequences) u (take i units) f.none_earlier))
-same_first a (u ∷ units) (v ∷ others) (suc i) (suc j) x y z w same f g =
-    let rest : map (λ (u : KeptUnit). u.sequences) units ≡ map (λ (u : KeptUnit). u.sequences) others = cc in
-    let later =
-    same_first a units others i j x y z w rest (later_first a u units i x y f) (later_first a v others j z w g) in
-    (ap suc later.0, later.1, later.2)
-
-same_found : (a : ℕ) (units others : List KeptUnit) (x y : Option CoveringRows)
-    → map (λ (u : KeptUnit). u.sequences) units ≡ map (λ (u : KeptUnit). u.sequences) others
-    → IsFoundAt units a x → IsFoundAt others a y → x ≡ y
-same_found a units others None None same f g = refl
-same_found a units others None (Some q) same f g =
-    absurd (none_or_first a units others q.unit q.row q.next same (of_each_unit a units f) g)
-same_found a units others (Some p) None same f g =
-    absurd (none_or_first a others units p.unit p.row p.next (sym same) (of_each_unit a others g) f)
-same_found a units others (Some p) (Some q) same f g =
-    let e = same_first a units others p.unit q.unit p.row p.next q.row q.next same f g in
-    let is : p ≡ q = λ i. record { unit = e.0 i; row = e.1 i; next = e.2 i } in
-    ap Some is
+    ap (λ (s : List (List LineRow)). option_or (option_map (of_unit first) (first_pair_of a s))
+    (found_from a (first + 1) units)) here
+    ∙ ap (option_or (option_map (of_unit first) (first_pair_of a v.sequences)))
+    (same_from a (first + 1) units others rest)
 
 pub one_answer : AreAlwaysDecodedOnce → AreNeverBoth → IsOneHeader
     → ((layout : OrderAndLimit) (offset : ℕ) (bytes : List ℕ) → AreUnitsOnce layout offset bytes)
-    → (section : Unread) (entry : UnitEntry) (lowest a : ℕ) (units others : List KeptUnit) (x y : Option CoveringRows)
-    → AreUnitsOf section entry lowest units
-    → AreUnitsOf section entry lowest others → IsFoundAt units a x → IsFoundAt others a y → x ≡ y
-one_answer once never one list section entry lowest a units others x y are too f g =
-    same_found a units others x y
+    → (section : Unread) (entry : UnitEntry) (lowest a : ℕ) (units others : List KeptUnit)
+    → AreUnitsOf section entry lowest units → AreUnitsOf section entry lowest others
+    → found_at a units ≡ found_at a others
+one_answer once never one list section entry lowest a units others are too =
+    same_from a 0 units others
     (same_units once never one section entry lowest units others
     (list section.layout 0 section.bytes (map (λ (u : KeptUnit). u.unit.offset) units)
     (map (λ (u : KeptUnit). u.unit.offset) others) are.offsets too.offsets)
-    are.each too.each) f g
+    are.each too.each)

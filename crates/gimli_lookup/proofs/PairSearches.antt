@@ -7,7 +7,7 @@ use Rattle.std.proofs.lemmas.Bool.{cases_lt}
 use Rattle.std.proofs.lemmas.List.Elements.{All-push}
 use Rattle.std.proofs.lemmas.Option.{slice_get_within, same_Some}
 use Rattle.gimli_line.specs.declared.run.row.LineRow.{LineRow}
-use Rattle.gimli_lookup.specs.FirstPair.{IsPairAt, HasNoPair, IsFirstPairOf, IsFirstPair}
+use Rattle.gimli_lookup.specs.inside.FirstPair.{IsPairAt, HasNoPair, IsFirstPairOf, IsFirstPair}
 
 -- ---- rows, and more after them
 

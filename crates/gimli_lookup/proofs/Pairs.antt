@@ -7,7 +7,7 @@ use Rattle.std.proofs.lemmas.Bool.{and_parts, not-true, ltb-false, cases_order}
 use Rattle.std.proofs.lemmas.List.{take-append-drop, drop_more}
 use Rattle.std.proofs.lemmas.Option.{get_or_from_slice_get, slice_get_within}
 use Rattle.gimli_line.specs.declared.run.row.LineRow.{LineRow}
-use Rattle.gimli_lookup.specs.FirstPair.{IsPairAt, HasNoPair, IsFirstPairOf, IsFirstPair}
+use Rattle.gimli_lookup.specs.inside.FirstPair.{IsPairAt, HasNoPair, IsFirstPairOf, IsFirstPair}
 use Rattle.gimli_lookup.specs.inside.FirstPair.{IsFirstPairIn}
 use Rattle.gimli_lookup.specs.Probes.{never_go_below, never_go_down}
 

@@ -11,7 +11,7 @@ use Rattle.std.proofs.lemmas.Option.{slice_get_past}
 use Rattle.gimli_line.specs.header.File.{File}
 use Rattle.gimli_line.specs.header.Header.{from_one, file_of}
 use Rattle.gimli_lookup.specs.PathFiles.{is_path, has_path}
-use Rattle.gimli_lookup.specs.inside.PathFiles.{AreBelow}
+use Rattle.gimli_lookup.specs.inside.Statements.{AreBelow}
 use Rattle.gimli_lookup.specs.Paths.{Paths, file_path}
 use Rattle.gimli_lookup.specs.declared.path_error.PathError.{PathError}
 use Rattle.gimli_lookup.specs.inside.Statements.{is_among}

@@ -14,7 +14,7 @@ use Rattle.gimli_line.specs.run.Rows.{live_made, made_left, files_at_end, KeepsH
 use Rattle.gimli_line.specs.run.Sequences.{events_of}
 use Rattle.gimli_line.proofs.Sources.{keeps_same, keeps_both}
 use Rattle.gimli_lookup.specs.inside.SequenceCut.{SequenceCut, with_row, with_rows}
-use Rattle.gimli_lookup.specs.inside.RowsTaken.{AreTaken}
+use Rattle.gimli_lookup.specs.inside.SequenceCut.{AreTaken}
 
 -- rows were taken in, and others are still to come
 pub record TakesIn (old new : RunState) (from to : SequenceCut) : Type 0 where

@@ -4,9 +4,10 @@ use Rattle.std.specs.Prelude.{None, slice_index_or, option_map, All}
 use Rattle.std.proofs.lemmas.List.{get_or-map, get_or-take, get_or-drop, length-take, length-take-le, length-drop}
 use Rattle.std.proofs.lemmas.Option.{get_or_from_slice_get, slice_get_within, slice_get-get_or, slice_get-map}
 use Rattle.gimli_line.specs.declared.run.row.LineRow.{LineRow}
-use Rattle.gimli_lookup.specs.FirstPair.{HasNoPair, IsFirstPair}
+use Rattle.gimli_lookup.specs.inside.FirstPair.{HasNoPair, IsFirstPair}
 use Rattle.gimli_lookup.specs.inside.FirstPair.{IsFirstPairIn}
-use Rattle.gimli_lookup.specs.Section.{ListedUnit, KeptUnit, with_sequences, AreAdjacent, IsFirstPairOfUnit}
+use Rattle.gimli_lookup.specs.Section.{ListedUnit, KeptUnit, with_sequences, AreAdjacent}
+use Rattle.gimli_lookup.specs.inside.FirstPair.{IsFirstPairOfUnit}
 use Rattle.gimli_lookup.proofs.Pairs.{first_found}
 use Rattle.gimli_lookup.proofs.Sections.{HasPlaces, has_indexes, earlier_ends}
 

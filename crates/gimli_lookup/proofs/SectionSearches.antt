@@ -11,10 +11,9 @@ use Rattle.std.proofs.lemmas.Bool.{cond-true, cond-false, cond_both, eq-eqb, ne_
 use Rattle.std.proofs.lemmas.Bool.{true≢false}
 use Rattle.std.proofs.lemmas.Grind.{flat_map-append}
 use Rattle.std.proofs.lemmas.List.{append-nil, map-append, length-append, take-append-le}
-use Rattle.std.proofs.lemmas.List.Elements.{All-push, All-nil, All-append, All-take, All-drop, All-cons, All-head}
-use Rattle.std.proofs.lemmas.List.Elements.{All-tail}
+use Rattle.std.proofs.lemmas.List.Elements.{All-push, All-nil, All-append, All-head, All-tail}
 use Rattle.std.proofs.lemmas.Option.{slice_get_within}
-use Rattle.std.proofs.Math.Seq.{drop-append_seam, take-append_seam}
+use Rattle.std.proofs.Math.Seq.{take-append_seam}
 use Rattle.gimli_core.specs.declared.error.Error.{Error}
 use Rattle.gimli_line.specs.declared.run.row.LineRow.{LineRow}
 use Rattle.gimli_line.specs.header.Header.{SeenHeader, UnitEntry}
@@ -22,16 +21,16 @@ use Rattle.gimli_line.specs.run.Passing.{RunState}
 use Rattle.gimli_line.specs.run.Unread.{Unread}
 use Rattle.gimli_line.specs.Units.{AreUnits, UnitWalk}
 use Rattle.gimli_lookup.specs.declared.section_lookup.CoveringRows.{CoveringRows}
-use Rattle.gimli_lookup.specs.FirstPair.{HasNoPair, IsFirstPair}
-use Rattle.gimli_lookup.specs.Ranges.{IsFoundAt}
-use Rattle.gimli_lookup.specs.RowsTaken.{header_of}
-use Rattle.gimli_lookup.specs.Section.{ListedUnit, KeptUnit, all_sequences, header_at, without_header}
-use Rattle.gimli_lookup.specs.SectionSearch.{is_of_unit, listed_if, all_listed, AreFoundAt, AreFoundInSection}
+use Rattle.gimli_lookup.specs.inside.FirstPair.{HasNoPair, IsFirstPair, IsFoundAt}
+use Rattle.gimli_lookup.specs.Section.{header_of}
+use Rattle.gimli_lookup.specs.Section.{ListedUnit, KeptUnit, all_sequences, found_at, header_at, without_header}
+use Rattle.gimli_lookup.specs.SectionSearch.{is_of_unit, listed_if, all_listed, AreFoundInSection}
 use Rattle.gimli_lookup.specs.SectionUnits.{IsUnitOf}
 use Rattle.gimli_lookup.specs.UnitRun.{IsKept}
-use Rattle.gimli_lookup.specs.inside.SectionSearch.{bare_unit, IsFoundBehind, IsSearched}
+use Rattle.gimli_lookup.specs.inside.Section.{bare_unit, IsFoundBehind, IsSearched}
 use Rattle.gimli_lookup.specs.inside.UnitSearch.{first_covering, finds_more, AreKeptBehind, IsFoundOf}
 use Rattle.gimli_lookup.proofs.CoveringSearches.{finds_no_more}
+use Rattle.gimli_lookup.proofs.FirstPairs.{found_is, of_each_unit}
 use Rattle.gimli_lookup.proofs.SectionUnits.{is_unit_of, IsGiven}
 
 -- ---- lists with one more
@@ -137,20 +136,6 @@ searched lowest index addresses program run offset fault listed old found new pa
         (finds_no_more addresses old new (same_pairs old kept.more new kept.parts none))))
 
 -- ---- a unit more, at one address
-
-all_left : (P : List LineRow → Type 0) (xs ys : List (List LineRow)) → All P (xs ++ ys) → All P xs
-all_left P xs ys h = subst (All P) (take-append_seam xs ys) (All-take P (length xs) (xs ++ ys) h)
-
-all_right : (P : List LineRow → Type 0) (xs ys : List (List LineRow)) → All P (xs ++ ys) → All P ys
-all_right P xs ys h = subst (All P) (drop-append_seam xs ys) (All-drop P (length xs) (xs ++ ys) h)
-
-pub of_each_unit : (a : ℕ) (units : List KeptUnit) → All (HasNoPair a) (all_sequences units)
-    → All (λ (u : KeptUnit). All (HasNoPair a) u.sequences) units
-of_each_unit a [] none = All-nil (λ (u : KeptUnit). All (HasNoPair a) u.sequences)
-of_each_unit a (u ∷ units) none =
-    All-cons (λ (u : KeptUnit). All (HasNoPair a) u.sequences) u units
-    (all_left (HasNoPair a) u.sequences (all_sequences units) none)
-    (of_each_unit a units (all_right (HasNoPair a) u.sequences (all_sequences units) none))
 
 module _ (a : ℕ) (units : List KeptUnit) (u : KeptUnit) where
   earlier_stays : (p : CoveringRows) → IsFoundAt units a (Some p) → IsFoundAt (units ++ u ∷ []) a (Some p)
@@ -365,12 +350,14 @@ one_searched section entry lowest addresses offsets listed pairs new walk after 
 
 found_at_each : (units : List KeptUnit) (pairs : List CoveringRows) (addresses : List ℕ)
     → All (λ a. IsFoundAt units a (first_covering a pairs)) addresses
-    → AreFoundAt units addresses (map (λ a. first_covering a pairs) addresses)
-found_at_each units pairs [] found = tt
-found_at_each units pairs (a ∷ addresses) found = (
-  All-head (λ n. IsFoundAt units n (first_covering n pairs)) a addresses found,
-  found_at_each units pairs addresses (All-tail (λ n. IsFoundAt units n (first_covering n pairs)) a addresses found),
-)
+    → map (λ a. first_covering a pairs) addresses ≡ map (λ a. found_at a units) addresses
+found_at_each units pairs [] found = refl
+found_at_each units pairs (a ∷ addresses) found =
+    ap (λ (here : Option CoveringRows). here ∷ map (λ a. first_covering a pairs) addresses)
+    (found_is a units (first_covering a pairs)
+    (All-head (λ n. IsFoundAt units n (first_covering n pairs)) a addresses found))
+    ∙ ap (λ (rows : List (Option CoveringRows)). found_at a units ∷ rows)
+    (found_at_each units pairs addresses (All-tail (λ n. IsFoundAt units n (first_covering n pairs)) a addresses found))
 
 pub all_searched : (section : Unread) (entry : UnitEntry) (lowest : ℕ) (addresses offsets : List ℕ)
     (listed : List ListedUnit) (pairs : List CoveringRows)
@@ -388,5 +375,5 @@ all_searched section entry lowest addresses offsets listed pairs walk rows are n
     each = are.each;
   };
   listed_are = are.listed_are ∙ ap (λ (os : List (Option CoveringRows)). all_listed os 0 are.units) (sym is);
-  found = subst (AreFoundAt are.units addresses) (sym is) (found_at_each are.units pairs addresses are.found);
+  found = is ∙ found_at_each are.units pairs addresses are.found;
 }

@@ -11,7 +11,7 @@ use Rattle.std.proofs.lemmas.List.Splits.{slice_split-cons_yes, slice_split-cons
 use Rattle.gimli_line.specs.declared.run.row.LineRow.{LineRow}
 use Rattle.gimli_lookup.specs.Statements.{is_of_line, runs, first_statement, addresses_in, addresses_of, IsFirstLine}
 use Rattle.gimli_lookup.specs.inside.Statements.{is_among, AreCollectedFrom}
-use Rattle.gimli_lookup.specs.inside.StatementLines.{has_statement, have_statement, IsFirstWith}
+use Rattle.gimli_lookup.specs.inside.Statements.{has_statement, have_statement, IsFirstWith}
 
 -- the addresses that runs give, the first of which has given its own already if `given` says so
 abbrev pub addresses_left : Bool → List (List LineRow) → List ℕ

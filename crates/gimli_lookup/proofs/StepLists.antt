@@ -10,8 +10,9 @@ use Rattle.std.proofs.lemmas.List.{get_or_append_left, get_or-append_right}
 use Rattle.std.proofs.lemmas.List.{get_or_push}
 use Rattle.std.proofs.lemmas.List.Elements.{All-tail}
 use Rattle.std.proofs.lemmas.List.Sums.{fold_push, fold-append, fold_more}
+use Rattle.std.specs.List.Sorted.{IsNonDecreasingBy}
 use Rattle.gimli_lookup.specs.declared.steps.Step.{Step}
-use Rattle.gimli_lookup.specs.Steps.{step_at, last_step, AreInOrder}
+use Rattle.gimli_lookup.specs.Steps.{step_at, last_step}
 use Rattle.gimli_lookup.specs.inside.Steps.{AreJoined}
 
 -- what a step says at an address, where so far `current` was said
@@ -92,8 +93,9 @@ last_before a steps n s lt item le after =
 
 -- ---- order
 
-pub in_order_push : (steps : List Step) (s : Step) → AreInOrder steps → All (λ (t : Step). t.from ≤ s.from) steps
-    → AreInOrder (steps ++ s ∷ [])
+pub in_order_push : (steps : List Step) (s : Step) → IsNonDecreasingBy (λ (s : Step). s.from) steps
+    → All (λ (t : Step). t.from ≤ s.from) steps
+    → IsNonDecreasingBy (λ (s : Step). s.from) (steps ++ s ∷ [])
 in_order_push steps s order below i j d le lt = elim (cases_lt j (length steps)) [
   | inl inside ↦
       let first = get_or_append_left steps (s ∷ []) d i (omega arith) in
@@ -119,8 +121,9 @@ AreApart left right =
     (i j : ℕ) (d : Step) → i < length left → j < length right
     → (slice_index_or left i d).from ≤ (slice_index_or right j d).from
 
-in_order_append : (left right : List Step) → AreInOrder left → AreInOrder right → AreApart left right
-    → AreInOrder (left ++ right)
+in_order_append : (left right : List Step) → IsNonDecreasingBy (λ (s : Step). s.from) left
+    → IsNonDecreasingBy (λ (s : Step). s.from) right → AreApart left right
+    → IsNonDecreasingBy (λ (s : Step). s.from) (left ++ right)
 in_order_append left right left_order right_order apart i j d le lt = elim (cases_lt j (length left)) [
   | inl inside ↦ omega (
     arith,
@@ -153,7 +156,8 @@ or_none : (o : Option ℕ) → o ≡ option_or o None
 or_none None = refl
 or_none (Some k) = refl
 
-value_append : (a : ℕ) (left right : List Step) → AreInOrder right → AreApart left right → last_step left ≡ None
+value_append : (a : ℕ) (left right : List Step) → IsNonDecreasingBy (λ (s : Step). s.from) right → AreApart left right
+    → last_step left ≡ None
     → step_at a (left ++ right) ≡ option_or (step_at a left) (step_at a right)
 value_append a left [] order apart ended = ap (step_at a) (append-nil left) ∙ or_none (step_at a left)
 value_append a left (s ∷ steps) order apart ended =
@@ -173,7 +177,8 @@ value_append a left (s ∷ steps) order apart ended =
           ∙ sym (ap (λ (o : Option ℕ). option_or o (step_at a (s ∷ steps))) none)
     ]
 
-pub are_appended : (left right : List Step) → AreInOrder left → AreInOrder right → AreApart left right
+pub are_appended : (left right : List Step) → IsNonDecreasingBy (λ (s : Step). s.from) left
+    → IsNonDecreasingBy (λ (s : Step). s.from) right → AreApart left right
     → last_step left ≡ None → last_step right ≡ None
     → AreJoined left right (left ++ right)
 are_appended left right left_order right_order apart left_end right_end = record {

@@ -8,7 +8,7 @@ use Rattle.std.proofs.lemmas.Option.{slice_get-get_or}
 use Rattle.gimli_line.specs.declared.run.row.LineRow.{LineRow}
 use Rattle.gimli_lookup.specs.declared.step_table.StepTable.{StepTable}
 use Rattle.gimli_lookup.specs.declared.steps.Step.{Step}
-use Rattle.gimli_lookup.specs.FirstPair.{HasNoPair, IsFirstPairOf}
+use Rattle.gimli_lookup.specs.inside.FirstPair.{HasNoPair, IsFirstPairOf}
 use Rattle.gimli_lookup.specs.inside.FirstPair.{IsFirstPairIn}
 use Rattle.gimli_lookup.specs.Covering.{covers, covering_index, covering_probes, CoversSome}
 use Rattle.gimli_lookup.specs.Probes.{binary_digits, NoneGoesDown}

@@ -10,12 +10,12 @@ use Rattle.gimli_line.specs.declared.run.row.LineRow.{LineRow}
 use Rattle.gimli_lookup.specs.declared.step_table.StepTable.{StepTable}
 use Rattle.gimli_lookup.specs.declared.step_table.Found.{Found}
 use Rattle.gimli_lookup.specs.declared.steps.Step.{Step}
-use Rattle.gimli_lookup.specs.FirstPair.{HasNoPair, IsFirstPairOf}
+use Rattle.gimli_lookup.specs.inside.FirstPair.{HasNoPair, IsFirstPairOf}
 use Rattle.gimli_lookup.specs.Covering.{covers, covering_index}
 use Rattle.gimli_lookup.specs.Probes.{never_go_down, NoneGoesDown}
 use Rattle.gimli_lookup.specs.Ranges.{IsBefore}
 use Rattle.gimli_lookup.specs.Steps.{IsStepTableOf}
-use Rattle.gimli_lookup.specs.inside.Ends.{IsClear, IsFoundIn}
+use Rattle.gimli_lookup.specs.inside.Steps.{IsClear, IsFoundIn}
 use Rattle.gimli_lookup.proofs.CoveringPairs.{IsFirstCovering, cases_covering, covering_has_pair, uncovered_has_none}
 use Rattle.gimli_lookup.proofs.Pairs.{rises}
 

@@ -14,8 +14,8 @@ use Rattle.gimli_line.specs.run.Passing.{RunState}
 use Rattle.gimli_line.specs.run.Rows.{made_left, files_at_end, whole_run}
 use Rattle.gimli_line.specs.run.Sequences.{events_of}
 use Rattle.gimli_lookup.specs.inside.SequenceCut.{SequenceCut, no_rows, with_rows}
-use Rattle.gimli_lookup.specs.RowsTaken.{header_of}
-use Rattle.gimli_lookup.specs.inside.RowsTaken.{AreTaken, StopsAt}
+use Rattle.gimli_lookup.specs.Section.{header_of}
+use Rattle.gimli_lookup.specs.inside.SequenceCut.{AreTaken, StopsAt}
 use Rattle.gimli_lookup.specs.UnitRun.{AreBeforeFault, IsKept, standing_parts}
 use Rattle.gimli_lookup.proofs.SequenceCuts.{are_cut, starts_cut, same_lowest, parts_kept}
 

@@ -17,11 +17,11 @@ use Rattle.gimli_line.specs.run.Passing.{with_reset_row}
 use Rattle.gimli_line.specs.run.Rows.{KeepsHeader}
 use Rattle.gimli_line.specs.run.Passing.{RunState}
 use Rattle.gimli_lookup.specs.declared.section_lookup.CoveringRows.{CoveringRows}
-use Rattle.gimli_lookup.specs.FirstPair.{HasNoPair, IsFirstPair}
+use Rattle.gimli_lookup.specs.inside.FirstPair.{HasNoPair, IsFirstPair}
 use Rattle.gimli_lookup.specs.UnitRun.{has_rows, stands}
 use Rattle.gimli_lookup.specs.inside.SequenceCut.{SequenceCut, no_rows, with_part, with_end, with_open, with_place}
 use Rattle.gimli_lookup.specs.inside.SequenceCut.{with_row}
-use Rattle.gimli_lookup.specs.inside.RowsTaken.{AreTaken}
+use Rattle.gimli_lookup.specs.inside.SequenceCut.{AreTaken}
 use Rattle.gimli_lookup.specs.inside.UnitSearch.{UnitSearch, no_pairs, is_covered, first_covering, pair_with, AreClear}
 use Rattle.gimli_lookup.specs.inside.UnitSearch.{AreKeptBehind, IsFoundOf, IsLastOf}
 use Rattle.gimli_lookup.specs.inside.UnitSearch.{Knows, Sees}

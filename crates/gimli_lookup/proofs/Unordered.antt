@@ -12,7 +12,7 @@ use Rattle.std.proofs.lemmas.List.Sums.{get_or-le-sum_by}
 use Rattle.std.proofs.lemmas.Option.{slice_get-get_or, slice_get_within}
 use Rattle.gimli_line.specs.declared.run.row.LineRow.{LineRow}
 use Rattle.gimli_lookup.specs.declared.steps.Step.{Step}
-use Rattle.gimli_lookup.specs.FirstPair.{HasNoPair, IsFirstPairOf}
+use Rattle.gimli_lookup.specs.inside.FirstPair.{HasNoPair, IsFirstPairOf}
 use Rattle.gimli_lookup.specs.inside.FirstPair.{IsFirstPairIn}
 use Rattle.gimli_lookup.specs.declared.scan.ScanTable.{ScanTable}
 use Rattle.gimli_lookup.specs.declared.step_table.Found.{Found}
@@ -20,7 +20,7 @@ use Rattle.gimli_lookup.specs.Covering.{covers, covering_index}
 use Rattle.gimli_lookup.specs.Scan.{indexes_out_of_order, scan_probes, IsLookedInto, IsScanTableOf}
 use Rattle.gimli_lookup.specs.Probes.{never_go_down}
 use Rattle.gimli_lookup.specs.Steps.{step_at}
-use Rattle.gimli_lookup.specs.inside.Scan.{HaveNoUnorderedPair, IsFirstUnorderedPair}
+use Rattle.gimli_lookup.specs.inside.Steps.{HaveNoUnorderedPair, IsFirstUnorderedPair}
 use Rattle.gimli_lookup.proofs.CoveringPairs.{uncovered_has_none, NoneCovers, all_taken}
 use Rattle.gimli_lookup.proofs.StepTables.{covered_steps, none_covers}
 

@@ -6,10 +6,10 @@ use Rattle.std.specs.Prelude.{Result, Option, unwrap_or}
 use Rattle.std.specs.Char.{is_ascii_alphabetic}
 use Rattle.gimli_core.specs.Reading.{result_map}
 use Rattle.gimli_line.specs.header.File.{File}
-use Rattle.gimli_lookup.specs.Strings.{Strings, string_of}
+use Rattle.gimli_lookup.specs.Strings.{Strings, has_no_bytes, string_of}
 use Rattle.gimli_lookup.specs.Paths.{Paths, is_separator, is_absolute, separator_after, path_in, path_from, ◌>>=◌}
 use Rattle.gimli_lookup.specs.Paths.{directory_string, written_or, compilation_directory, directory_path, file_path}
-use Rattle.gimli_lookup.specs.Paths.{has_no_bytes, needs_directory, with_directory, EndsWithOwnPath, HasAbsoluteRoot}
+use Rattle.gimli_lookup.specs.Paths.{needs_directory, with_directory, EndsWithOwnPath, HasAbsoluteRoot}
 use Rattle.gimli_lookup.specs.declared.path_error.PathError.{PathError}
 
 -- ---- absolute paths

@@ -3,7 +3,6 @@ pub mod Probes
 pub mod Covering
 pub mod Steps
 pub mod Scan
-pub mod Kept
 pub mod Cut
 pub mod Strings
 pub mod Paths
@@ -15,12 +14,10 @@ pub mod Statements
 pub mod PathFiles
 pub mod Directories
 pub mod UnitRun
-pub mod RowsTaken
 pub mod Section
 pub mod SectionUnits
 pub mod SectionAddresses
 pub mod Ranges
 pub mod SectionSearch
 pub mod RowFiles
-pub mod SequenceRows
 pub mod inside

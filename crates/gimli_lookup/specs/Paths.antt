@@ -9,7 +9,7 @@ use Rattle.gimli_core.specs.Reading.{result_map}
 use Rattle.gimli_line.specs.declared.run.row.LineRow.{LineRow}
 use Rattle.gimli_line.specs.header.File.{File}
 use Rattle.gimli_line.specs.header.Header.{Header, directory_of, file_of}
-use Rattle.gimli_lookup.specs.Strings.{Strings, string_of}
+use Rattle.gimli_lookup.specs.Strings.{Strings, has_no_bytes, string_of}
 use Rattle.gimli_lookup.specs.declared.path_error.PathError.{PathError}
 use Rattle.gimli_lookup.specs.declared.path_error.PathError.TheVariants.{
   InvalidDirectoryIndex,
@@ -22,6 +22,7 @@ use Rattle.gimli_lookup.specs.declared.path_error.PathError.TheVariants.{
 abbrev pub is_separator : ℕ → Bool
 is_separator byte = nat_eq byte 0x2f || nat_eq byte 0x5c
 
+-- whether a path begins with a separator
 abbrev pub begins_with_separator : List ℕ → Bool
 begins_with_separator [] = false
 begins_with_separator (byte ∷ path) = is_separator byte
@@ -32,6 +33,7 @@ begins_with_drive (letter ∷ colon ∷ path) =
     is_ascii_alphabetic letter && nat_eq colon 0x3a && begins_with_separator path
 begins_with_drive path = false
 
+-- whether a path goes on from no directory: it begins with a separator or a drive
 abbrev pub is_absolute : List ℕ → Bool
 is_absolute path = begins_with_separator path || begins_with_drive path
 
@@ -104,11 +106,6 @@ abbrev pub row_path : Paths → LineRow → Result (List ℕ) PathError
 row_path p r = option_map_or (file_path p) (file_of p.header r.file) (Err (InvalidFileIndex r.file))
 
 -- ---- what can be said of a whole path
-
--- whether a string can be read and has no bytes
-abbrev pub has_no_bytes : Result (List ℕ) PathError → Bool
-has_no_bytes (Ok string) = nat_eq (length string) 0
-has_no_bytes (Err e) = false
 
 -- whether the caller's directory counts: directory 0 has no bytes
 abbrev pub needs_directory : Paths → Bool

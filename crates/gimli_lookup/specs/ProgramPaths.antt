@@ -17,16 +17,13 @@ pub record Texts : Type 0 where
   -- the directory of the compilation whose line program is at an offset
   pub directory : ℕ → Option (List ℕ)
 
--- those of the sections of strings, and of the directories of compilations
-abbrev pub texts_of : {R : Type 0} → (R → List ℕ) → StringSections R → List (ℕ × R) → Texts
-texts_of bytes sections compilations = record {
-  strings = strings bytes sections;
-  directory = λ offset. option_map bytes (directory_for compilations offset);
-}
-
--- those of the paths of a program, which are both
+-- those of the paths of a program: of the sections of strings, and of the directories of
+-- compilations
 abbrev pub texts_seen : {R : Type 0} → (R → List ℕ) → StringSections R × List (ℕ × R) → Texts
-texts_seen bytes paths = texts_of bytes paths.0 paths.1
+texts_seen bytes paths = record {
+  strings = strings bytes paths.0;
+  directory = λ offset. option_map bytes (directory_for paths.1 offset);
+}
 
 -- the paths of the header of the unit at an offset
 abbrev pub unit_paths : Texts → ℕ → Header → Paths

@@ -1,15 +1,24 @@
 -- What a lookup keeps of a section: its units, and the sequences of each, which are the parts of
 -- those of its program that stand (`UnitRun.antt`).
-use Rattle.std.specs.Prelude.{◌≡◌, ◌≤◌, ◌-◌, ℕ, List, [], ◌∷◌, take, drop, Option, Some, None, All}
-use Rattle.std.specs.Prelude.{slice_get}
-use Rattle.std.specs.List.{flat_map}
-use Rattle.gimli_core.specs.Layout.{OrderAndLimit}
-use Rattle.gimli_core.specs.declared.error.Error.{Error}
-use Rattle.gimli_line.specs.declared.run.row.LineRow.{LineRow}
 use Rattle.gimli_line.specs.header.Header.{Header}
 use Rattle.gimli_line.specs.run.Passing.{RunState}
-use Rattle.gimli_lookup.specs.FirstPair.{HasNoPair, IsFirstPair}
-use Rattle.gimli_lookup.specs.RowsTaken.{header_of}
+use Rattle.std.specs.Prelude.{List, ◌≡◌, ◌≤◌, ◌+◌, ◌-◌, ℕ, [], ◌∷◌, take, drop, Option, None}
+use Rattle.gimli_line.specs.declared.run.row.LineRow.{LineRow}
+use Rattle.gimli_lookup.specs.declared.sequence_rows.SequenceRows.{SequenceRows}
+use Rattle.std.specs.List.{flat_map}
+use Rattle.std.specs.Option.{option_map, option_or}
+use Rattle.gimli_core.specs.Layout.{OrderAndLimit}
+use Rattle.gimli_core.specs.declared.error.Error.{Error}
+use Rattle.gimli_lookup.specs.FirstPair.{first_pair_of}
+use Rattle.gimli_lookup.specs.declared.section_lookup.CoveringRows.{CoveringRows}
+
+-- the header of a run, with the files that were defined so far
+abbrev pub header_of : RunState → Header
+header_of a = record a.fixed { files = a.files }
+
+-- the rows of a sequence, as a lookup lends them
+abbrev pub rows_of : SequenceRows → List LineRow
+rows_of s = s.rows.now
 
 -- a header, with the files that are defined before the first fault, and the layout of its program
 pub record KeptHeader : Type 0 where
@@ -62,11 +71,16 @@ AreAdjacent from [] end = from ≡ end
 AreAdjacent from (u ∷ units) end =
     (u.first ≡ from) × (u.first ≤ u.end) × AreAdjacent u.end units end
 
--- x and y are the first adjacent rows round an address in the unit at an index, and no unit before
--- it has any
-pub record IsFirstPairOfUnit (a : ℕ) (units : List KeptUnit) (index : ℕ) (x y : LineRow)
-    : Type 0 where
-  pub unit : KeptUnit
-  pub there : slice_get units index ≡ Some unit
-  pub none_earlier : All (λ u. All (HasNoPair a) u.sequences) (take index units)
-  pub is_first : IsFirstPair a unit.sequences x y
+-- what is found at an address in the first unit whose sequences have rows round it, where the first
+-- of these units has the index `first`
+abbrev pub found_from : ℕ → ℕ → List KeptUnit → Option CoveringRows
+found_from a first [] = None
+found_from a first (u ∷ units) =
+    option_or
+    (option_map (λ pair. record { unit = first; row = pair.0; next = pair.1 })
+    (first_pair_of a u.sequences))
+    (found_from a (first + 1) units)
+
+-- what is found at an address in units: the first rows that cover it, with the index of their unit
+abbrev pub found_at : ℕ → List KeptUnit → Option CoveringRows
+found_at a units = found_from a 0 units

@@ -1,20 +1,12 @@
 -- What one run over the units of a section finds at some addresses.
 use Rattle.std.specs.Prelude.{◌≡◌, ℕ, suc, Bool, false, ◌||◌, nat_eq, if◌then◌else◌, List, [], ◌∷◌}
-use Rattle.std.specs.Prelude.{Option, Some, None, is_some}
+use Rattle.std.specs.Prelude.{Option, Some, None, is_some, map}
 use Rattle.std.specs.List.{list_any}
 use Rattle.gimli_line.specs.header.Header.{UnitEntry}
 use Rattle.gimli_line.specs.run.Unread.{Unread}
-use Rattle.gimli_lookup.specs.Ranges.{IsFoundAt}
-use Rattle.gimli_lookup.specs.Section.{ListedUnit, KeptUnit, without_header}
+use Rattle.gimli_lookup.specs.Section.{ListedUnit, KeptUnit, found_at, without_header}
 use Rattle.gimli_lookup.specs.SectionUnits.{AreUnitsOf}
 use Rattle.gimli_lookup.specs.declared.section_lookup.CoveringRows.{CoveringRows}
-
--- this is found at each address
-abbrev pub AreFoundAt : List KeptUnit → List ℕ → List (Option CoveringRows) → Type 0
-AreFoundAt units [] [] = Unit {0}
-AreFoundAt units (a ∷ addresses) (found ∷ rows) =
-    IsFoundAt units a found × AreFoundAt units addresses rows
-AreFoundAt units addresses rows = ⊥
 
 -- whether what is found is in the unit at an index
 abbrev pub is_of_unit : ℕ → Option CoveringRows → Bool
@@ -40,4 +32,4 @@ pub record AreFoundInSection (section : Unread) (entry : UnitEntry) (lowest : �
     pub units : List KeptUnit
     pub are : AreUnitsOf section entry lowest units
     pub listed_are : listed ≡ all_listed rows 0 units
-    pub found : AreFoundAt units addresses rows
+    pub found : rows ≡ map (λ a. found_at a units) addresses

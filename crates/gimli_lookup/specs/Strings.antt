@@ -1,5 +1,6 @@
 -- The strings that values of a header stand for (DWARF 5, sections 6.2.4.1 and 7.5.5).
-use Rattle.std.specs.Prelude.{◌≡◌, ◌≢◌, ℕ, ◌<◌, List, [], ◌∷◌, ◌++◌, length, Result, Ok, Err, drop}
+use Rattle.std.specs.Prelude.{◌≡◌, ◌≢◌, ℕ, ◌<◌, Bool, false, nat_eq, List, [], ◌∷◌, ◌++◌, length}
+use Rattle.std.specs.Prelude.{Result, Ok, Err, drop}
 use Rattle.std.specs.List.{AllByRecursion}
 use Rattle.std.specs.Result.{result_map_both}
 use Rattle.gimli_core.specs.Production.{text}
@@ -26,6 +27,7 @@ use Rattle.gimli_lookup.specs.declared.string_sections.StringSections.{StringSec
 abbrev pub Strings : Type 0
 Strings = StringSections (List ℕ)
 
+-- the bytes of sections that are readers
 abbrev pub strings : {R : Type 0} → (R → List ℕ) → StringSections R → Strings
 strings bytes sections = record {
   debug_line_str = bytes sections.debug_line_str;
@@ -39,6 +41,7 @@ front_string [] = Err StringOffsetOutOfBounds
 front_string (byte ∷ bytes) =
     result_map_both (λ string. string) (λ e. UnterminatedString) (text_at (byte ∷ bytes)).0
 
+-- the string of a section at an offset
 abbrev pub string_at : List ℕ → ℕ → Result (List ℕ) PathError
 string_at section offset = front_string (drop offset section)
 
@@ -50,6 +53,11 @@ string_of sections (DebugStrRef offset) = string_at sections.debug_str offset.0
 string_of sections (DebugStrRefSup offset) = Err UnsupportedSupplementaryString
 string_of sections (DebugStrOffsetsIndex index) = Err UnsupportedStringIndex
 string_of sections value = Err ExpectedStringAttributeValue
+
+-- whether a string can be read and has no bytes
+abbrev pub has_no_bytes : Result (List ℕ) PathError → Bool
+has_no_bytes (Ok string) = nat_eq (length string) 0
+has_no_bytes (Err e) = false
 
 -- ---- by the grammar
 

@@ -44,6 +44,7 @@ AreBeforeFault layout h rows (Some e) files = HasFaultAfter layout h rows e file
 abbrev pub stands : ℕ → LineRow → Bool
 stands lowest r = not r.tombstone && nat_le lowest r.address
 
+-- whether there is a row
 abbrev pub has_rows : List LineRow → Bool
 has_rows [] = false
 has_rows (r ∷ rows) = true

@@ -17,7 +17,7 @@ ghost use Rattle.gimli_lookup.specs.declared.path_error.PathError.TheVariants.{
 };
 ghost use Rattle.gimli_lookup.specs.declared.path_error.PathError.TheVariants.{UnterminatedString};
 ghost use Rattle.gimli_lookup.specs.declared.path_error.PathError.{PathError};
-ghost use Rattle.gimli_lookup.specs.inside.EndedStrings.{paths_in, AreEnded, IsEnded};
+ghost use Rattle.gimli_lookup.specs.inside.Paths.{paths_in, AreEnded, IsEnded};
 
 use crate::laws::strings_are_spelled;
 use crate::path_error::PathError;
@@ -44,7 +44,7 @@ pub(crate) struct EndedStrings<R: Reader> {
 impl<R: Reader> Model for EndedStrings<R> {
     ghost use Rattle.gimli_lookup.specs.Strings.{strings};
     ghost use Rattle.gimli_lookup.specs.declared.string_sections.StringSections.{StringSections};
-    ghost use Rattle.gimli_lookup.specs.inside.EndedStrings.{AreEnded};
+    ghost use Rattle.gimli_lookup.specs.inside.Paths.{AreEnded};
 
     ghost Value = { StringSections R };
 
@@ -229,8 +229,7 @@ impl<R: Reader> EndedStrings<R> {
         ensures { result ≡ needs_directory
             (paths_in (strings R.bytes self.now) header.now.meaning None) }
     {
-        strings_end_alike();
-        Paths::new(header, self.sections.ended, None).needs_directory()
+        Paths::new(header, self.sections.whole, None).needs_directory()
     }
 
     /// The whole path of a file, by the directory of its compilation where that is known. Refused

@@ -1,10 +1,10 @@
 //! How far what is found at an address goes on.
 
 ghost use Rattle.std.specs.Prelude.{◌<◌, ◌≤◌, ℕ, length, slice_index_or, IfSome};
+ghost use Rattle.std.specs.List.Sorted.{IsNonDecreasingBy};
 ghost use Rattle.gimli_lookup.specs.declared.steps.Step.{Step};
 ghost use Rattle.gimli_lookup.specs.Ranges.{IsBefore};
-ghost use Rattle.gimli_lookup.specs.Steps.{AreInOrder};
-ghost use Rattle.gimli_lookup.specs.inside.Ends.{IsClear};
+ghost use Rattle.gimli_lookup.specs.inside.Steps.{IsClear};
 
 use crate::steps::Step;
 
@@ -28,7 +28,7 @@ pub(crate) fn next_step(steps: &[Step], a: u64, index: usize) -> Option<u64>
     requires before { (k : ℕ) (d : Step) → k < index → (slice_index_or steps.now k d).from ≤ a }
     requires after { (k : ℕ) (d : Step) → index ≤ k → k < length steps.now
         → a < (slice_index_or steps.now k d).from }
-    requires order { AreInOrder steps.now }
+    requires order { IsNonDecreasingBy (λ s. s.from) steps.now }
     ensures above { IfSome result (λ end. a < end) }
     ensures clear { (k : ℕ) (d : Step) → k < length steps.now
         → IsClear a result (slice_index_or steps.now k d).from }

@@ -2,23 +2,22 @@
 
 ghost use Rattle.std.specs.Prelude.{◌≡◌, ◌≤◌, ◌↔◌, ℕ, List, length, Ok, Err, Option, IsTrue, false};
 ghost use Rattle.std.specs.Prelude.{true};
-ghost use Rattle.std.specs.Prelude.{[], unwrap_or};
+ghost use Rattle.std.specs.Prelude.{[], option_map, unwrap_or};
 ghost use Rattle.gimli_core.specs.Equality.{ClonesGiveSame, GivesSame, IsExact};
 ghost use Rattle.gimli_core.specs.Layout.{OrderAndLimit};
 ghost use Rattle.gimli_line.specs.declared.run.row.LineRow.{LineRow};
 ghost use Rattle.gimli_line.specs.header.File.{File};
 ghost use Rattle.gimli_line.specs.header.Header.{Header, UnitEntry};
 ghost use Rattle.gimli_line.specs.run.Unread.{Unread};
-ghost use Rattle.gimli_lookup.specs.FirstPair.{IsFirstPair};
+ghost use Rattle.gimli_lookup.specs.FirstPair.{first_pair_of};
 ghost use Rattle.gimli_lookup.specs.Paths.{Paths, is_absolute, directory_string};
 ghost use Rattle.gimli_lookup.specs.Paths.{file_path, compilation_directory, needs_directory};
 ghost use Rattle.gimli_lookup.specs.Paths.{with_directory, EndsWithOwnPath, HasAbsoluteRoot};
 ghost use Rattle.gimli_lookup.specs.Program.{listed, some_need};
 ghost use Rattle.gimli_lookup.specs.ProgramPaths.{found_path, Texts};
-ghost use Rattle.gimli_lookup.specs.Run.{AreRowsOfSequences, IsFirstFound, IsFoundInRun};
-ghost use Rattle.gimli_lookup.specs.Ranges.{IsFoundAt};
+ghost use Rattle.gimli_lookup.specs.Run.{AreRowsOfSequences, IsFoundInRun};
 ghost use Rattle.gimli_lookup.specs.Probes.{NoneGoesDown};
-ghost use Rattle.gimli_lookup.specs.Section.{KeptUnit, all_sequences};
+ghost use Rattle.gimli_lookup.specs.Section.{KeptUnit, all_sequences, found_at};
 ghost use Rattle.gimli_lookup.specs.SectionUnits.{AreUnitsOf};
 ghost use Rattle.gimli_lookup.specs.declared.section_lookup.CoveringRows.{CoveringRows};
 ghost use Rattle.gimli_lookup.specs.declared.path_error.PathError.TheVariants.{
@@ -33,10 +32,11 @@ use crate::string_sections::StringSections;
 use gimli_core::{Reader, laws};
 use gimli_line::laws::{one_decoding, one_list_of_units, one_unit_or_refusal};
 
-/// An address has no more than one first pair.
-pub fn one_first_pair()
-    ensures { (a : ℕ) (sequences : List (List LineRow)) (x y z w : LineRow) →
-        IsFirstPair a sequences x y → IsFirstPair a sequences z w → (x ≡ z) × (y ≡ w) }
+/// What is found in units is the first pair of the sequences of all of them, one unit after the
+/// other.
+pub fn found_among_all()
+    ensures { (a : ℕ) (units : List KeptUnit) → option_map (λ f. (f.row, f.next)) (found_at a units)
+        ≡ first_pair_of a (all_sequences units) }
 {}
 
 /// The string at an offset of a section is the one that is spelled there. It is refused exactly
@@ -107,8 +107,9 @@ pub fn clones_of_sections_are_same<R: Clone>()
 pub fn one_answer()
     ensures sequences { (layout : OrderAndLimit) (h : Header) (rows other : List (List LineRow)) →
         AreRowsOfSequences layout h rows → AreRowsOfSequences layout h other → rows ≡ other }
-    ensures find { (n : OrderAndLimit) (h : Header) (a : ℕ) (rows : List (List LineRow)) (x y : _) →
-        AreRowsOfSequences n h rows → IsFirstFound a rows x → IsFoundInRun n h a y → x ≡ y }
+    ensures find { (layout : OrderAndLimit) (h : Header) (a : ℕ) (rows : List (List LineRow))
+        (found : Option (LineRow × LineRow)) → AreRowsOfSequences layout h rows
+        → IsFoundInRun layout h a found → found ≡ first_pair_of a rows }
 {
     one_decoding();
 }
@@ -124,10 +125,9 @@ pub fn kept_rows_never_go_down<R: Reader>(lookup: &SectionLookup<R>)
 /// The units of a section keep one list of sequences each. So `find_in_section` finds at an address
 /// what `SectionLookup::find` does, over a lookup of the same section.
 pub fn one_answer_in_section()
-    ensures { (section : Unread) (entry : UnitEntry) (lowest a : ℕ) (units others : List KeptUnit)
-        (x y : Option CoveringRows) → AreUnitsOf section entry lowest units
-        → AreUnitsOf section entry lowest others → IsFoundAt units a x → IsFoundAt others a y
-        → x ≡ y }
+    ensures { (section : Unread) (entry : UnitEntry) (lowest a : ℕ) (units others : List KeptUnit) →
+        AreUnitsOf section entry lowest units → AreUnitsOf section entry lowest others
+        → found_at a units ≡ found_at a others }
 {
     one_decoding();
     one_list_of_units();

@@ -1,13 +1,13 @@
 //! The rows of a program, kept so that those that cover an address are found.
 
-ghost use Rattle.std.specs.Prelude.{◌≡◌, ◌≢◌, ◌≤◌, ◌+◌, ◌*◌, length, map, nat_eq, sum_by, All, Any};
-ghost use Rattle.std.specs.Prelude.{IfErr, IfOk, MatchOption};
+ghost use Rattle.std.specs.Prelude.{◌≡◌, ◌≢◌, ◌≤◌, ◌+◌, ◌*◌, length, map, nat_eq, sum_by, Any};
+ghost use Rattle.std.specs.Prelude.{IfErr, IfOk};
 ghost use Rattle.gimli_line.specs.header.Orders.{source_of, KeepsSource};
 ghost use Rattle.gimli_line.specs.run.Events.{row};
 ghost use Rattle.gimli_line.specs.run.Sequences.{sequence_of, AreSequences, HasFirstFault};
 ghost use Rattle.gimli_line.specs.run.Sequences.{HaveRuns};
-ghost use Rattle.gimli_lookup.specs.FirstPair.{HasNoPair, IsFirstPair};
-ghost use Rattle.gimli_lookup.specs.Kept.{AreRowsThroughLastEnd};
+ghost use Rattle.gimli_lookup.specs.FirstPair.{first_pair_of};
+ghost use Rattle.gimli_lookup.specs.Run.{AreRowsThroughLastEnd};
 ghost use Rattle.gimli_lookup.specs.Run.{AreRowsOfSequences};
 ghost use Rattle.gimli_lookup.specs.Covering.{covering_probes};
 ghost use Rattle.gimli_lookup.specs.Probes.{binary_digits};
@@ -55,7 +55,7 @@ impl<R: Reader> Model for Lookup<R> {
     ghost use Rattle.std.specs.Prelude.{map};
     ghost use Rattle.gimli_line.specs.header.Orders.{source_of};
     ghost use Rattle.gimli_line.specs.run.Sequences.{sequence_of};
-    ghost use Rattle.gimli_lookup.specs.Kept.{Kept};
+    ghost use Rattle.gimli_lookup.specs.Run.{Kept};
     ghost use Rattle.gimli_lookup.specs.Scan.{IsScanTableOf};
 
     ghost Value = { Kept };
@@ -118,8 +118,7 @@ impl<R: Reader> Lookup<R> {
     /// first has an address at most `a`, and the second one above it. None where there are none.
     /// Takes no memory.
     pub fn find(&self, a: u64) -> Option<(LineRow, LineRow)>
-        ensures { MatchOption result (All (HasNoPair a) self.now.rows)
-            (λ pair. IsFirstPair a self.now.rows pair.0 pair.1) }
+        ensures { result ≡ first_pair_of a self.now.rows }
     {
         self.find_indexed_counted(a).0
     }
@@ -129,8 +128,7 @@ impl<R: Reader> Lookup<R> {
     /// are and however they overlap, and then its rows by halves; the others are searched row by
     /// row.
     pub fn find_indexed_counted(&self, a: u64) -> (Option<(LineRow, LineRow)>, u64)
-        ensures pair { MatchOption result.0 (All (HasNoPair a) self.now.rows)
-            (λ pair. IsFirstPair a self.now.rows pair.0 pair.1) }
+        ensures pair { result.0 ≡ first_pair_of a self.now.rows }
         ensures at_least { Any IsLookedInto self.now.rows → 1 ≤ result.1 }
         ensures at_most { result.1 ≤ binary_digits (2 * length self.now.rows)
             + covering_probes a self.now.rows + sum_by scan_probes self.now.rows }
@@ -146,8 +144,7 @@ impl<R: Reader> Lookup<R> {
     /// of probes that this takes: of times that the address of a row is read. In a sequence whose
     /// addresses never go down the rows are searched by halves, in any other one by one.
     pub fn find_counted(&self, a: u64) -> (Option<(LineRow, LineRow)>, u64)
-        ensures pair { MatchOption result.0 (All (HasNoPair a) self.now.rows)
-            (λ pair. IsFirstPair a self.now.rows pair.0 pair.1) }
+        ensures pair { result.0 ≡ first_pair_of a self.now.rows }
         ensures at_least { Any (λ rows. 2 ≤ length rows) self.now.rows → 1 ≤ result.1 }
         ensures at_most { result.1 ≤ sum_by most_probes self.now.rows }
     {

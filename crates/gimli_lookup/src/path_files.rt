@@ -4,7 +4,7 @@ ghost use Rattle.std.specs.Prelude.{◌≡◌, ◌++◌, [], ◌∷◌, if◌the
 ghost use Rattle.std.specs.Prelude.{OnOk};
 ghost use Rattle.gimli_lookup.specs.PathFiles.{has_path};
 ghost use Rattle.gimli_lookup.specs.ProgramPaths.{texts_seen, unit_paths};
-ghost use Rattle.gimli_lookup.specs.inside.PathFiles.{AreBelow};
+ghost use Rattle.gimli_lookup.specs.inside.Statements.{AreBelow};
 ghost use Rattle.gimli_lookup.specs.inside.Statements.{is_among};
 
 use crate::path_error::PathError;

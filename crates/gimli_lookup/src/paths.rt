@@ -151,15 +151,13 @@ impl<'a, R: Reader> Paths<'a, R> {
 
     /// Whether the directory that the caller has is the directory of the compilation, because the
     /// header has none, or an empty one. If not, every path is the same whatever `comp_dir` is. A
-    /// directory 0 that can't be read needs no other. Takes no memory.
+    /// directory 0 that can't be read needs no other. Looks at no more than the first byte of
+    /// directory 0, and takes no memory.
     pub fn needs_directory(&self) -> bool
         ensures { result ≡ needs_directory self.now }
     {
         match self.header.directory(0) {
-            Some(value) => match self.sections.attr_line_string(value) {
-                Ok(string) => string.is_empty(),
-                Err(_) => false,
-            },
+            Some(value) => self.sections.is_empty_string(value),
             None => self.header.version() <= 4,
         }
     }

@@ -7,7 +7,7 @@ ghost use Rattle.gimli_line.specs.header.Header.{unit_entry};
 ghost use Rattle.gimli_line.specs.run.Unread.{unread_of};
 ghost use Rattle.gimli_lookup.specs.Program.{header_of_found, listed, some_need, unit_needs};
 ghost use Rattle.gimli_lookup.specs.ProgramPaths.{found_path, texts_seen};
-ghost use Rattle.gimli_lookup.specs.Ranges.{IsFoundAt};
+ghost use Rattle.gimli_lookup.specs.Section.{found_at};
 ghost use Rattle.gimli_lookup.specs.SectionAddresses.{addresses_of_path};
 ghost use Rattle.gimli_lookup.specs.SectionUnits.{AreUnitsOf};
 ghost use Rattle.gimli_lookup.specs.Statements.{AreAddressesFrom};
@@ -143,7 +143,7 @@ impl<R: Reader> Program<R> {
     /// no rows cover the address. Takes no memory.
     #[inline(always)]
     pub fn place(&self, address: u64) -> Option<Place<'_, R>>
-        ensures rows { IsFoundAt self.now.lookup address (option_map (λ place. place.rows) result) }
+        ensures rows { option_map (λ place. place.rows) result ≡ found_at address self.now.lookup }
         ensures program { IfSome result (λ place. place.program.now ≡ self.now) }
     {
         let rows = self.lookup.find(address)?;

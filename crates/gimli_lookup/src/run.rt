@@ -2,8 +2,9 @@
 
 ghost use Rattle.std.specs.Prelude.{◌≤◌, ◌<◌, ◌↔◌, ℕ, List, [], ◌∷◌, ◌++◌, IsTrue, IfErr, IfOk};
 ghost use Rattle.gimli_line.specs.declared.run.row.LineRow.{LineRow};
-ghost use Rattle.gimli_lookup.specs.inside.PairSearch.{HasPassed, Knows};
-ghost use Rattle.gimli_lookup.specs.Run.{IsFirstFound, IsFoundInRun, IsRefusedInRun};
+ghost use Rattle.gimli_lookup.specs.inside.FirstPair.{HasPassed, Knows};
+ghost use Rattle.gimli_lookup.specs.Run.{IsFoundInRun, IsRefusedInRun};
+ghost use Rattle.gimli_lookup.specs.inside.FirstPair.{IsFirstFound};
 
 use gimli_core::{Reader, Result};
 use gimli_line::{IncompleteLineProgram, LineRow};

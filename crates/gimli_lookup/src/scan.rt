@@ -3,13 +3,13 @@
 
 ghost use Rattle.std.specs.Prelude.{◌≡◌, ◌≤◌, ◌<◌, ◌+◌, ◌*◌, ◌^◌, length, sum_by, take};
 ghost use Rattle.std.specs.Prelude.{All, Any, IfErr, IfOk, MatchOption};
-ghost use Rattle.gimli_lookup.specs.FirstPair.{HasNoPair, IsFirstPairOf};
+ghost use Rattle.gimli_lookup.specs.inside.FirstPair.{HasNoPair, IsFirstPairOf};
 ghost use Rattle.gimli_lookup.specs.inside.FirstPair.{IsFirstPairIn};
 ghost use Rattle.gimli_lookup.specs.Covering.{covering_probes};
 ghost use Rattle.gimli_lookup.specs.Probes.{binary_digits};
 ghost use Rattle.gimli_lookup.specs.Scan.{indexes_out_of_order, most_probes, scan_probes};
 ghost use Rattle.gimli_lookup.specs.Scan.{IsLookedInto, IsScanTableOf};
-ghost use Rattle.gimli_lookup.specs.inside.Scan.{HaveNoUnorderedPair, IsFirstUnorderedPair};
+ghost use Rattle.gimli_lookup.specs.inside.Steps.{HaveNoUnorderedPair, IsFirstUnorderedPair};
 
 use crate::kept_rows::KeptRows;
 use crate::search::find_by_halves;

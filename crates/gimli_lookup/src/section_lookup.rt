@@ -2,18 +2,17 @@
 
 ghost use Rattle.std.specs.Prelude.{◌≡◌, ◌<◌, ◌≤◌, ◌+◌, ◌-◌, ◌*◌, ◌++◌, ◌∷◌, [], ℕ, length, map};
 ghost use Rattle.std.specs.Prelude.{drop, take, slice_index_or, All, Any, IfErr, IfOk};
-ghost use Rattle.std.specs.Prelude.{IfSome, IsTrue, MatchOption, None, true};
+ghost use Rattle.std.specs.Prelude.{IfSome, IsTrue, None, true};
 ghost use Rattle.gimli_core.specs.Layout.{layout_of};
 ghost use Rattle.gimli_core.specs.Numbers.{is_address_size};
 ghost use Rattle.gimli_line.specs.Units.{AreUnits};
 ghost use Rattle.gimli_line.specs.header.Header.{unit_entry};
 ghost use Rattle.gimli_line.specs.run.Unread.{unread_of};
 ghost use Rattle.gimli_lookup.specs.Covering.{covering_probes, CoversSome};
-ghost use Rattle.gimli_lookup.specs.FirstPair.{HasNoPair, IsFirstPair};
 ghost use Rattle.gimli_lookup.specs.Probes.{binary_digits, NoneGoesDown};
 ghost use Rattle.gimli_lookup.specs.Ranges.{AreFoundIn};
 ghost use Rattle.gimli_lookup.specs.Section.{all_sequences, without_header, unit_without_header};
-ghost use Rattle.gimli_lookup.specs.Section.{AreAdjacent, IsFirstPairOfUnit, KeptUnit, ListedUnit};
+ghost use Rattle.gimli_lookup.specs.Section.{AreAdjacent, KeptUnit, ListedUnit, found_at};
 ghost use Rattle.gimli_lookup.specs.SectionUnits.{IsUnitOf};
 
 use crate::kept_rows::KeptRows;
@@ -206,10 +205,7 @@ impl<R: Reader> SectionLookup<R> {
     /// the order of units and of their sequences. None where there are none. Takes no memory.
     #[inline(always)]
     pub fn find(&self, a: u64) -> Option<CoveringRows>
-        ensures pair { MatchOption result (All (HasNoPair a) (all_sequences self.now))
-            (λ found. IsFirstPair a (all_sequences self.now) found.row found.next) }
-        ensures unit { IfSome result
-            (λ found. IsFirstPairOfUnit a self.now found.unit found.row found.next) }
+        ensures { result ≡ found_at a self.now }
     {
         self.find_counted(a).0
     }
@@ -219,10 +215,7 @@ impl<R: Reader> SectionLookup<R> {
     /// and however they overlap, and then its rows by halves.
     #[inline(always)]
     pub fn find_counted(&self, a: u64) -> (Option<CoveringRows>, u64)
-        ensures pair { MatchOption result.0 (All (HasNoPair a) (all_sequences self.now))
-            (λ found. IsFirstPair a (all_sequences self.now) found.row found.next) }
-        ensures unit { IfSome result.0
-            (λ found. IsFirstPairOfUnit a self.now found.unit found.row found.next) }
+        ensures found { result.0 ≡ found_at a self.now }
         ensures at_least { Any CoversSome (all_sequences self.now) → 1 ≤ result.1 }
         ensures at_most { let sequences = all_sequences self.now in
             result.1 ≤ binary_digits (2 * length sequences) + covering_probes a sequences }

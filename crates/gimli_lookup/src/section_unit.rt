@@ -51,7 +51,7 @@ impl<R: Reader> Model for UnitLookup<R> {
 
 impl<R: Reader> UnitLookup<R> {
     ghost use Rattle.gimli_lookup.specs.inside.Section.{IsAdded};
-    ghost use Rattle.gimli_lookup.specs.inside.SectionSearch.{bare_unit, IsSearched};
+    ghost use Rattle.gimli_lookup.specs.inside.Section.{bare_unit, IsSearched};
 
     /// What is kept of the program of a unit, or of its refusal: its sequences come after those of
     /// the units before it. Fails only with `OutOfMemory`.

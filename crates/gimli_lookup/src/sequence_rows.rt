@@ -4,7 +4,7 @@ ghost use Rattle.std.specs.Prelude.{◌≡◌, ◌<◌, Some, length, option_map
 ghost use Rattle.gimli_lookup.specs.Covering.{range};
 ghost use Rattle.gimli_lookup.specs.Probes.{never_go_down};
 ghost use Rattle.gimli_lookup.specs.Section.{KeptUnit};
-ghost use Rattle.gimli_lookup.specs.SequenceRows.{rows_of};
+ghost use Rattle.gimli_lookup.specs.Section.{rows_of};
 
 use crate::kept_rows::KeptRows;
 use crate::section_lookup::SectionLookup;

@@ -6,8 +6,8 @@ ghost use Rattle.gimli_line.specs.declared.run.row.LineRow.{LineRow};
 ghost use Rattle.gimli_lookup.specs.Statements.{is_of_line, addresses_in, addresses_of};
 ghost use Rattle.gimli_lookup.specs.Statements.{ascending_once, AreAddressesFrom};
 ghost use Rattle.gimli_lookup.specs.inside.Statements.{is_among, AreCollectedFrom};
-ghost use Rattle.gimli_lookup.specs.inside.StatementLines.{is_statement, has_statement};
-ghost use Rattle.gimli_lookup.specs.inside.StatementLines.{have_statement, IsFirstWith};
+ghost use Rattle.gimli_lookup.specs.inside.Statements.{is_statement, has_statement};
+ghost use Rattle.gimli_lookup.specs.inside.Statements.{have_statement, IsFirstWith};
 
 use crate::kept_rows::KeptRows;
 use gimli_core::{Error, Result};

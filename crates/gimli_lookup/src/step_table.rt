@@ -4,15 +4,15 @@
 ghost use Rattle.std.specs.Prelude.{◌≡◌, ◌≤◌, ◌<◌, ◌+◌, ◌*◌, ◌^◌, ℕ, true, length};
 ghost use Rattle.std.specs.Prelude.{slice_index_or, sum_by, All, Any, IfErr, IfOk, IfSome};
 ghost use Rattle.std.specs.Prelude.{MatchOption};
+ghost use Rattle.std.specs.List.Sorted.{IsNonDecreasingBy};
 ghost use Rattle.gimli_lookup.specs.declared.steps.Step.{Step};
-ghost use Rattle.gimli_lookup.specs.FirstPair.{HasNoPair};
+ghost use Rattle.gimli_lookup.specs.inside.FirstPair.{HasNoPair};
 ghost use Rattle.gimli_lookup.specs.Ranges.{IsBefore};
-ghost use Rattle.gimli_lookup.specs.inside.Ends.{IsFoundIn};
+ghost use Rattle.gimli_lookup.specs.inside.Steps.{IsFoundIn};
 ghost use Rattle.gimli_lookup.specs.inside.FirstPair.{IsFirstPairIn};
 ghost use Rattle.gimli_lookup.specs.Covering.{covering_probes, CoversSome};
 ghost use Rattle.gimli_lookup.specs.Probes.{binary_digits, NoneGoesDown};
-ghost use Rattle.gimli_lookup.specs.Steps.{step_at, AreInOrder};
-ghost use Rattle.gimli_lookup.specs.Steps.{IsStepTableOf};
+ghost use Rattle.gimli_lookup.specs.Steps.{step_at, IsStepTableOf};
 
 use crate::ends::{nearer, next_step};
 use crate::kept_rows::KeptRows;
@@ -65,7 +65,7 @@ fn address_of_step(steps: &[Step], index: usize, probes: &mut u64) -> u64
 
 /// The number of steps whose address is at most `a`, found by halves.
 fn steps_up_to(steps: &[Step], a: u64, probes: &mut u64) -> usize
-    requires order { AreInOrder steps.now }
+    requires order { IsNonDecreasingBy (λ s. s.from) steps.now }
     requires count { probes.old + length steps.now < 2 ^ 64 }
     ensures index { result ≤ length steps.now }
     ensures before { (k : ℕ) (d : Step) → k < result → (slice_index_or steps.now k d).from ≤ a }
@@ -90,7 +90,7 @@ fn steps_up_to(steps: &[Step], a: u64, probes: &mut u64) -> usize
 
 /// What the last of the steps says whose address is at most `a`.
 pub(crate) fn sequence_at(steps: &[Step], a: u64, probes: &mut u64) -> Option<usize>
-    requires order { AreInOrder steps.now }
+    requires order { IsNonDecreasingBy (λ s. s.from) steps.now }
     requires count { probes.old + length steps.now < 2 ^ 64 }
     ensures value { result ≡ step_at a steps.now }
     ensures grows { probes.old ≤ probes.new }

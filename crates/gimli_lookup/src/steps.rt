@@ -3,8 +3,9 @@
 
 ghost use Rattle.std.specs.Prelude.{◌≡◌, ◌≤◌, ◌<◌, ◌+◌, ◌^◌, ◌++◌, ◌∷◌, [], ℕ, None, true, false};
 ghost use Rattle.std.specs.Prelude.{length, slice_index_or, IfErr, IfOk, MatchOption};
+ghost use Rattle.std.specs.List.Sorted.{IsNonDecreasingBy};
 ghost use Rattle.gimli_lookup.specs.declared.steps.Step.{Step};
-ghost use Rattle.gimli_lookup.specs.Steps.{last_step, AreInOrder, AreStepsOf};
+ghost use Rattle.gimli_lookup.specs.Steps.{last_step, AreStepsOf};
 ghost use Rattle.gimli_lookup.specs.inside.Steps.{AreJoined};
 
 use crate::kept_rows::KeptRows;
@@ -51,8 +52,8 @@ fn is_left_next(left: &[Step], of_left: usize, right: &[Step], of_right: usize) 
 
 /// Two lists of steps, merged by their addresses. Fails only with `OutOfMemory`.
 fn merge(alloc: Global, left: &[Step], right: &[Step]) -> Result<Vec<Step>>
-    requires left_order { AreInOrder left.now }
-    requires right_order { AreInOrder right.now }
+    requires left_order { IsNonDecreasingBy (λ s. s.from) left.now }
+    requires right_order { IsNonDecreasingBy (λ s. s.from) right.now }
     requires left_end { last_step left.now ≡ None }
     requires right_end { last_step right.now ≡ None }
     ensures ok { IfOk result (λ steps. AreJoined left.now right.now steps.items) }
@@ -87,8 +88,8 @@ fn merge(alloc: Global, left: &[Step], right: &[Step]) -> Result<Vec<Step>>
 
 /// Whether no step of the right list has an address below that of a step of the left one.
 fn is_after(left: &[Step], right: &[Step]) -> bool
-    requires left_order { AreInOrder left.now }
-    requires right_order { AreInOrder right.now }
+    requires left_order { IsNonDecreasingBy (λ s. s.from) left.now }
+    requires right_order { IsNonDecreasingBy (λ s. s.from) right.now }
     ensures { result ≡ true → (i j : ℕ) (d : Step) → i < length left.now → j < length right.now
         → (slice_index_or left.now i d).from ≤ (slice_index_or right.now j d).from }
 {
@@ -101,8 +102,8 @@ fn is_after(left: &[Step], right: &[Step]) -> bool
 /// Two lists of steps as one; where the right one stands after the left one it is appended. Fails
 /// only with `OutOfMemory`.
 fn join(alloc: Global, mut left: Vec<Step>, mut right: Vec<Step>) -> Result<Vec<Step>>
-    requires left_order { AreInOrder left.items }
-    requires right_order { AreInOrder right.items }
+    requires left_order { IsNonDecreasingBy (λ s. s.from) left.items }
+    requires right_order { IsNonDecreasingBy (λ s. s.from) right.items }
     requires left_end { last_step left.items ≡ None }
     requires right_end { last_step right.items ≡ None }
     ensures ok { IfOk result (λ steps. AreJoined left.items right.items steps.items) }

@@ -3,7 +3,7 @@
 ghost use Rattle.std.specs.Prelude.{◌≡◌};
 ghost use Rattle.gimli_core.specs.Reading.{result_map};
 ghost use Rattle.gimli_core.specs.Values.{value_seen};
-ghost use Rattle.gimli_lookup.specs.Strings.{strings, string_at, string_of};
+ghost use Rattle.gimli_lookup.specs.Strings.{has_no_bytes, strings, string_at, string_of};
 
 use crate::path_error::PathError;
 use gimli_core::{AttributeValue, Reader};
@@ -41,6 +41,34 @@ impl<R: Reader> StringSections<R> {
             AttributeValue::DebugStrOffsetsIndex(_) => Err(PathError::UnsupportedStringIndex),
             _ => Err(PathError::ExpectedStringAttributeValue),
         }
+    }
+
+    /// Whether the string that a value stands for has no bytes. One that can't be read has some.
+    /// However long a string is, no more than its first byte is looked at.
+    pub(crate) fn is_empty_string(&self, value: AttributeValue<R>) -> bool
+        ensures { result ≡ has_no_bytes (string_of (strings R.bytes self.now)
+            (value_seen R.bytes R.Offset.number value)) }
+    {
+        match value {
+            AttributeValue::String(string) => string.is_empty(),
+            AttributeValue::DebugLineStrRef(offset) => is_empty_at(self.debug_line_str, offset.0),
+            AttributeValue::DebugStrRef(offset) => is_empty_at(self.debug_str, offset.0),
+            _ => false,
+        }
+    }
+}
+
+/// Whether the string of a section at an offset has no bytes: its zero byte is the first one there.
+fn is_empty_at<R: Reader>(section: R, offset: R::Offset) -> bool
+    ensures { result ≡ has_no_bytes (string_at (R.bytes section) (R.Offset.number offset)) }
+{
+    let mut bytes = section;
+    if bytes.skip(offset).is_err() {
+        return false;
+    }
+    match bytes.read_u8() {
+        Ok(byte) => byte == 0,
+        Err(_) => false,
     }
 }
 

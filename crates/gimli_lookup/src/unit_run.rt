@@ -4,8 +4,8 @@ ghost use Rattle.std.specs.Prelude.{◌≡◌, ◌≢◌, IfErr, IfOk, Some};
 ghost use Rattle.gimli_line.specs.header.Orders.{source_of};
 ghost use Rattle.gimli_line.specs.run.Rows.{whole_run, KeepsRun};
 ghost use Rattle.gimli_lookup.specs.UnitRun.{IsKept};
-ghost use Rattle.gimli_lookup.specs.RowsTaken.{header_of};
-ghost use Rattle.gimli_lookup.specs.inside.RowsTaken.{AreTaken};
+ghost use Rattle.gimli_lookup.specs.Section.{header_of};
+ghost use Rattle.gimli_lookup.specs.inside.SequenceCut.{AreTaken};
 
 use crate::kept_rows::KeptRows;
 use crate::sequence_cut::SequenceCut;

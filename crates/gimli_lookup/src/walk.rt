@@ -2,11 +2,11 @@
 
 ghost use Rattle.std.specs.Prelude.{◌≡◌, ◌≤◌, ◌<◌, ◌^◌, ℕ, true, length, slice_index_or};
 ghost use Rattle.std.specs.Prelude.{MatchOption};
+ghost use Rattle.std.specs.List.Sorted.{IsNonDecreasingBy};
 ghost use Rattle.gimli_line.specs.declared.run.row.LineRow.{LineRow};
 ghost use Rattle.gimli_lookup.specs.declared.steps.Step.{Step};
-ghost use Rattle.gimli_lookup.specs.FirstPair.{HasNoPair, IsFirstPairOf};
+ghost use Rattle.gimli_lookup.specs.inside.FirstPair.{HasNoPair, IsFirstPairOf};
 ghost use Rattle.gimli_lookup.specs.Probes.{never_go_down};
-ghost use Rattle.gimli_lookup.specs.Steps.{AreInOrder};
 
 use crate::kept_rows::KeptRows;
 use crate::search::first_above;
@@ -46,7 +46,7 @@ fn address_of_row(rows: &KeptRows, index: usize) -> u64
 
 /// A number of steps, where their addresses are at most `a`; else 0.
 fn known_steps(steps: &[Step], a: u64, near: usize) -> usize
-    requires order { AreInOrder steps.now }
+    requires order { IsNonDecreasingBy (λ s. s.from) steps.now }
     ensures index { result ≤ length steps.now }
     ensures before { (k : ℕ) (d : Step) → k < result → (slice_index_or steps.now k d).from ≤ a }
 {
@@ -58,7 +58,7 @@ fn known_steps(steps: &[Step], a: u64, near: usize) -> usize
 
 /// The number of steps whose address is at most `a`: that of a walk at an address before, and more.
 pub(crate) fn steps_from(steps: &[Step], a: u64, near: usize) -> usize
-    requires order { AreInOrder steps.now }
+    requires order { IsNonDecreasingBy (λ s. s.from) steps.now }
     ensures index { result ≤ length steps.now }
     ensures before { (k : ℕ) (d : Step) → k < result → (slice_index_or steps.now k d).from ≤ a }
     ensures after { (k : ℕ) (d : Step) → result ≤ k → k < length steps.now

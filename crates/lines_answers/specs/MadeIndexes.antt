@@ -4,7 +4,7 @@ use Rattle.std.specs.Option.{option_map}
 use Rattle.gimli_compilation.specs.Directories.{TellsDirectories, directory_for}
 use Rattle.gimli_compilation.specs.Sections.{sections_of}
 use Rattle.gimli_index.specs.Found.{IsIndexAppended}
-use Rattle.gimli_lookup.specs.ProgramPaths.{texts_of}
+use Rattle.gimli_lookup.specs.ProgramPaths.{texts_seen}
 use Rattle.gimli_lookup.specs.Section.{KeptUnit}
 use Rattle.lines_inputs.specs.Lookups.{AreUnitsIn}
 use Rattle.lines_inputs.specs.declared.input.Input.{Input}
@@ -20,7 +20,7 @@ pub record IsMade {R : Type 0} (bytes : R → List ℕ) (is_big : R → Bool) (l
   pub tell : TellsDirectories (sections_of bytes is_big limit input.compilations)
       (λ line. option_map bytes (directory_for directories line))
   pub is_index : IsIndexAppended (record {
-    texts = texts_of bytes input.strings directories;
+    texts = texts_seen bytes (input.strings, directories);
     units = kept;
     size = size_number input.notation.address_size;
     name = name;

@@ -1,2 +1,1 @@
 mod ResumedRows
-mod Places

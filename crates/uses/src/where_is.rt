@@ -1,8 +1,8 @@
 //! From the addresses of a program to `path:line:column`.
 #![tactic(auto)]
 
-ghost use Rattle.std.specs.Prelude.{◌≡◌, All, IfOk, IfSome, None};
-ghost use Rattle.gimli_lookup.specs.FirstPair.{HasNoPair, IsFirstPair};
+ghost use Rattle.std.specs.Prelude.{◌≡◌, IfOk, option_map};
+ghost use Rattle.gimli_lookup.specs.FirstPair.{first_pair_of};
 ghost use Rattle.gimli_lookup.specs.Section.{all_sequences};
 
 use anyhow::bail;
@@ -10,6 +10,7 @@ use elf_sections::{Elf, ElfError};
 use gimli_compilation::{CompilationSections, Compilations};
 use gimli_core::{EndianSlice, LittleEndian, Reader};
 use gimli_line::{ColumnType, DebugLine, LineRow};
+use gimli_lookup::laws::found_among_all;
 use gimli_lookup::{PathError, Program, StringSections};
 use std::alloc::Global;
 use std::fmt::Write;
@@ -121,11 +122,10 @@ fn source_at<R: Reader>(
     program: &Program<R>,
     address: u64,
 ) -> Result<Option<(Vec<u8>, LineRow)>, PathError>
-    ensures none { IfOk result (λ source. source ≡ None
-        → All (HasNoPair address) (all_sequences program.now.lookup)) }
-    ensures row { IfOk result (λ source. IfSome source (λ source. (next : _)
-        × IsFirstPair address (all_sequences program.now.lookup) source.1 next)) }
+    ensures { IfOk result (λ source. option_map (λ source. source.1) source
+        ≡ option_map (λ pair. pair.0) (first_pair_of address (all_sequences program.now.lookup))) }
 {
+    found_among_all();
     let Some(place) = program.place(address) else {
         return Ok(None);
     };

@@ -40,11 +40,13 @@ begun t u given (r ∷ rows) =
 abbrev pub begun_in_unit : Texts → KeptUnit → List Statement
 begun_in_unit t u = flat_map (begun t u.unit None) u.sequences
 
+-- those of all units
 abbrev pub begun_in_units : Texts → List KeptUnit → List Statement
 begun_in_units t units = flat_map (begun_in_unit t) units
 
 -- ---- by a table of sources
 
+-- what statements say, by the sources of a table
 abbrev pub statements_in : Table → List Made → List Statement
 statements_in table statements = map (statement_in (with_table table)) statements
 

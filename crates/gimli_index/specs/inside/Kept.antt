@@ -18,9 +18,11 @@ use Rattle.gimli_index.specs.declared.contents.Statement.{Statement}
 abbrev pub entries_name : List Entry → ℕ → Bool
 entries_name entries n = list_any (λ (e : Entry). number_in e.place == n) entries
 
+-- whether statements do
 abbrev pub statements_name : List Statement → ℕ → Bool
 statements_name statements n = list_any (λ (s : Statement). s.source == n) statements
 
+-- whether one of both does
 abbrev pub are_named : List Entry → List Statement → ℕ → Bool
 are_named entries statements n = entries_name entries n || statements_name statements n
 
@@ -39,12 +41,15 @@ numbers_from n (mark ∷ named) = n ∷ numbers_from (if mark then n + 1 else n)
 abbrev pub number_by : List ℕ → ℕ → ℕ
 number_by numbers k = option_map_or (λ (n : ℕ). n) (slice_get numbers k) k
 
+-- the place of a line, by other numbers
 abbrev pub line_by : List ℕ → SourceLine → SourceLine
 line_by numbers l = record l { source = number_by numbers l.source }
 
+-- an entry, by other numbers
 abbrev pub entry_by : List ℕ → Entry → Entry
 entry_by numbers e = record e { place = option_map (line_by numbers) e.place }
 
+-- a statement, by other numbers
 abbrev pub statement_by : List ℕ → Statement → Statement
 statement_by numbers s = record s { source = number_by numbers s.source }
 

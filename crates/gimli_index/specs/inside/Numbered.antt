@@ -17,9 +17,11 @@ AreNumbered {K} keys number =
 
 -- ---- files of units
 
+-- files of units in turn: by the unit, and of one unit by the file
 abbrev pub key_order : SourceKey → SourceKey → Ordering
 key_order a b = ordering_then (nat_cmp a.unit b.unit) (nat_cmp a.file b.file)
 
+-- the number of a file of a unit, if it has one
 abbrev pub number_of_key : List (SourceKey × ℕ) → SourceKey → Option ℕ
 number_of_key entries key = lookup (λ k. is_eq (key_order key k)) entries
 
@@ -35,9 +37,11 @@ abbrev pub in_turn : {X : Type 0} → List (X × ℕ) → List (X × ℕ)
 in_turn [] = []
 in_turn (e ∷ es) = put_in_turn e (in_turn es)
 
+-- texts in the order of their numbers
 abbrev pub texts_in_turn : List (Vec ℕ Global × ℕ) → List (List ℕ)
 texts_in_turn entries = map (λ e. e.0.items) (in_turn entries)
 
+-- the number of a text, if it has one
 abbrev pub number_of_text : List (Vec ℕ Global × ℕ) → List ℕ → Option ℕ
 number_of_text entries text = lookup (λ v. is_eq (slice_cmp nat_cmp text v.items)) entries
 

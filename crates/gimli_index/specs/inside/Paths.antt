@@ -26,6 +26,7 @@ pub record PathList : Type 0 where
   pub known : List (List ℕ)
   pub firsts : List ℕ
 
+-- before the first path
 abbrev pub no_paths : PathList
 no_paths = record { bytes = []; known = []; firsts = [] }
 

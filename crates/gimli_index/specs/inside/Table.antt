@@ -24,8 +24,8 @@ use Rattle.gimli_index.specs.declared.contents.SourceLine.{SourceLine}
 use Rattle.gimli_index.specs.declared.header.StartSize.TheVariants.{Four}
 use Rattle.gimli_index.specs.declared.source_keys.SourceKey.{SourceKey}
 use Rattle.gimli_line.specs.declared.run.row.LineRow.{LineRow}
-use Rattle.gimli_lookup.specs.Ranges.{IsBefore, IsFoundAt}
-use Rattle.gimli_lookup.specs.Section.{KeptUnit}
+use Rattle.gimli_lookup.specs.Ranges.{IsBefore}
+use Rattle.gimli_lookup.specs.Section.{KeptUnit, found_at}
 use Rattle.gimli_lookup.specs.declared.section_lookup.CoveringRows.{CoveringRows}
 
 -- the sources, each with the unit and the file that it is of, and their paths
@@ -34,6 +34,7 @@ pub record Table : Type 0 where
   pub sources : List Source
   pub paths : PathList
 
+-- before the first source
 abbrev pub no_table : Table
 no_table = record { keys = []; sources = []; paths = no_paths }
 
@@ -95,9 +96,11 @@ with_table table = record {
   identity = [];
 }
 
+-- the place of a line, by the sources and paths of a table
 abbrev pub place_in : Table → Option SourceLine → Option Place
 place_in table place = option_and_then (line_place (with_table table)) place
 
+-- the starts of entries, by the same
 abbrev pub starts_in : Table → List Entry → List Start
 starts_in table entries = map (entry_start (with_table table)) entries
 
@@ -135,5 +138,5 @@ pub record Entered (t : Texts) (units : List KeptUnit) (limit : ℕ) (table : Ta
   pub ascending : EntriesAscend entries
   pub columns : All (λ e. HasColumn e.place) entries
   pub short : IsShort (starts_in table entries)
-  pub says : (a : ℕ) (found : Option CoveringRows) → IsBefore a from → IsFoundAt units a found
-      → place_at a (starts_in table entries) ≡ found_place t units found
+  pub says : (a : ℕ) → IsBefore a from
+      → place_at a (starts_in table entries) ≡ found_place t units (found_at a units)

@@ -15,16 +15,18 @@ use Rattle.gimli_index.specs.inside.Table.{AreSources, IsInside, Table, starts_i
 use Rattle.gimli_line.specs.declared.run.row.LineRow.{LineRow}
 use Rattle.gimli_lookup.specs.Covering.{range}
 use Rattle.gimli_lookup.specs.Section.{KeptUnit, ListedUnit}
-use Rattle.gimli_lookup.specs.SequenceRows.{rows_of}
+use Rattle.gimli_lookup.specs.Section.{rows_of}
 
 -- the rows of a sequence, and its unit
 pub record UnitRows : Type 0 where
   pub unit : ListedUnit
   pub rows : List LineRow
 
+-- the sequences of a unit
 abbrev pub rows_in : KeptUnit → List UnitRows
 rows_in u = map (λ rows. record { unit = u.unit; rows = rows }) u.sequences
 
+-- those of all units
 abbrev pub rows_of_units : List KeptUnit → List UnitRows
 rows_of_units units = flat_map rows_in units
 
@@ -60,9 +62,11 @@ abbrev pub end_after : ℕ → List LineRow → ℕ
 end_after end [] = end
 end_after end (r ∷ rows) = end_after r.address rows
 
+-- the start that a row has
 abbrev pub row_start : Texts → ListedUnit → LineRow → Start
 row_start t u r = record { address = r.address; place = Some (row_place t u r) }
 
+-- the start at which nothing holds any more
 abbrev pub end_start : ℕ → Start
 end_start a = record { address = a; place = None }
 
@@ -74,6 +78,7 @@ starts_of_rows t u (r ∷ []) =
     else row_start t u r ∷ end_start r.address ∷ []
 starts_of_rows t u (r ∷ next ∷ rows) = row_start t u r ∷ starts_of_rows t u (next ∷ rows)
 
+-- the starts of a sequence of a unit
 abbrev pub starts_of_turn : Texts → UnitRows → List Start
 starts_of_turn t s = starts_of_rows t s.unit s.rows
 

@@ -1,8 +1,15 @@
--- The rows of a unit, taken in one after the other.
-use Rattle.std.specs.Prelude.{ℕ, if◌then◌else◌, List, [], ◌∷◌, ◌++◌, length}
+-- The rows of a unit, taken in one after the other, up to the first fault of its run.
+use Rattle.std.specs.Prelude.{ℕ, if◌then◌else◌, List, [], ◌∷◌, ◌++◌, length, ◌≡◌, map, Option, Some}
+use Rattle.std.specs.Prelude.{None}
 use Rattle.std.specs.List.{filter}
 use Rattle.gimli_line.specs.declared.run.row.LineRow.{LineRow}
 use Rattle.gimli_lookup.specs.UnitRun.{has_rows, stands}
+use Rattle.gimli_core.specs.declared.error.Error.{Error}
+use Rattle.gimli_line.specs.run.Events.{row, fault}
+use Rattle.gimli_line.specs.run.EventsWithFiles.{EventWithFiles}
+use Rattle.gimli_line.specs.run.Passing.{RunState}
+use Rattle.gimli_line.specs.run.Rows.{made_left, files_at_end, event_of, KeepsHeader}
+use Rattle.gimli_line.specs.run.Sequences.{events_of}
 
 -- the parts of the sequences that have ended and then those of the open one, how many of them are
 -- of ended ones, and the rows of the part that is open
@@ -40,3 +47,18 @@ with_row r a = if r.end_sequence then with_end (with_place r a) else with_place 
 abbrev pub with_rows : List LineRow → SequenceCut → SequenceCut
 with_rows [] a = a
 with_rows (r ∷ rows) a = with_rows rows (with_row r a)
+
+-- what comes after these events: nothing, or the first fault
+abbrev pub StopsAt : RunState → RunState → List EventWithFiles → Option Error → Type 0
+StopsAt old new front None = (made_left old ≡ front) × (new.files ≡ files_at_end old)
+StopsAt old new front (Some e) =
+    (rest : List EventWithFiles) × (made_left old ≡ front ++ event_of (fault e) new ∷ rest)
+
+-- the rows up to the first fault were taken in
+pub record AreTaken (old new : RunState) (e : Option Error) (from to : SequenceCut) : Type 0 where
+  pub rows : List LineRow
+  pub front : List EventWithFiles
+  pub rows_are : events_of front ≡ map row rows
+  pub stops : StopsAt old new front e
+  pub taken : to ≡ with_rows rows from
+  pub keeps : KeepsHeader old new

@@ -6,7 +6,7 @@ use Rattle.std.specs.List.{list_any}
 use Rattle.std.specs.Option.{option_or}
 use Rattle.gimli_line.specs.declared.run.row.LineRow.{LineRow}
 use Rattle.gimli_lookup.specs.declared.section_lookup.CoveringRows.{CoveringRows}
-use Rattle.gimli_lookup.specs.FirstPair.{HasNoPair, IsFirstPairOf, IsFirstPair}
+use Rattle.gimli_lookup.specs.inside.FirstPair.{HasNoPair, IsFirstPairOf, IsFirstPair}
 use Rattle.gimli_lookup.specs.inside.SequenceCut.{SequenceCut}
 
 -- whether an address stands between the rows of a pair

@@ -1,5 +1,5 @@
 use Rattle.std.proofs.Common.{◌∙◌, sym, arith}
-use Rattle.gimli_lookup.specs.SequenceRows.{rows_of}
+use Rattle.gimli_lookup.specs.Section.{rows_of}
 use Rattle.gimli_index.proofs.TurnSteps.{code_ended, code_open}
 use Rattle.gimli_index.proofs.made.count_of_code.Goals as goal
 

@@ -1,7 +1,7 @@
 use Rattle.std.proofs.Common.{◌≡◌, ◌++◌, ℕ, true, List, map, take}
 use Rattle.gimli_lookup.specs.Probes.{never_go_below}
 use Rattle.gimli_lookup.specs.Section.{KeptUnit}
-use Rattle.gimli_lookup.specs.SequenceRows.{rows_of}
+use Rattle.gimli_lookup.specs.Section.{rows_of}
 use Rattle.gimli_lookup.specs.ProgramPaths.{texts_seen}
 use Rattle.gimli_index.specs.Meaning.{Start}
 use Rattle.gimli_index.specs.inside.Table.{AreSources}

@@ -1,7 +1,7 @@
 use Rattle.std.proofs.Common.{◌≡◌, ◌++◌, None, Some, drop}
 use Rattle.std.specs.Prelude.{slice_get}
 use Rattle.gimli_lookup.specs.Section.{KeptUnit}
-use Rattle.gimli_lookup.specs.SequenceRows.{rows_of}
+use Rattle.gimli_lookup.specs.Section.{rows_of}
 use Rattle.gimli_lookup.specs.ProgramPaths.{texts_seen}
 use Rattle.gimli_index.specs.inside.Begun.{AreInside, IsGiven, begun, given_in, statements_in}
 use Rattle.gimli_index.specs.inside.Table.{AreSources, Keeps}

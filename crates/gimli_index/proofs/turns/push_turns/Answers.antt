@@ -6,7 +6,7 @@ use Rattle.std.proofs.lemmas.List.{length-map, take_all}
 use Rattle.std.proofs.lemmas.List.Elements.{All-push}
 use Rattle.gimli_line.specs.declared.run.row.LineRow.{LineRow}
 use Rattle.gimli_lookup.specs.Section.{KeptUnit}
-use Rattle.gimli_lookup.specs.SequenceRows.{rows_of}
+use Rattle.gimli_lookup.specs.Section.{rows_of}
 use Rattle.gimli_index.specs.declared.turns.Turn.{Turn}
 use Rattle.gimli_index.specs.inside.Turns.{IsTurn, UnitRows, rows_in, turn_rows}
 use Rattle.gimli_index.proofs.Lists.{get_inside}

@@ -1,6 +1,6 @@
 use Rattle.gimli_lookup.specs.PathFiles.{has_path}
 use Rattle.gimli_lookup.specs.ProgramPaths.{texts_seen, unit_paths}
-use Rattle.gimli_lookup.specs.inside.PathFiles.{AreBelow}
+use Rattle.gimli_lookup.specs.inside.Statements.{AreBelow}
 use Rattle.gimli_lookup.proofs.path_files.files_below.Given as goal
 
 abbrev pub invariant-loop-file : goal.invariant-loop-file

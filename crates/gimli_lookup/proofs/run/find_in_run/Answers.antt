@@ -5,6 +5,7 @@ use Rattle.gimli_line.specs.header.Orders.{source_of}
 use Rattle.gimli_line.specs.run.Rows.{events_left}
 use Rattle.gimli_lookup.proofs.Cuts.{passes_none}
 use Rattle.gimli_lookup.proofs.Files.{row_keeps, defines}
+use Rattle.gimli_lookup.proofs.FirstPairs.{found_first}
 use Rattle.gimli_lookup.proofs.Runs.{run_ended, run_goes, first_fault}
 use Rattle.gimli_lookup.proofs.run.find_in_run.Goals as goal
 
@@ -51,7 +52,9 @@ returns-in-None-clause-ok g c =
             c.rows-rows.ensures.events i.1 next.0;
         cut = i.2.cut;
       };
-      first = c.pair.ensures c.args.a i.2.sequences i.2.cut.unended i.2.known;
+      found_is =
+          found_first c.args.a i.2.sequences c.pair.result
+          (c.pair.ensures c.args.a i.2.sequences i.2.cut.unended i.2.known);
     }
 
 pub rows-preserved : goal.rows-preserved

@@ -4,7 +4,7 @@ use Rattle.gimli_line.specs.declared.run.row.LineRow.{LineRow}
 use Rattle.gimli_line.specs.run.Events.{row}
 use Rattle.gimli_line.specs.run.Rows.{events_left, files_at_end}
 use Rattle.gimli_line.specs.run.Sequences.{events_of}
-use Rattle.gimli_lookup.specs.inside.PairSearch.{HasPassed}
+use Rattle.gimli_lookup.specs.inside.FirstPair.{HasPassed}
 use Rattle.gimli_lookup.proofs.run.find_in_run.Given as goal
 
 abbrev pub invariant-rows : goal.invariant-rows

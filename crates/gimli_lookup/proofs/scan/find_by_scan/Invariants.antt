@@ -1,7 +1,7 @@
 use Rattle.std.proofs.Common.{◌≡◌, ◌≤◌, ◌<◌, ◌+◌, ℕ, true, false}
 use Rattle.std.specs.Prelude.{slice_index_or}
 use Rattle.gimli_line.specs.declared.run.row.LineRow.{LineRow}
-use Rattle.gimli_lookup.specs.FirstPair.{IsPairAt}
+use Rattle.gimli_lookup.specs.inside.FirstPair.{IsPairAt}
 use Rattle.gimli_lookup.proofs.scan.find_by_scan.Given as goal
 
 abbrev pub invariant-loop-index : goal.invariant-loop-index

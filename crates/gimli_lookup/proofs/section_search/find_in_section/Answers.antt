@@ -2,7 +2,7 @@ use Rattle.std.proofs.Common.{◌≡◌, ℕ, List, length, map, subst, sym, rul
 use Rattle.gimli_line.specs.Units.{AreUnits}
 use Rattle.gimli_line.specs.run.Unread.{Unread}
 use Rattle.gimli_lookup.specs.declared.section_lookup.CoveringRows.{CoveringRows}
-use Rattle.gimli_lookup.specs.inside.SectionSearch.{IsSearched}
+use Rattle.gimli_lookup.specs.inside.Section.{IsSearched}
 use Rattle.gimli_lookup.specs.inside.UnitSearch.{first_covering}
 use Rattle.gimli_lookup.proofs.SectionUnits.{IsGiven}
 use Rattle.gimli_lookup.proofs.SectionSearches.{none_searched, one_searched, all_searched}

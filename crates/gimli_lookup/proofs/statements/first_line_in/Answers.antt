@@ -1,7 +1,7 @@
 use Rattle.std.proofs.Common.{◌<◌, ◌+◌, ◌||◌, ℕ, length, sym, ap, ◌∙◌, take, arith}
 use Rattle.std.proofs.lemmas.List.Folds.{list_any_more}
 use Rattle.std.proofs.lemmas.Option.{get_or_from_slice_get}
-use Rattle.gimli_lookup.specs.inside.StatementLines.{is_statement, has_statement}
+use Rattle.gimli_lookup.specs.inside.Statements.{is_statement, has_statement}
 use Rattle.gimli_lookup.proofs.StatementRuns.{first_with_same}
 use Rattle.gimli_lookup.specs.inside.Statements.{is_among}
 use Rattle.gimli_lookup.proofs.statements.first_line_in.Goals as goal

@@ -1,5 +1,5 @@
 use Rattle.std.proofs.Common.{take}
-use Rattle.gimli_lookup.specs.inside.StatementLines.{has_statement, IsFirstWith}
+use Rattle.gimli_lookup.specs.inside.Statements.{has_statement, IsFirstWith}
 use Rattle.gimli_lookup.specs.inside.Statements.{is_among}
 use Rattle.gimli_lookup.proofs.statements.first_line_in.Given as goal
 

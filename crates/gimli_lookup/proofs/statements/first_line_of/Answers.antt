@@ -1,6 +1,6 @@
 use Rattle.std.proofs.Common.{◌<◌, ◌+◌, ◌||◌, ℕ, length, sym, ap, ◌∙◌, take, arith}
 use Rattle.std.proofs.lemmas.List.Folds.{list_any_more}
-use Rattle.gimli_lookup.specs.inside.StatementLines.{has_statement, have_statement}
+use Rattle.gimli_lookup.specs.inside.Statements.{has_statement, have_statement}
 use Rattle.gimli_lookup.proofs.StatementRuns.{first_with_same}
 use Rattle.gimli_lookup.specs.inside.Statements.{is_among}
 use Rattle.gimli_lookup.proofs.statements.first_line_of.Goals as goal

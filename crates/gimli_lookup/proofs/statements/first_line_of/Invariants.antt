@@ -1,5 +1,5 @@
 use Rattle.std.proofs.Common.{take}
-use Rattle.gimli_lookup.specs.inside.StatementLines.{have_statement, IsFirstWith}
+use Rattle.gimli_lookup.specs.inside.Statements.{have_statement, IsFirstWith}
 use Rattle.gimli_lookup.specs.inside.Statements.{is_among}
 use Rattle.gimli_lookup.proofs.statements.first_line_of.Given as goal
 

@@ -3,8 +3,8 @@ use Rattle.gimli_line.specs.declared.run.row.LineRow.{LineRow}
 use Rattle.gimli_line.specs.header.Orders.{source_of}
 use Rattle.gimli_line.specs.run.Passing.{RunState}
 use Rattle.gimli_line.specs.run.Rows.{KeepsRun}
-use Rattle.gimli_lookup.specs.RowsTaken.{header_of}
-use Rattle.gimli_lookup.specs.inside.RowsTaken.{AreTaken}
+use Rattle.gimli_lookup.specs.Section.{header_of}
+use Rattle.gimli_lookup.specs.inside.SequenceCut.{AreTaken}
 use Rattle.gimli_lookup.specs.UnitRun.{IsKept}
 use Rattle.gimli_lookup.specs.inside.SequenceCut.{SequenceCut}
 use Rattle.gimli_lookup.proofs.UnitRuns.{is_kept}

@@ -1,7 +1,7 @@
 use Rattle.std.proofs.Common.{◌∙◌, ◌∷◌, ◌+◌, ap, drop, sym}
 use Rattle.gimli_index.specs.Files.{File, file_at, files_of}
 use Rattle.gimli_index.specs.Meaning.{path_of, source_at}
-use Rattle.gimli_index.specs.Numbers.{number_at}
+use Rattle.gimli_index.specs.Header.{number_at}
 use Rattle.gimli_index.specs.Views.{index_of}
 use Rattle.gimli_index.proofs.Starts.{no_value_here, value_here}
 use Rattle.gimli_index.proofs.files.SourceFiles.next_file.Goals as goal

@@ -5,7 +5,7 @@ use Rattle.gimli_lookup.specs.Paths.{file_path}
 use Rattle.gimli_lookup.specs.Strings.{strings}
 use Rattle.gimli_lookup.specs.declared.path_error.PathError.{PathError}
 use Rattle.gimli_lookup.specs.declared.path_error.PathError.TheVariants.{OutOfMemory}
-use Rattle.gimli_lookup.specs.inside.EndedStrings.{paths_in}
+use Rattle.gimli_lookup.specs.inside.Paths.{paths_in}
 use Rattle.gimli_lookup.proofs.ended_strings.EndedStrings.of_file.Goals as goal
 
 pub file_fault-requires-clause-fault : goal.file_fault-requires-clause-fault

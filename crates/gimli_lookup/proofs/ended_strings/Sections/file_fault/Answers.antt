@@ -3,7 +3,7 @@ use Rattle.gimli_core.specs.Values.{value_seen}
 use Rattle.gimli_line.specs.header.File.{file_seen}
 use Rattle.gimli_lookup.specs.Paths.{directory_path}
 use Rattle.gimli_lookup.specs.Strings.{string_of, strings}
-use Rattle.gimli_lookup.specs.inside.EndedStrings.{paths_in}
+use Rattle.gimli_lookup.specs.inside.Paths.{paths_in}
 use Rattle.gimli_lookup.proofs.EndedStrings.{directory_of_file, fault_of_directory, told, value_whole}
 use Rattle.gimli_lookup.proofs.ended_strings.Sections.file_fault.Goals as goal
 

@@ -1,13 +1,14 @@
 use Rattle.std.proofs.Common.{◌<◌, ◌^◌, List, length, subst, sym, ap, inl, inr, arith}
-use Rattle.std.specs.Prelude.{All, sum_by}
+use Rattle.std.specs.Prelude.{All, None, Some, sum_by}
 use Rattle.std.proofs.lemmas.Bool.{cases_lt}
 use Rattle.std.proofs.lemmas.List.{take_all}
 use Rattle.std.proofs.lemmas.List.Elements.{All-more}
 use Rattle.std.proofs.lemmas.List.Sums.{sum_by_more, sum_by_more_le_part}
 use Rattle.gimli_line.specs.declared.run.row.LineRow.{LineRow}
-use Rattle.gimli_lookup.specs.FirstPair.{HasNoPair}
+use Rattle.gimli_lookup.specs.inside.FirstPair.{HasNoPair}
 use Rattle.gimli_lookup.specs.Scan.{most_probes}
 use Rattle.gimli_lookup.proofs.Digits.{probes_few}
+use Rattle.gimli_lookup.proofs.FirstPairs.{found_first}
 use Rattle.gimli_lookup.proofs.Pairs.{first_found}
 use Rattle.gimli_lookup.proofs.lookup.Lookup.find_counted.Goals as goal
 
@@ -36,8 +37,9 @@ returns-in-Some-clause-pair g c =
     let i = c.loop-rows.rows-index in
     let lt : i < length items = omega arith in
     rw (← c.self.view_is, ← c.deref-rows-items.ensures.value)
+    (found_first c.args.a items (Some c.in-Some.pair)
     (first_found c.args.a items i c.rows-item.result c.in-Some.pair.0 c.in-Some.pair.1 lt c.rows-item.is
-    c.loop-rows.invariant.none c.in-Some.ensures.pair)
+    c.loop-rows.invariant.none c.in-Some.ensures.pair))
 
 pub loop-rows-preserved : goal.loop-rows-preserved
 loop-rows-preserved g c =
@@ -71,5 +73,6 @@ returns-clause-pair g c =
     let items = c.deref-rows-items.result.now in
     let i = c.loop-rows.rows-index in
     rw (← c.self.view_is, ← c.deref-rows-items.ensures.value)
+    (found_first c.args.a items None
     (subst (All (HasNoPair c.args.a)) (take_all i items (omega (arith, c.loop-rows-test.false)))
-    c.loop-rows.invariant.none)
+    c.loop-rows.invariant.none))

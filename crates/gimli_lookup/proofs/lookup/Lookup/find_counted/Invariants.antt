@@ -1,6 +1,6 @@
 use Rattle.std.proofs.Common.{◌≤◌, ◌<◌, length, take}
 use Rattle.std.specs.Prelude.{All, sum_by}
-use Rattle.gimli_lookup.specs.FirstPair.{HasNoPair}
+use Rattle.gimli_lookup.specs.inside.FirstPair.{HasNoPair}
 use Rattle.gimli_lookup.specs.Scan.{most_probes}
 use Rattle.gimli_lookup.proofs.lookup.Lookup.find_counted.Given as goal
 

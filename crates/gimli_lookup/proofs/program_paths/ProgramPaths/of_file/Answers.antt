@@ -5,7 +5,7 @@ use Rattle.gimli_line.specs.header.File.{file_seen}
 use Rattle.gimli_lookup.specs.Paths.{file_path}
 use Rattle.gimli_lookup.specs.Strings.{strings}
 use Rattle.gimli_lookup.specs.declared.path_error.PathError.TheVariants.{OutOfMemory}
-use Rattle.gimli_lookup.specs.inside.EndedStrings.{paths_in}
+use Rattle.gimli_lookup.specs.inside.Paths.{paths_in}
 use Rattle.gimli_lookup.proofs.program_paths.ProgramPaths.of_file.Goals as goal
 
 pub returns-in_default-clause-ok : goal.returns-in_default-clause-ok

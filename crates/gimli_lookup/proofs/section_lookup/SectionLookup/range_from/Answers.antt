@@ -1,9 +1,11 @@
 use Rattle.std.proofs.Common.{arith}
-use Rattle.std.specs.Prelude.{All}
+use Rattle.std.specs.Prelude.{All, None, Some}
 use Rattle.std.proofs.lemmas.Option.{MatchOption-at_some, MatchOption-at_none}
+use Rattle.gimli_lookup.specs.declared.section_lookup.CoveringRows.{CoveringRows}
 use Rattle.gimli_lookup.specs.declared.step_table.Found.{Found}
-use Rattle.gimli_lookup.specs.FirstPair.{HasNoPair}
+use Rattle.gimli_lookup.specs.inside.FirstPair.{HasNoPair}
 use Rattle.gimli_lookup.specs.inside.FirstPair.{IsFirstPairIn}
+use Rattle.gimli_lookup.proofs.FirstPairs.{found_is}
 use Rattle.gimli_lookup.proofs.StillFound.{before_above}
 use Rattle.gimli_lookup.proofs.Sections.{all_are}
 use Rattle.gimli_lookup.proofs.SectionPairs.{index_within, unit_found}
@@ -30,9 +32,10 @@ returns-in-None-clause-found g c = λ b le before.
     MatchOption-at_none (All (HasNoPair b) sequences) (λ (f : Found). IsFirstPairIn b sequences f.sequence f.row f.next)
     c.in-None.is
     (c.find_with_end-found.ensures.found b le before) in
-    rw (← all_are c.self.inside.sequences.items c.self.inside.units.items sequences c.args.self.now c.self.invariant.0
+    found_is b c.args.self.now None
+    (rw (← all_are c.self.inside.sequences.items c.self.inside.units.items sequences c.args.self.now c.self.invariant.0
     c.self.view_is c.as_slice.ensures.value)
-    none
+    none)
 
 pub returns-in-Some-clause-found : goal.returns-in-Some-clause-found
 returns-in-Some-clause-found g c = λ b le before.
@@ -42,10 +45,12 @@ returns-in-Some-clause-found g c = λ b le before.
     MatchOption-at_some (All (HasNoPair b) sequences) (λ (f : Found). IsFirstPairIn b sequences f.sequence f.row f.next)
     found c.in-Some.is
     (c.find_with_end-found.ensures.found b le before) in
-    unit_found b c.self.inside.sequences.items sequences c.self.inside.units.items c.as_slice-in-Some.result.now
+    let rows : CoveringRows = record { unit = c.unit_near-unit.result; row = found.row; next = found.next } in
+    found_is b c.args.self.now (Some rows)
+    (unit_found b c.self.inside.sequences.items sequences c.self.inside.units.items c.as_slice-in-Some.result.now
     c.args.self.now c.unit_near-unit.result
     found.sequence
     found.row found.next
     c.self.invariant.0 c.self.view_is c.as_slice.ensures.value c.as_slice-in-Some.ensures.value
     c.unit_near-unit.ensures.unit c.unit_near-unit.ensures.first
-    c.unit_near-unit.ensures.end first
+    c.unit_near-unit.ensures.end first)

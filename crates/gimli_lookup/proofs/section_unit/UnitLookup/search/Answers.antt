@@ -1,7 +1,7 @@
 use Rattle.std.proofs.Common.{◌≡◌, ◌≢◌, ◌⊎◌, true, not, is_some, List, length, refl, sym, ap, subst, ◌∙◌, inl, inr}
 use Rattle.std.proofs.Common.{rules, arith}
 use Rattle.gimli_lookup.specs.declared.section_lookup.CoveringRows.{CoveringRows}
-use Rattle.gimli_lookup.specs.inside.SectionSearch.{bare_unit}
+use Rattle.gimli_lookup.specs.inside.Section.{bare_unit}
 use Rattle.gimli_lookup.specs.inside.UnitSearch.{AreKeptBehind}
 use Rattle.gimli_lookup.proofs.SectionSearches.{none_is, refused, searched}
 use Rattle.gimli_line.proofs.Sources.{still_one}
