@@ -1,7 +1,8 @@
 -- What one instruction of a source does to what is still to be read.
 use Rattle.std.specs.Prelude.{◌≡◌, ◌≢◌, ◌<◌, ◌≤◌, ◌-◌, ◌&&◌, if◌then◌else◌, ◌∷◌, ◌++◌}
 use Rattle.gimli_write.proofs.Common
-use Common.{ℕ, Bool, true, false, inl, inr, not, List, [], length, refl, sym, ap, ◌∙◌, append_assoc, arith, Option, Some, None}
+use Common.{ℕ, Bool, true, false, inl, inr, not, List, [], length, refl, sym, ap, ◌∙◌, append_assoc, arith, Option}
+use Common.{Some, None}
 use Common.{Result, Ok, Err, OnOk, IfOk, IfErr, length-append, append-nil, OrderAndLimit, Error, AddressOverflow}
 use Common.{Header, File, Parameters, EndSequence, DefineFile, SetAddress, Ins, ins_seen, is_end}
 use Common.{makes_row, defines_file, files_after, SpellsInstruction, instruction_production, decoded_at, step_of}
