@@ -62,7 +62,7 @@ pub record CanAdd (p : Built) (text : LineText) : Type 0 where
 
 -- so can a file, in this directory
 pub record CanAddFile (p : Built) (text : LineText) (directory : ℕ) : Type 0 where
-  pub text : CanAdd p text
+  pub can : CanAdd p text
   pub within : directory < length p.directories
 
 -- a program can be written with these tables: each text that it names is there; and a source that
