@@ -24,7 +24,7 @@ pub record GivesPair (p : Location) (address : ℕ) (first second : GimliRow) : 
   pub sequences : HasSequences p rows
   pub x : LineRow
   pub y : LineRow
-  pub is_first : first_pair_of address rows ≡ Some (x, y)
+  pub is_first : Some (x, y) ≡ first_pair_of address rows
   pub first_is : first ≡ row_seen x
   pub second_is : second ≡ row_seen y
 
@@ -32,7 +32,7 @@ pub record GivesPair (p : Location) (address : ℕ) (first second : GimliRow) : 
 pub record GivesNoPair (p : Location) (address : ℕ) : Type 0 where
   pub rows : List (List LineRow)
   pub sequences : HasSequences p rows
-  pub none : first_pair_of address rows ≡ None
+  pub none : None ≡ first_pair_of address rows
 
 -- the run of the unit's program has a fault, and this is the number of the first
 pub record HasFault (p : Location) (status : ℕ) : Type 0 where

@@ -20,7 +20,7 @@ use Rattle.gimli_core.specs.declared.attribute_value.AttributeValue.TheVariants.
 use Rattle.gimli_line.specs.header.File.{File}
 use Rattle.gimli_line.specs.header.Header.{Header, directory_of}
 use Rattle.gimli_lookup.specs.Paths.{Paths, compilation_directory, directory_path, directory_string, file_path}
-use Rattle.gimli_lookup.specs.Paths.{has_no_bytes, needs_directory, path_from}
+use Rattle.gimli_lookup.specs.Paths.{path_from}
 use Rattle.gimli_lookup.specs.Paths.{path_in, unwritten_directory, written_or, is_absolute, ◌>>=◌}
 use Rattle.gimli_lookup.specs.Strings.{Strings, front_string, string_at, string_of, HasNoStringEnd, IsStringAt}
 use Rattle.gimli_lookup.specs.declared.path_error.PathError.{PathError}

@@ -2,7 +2,6 @@ use Rattle.std.proofs.Common.{◌≡◌, ◌≢◌, ◌<◌, ℕ, zero, suc, Lis
 use Rattle.std.proofs.Common.{Result, Ok, Err, IfOk, IfErr, sym, ap, subst, ◌∙◌, slice_get}
 use Rattle.std.proofs.lemmas.Bool.{ltb-true}
 use Rattle.std.specs.Option.{option_map_or}
-use Rattle.gimli_line.specs.header.Header.{Header}
 use Rattle.gimli_lookup.specs.Paths.{row_path}
 use Rattle.gimli_lookup.specs.ProgramPaths.{found_in, found_path, texts_seen, unit_paths, Texts}
 use Rattle.gimli_lookup.specs.Section.{KeptHeader, ListedUnit}
