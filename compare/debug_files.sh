@@ -222,6 +222,24 @@ for way in zlib zlib-gnu; do
     places "a debug file compressed by $way" packed_$way.d/program
 done
 
+# A directory of debug files, by the build id and by the name of the link; gdb finds these by debug-file-directory.
+# elsewhere NAME PROGRAM: its places are addr2line's with --debug-dir elsewhere.
+elsewhere() {
+    if ask where "$2" --debug-dir elsewhere/ <asked 2>told | sed 's/:[0-9]*$//; s/^??$/??:0/' >found && cmp -s found wanted && [ ! -s told ]; then
+        right
+    else
+        wrong "$1: the places differ from addr2line's: $(head -1 told)"
+    fi
+}
+stripped far whole.debug
+mkdir -p "elsewhere/.build-id/${id:0:2}"
+cp whole.debug "elsewhere/.build-id/${id:0:2}/${id:2}.debug"
+elsewhere "another directory, by build id" far/program
+rm -r elsewhere
+mkdir -p "elsewhere$work/far"
+cp whole.debug "elsewhere$work/far/"
+elsewhere "another directory, by the link" far/program
+
 # The debug sections alone: the lowest address of code is the program's.
 objcopy -R .text -R .init -R .fini -R .plt -R .plt.got -R .plt.sec whole.debug sections.debug 2>/dev/null
 if readelf -SW sections.debug 2>/dev/null | grep -q ' AX '; then

@@ -17,24 +17,26 @@ abbrev pub folder : List ℕ → List ℕ
 folder [] = []
 folder (b ∷ path) = if list_any is_slash (b ∷ path) then b ∷ folder path else []
 
--- by a build id: its first byte names a folder, and the rest a file in it
-abbrev pub build_id_path : ℕ → List ℕ → List ℕ
-build_id_path first rest =
-    codes "/usr/lib/debug/.build-id/" ++ encode_lower (first ∷ []) ++ codes "/" ++ encode_lower rest
+-- by a build id, in a directory: its first byte names a folder, and the rest a file in it
+abbrev pub build_id_path : List ℕ → ℕ → List ℕ → List ℕ
+build_id_path directory first rest =
+    directory ++ codes "/.build-id/" ++ encode_lower (first ∷ []) ++ codes "/" ++ encode_lower rest
     ++ codes ".debug"
 
-abbrev pub build_id_paths : List ℕ → List (List ℕ)
-build_id_paths [] = []
-build_id_paths (first ∷ rest) = build_id_path first rest ∷ []
+abbrev pub build_id_paths : List ℕ → List ℕ → List (List ℕ)
+build_id_paths directory [] = []
+build_id_paths directory (first ∷ rest) = build_id_path directory first rest ∷ []
 
 -- by a name, for a program in a folder: the last path where the folder is an absolute one
-abbrev pub link_paths : List ℕ → List ℕ → List (List ℕ)
-link_paths folder name =
+abbrev pub link_paths : List ℕ → List ℕ → List ℕ → List (List ℕ)
+link_paths directory folder name =
     (folder ++ name) ∷ (folder ++ codes ".debug/" ++ name)
-    ∷ (if starts_with nat_eq folder (codes "/") then (codes "/usr/lib/debug" ++ folder ++ name) ∷ []
-    else [])
+    ∷ (if starts_with nat_eq folder (codes "/") then (directory ++ folder ++ name) ∷ [] else [])
 
--- by the build id first, then by the name of the link, where the program has them
-abbrev pub debug_file_paths : List ℕ → Option (List ℕ) → Option (List ℕ) → List (List ℕ)
-debug_file_paths path build_id link =
-    option_map_or build_id_paths build_id [] ++ option_map_or (link_paths (folder path)) link []
+-- with a directory of debug files: by the build id first, then by the name of the link, where the
+-- program has them
+abbrev pub debug_file_paths
+    : List ℕ → List ℕ → Option (List ℕ) → Option (List ℕ) → List (List ℕ)
+debug_file_paths directory path build_id link =
+    option_map_or (build_id_paths directory) build_id []
+    ++ option_map_or (link_paths directory (folder path)) link []

@@ -7,6 +7,9 @@ ghost use Rattle.debug_files.specs.DebugPaths.{debug_file_paths};
 
 use std::alloc::{AllocError, Global};
 
+/// The directory where debug files are, unless another is named.
+pub const DEBUG_DIRECTORY: &str = "/usr/lib/debug";
+
 /// Three texts, one after the other.
 fn joined(alloc: Global, first: &str, second: &str, third: &str) -> Result<String, AllocError>
     ensures { IfOk result (λ text. string_bytes text ≡ first.now ++ second.now ++ third.now) }
@@ -28,14 +31,21 @@ fn folder(alloc: Global, path: &str) -> Result<String, AllocError>
     }
 }
 
-/// Where the debug file of a build id is, of which the first byte stands apart.
-fn build_id_path(alloc: Global, first: u8, rest: &[u8]) -> Result<String, AllocError>
-    ensures { IfOk result (λ text. string_bytes text ≡ build_id_path first rest.now) }
+/// Where the debug file of a build id is in a directory, of which the first byte stands apart.
+fn build_id_path(
+    alloc: Global,
+    directory: &str,
+    first: u8,
+    rest: &[u8],
+) -> Result<String, AllocError>
+    ensures { IfOk result (λ text.
+        string_bytes text ≡ build_id_path directory.now first rest.now) }
 {
     let shelf = hex::encode(alloc, [first].as_slice())?;
     let name = hex::encode(alloc, rest)?;
-    let path = joined(alloc, "/usr/lib/debug/.build-id/", &shelf, "/")?;
-    joined(alloc, &path, &name, ".debug")
+    let folder = joined(alloc, directory, "/.build-id/", &shelf)?;
+    let path = joined(alloc, &folder, "/", &name)?;
+    joined(alloc, &path, ".debug", "")
 }
 
 /// Adds a path that is three texts, one after the other.
@@ -58,49 +68,56 @@ fn add_joined(
 fn add_links(
     alloc: Global,
     paths: &mut Vec<String>,
+    directory: &str,
     folder: &str,
     name: &str,
 ) -> Result<(), AllocError>
     ensures { OnOk result (map string_bytes paths.new.items
-        ≡ map string_bytes paths.old.items ++ link_paths folder.now name.now) }
+        ≡ map string_bytes paths.old.items ++ link_paths directory.now folder.now name.now) }
 {
     add_joined(alloc, paths, folder, name, "")?;
     add_joined(alloc, paths, folder, ".debug/", name)?;
     if folder.starts_with('/') {
-        add_joined(alloc, paths, "/usr/lib/debug", folder, name)?;
+        add_joined(alloc, paths, directory, folder, name)?;
     }
     Ok(())
 }
 
-/// The path where the debug file of a build id is, where the id is known.
-fn build_id_paths(alloc: Global, build_id: Option<&[u8]>) -> Result<Vec<String>, AllocError>
+/// The path where the debug file of a build id is in a directory, where the id is known.
+fn build_id_paths(
+    alloc: Global,
+    directory: &str,
+    build_id: Option<&[u8]>,
+) -> Result<Vec<String>, AllocError>
     ensures { IfOk result (λ paths. map string_bytes paths.items
-        ≡ option_map_or build_id_paths (option_copied build_id.entry) []) }
+        ≡ option_map_or (build_id_paths directory.now) (option_copied build_id.entry) []) }
 {
     let mut paths = Vec::new(alloc);
     if let Some([first, rest @ ..]) = build_id {
-        paths.push(build_id_path(alloc, *first, rest)?)?;
+        paths.push(build_id_path(alloc, directory, *first, rest)?)?;
     }
     Ok(paths)
 }
 
 /// The paths at which the debug file of a program may be, in the order in which they are tried: by
-/// the build id of the program, where it is known, and then by the name that its link has, in the
-/// folder of the program, in `.debug` there, and below `/usr/lib/debug` where the path of the
-/// program begins with a slash.
+/// the build id of the program, where it is known, in `.build-id` of the directory of debug files,
+/// and then by the name that its link has, in the folder of the program, in `.debug` there, and
+/// below the directory of debug files where the path of the program begins with a slash.
 pub fn debug_file_paths(
     alloc: Global,
+    directory: &str,
     path: &str,
     build_id: Option<&[u8]>,
     link: Option<&str>,
 ) -> Result<Vec<String>, AllocError>
     ensures { IfOk result (λ paths. map string_bytes paths.items
-        ≡ debug_file_paths path.now (option_copied build_id.entry) (option_copied link.entry)) }
+        ≡ debug_file_paths directory.now path.now (option_copied build_id.entry)
+        (option_copied link.entry)) }
 {
-    let mut paths = build_id_paths(alloc, build_id)?;
+    let mut paths = build_id_paths(alloc, directory, build_id)?;
     if let Some(name) = link {
         let folder = folder(alloc, path)?;
-        add_links(alloc, &mut paths, &folder, name)?;
+        add_links(alloc, &mut paths, directory, &folder, name)?;
     }
     Ok(paths)
 }

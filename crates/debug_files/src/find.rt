@@ -11,14 +11,16 @@ use std::io::{Read, Seek};
 use std::rt::Files;
 
 /// The sections of a program by its path. Where its own file has no line programs, its debug file
-/// is looked for: by the build id, and then by the name in the program's link. A file there with
-/// another build id, or another checksum, is passed over. Where code begins and ends is known of
+/// is looked for, as [`debug_file_paths`] says with a directory of debug files, [`DEBUG_DIRECTORY`]
+/// unless there is another one: by the build id, and then by the name in the program's link. A file
+/// there with another build id, or another checksum, is passed over. Where code begins and ends is known of
 /// the file with the line programs, or else of the program. An object file is read whole. A
 /// compressed section that would have more bytes than the limit is refused; without a limit,
 /// [`elf_sections::usual_limit`] of the size of its file holds.
 pub fn source_of<R: Files + AllocGlobal>(
     rt: &R,
     path: &str,
+    directory: &str,
     wanted: Wanted,
     limit: Option<u64>,
 ) -> Result<Found, Missing> {
@@ -30,12 +32,22 @@ pub fn source_of<R: Files + AllocGlobal>(
     if let Some(source) = program.source(rt.alloc(), wanted)? {
         return Ok(Found::Sections(source));
     }
-    let mut source = find_apart(rt, path, &mut program, wanted, limit)?;
+    let places = Places { path, directory };
+    let mut source = find_apart(rt, places, &mut program, wanted, limit)?;
     if source.lowest == 0 {
         source.lowest = program.lowest()?;
         source.code_end = program.code_end()?;
     }
     Ok(Found::Sections(source))
+}
+
+/// Where a debug file is looked for.
+#[derive(Clone, Copy)]
+struct Places<'p> {
+    /// The path of the program.
+    path: &'p str,
+    /// The directory of debug files.
+    directory: &'p str,
 }
 
 /// How a debug file is known to be a program's.
@@ -58,16 +70,17 @@ struct Search<'i> {
 /// The sections in the debug file of a program.
 fn find_apart<R: Files + AllocGlobal>(
     rt: &R,
-    path: &str,
+    places: Places<'_>,
     program: &mut ProgramFile<R::File>,
     wanted: Wanted,
     limit: Option<u64>,
 ) -> Result<FoundSections, Missing> {
     let alloc = rt.alloc();
-    let whole = whole_path(rt, path)?;
+    let directory = places.directory;
+    let whole = whole_path(rt, places.path)?;
     let mut reasons = String::new(alloc);
     if let Some(id) = program.build_id(alloc)? {
-        let places = debug_file_paths(alloc, &whole, Some(&id), None)?;
+        let places = debug_file_paths(alloc, directory, &whole, Some(&id), None)?;
         let search = Search {
             sign: Sign::BuildId(&id),
             wanted,
@@ -78,7 +91,7 @@ fn find_apart<R: Files + AllocGlobal>(
         }
     }
     if let Some(link) = program.debug_link(alloc)? {
-        let places = debug_file_paths(alloc, &whole, None, Some(&link.name))?;
+        let places = debug_file_paths(alloc, directory, &whole, None, Some(&link.name))?;
         let search = Search {
             sign: Sign::Checksum(link.checksum),
             wanted,

@@ -15,10 +15,11 @@ mod program_file;
 mod refusal;
 mod source;
 
-pub use debug_paths::debug_file_paths;
+pub use debug_paths::{DEBUG_DIRECTORY, debug_file_paths};
 pub use directories::LinePrograms;
 pub use find::source_of;
 pub use missing::Missing;
 pub use outline::{Outline, checksum};
+pub use program_file::is_archive;
 pub use refusal::Refusal;
 pub use source::{Found, FoundSections, PathSections, Wanted};

@@ -27,6 +27,8 @@ pub enum Missing {
     NoLines,
     /// It is the memory of a program that ended (`ET_CORE`).
     Core,
+    /// It is an archive of object files (`ar`).
+    Archive,
     /// Its build id isn't the program's.
     OtherBuildId,
     /// Its checksum isn't the one in the program's link.
@@ -45,6 +47,7 @@ impl fmt::Display for Missing {
             Missing::NotLinked => f.write_str("an object file, which is not linked"),
             Missing::NoLines => f.write_str("there is no section .debug_line"),
             Missing::Core => f.write_str("a core file, which has no line programs"),
+            Missing::Archive => f.write_str("an archive of object files"),
             Missing::OtherBuildId => f.write_str("its build id is not the program's"),
             Missing::OtherChecksum => {
                 f.write_str("its checksum is not the one that the program has")

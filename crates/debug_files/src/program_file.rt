@@ -12,7 +12,7 @@ use std::alloc::Global;
 use std::fs::File;
 use std::io::{Read, Seek};
 use std::rt::Files;
-use std::{fs, io};
+use std::fs;
 
 /// The name and the checksum of a debug file.
 #[derive(Drop)]
@@ -227,9 +227,7 @@ pub(crate) fn open<R: Files + AllocGlobal>(
         return Err(Missing::NotRegular);
     }
     let mut file = File::open(rt, path)?;
-    if is_core(&mut file)? {
-        return Err(Missing::Core);
-    }
+    check_start(&mut file)?;
     let outline = Outline::read(rt.alloc(), &mut file)?;
     Ok(ProgramFile {
         file,
@@ -238,16 +236,31 @@ pub(crate) fn open<R: Files + AllocGlobal>(
     })
 }
 
+/// Refuses what is another file than a program by its first bytes.
+fn check_start<F: Read>(file: &mut F) -> Result<(), Missing> {
+    let mut start = [0; 18];
+    let count = file.read(&mut start)?;
+    if is_archive(&start) {
+        return Err(Missing::Archive);
+    }
+    if count == start.len() && is_core(start) {
+        return Err(Missing::Core);
+    }
+    Ok(())
+}
+
+/// Whether a file begins as an archive of object files does, whose members are in it, or as a thin
+/// one, whose members are files by themselves.
+pub fn is_archive(file: &[u8]) -> bool {
+    file.starts_with(b"!<arch>\n") || file.starts_with(b"!<thin>\n")
+}
+
 /// Whether a file begins as the memory of a program that ended does (System V ABI, chapter 4:
 /// `e_type` is `ET_CORE`, 4, in the order of bytes that `EI_DATA` says).
-fn is_core<F: Read>(file: &mut F) -> io::Result<bool> {
-    let mut start = [0; 18];
-    if file.read(&mut start)? < start.len() {
-        return Ok(false);
-    }
-    Ok(match start {
+fn is_core(start: [u8; 18]) -> bool {
+    match start {
         [0x7f, b'E', b'L', b'F', _, 2, ..] => start[16..] == [0, 4],
         [0x7f, b'E', b'L', b'F', ..] => start[16..] == [4, 0],
         _ => false,
-    })
+    }
 }

@@ -11,7 +11,7 @@ use lines_answers::{
     IndexPlaces, LineAnswers, MadeIndex, index_of_program, open_index, program_identity,
 };
 use lines_commands::{Questions, REFUSED, Run, Session};
-use lines_inputs::{InputSections, build_id_in, write_file};
+use lines_inputs::{FunctionStarts, InputSections, build_id_in, write_file};
 use lines_places::PlacePrinter;
 use lines_words::{Command, InputKind, LineNames};
 use std::io::{self, Write};
@@ -24,10 +24,7 @@ fn index_of(run: Run<'_>, name: &str) -> io::Result<MadeIndex>
     let build_id = build_id_of(run, name)?;
     match inputs_of(run, name)? {
         Some(inputs) => make_index(run.over(name), &inputs, build_id.as_deref()),
-        None => Ok(MadeIndex {
-            bytes: None,
-            status: REFUSED,
-        }),
+        None => Ok(MadeIndex::none(run.rt.alloc(), REFUSED)),
     }
 }
 
@@ -152,19 +149,35 @@ fn asked_index(run: Run<'_>, place: &str) -> io::Result<MadeIndex> {
         _ => return index_of(run, place),
     };
     let status = if bytes.is_some() { 0 } else { REFUSED };
-    Ok(MadeIndex { bytes, status })
+    let starts = FunctionStarts::none(run.rt.alloc());
+    Ok(MadeIndex { bytes, starts, status })
 }
 
 /// The index of a program with this build id. None where it can't be read, which is reported.
 fn make_index(mut session: Session<'_>, inputs: &Inputs, id: Option<&[u8]>) -> io::Result<MadeIndex>
     ensures { IfOk result (λ made. made.status ≤ 1) }
 {
-    let bytes = match inputs.program(&mut session)? {
-        Some(program) => index_program(&mut session, &program, inputs, id)?,
-        None => None,
+    let (bytes, starts) = match inputs.program(&mut session)? {
+        Some(program) => index_and_starts(&mut session, &program, inputs, id)?,
+        None => (None, FunctionStarts::none(session.run.rt.alloc())),
     };
     let status = session.finish(Ok(()))?;
-    Ok(MadeIndex { bytes, status })
+    Ok(MadeIndex { bytes, starts, status })
+}
+
+/// The bytes of the index of a program, as `index_program` makes them, and where its functions
+/// begin.
+fn index_and_starts(
+    session: &mut Session<'_>,
+    program: &InputSections<'_>,
+    inputs: &Inputs,
+    id: Option<&[u8]>,
+) -> io::Result<(Option<Vec<u8>>, FunctionStarts)> {
+    let alloc = session.run.rt.alloc();
+    let functions = program.functions(alloc)?;
+    let starts = FunctionStarts::new(alloc, &functions)?;
+    let bytes = index_program(session, program, inputs, id)?;
+    Ok((bytes, starts))
 }
 
 /// The bytes of the index of a program that is read; None where there is none, which is reported. A

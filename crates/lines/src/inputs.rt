@@ -2,7 +2,7 @@
 
 ghost use Rattle.std.specs.Prelude.{◌≤◌, IfOk};
 
-use debug_files::{Found, Missing, Wanted};
+use debug_files::{DEBUG_DIRECTORY, Found, Missing, Wanted};
 use elf_sections::usual_limit;
 use lines_commands::{REFUSED, Run, Session};
 use lines_inputs::{InputError, InputSections, tell_refusal};
@@ -15,6 +15,9 @@ pub(crate) const STANDARD_INPUT: &str = "-";
 
 /// The bytes that an ELF file begins with (System V ABI, chapter 4).
 const ELF: &[u8] = b"\x7fELF";
+
+/// How many bytes say what a file is: those of an archive are the most.
+const START: u64 = 8;
 
 /// The bytes of the files that a request names, and how they are read.
 #[derive(Drop)]
@@ -72,7 +75,8 @@ fn sections_of(run: Run<'_>, name: &str) -> io::Result<Option<Found>> {
     } else {
         Wanted::Lines
     };
-    match debug_files::source_of(rt, name, wanted, request.memory_limit) {
+    let directory = request.debug_directory.unwrap_or(DEBUG_DIRECTORY);
+    match debug_files::source_of(rt, name, directory, wanted, request.memory_limit) {
         Ok(found) => Ok(Some(found)),
         Err(missing) => {
             report_missing(rt, name, &missing);
@@ -136,6 +140,7 @@ fn report_missing(rt: &HostRuntime, name: &str, missing: &Missing) {
         Missing::Elf(error) => report(rt, name, InputError::Elf(*error)),
         Missing::NoLines => report(rt, name, InputError::NoLines),
         Missing::Core => report(rt, name, InputError::Core),
+        Missing::Archive => report(rt, name, InputError::Archive),
         Missing::NotRegular => {
             let hint = "for a raw section say --raw, and - for standard input";
             report(rt, name, format_args!("{missing}; {hint}"))
@@ -184,8 +189,8 @@ pub(crate) fn read(rt: &HostRuntime, name: &str) -> io::Result<Option<Vec<u8>>> 
 /// The bytes of standard input; the first ones alone where these aren't an ELF file's.
 fn read_elf(rt: &HostRuntime) -> io::Result<Vec<u8>> {
     let mut bytes = Vec::new(rt.alloc());
-    rt.stdin().take(ELF.len() as u64).read_to_end(&mut bytes)?;
-    if bytes.as_slice() == ELF {
+    rt.stdin().take(START).read_to_end(&mut bytes)?;
+    if bytes.starts_with(ELF) {
         rt.stdin().read_to_end(&mut bytes)?;
     }
     Ok(bytes)

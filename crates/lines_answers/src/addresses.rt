@@ -3,11 +3,13 @@
 use crate::components::components_of;
 use crate::counted_rows::{WholeRun, units_of};
 use crate::covering::{Covering, CoveringRow};
+use crate::hints::note_hints;
 use crate::line_search::{LineRows, RowCounts};
 use crate::meant_files::MeantFiles;
 use crate::path_rows::column_at;
 use crate::written_path::WrittenPaths;
 use gimli_core::Reader;
+use gimli_line::LineRow;
 use lines_inputs::{Functions, Input, PathBudget, column_of, line_of};
 use lines_pieces::{Piece, Result, add, note};
 use lines_words::{Json, Output, Request, SourcePlace, bytes_of_word};
@@ -107,6 +109,9 @@ impl<'s, R: Reader> Addresses<'s, R> {
             _ => return Ok(true),
         };
         note(text, &[Piece::Name(name)], output);
+        if self.starts.is_empty() {
+            self.search.reading.note_hints(name, output)?;
+        }
         output.refuse();
         Ok(false)
     }
@@ -302,7 +307,13 @@ impl<'s, R: Reader> Reading<'s, R> {
             files: MeantFiles::new(alloc, written, budget, are_printed),
             counts: RowCounts::new(alloc),
             covering: Covering::nothing(alloc),
+            statements: Covering::nothing(alloc),
         })
+    }
+
+    /// Says which names may be meant by one that no function has.
+    fn note_hints(&self, name: &str, output: &mut Output<'_>) -> Result<()> {
+        note_hints(self.alloc, self.functions, name, output)
     }
 
     /// Finds the addresses of a line in the files whose path ends so. None where there is none,
@@ -344,6 +355,8 @@ struct Search<'s, R: Reader> {
     files: MeantFiles<R>,
     counts: RowCounts,
     covering: Covering<R>,
+    /// The statements where functions begin, where they aren't known of the rows that cover these.
+    statements: Covering<R>,
 }
 
 impl<'s, R: Reader> Search<'s, R> {
@@ -434,10 +447,36 @@ impl<'s, R: Reader> Search<'s, R> {
         let Reading { alloc, input, .. } = self.reading;
         if starts.len() > FEW {
             self.covering = Covering::of_any(alloc, input)?;
-            return Ok(());
+        } else {
+            self.cover(Vec::from_slice(alloc, starts)?)?;
         }
-        let asked = Vec::from_slice(alloc, starts)?;
-        self.cover(asked)
+        match self.covering {
+            Covering::Kept(_) => self.find_statements(starts),
+            Covering::Found(_) => Ok(()),
+        }
+    }
+
+    /// Finds the statements at the beginnings of functions, or after their prologues.
+    fn find_statements(&mut self, starts: &[u64]) -> Result<()> {
+        let Reading { alloc, input, .. } = self.reading;
+        let mut addresses = Vec::from_slice(alloc, starts)?;
+        for start in starts {
+            addresses.push(self.breakpoint(*start))?;
+        }
+        self.statements = Covering::of_some(alloc, input, &self.counts.all, addresses)?;
+        Ok(())
+    }
+
+    /// The statement of a sequence at an address where a row of it begins that covers it; None
+    /// where there is none, or the row is one itself.
+    fn statement_at(&self, address: u64, covering: &CoveringRow) -> Option<LineRow> {
+        if covering.row.is_stmt() || covering.row.address() != address {
+            return None;
+        }
+        match covering.statement {
+            Some(row) => Some(row),
+            None => self.statements.find(address)?.statement,
+        }
     }
 
     /// Whether no row covers any of some addresses.
@@ -481,11 +520,15 @@ impl<'s, R: Reader> Search<'s, R> {
         if second < end { second } else { address }
     }
 
-    /// Prints an address by the row that covers it; false where none does.
+    /// Prints an address by the row that covers it, or by a statement of its sequence there; false
+    /// where none covers it.
     fn print_row(&mut self, address: u64, output: &mut Output<'_>) -> Result<bool> {
-        let Some(found) = self.covering.find(address) else {
+        let Some(mut found) = self.covering.find(address) else {
             return Ok(false);
         };
+        if let Some(row) = self.statement_at(address, &found) {
+            found.row = row;
+        }
         let path = self.path_of(&found)?;
         let path = path.as_deref().unwrap_or(b"??");
         let (line, column) = (line_of(&found.row), Some(column_of(&found.row)));
@@ -546,19 +589,27 @@ impl<'s, R: Reader> Search<'s, R> {
         column: Option<u64>,
         output: &mut Output<'_>,
     ) {
-        let end = self.end_of_row(address);
+        let (section, start) = match self.reading.functions.place_of(address) {
+            Some((name, offset)) => (Some(name), offset),
+            None => (None, address),
+        };
+        let length = self.end_of_row(address).saturating_sub(address);
+        let end = start.saturating_add(length);
         if output.is_json() {
             let fields = [
-                ("address", Json::Offset(Some(address))),
                 ("path", Json::Bytes(Some(path))),
                 ("line", Json::Number(line)),
                 ("column", Json::Number(column.unwrap_or(0))),
-                ("range", Json::Range(address, end)),
+                ("range", Json::Range(start, end)),
                 ("is_stmt", Json::Holds(is_stmt)),
             ];
-            return output.print_object(&fields);
+            return print_object(section, start, &fields, output);
         }
-        add("%", &[Piece::Address(address)], output);
+        let piece = match section {
+            Some(name) => Piece::InSection(name, start),
+            None => Piece::Address(start),
+        };
+        add("%", &[piece], output);
         if self.reading.request.has_range {
             add("-%", &[Piece::Address(end)], output);
         }
@@ -580,4 +631,19 @@ impl<'s, R: Reader> Search<'s, R> {
             _ => address,
         }
     }
+}
+
+/// Prints an object of JSON about an address, in an object file with the name of its section.
+fn print_object(
+    section: Option<&[u8]>,
+    address: u64,
+    fields: &[(&str, Json<'_>)],
+    output: &mut Output<'_>,
+) {
+    output.add_fields("{", &[("address", Json::Offset(Some(address)))]);
+    if let Some(name) = section {
+        output.add_fields(",", &[("section", Json::Bytes(Some(name)))]);
+    }
+    output.add_fields(",", fields);
+    output.print("}");
 }

@@ -16,6 +16,8 @@ pub(crate) struct CoveringRow {
     pub(crate) row: LineRow,
     /// Where it ends.
     pub(crate) end: u64,
+    /// The last statement of the sequence at its address up to it, where that is known.
+    pub(crate) statement: Option<LineRow>,
 }
 
 /// The rows that cover addresses, as `SectionLookup::find` finds them.
@@ -90,8 +92,8 @@ impl FoundRows {
     }
 
     /// Takes a row for the addresses that it covers, as far as they have none.
-    fn take(&mut self, unit: usize, row: LineRow, end: u64) {
-        let start = row.address();
+    fn take(&mut self, covering: CoveringRow) {
+        let (start, end) = (covering.row.address(), covering.end);
         let from = self.addresses.partition_point(|address| *address < start);
         let mut index = self.first_free(from);
         for _ in 0..self.addresses.len() {
@@ -100,7 +102,7 @@ impl FoundRows {
                 _ => break,
             }
             if let Some(found) = self.rows.get_mut(index) {
-                *found = Some(CoveringRow { unit, row, end });
+                *found = Some(covering);
             }
             let after = index.saturating_add(1);
             if let Some(next) = self.next.get_mut(index) {
@@ -122,16 +124,23 @@ impl FoundRows {
     /// Takes rows for the addresses that they cover.
     fn take_all<R: Reader>(&mut self, rows: &mut CountedRows<'_, R>) -> Result<()> {
         let mut last: Option<LineRow> = None;
+        let mut statement = None;
         for _ in 0..u64::MAX {
             let Some(CountedRow { unit, row, stands }) = rows.next_row()? else {
                 break;
             };
             match last {
                 Some(last) if stands && last.address() < row.address() => {
-                    self.take(unit, last, row.address());
+                    self.take(CoveringRow {
+                        unit,
+                        row: last,
+                        end: row.address(),
+                        statement,
+                    });
                 }
                 _ => {}
             }
+            statement = statement_at(&row, last, statement);
             last = if stands && !row.end_sequence() {
                 Some(row)
             } else {
@@ -148,6 +157,19 @@ impl FoundRows {
             return None;
         }
         *self.rows.get(index)?
+    }
+}
+
+/// The last statement up to a row at its address, by that at the address of the row before it.
+fn statement_at(
+    row: &LineRow,
+    before: Option<LineRow>,
+    statement: Option<LineRow>,
+) -> Option<LineRow> {
+    match before {
+        _ if row.is_stmt() => Some(*row),
+        Some(before) if before.address() == row.address() => statement,
+        _ => None,
     }
 }
 
@@ -187,6 +209,7 @@ impl<R: Reader> Covering<R> {
                     unit: found.unit,
                     row: found.row,
                     end: found.next.address(),
+                    statement: None,
                 })
             }
             Covering::Found(found) => found.find(address),

@@ -6,6 +6,7 @@ mod addresses;
 mod components;
 mod counted_rows;
 mod covering;
+mod hints;
 mod line_answers;
 mod line_search;
 mod made_index;

@@ -3,9 +3,13 @@
 use crate::made_index::MadeIndex;
 use crate::opened_index::{open_index, print_place};
 use gimli_index::LineIndex;
+use lines_inputs::FunctionStarts;
 use lines_pieces::{Piece, Result, tell};
 use lines_places::PlacePrinter;
-use lines_words::{LineNames, Output, Request, build_id_of, map_path, parse_line_question};
+use lines_words::{
+    CodeAddress, LineNames, Output, Request, ShortName, build_id_of, map_path, parse_code_question,
+    parse_line_question,
+};
 use lru::LruCache;
 use std::alloc::Global;
 use std::collections::BTreeSet;
@@ -14,6 +18,13 @@ use std::num::NonZeroUsize;
 /// How many indexes are kept.
 const KEPT: usize = 16;
 
+/// An index that is kept, and where the functions of its program begin.
+#[derive(Drop)]
+struct KeptIndex {
+    bytes: Vec<u8>,
+    starts: FunctionStarts,
+}
+
 /// What lines are answered by.
 #[derive(Drop)]
 pub struct LineAnswers<'n> {
@@ -21,7 +32,7 @@ pub struct LineAnswers<'n> {
     names: LineNames<'n>,
     printer: PlacePrinter<'n>,
     /// The indexes that were asked last, by what lines name.
-    kept: LruCache<String, Vec<u8>>,
+    kept: LruCache<String, KeptIndex>,
     /// What lines name that can't be asked.
     refused: BTreeSet<String>,
 }
@@ -45,12 +56,18 @@ impl<'n> LineAnswers<'n> {
         })
     }
 
-    /// What a line without its ends asks for. None where it asks for nothing, which is answered, or
-    /// isn't a name and an address, which is reported too.
-    pub fn question<'l>(&self, line: &'l [u8], output: &mut Output<'_>) -> Option<(&'l str, u64)> {
-        let asked = match str::from_utf8(line) {
-            Ok(text) => parse_line_question(text),
-            Err(_) => None,
+    /// What a line without its ends asks for: of a program also code by the name of its function.
+    /// None where it asks for nothing, which is answered, or isn't a name and an address, which is
+    /// reported too.
+    pub fn question<'l>(
+        &self,
+        line: &'l [u8],
+        output: &mut Output<'_>,
+    ) -> Option<(&'l str, CodeAddress<'l>)> {
+        let text = str::from_utf8(line).unwrap_or("");
+        let asked = match self.names {
+            LineNames::Files => parse_code_question(text),
+            LineNames::BuildIds(_) => linked_question(text),
         };
         if let Some((name, address)) = asked {
             return Some((name.trim_end(), address));
@@ -64,7 +81,7 @@ impl<'n> LineAnswers<'n> {
                 }
                 LineNames::Files => "'%' is not a file and an address",
             };
-            tell(text, &[Piece::Path(Some(line))], output);
+            tell(text, &[Piece::Asked(line)], output);
         }
         None
     }
@@ -97,10 +114,15 @@ impl<'n> LineAnswers<'n> {
         made: MadeIndex,
         output: &mut Output<'_>,
     ) -> Result<()> {
-        if made.status != 0 {
+        let MadeIndex {
+            bytes,
+            starts,
+            status,
+        } = made;
+        if status != 0 {
             output.refuse();
         }
-        let Some(bytes) = made.bytes else {
+        let Some(bytes) = bytes else {
             return self.refuse(name);
         };
         if let LineNames::BuildIds(_) = self.names {
@@ -111,7 +133,7 @@ impl<'n> LineAnswers<'n> {
             }
         }
         let name = String::from_str(self.alloc, name)?;
-        self.kept.put(name, bytes)?;
+        self.kept.put(name, KeptIndex { bytes, starts })?;
         Ok(())
     }
 
@@ -122,12 +144,49 @@ impl<'n> LineAnswers<'n> {
         Ok(())
     }
 
-    /// Prints the place of an address of what a line names.
-    pub fn answer(&mut self, name: &str, address: u64, output: &mut Output<'_>) {
-        let kept = self.kept.get(name);
-        match kept.and_then(|bytes| LineIndex::open(bytes).ok()) {
-            Some(index) => print_place(&self.printer, index, address, output),
-            None => self.printer.print(Some(address), None, None, output),
+    /// Prints the place of what a line asks. That there is no function of a name is reported.
+    pub fn answer(&mut self, name: &str, asked: CodeAddress<'_>, output: &mut Output<'_>) {
+        match (self.kept.get(name), asked) {
+            (Some(kept), CodeAddress::Linked(address)) => {
+                answer_by(&self.printer, kept, address, output);
+            }
+            (Some(kept), CodeAddress::InSection { section, offset }) => {
+                match kept.starts.address_in(section, offset) {
+                    Some(own) => {
+                        let address = own.saturating_add(self.printer.request.bias);
+                        answer_by(&self.printer, kept, address, output);
+                    }
+                    None => {
+                        self.printer.print(None, None, None, output);
+                        let section = ShortName(section);
+                        let text = format_args!("no function has the name {section}");
+                        output.tell_of(name, text);
+                    }
+                }
+            }
+            (None, CodeAddress::Linked(address)) => {
+                self.printer.print(Some(address), None, None, output);
+            }
+            (None, _) => self.printer.print(None, None, None, output),
         }
     }
+}
+
+/// Prints the place of an address by an index that is kept.
+fn answer_by(
+    printer: &PlacePrinter<'_>,
+    kept: &KeptIndex,
+    address: u64,
+    output: &mut Output<'_>,
+) {
+    match LineIndex::open(&kept.bytes) {
+        Ok(index) => print_place(printer, index, address, output),
+        Err(_) => printer.print(Some(address), None, None, output),
+    }
+}
+
+/// What a line asks for that names an index: an address.
+fn linked_question(line: &str) -> Option<(&str, CodeAddress<'_>)> {
+    let (name, address) = parse_line_question(line)?;
+    Some((name, CodeAddress::Linked(address)))
 }

@@ -7,7 +7,7 @@ use crate::opened_index::identity_of;
 use elf_sections::{Elf, ElfError, usual_limit};
 use gimli_core::Reader;
 use gimli_index::{MakeError, write_index};
-use lines_inputs::{Input, InputError, InputSections, program_of};
+use lines_inputs::{FunctionStarts, Input, InputError, InputSections, program_of};
 use lines_pieces::Result;
 use lines_words::{Files, InputKind, Output};
 use std::alloc::{AllocError, Global};
@@ -17,8 +17,23 @@ use std::alloc::{AllocError, Global};
 pub struct MadeIndex {
     /// Its bytes; None where there is none, which was reported.
     pub bytes: Option<Vec<u8>>,
+    /// Where the functions of the program begin, where its symbols were read.
+    pub starts: FunctionStarts,
     /// The status of the program: 0, or 1 where something was reported.
     pub status: u8,
+}
+
+impl MadeIndex {
+    /// No index.
+    pub fn none(alloc: Global, status: u8) -> MadeIndex
+        ensures { result.status ≡ status }
+    {
+        MadeIndex {
+            bytes: None,
+            starts: FunctionStarts::none(alloc),
+            status,
+        }
+    }
 }
 
 /// What names a program in its index: the build id that it has, or else the SHA-256 of its line

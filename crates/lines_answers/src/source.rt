@@ -1,6 +1,7 @@
 //! The command `source`: lines of source, with the addresses of their code beside them.
 
 use crate::components::components_of;
+use crate::hints::note_hints;
 use crate::path_digests::{PathDigests, Sum, sum_of_entry};
 use crate::written_path::{WrittenPath, WrittenPaths};
 use gimli_core::{Reader, ReaderOffset};
@@ -330,6 +331,7 @@ fn searched_of(
             let word = bytes_of_word(alloc, name)?;
             let Some(code) = functions.range_of(&word) else {
                 tell("no function has the name %", &[Piece::Name(name)], output);
+                note_hints(alloc, functions, name, output)?;
                 return Ok(None);
             };
             let count = functions.starts_of(alloc, &word)?.len() as u64;

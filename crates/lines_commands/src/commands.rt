@@ -13,7 +13,9 @@ use lines_places::{
     Answered, Asked, PlacePrinter, Places, SourceLine, SourceRow, print_below, print_lines,
 };
 use lines_reports::{Diff, Report};
-use lines_words::{CodeAddress, Command, Files, InputKind, PathText, Request, SourcePlace};
+use lines_words::{
+    CodeAddress, Command, Files, InputKind, PathMap, Request, ShortWord, SourcePlace,
+};
 use std::io::ErrorKind;
 use std::{fs, io, str};
 
@@ -59,18 +61,48 @@ impl<'r> Session<'r> {
         input: &Input<R>,
         files: Files<'_>,
     ) -> io::Result<()> {
+        let is_object = !input.is_linked && !input.is_split;
         match self.run.request.command {
-            Command::Where { .. } if !input.is_linked && !input.is_split => {
-                self.locate_in_sections(files)
-            }
+            Command::Where { .. } if is_object => self.locate_in_sections(files),
+            Command::At(_) | Command::Source(_) if is_object => self.print_in_object(files),
             Command::Where { .. } | Command::At(_) | Command::Source(_) if !input.is_linked => {
                 self.output.tell(input.refusal());
                 Ok(())
             }
             Command::Where { .. } => self.locate_all(program, input, files.limit),
-            Command::At(place) => self.print_addresses(program, input, files.limit, place),
-            Command::Source(place) => self.print_source(program, input, place),
+            Command::At(_) | Command::Source(_) => self.print_place(program, input, files.limit),
             _ => self.print_report(input),
+        }
+    }
+
+    /// Prints the addresses or the source of a place.
+    fn print_place<R: Reader>(
+        &mut self,
+        program: &InputSections<'_>,
+        input: &Input<R>,
+        limit: u64,
+    ) -> io::Result<()> {
+        match self.run.request.command {
+            Command::At(place) => self.print_addresses(program, input, limit, place),
+            Command::Source(place) => self.print_source(program, input, place),
+            _ => Ok(()),
+        }
+    }
+
+    /// Prints the addresses or the source of a place in an object file, whose sections of code are
+    /// placed one after the other.
+    fn print_in_object(&mut self, files: Files<'_>) -> io::Result<()> {
+        match InputSections::laid_out(self.run.rt.alloc(), files) {
+            Ok(Some(program)) => self.print_place(&program, &program.input(), files.limit),
+            Ok(None) => {
+                let text = "its sections of code are larger together than an address can be";
+                self.output.tell(text);
+                Ok(())
+            }
+            Err(refusal) => {
+                tell_refusal(refusal, &mut self.output)?;
+                Ok(())
+            }
         }
     }
 
@@ -101,16 +133,16 @@ impl<'r> Session<'r> {
     }
 
     /// Prints the lines of a place or of one of these functions.
-    fn print_source_by<R: Reader>(
+    fn print_source_by<'x, R: Reader>(
         &mut self,
         input: &Input<R>,
-        functions: &Functions<'_>,
+        functions: &'x Functions<'x>,
         place: SourcePlace<'_>,
     ) -> io::Result<()> {
         let Run { rt, request } = self.run;
         let output = &mut self.output;
         match SourceRows::new(rt.alloc(), input, functions, place, request.context, output)? {
-            Some(mut found) => self.print_found(place, &mut found),
+            Some(mut found) => self.print_found(place, functions, &mut found),
             None => Ok(()),
         }
     }
@@ -133,7 +165,11 @@ impl<'r> Session<'r> {
     ) -> io::Result<()> {
         let Run { rt, request } = self.run;
         self.output.turn_to(request.file);
-        let mut diff = Diff::new(rt.alloc(), old, new, &mut self.output)?;
+        let map = match request.source.map {
+            Some(map) => Some(PathMap::new(rt.alloc(), map)?),
+            None => None,
+        };
+        let mut diff = Diff::new(rt.alloc(), old, new, map, &mut self.output)?;
         self.print_diff(&mut diff, new_name)
     }
 
@@ -261,7 +297,7 @@ impl<'r> Session<'r> {
 
     /// Reports that an object file has nothing of a name.
     fn tell_of_none(&mut self, name: &[u8]) {
-        let name = PathText(name);
+        let name = ShortWord(name);
         let text = format_args!("there is no section and no function {name}");
         self.output.tell(text);
     }
@@ -361,15 +397,16 @@ impl<'r> Session<'r> {
     }
 
     /// Finds the rows of a place or of a function, and prints their lines with their addresses.
-    fn print_found<R: Reader>(
+    fn print_found<'x, R: Reader>(
         &mut self,
         place: SourcePlace<'_>,
+        functions: &'x Functions<'x>,
         found: &mut SourceRows<'_, R>,
     ) -> io::Result<()> {
         self.print_steps(|output| found.add_next(output))?;
         for number in 0..usize::MAX {
             match found.get(number) {
-                Some((path, rows)) => self.print_lines_of(path, rows, place)?,
+                Some((path, rows)) => self.print_lines_of(path, rows, functions, place)?,
                 None => break,
             }
         }
@@ -377,16 +414,17 @@ impl<'r> Session<'r> {
     }
 
     /// Prints the lines of a source file with the addresses of their rows.
-    fn print_lines_of(
+    fn print_lines_of<'x>(
         &mut self,
         path: &[u8],
         rows: &[SourceRow],
+        functions: &'x Functions<'x>,
         place: SourcePlace<'_>,
     ) -> io::Result<()> {
         let Run { rt, request } = self.run;
         let file = self.read_source(path)?;
-        let output = &mut self.output;
-        print_lines(rt.alloc(), path, file, rows, place, request.context, output)?;
+        let (alloc, output) = (rt.alloc(), &mut self.output);
+        print_lines(alloc, path, file, rows, functions, place, request.context, output)?;
         self.hand_on()
     }
 

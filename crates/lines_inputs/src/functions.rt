@@ -1,5 +1,6 @@
 //! The names of code, by the symbols of a program.
 
+use crate::code_layout::CodeLayout;
 use elf_sections::{CodeSymbol, SymbolTable};
 use std::alloc::{AllocError, Global};
 use std::collections::BTreeMap;
@@ -16,12 +17,12 @@ const KEYED: usize = 64;
 /// The code of a function. Of several that begin at one address the greatest counts, and of these
 /// the first in the table.
 #[derive(Clone, Copy, PartialEq, Eq, PartialOrd, Ord)]
-struct CodeRange {
-    start: u64,
+pub(crate) struct CodeRange {
+    pub(crate) start: u64,
     size: u64,
     /// How many symbols are left from it on.
     left: usize,
-    name: u32,
+    pub(crate) name: u32,
     /// The index of its section.
     section: u16,
     /// Where its section ends.
@@ -39,20 +40,24 @@ struct NamedRange {
 /// The functions of a program, in the order of their addresses.
 #[derive(Drop)]
 pub struct Functions<'n> {
-    table: SymbolTable<'n>,
-    names: &'n [u8],
-    ranges: Vec<CodeRange>,
+    pub(crate) table: SymbolTable<'n>,
+    pub(crate) names: &'n [u8],
+    /// Where the sections of code of an object file are placed; none of another program.
+    layout: &'n CodeLayout,
+    pub(crate) ranges: Vec<CodeRange>,
     /// The functions in the order of their keys, once these are sorted.
     named: Vec<NamedRange>,
 }
 
 impl<'n> Functions<'n> {
-    /// The functions among symbols that stand in sections of code; in an object file those of one
-    /// section alone. The end of the code of each section is known by its index.
+    /// The functions among symbols that stand in sections of code, of an object file where these
+    /// are placed, or those of one section alone. The end of the code of each section is known by
+    /// its index.
     pub(crate) fn new(
         alloc: Global,
         table: SymbolTable<'n>,
         names: &'n [u8],
+        layout: &'n CodeLayout,
         section: Option<u16>,
         code_ends: &[u64],
     ) -> Result<Functions<'n>, AllocError> {
@@ -64,13 +69,14 @@ impl<'n> Functions<'n> {
             };
             let section_end = *code_ends.get(usize::from(symbol.section)).unwrap_or(&0);
             if is_function(symbol, section) && symbol.address < section_end {
+                let start = layout.start_of(symbol.section);
                 ranges.push(CodeRange {
-                    start: symbol.address,
+                    start: start.saturating_add(symbol.address),
                     size: symbol.size,
                     left: count.saturating_sub(index),
                     name: symbol.name,
                     section: symbol.section,
-                    section_end,
+                    section_end: start.saturating_add(section_end),
                 })?;
             }
         }
@@ -78,6 +84,7 @@ impl<'n> Functions<'n> {
         Ok(Functions {
             table,
             names,
+            layout,
             ranges,
             named: Vec::new(alloc),
         })
@@ -194,6 +201,12 @@ impl<'n> Functions<'n> {
         start.checked_add(offset)
     }
 
+    /// The name of the section that has an address, and the offset in it, where the sections of an
+    /// object file are placed. None in another program.
+    pub fn place_of(&self, address: u64) -> Option<(&'n [u8], u64)> {
+        self.layout.place_of(address)
+    }
+
     /// Where a function ends, within its section. One whose bytes aren't counted ends where the
     /// next begins.
     fn end_of(&self, range: &CodeRange) -> u64 {
@@ -209,7 +222,7 @@ impl<'n> Functions<'n> {
 }
 
 /// The key of the name that bytes begin with, which a zero byte or their end ends.
-fn key_of(bytes: &[u8]) -> u64 {
+pub(crate) fn key_of(bytes: &[u8]) -> u64 {
     let mut key = 0u64;
     for byte in bytes.iter().take(KEYED) {
         if *byte == 0 {

@@ -9,8 +9,10 @@ ghost use Rattle.elf_sections.specs.SectionBytes.{bytes_of};
 ghost use Rattle.elf_sections.specs.Fault.{is_for_memory};
 ghost use Rattle.lines_inputs.specs.Lines.{HasLines, lines_name};
 
+use crate::code_layout::{CodeLayout, SectionNames};
 use crate::functions::Functions;
-use debug_files::LinePrograms;
+use crate::moved_lines::Relocations;
+use debug_files::{LinePrograms, is_archive};
 use elf_sections::{Elf, ElfError, SectionBytes, SectionPlace, SymbolTable};
 use gimli_compilation::CompilationSections;
 use gimli_core::{EndianSlice, Endianity, Reader, ReaderOffset, Section};
@@ -90,6 +92,8 @@ pub struct InputSections<'i> {
     is_split: bool,
     /// Which addresses count in an object file.
     place: SectionPlace,
+    /// Where its sections of code are placed, where they are.
+    layout: CodeLayout,
 }
 
 /// The sections of units; no bytes where none is needed.
@@ -205,6 +209,18 @@ impl<'i> OtherSections<'i> {
     }
 }
 
+impl OtherSections<'_> {
+    /// The symbols, as the numbers of their file are read.
+    fn symbol_table(&self, notation: Notation) -> SymbolTable<'_> {
+        SymbolTable::new(
+            notation.order.is_big_endian(),
+            notation.address_size.bytes(),
+            self.symbols.as_slice(),
+            self.symbol_names.as_slice(),
+        )
+    }
+}
+
 impl<'i> InputSections<'i> {
     /// The sections of files; in an object file each section stands at 0. Refused as `InputError`
     /// says.
@@ -217,6 +233,7 @@ impl<'i> InputSections<'i> {
             (HasLines files.entry.limit files.entry.file.now) }
     {
         match kind {
+            InputKind::Elf if is_archive(files.file) => Err(InputError::Archive),
             InputKind::Elf => {
                 let elf = Elf::parse(files.file)?;
                 let program = InputSections::of_elf(alloc, files, elf, SectionPlace::AllAtZero)?;
@@ -229,6 +246,7 @@ impl<'i> InputSections<'i> {
                 is_linked: true,
                 is_split: false,
                 place: SectionPlace::AllAtZero,
+                layout: CodeLayout::none(alloc),
             }),
         }
     }
@@ -297,7 +315,57 @@ impl<'i> InputSections<'i> {
             is_linked,
             is_split,
             place,
+            layout: CodeLayout::none(alloc),
         })
+    }
+
+    /// The sections of an object file, of which those of code are placed one after the other, so
+    /// that each has addresses of its own. None where an address can't be so great.
+    pub fn laid_out(
+        alloc: Global,
+        files: Files<'i>,
+    ) -> Result<Option<InputSections<'i>>, InputError> {
+        let elf = Elf::parse(files.file)?;
+        let mut program = InputSections::of_elf(alloc, files, elf, SectionPlace::AllAtZero)?;
+        match program.lay_out(elf, files.file) {
+            Ok(true) => Ok(Some(program)),
+            Ok(false) => Ok(None),
+            Err(error) => Err(InputError::Elf(error)),
+        }
+    }
+
+    /// Places the sections of code of an object file, and moves the addresses in line programs
+    /// there. False where an address can't be so great.
+    fn lay_out(&mut self, elf: Elf<'i>, file: &'i [u8]) -> Result<bool, ElfError> {
+        let order = self.notation.order;
+        let is_64_bit = self.notation.address_size.bytes() == 8;
+        let greatest = if is_64_bit { u64::MAX } else { u64::from(u32::MAX) };
+        let sections = SectionNames::new(order, file)?;
+        let sizes = &self.others.code_ends;
+        if !self.layout.place_all(&sections, sizes, greatest)? {
+            return Ok(false);
+        }
+        self.notation.lowest = self.layout.lowest();
+        self.move_lines(elf, file, is_64_bit)?;
+        Ok(true)
+    }
+
+    /// Moves the addresses in line programs to where sections are placed.
+    fn move_lines(&mut self, elf: Elf<'i>, file: &'i [u8], is_64_bit: bool) -> Result<(), ElfError> {
+        let with_addends = elf.section(b".rela.debug_line")?.unwrap_or(&[]);
+        let others = elf.section(b".rel.debug_line")?.unwrap_or(&[]);
+        let relocations = Relocations {
+            order: self.notation.order,
+            is_64_bit,
+            file,
+            symbols: self.others.symbol_table(self.notation),
+            layout: &self.layout,
+        };
+        if let SectionBytes::Made(lines) = &mut self.lines {
+            relocations.move_addresses(with_addends, true, lines);
+            relocations.move_addresses(others, false, lines);
+        }
+        Ok(())
     }
 
     /// The bytes of the line programs.
@@ -307,7 +375,8 @@ impl<'i> InputSections<'i> {
         self.lines.as_slice()
     }
 
-    /// The functions; in an object file those of the section whose addresses count.
+    /// The functions; in an object file those of the section whose addresses count, or of all that
+    /// are placed.
     pub fn functions(&self, alloc: Global) -> Result<Functions<'_>, AllocError> {
         let section = match self.place {
             SectionPlace::Only(index) => u16::try_from(index).ok(),
@@ -316,20 +385,11 @@ impl<'i> InputSections<'i> {
         let names = self.others.symbol_names.as_slice();
         Functions::new(
             alloc,
-            self.symbols(),
+            self.others.symbol_table(self.notation),
             names,
+            &self.layout,
             section,
             &self.others.code_ends,
-        )
-    }
-
-    /// The symbols.
-    fn symbols(&self) -> SymbolTable<'_> {
-        SymbolTable::new(
-            self.notation.order.is_big_endian(),
-            self.notation.address_size.bytes(),
-            self.others.symbols.as_slice(),
-            self.others.symbol_names.as_slice(),
         )
     }
 
@@ -431,6 +491,8 @@ pub enum InputError {
     Split,
     /// The file is the memory of a program that ended.
     Core,
+    /// The file is an archive of object files.
+    Archive,
 }
 
 impl InputError {
@@ -466,6 +528,10 @@ impl fmt::Display for InputError {
             InputError::Split => f.write_str(SPLIT),
             InputError::Core => f.write_str(
                 "a core file, which has no line programs; name the program that it is of",
+            ),
+            InputError::Archive => f.write_str(
+                "an archive of object files; extract the member that you mean (ar x), or of a \
+                 thin archive name its file",
             ),
         }
     }

@@ -3,7 +3,7 @@
 use gimli_core::Error;
 use line_text::Digits;
 use lines_inputs::{PathFault, RowCount};
-use lines_words::{Json, NameText, PathText, SourceText};
+use lines_words::{Json, PathText, ShortName, ShortWord, SourceText};
 use std::fmt::{self, Display};
 
 /// A value in a line.
@@ -23,8 +23,12 @@ pub enum Piece<'p> {
     Unit(u64),
     /// A path, `??` where there is none.
     Path(Option<&'p [u8]>),
-    /// A word of the program.
+    /// An offset in the section of a name.
+    InSection(&'p [u8], u64),
+    /// A word of the program, of a long one the beginning.
     Name(&'p str),
+    /// A word of standard input or of a program's symbols, of a long one the beginning.
+    Asked(&'p [u8]),
     /// A line of source.
     Source(&'p [u8]),
     /// Bytes in hexadecimal digits.
@@ -62,7 +66,9 @@ impl Display for Piece<'_> {
             Piece::Address(address) => write!(f, "0x{address:x}"),
             Piece::Unit(offset) => write!(f, "0x{offset:08x}"),
             Piece::Path(path) => Display::fmt(&PathText(path.unwrap_or(b"??")), f),
-            Piece::Name(name) => Display::fmt(&NameText(name), f),
+            Piece::InSection(name, offset) => write_place(name, offset, f),
+            Piece::Name(name) => Display::fmt(&ShortName(name), f),
+            Piece::Asked(word) => Display::fmt(&ShortWord(word), f),
             Piece::Source(text) => Display::fmt(&SourceText(text), f),
             Piece::Digits(bytes) => Display::fmt(&Digits(bytes), f),
             Piece::Rows(count) => Display::fmt(&RowCount(count), f),
@@ -71,6 +77,16 @@ impl Display for Piece<'_> {
             Piece::Fault(fault) => Display::fmt(&fault, f),
         }
     }
+}
+
+/// Writes an offset in a section.
+fn write_place<W: fmt::Write>(
+    name: &[u8],
+    offset: u64,
+    f: &mut fmt::Formatter<W>,
+) -> fmt::Result {
+    let name = PathText(name);
+    write!(f, "{name}+0x{offset:x}")
 }
 
 /// Writes a number, with blanks before it.

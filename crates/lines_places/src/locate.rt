@@ -13,9 +13,6 @@ use std::alloc::Global;
 /// How many addresses are named at most without the functions being sorted by their names.
 const FEW: usize = 8;
 
-/// How many characters of a name are reported at most.
-const SHOWN: usize = 200;
-
 /// What came of a question.
 #[derive(Drop)]
 pub enum Answered {
@@ -115,9 +112,7 @@ impl<'r, 'n, R: Reader> Places<'r, 'n, R> {
             return self.print_place(own.saturating_add(self.printer.request.bias), output);
         }
         self.printer.print(None, None, None, output);
-        let (name, rest) = beginning_of(name);
-        let pieces = [Piece::Name(name), Piece::Word(rest)];
-        tell("no function has the name %%", &pieces, output);
+        tell("no function has the name %", &[Piece::Name(name)], output);
         Ok(Answered::Whole)
     }
 
@@ -165,14 +160,6 @@ impl<'r, 'n, R: Reader> Places<'r, 'n, R> {
             }
             _ => Answered::Whole,
         })
-    }
-}
-
-/// The beginning of a name that is reported, and what stands for the rest of a long one.
-fn beginning_of(name: &str) -> (&str, &'static str) {
-    match name.char_indices().nth(SHOWN) {
-        Some((at, _)) => (name.get(..at).unwrap_or(name), ".."),
-        None => (name, ""),
     }
 }
 

@@ -130,11 +130,11 @@ impl<'r> PlacePrinter<'r> {
                 tell(text, &[address, address], output);
             }
             Asked::Address(CodeAddress::InSection { section, offset }) => {
-                let section = Piece::Path(Some(section.as_bytes()));
+                let section = Piece::Name(section);
                 let text = "%+% is for programs; say an address";
                 tell(text, &[section, Piece::Address(offset)], output);
             }
-            Asked::Unknown(word) => tell("'%' is no address", &[Piece::Path(Some(word))], output),
+            Asked::Unknown(word) => tell("'%' is no address", &[Piece::Asked(word)], output),
             Asked::Nothing => {}
         }
     }

@@ -1,9 +1,13 @@
 //! How lines of source are printed, with the addresses of their code.
 
 use crate::locate::SourceLine;
+use lines_inputs::Functions;
 use lines_pieces::{Piece, Result, add, note, print};
 use lines_words::{ColumnMark, Json, Output, PathText, SourcePlace, Style};
 use std::alloc::Global;
+
+/// Blanks as wide as the greatest address is.
+const BLANKS: &str = "                  ";
 
 /// A row of a line of a file.
 #[derive(Clone, Copy, PartialEq, Eq, PartialOrd, Ord)]
@@ -57,12 +61,14 @@ pub fn print_below(
 }
 
 /// Prints the lines of a file about one that is asked for, or else about its rows. Where the file
-/// can't be read, that is said, and the lines are printed without their texts.
-pub fn print_lines(
+/// can't be read, that is said, and the lines are printed without their texts. The functions know
+/// where the sections of an object file are placed.
+pub fn print_lines<'x>(
     alloc: Global,
     path: &[u8],
     file: Option<Vec<u8>>,
     rows: &[SourceRow],
+    functions: &'x Functions<'x>,
     place: SourcePlace<'_>,
     context: u64,
     output: &mut Output<'_>,
@@ -83,6 +89,7 @@ pub fn print_lines(
         lines: &lines,
         asked,
         rows,
+        functions,
     };
     listing.print(&ranges, output);
     Ok(())
@@ -125,6 +132,7 @@ struct SourceListing<'l> {
     asked: Option<u64>,
     /// The rows in the order of their lines.
     rows: &'l [SourceRow],
+    functions: &'l Functions<'l>,
 }
 
 impl<'l> SourceListing<'l> {
@@ -196,7 +204,7 @@ impl<'l> SourceListing<'l> {
         let (begin, mark) = (Piece::Word(begin), Piece::Word(mark));
         add("%%%", &[begin, mark, Piece::WideNumber(line, 6)], output);
         match rows.first() {
-            Some(row) => add_row(row, output),
+            Some(row) => self.add_row(row, output),
             None if !text.is_empty() => output.add("                       "),
             None => {}
         }
@@ -206,7 +214,7 @@ impl<'l> SourceListing<'l> {
         output.print(end);
         for row in rows.iter().skip(1) {
             output.add("       ");
-            add_row(row, output);
+            self.add_row(row, output);
             output.print("");
         }
     }
@@ -226,23 +234,51 @@ impl<'l> SourceListing<'l> {
             ("rows", Json::Written("[")),
         ];
         output.add_fields("{", &fields);
-        let mut first = "{";
+        let mut first = "";
         for row in rows {
-            let fields = [
-                ("address", Json::Offset(Some(row.address))),
-                ("is_stmt", Json::Holds(row.is_stmt)),
-            ];
-            output.add_fields(first, &fields);
-            output.add("}");
-            first = ",{";
+            output.add(first);
+            self.add_row_json(row, output);
+            first = ",";
         }
         output.print("]}");
     }
+
+    /// Prints the address of a row, and `s` for a statement or a stroke.
+    fn add_row(self, row: &SourceRow, output: &mut Output<'_>) {
+        let letter = if row.is_stmt { "s" } else { "-" };
+        let (piece, width) = match self.functions.place_of(row.address) {
+            Some((name, offset)) => (
+                Piece::InSection(name, offset),
+                name.len().saturating_add(1).saturating_add(width_of(offset)),
+            ),
+            None => (Piece::Address(row.address), width_of(row.address)),
+        };
+        let blanks = BLANKS.get(width..).unwrap_or("");
+        add("  %%  %", &[piece, Piece::Word(blanks), Piece::Word(letter)], output);
+    }
+
+    /// Prints a row as an object of JSON.
+    fn add_row_json(self, row: &SourceRow, output: &mut Output<'_>) {
+        let place = self.functions.place_of(row.address);
+        let address = place.map_or(row.address, |(_, offset)| offset);
+        output.add_fields("{", &[("address", Json::Offset(Some(address)))]);
+        if let Some((name, _)) = place {
+            output.add_fields(",", &[("section", Json::Bytes(Some(name)))]);
+        }
+        output.add_fields(",", &[("is_stmt", Json::Holds(row.is_stmt))]);
+        output.add("}");
+    }
 }
 
-/// Prints the address of a row, and `s` for a statement or a stroke.
-fn add_row(row: &SourceRow, output: &mut Output<'_>) {
-    let address = row.address;
-    let letter = if row.is_stmt { 's' } else { '-' };
-    output.add(format_args!("  0x{address:<16x}  {letter}"));
+/// How wide an address is, with `0x`.
+fn width_of(address: u64) -> usize {
+    let mut rest = address;
+    let mut width = 3usize;
+    for _ in 0..16 {
+        rest /= 16;
+        if rest > 0 {
+            width = width.saturating_add(1);
+        }
+    }
+    width
 }

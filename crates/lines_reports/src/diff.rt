@@ -7,7 +7,7 @@ use gimli_line::{LineProgramHeader, LineRow};
 use lines_counts::{Change, Coverage, LinePlace};
 use lines_inputs::{Input, Printing, UnitRows, line_of};
 use lines_pieces::{Piece, Result, add, print, print_fields};
-use lines_words::{Json, Output, UnitChoice};
+use lines_words::{Json, Output, PathMap, UnitChoice};
 use std::alloc::Global;
 use std::collections::BTreeMap;
 
@@ -38,11 +38,13 @@ enum Stage {
 }
 
 impl<R: Reader> Diff<R> {
-    /// No line is known. The old program is read first.
+    /// No line is known. The old program is read first. Paths are compared as a map says, where
+    /// there is one.
     pub fn new(
         alloc: Global,
         old: &Input<R>,
         new: &Input<R>,
+        map: Option<PathMap>,
         output: &mut Output<'_>,
     ) -> Result<Diff<R>> {
         let old = Side::new(alloc, false, old, output)?;
@@ -51,7 +53,7 @@ impl<R: Reader> Diff<R> {
             old,
             new,
             stage: Stage::Old,
-            paths: PathNumbers::new(alloc),
+            paths: PathNumbers::new(alloc, map),
             printed: None,
             differences: BTreeMap::new(alloc),
         })

@@ -5,6 +5,7 @@ use gimli_core::{Reader, ReaderOffset};
 use gimli_line::LineProgramHeader;
 use lines_inputs::UnitRows;
 use lines_pieces::Result;
+use lines_words::PathMap;
 use sha2::{Digest, Sha256};
 use std::alloc::Global;
 use std::collections::BTreeMap;
@@ -28,6 +29,8 @@ pub(crate) struct Home {
 #[derive(Drop)]
 pub(crate) struct PathNumbers<R: Reader> {
     alloc: Global,
+    /// What paths count as.
+    map: Option<PathMap>,
     /// The number of each path, by its SHA-256.
     numbers: BTreeMap<[u8; 32], usize>,
     /// Where each path was met first, by its number.
@@ -39,10 +42,11 @@ pub(crate) struct PathNumbers<R: Reader> {
 }
 
 impl<R: Reader> PathNumbers<R> {
-    /// No path has a number.
-    pub(crate) fn new(alloc: Global) -> PathNumbers<R> {
+    /// No path has a number. Paths count as a map says, where there is one.
+    pub(crate) fn new(alloc: Global, map: Option<PathMap>) -> PathNumbers<R> {
         PathNumbers {
             alloc,
+            map,
             numbers: BTreeMap::new(alloc),
             homes: Vec::new(alloc),
             of_unit: BTreeMap::new(alloc),
@@ -67,7 +71,7 @@ impl<R: Reader> PathNumbers<R> {
         if let Some(number) = self.of_unit.get(&file).copied() {
             return Ok(number);
         }
-        let (digest, home) = met(header, file, is_new, reading)?;
+        let (digest, home) = self.met(header, file, is_new, reading)?;
         let number = self.number_at(digest, home)?;
         self.of_unit.insert(file, number)?;
         Ok(number)
@@ -118,10 +122,37 @@ impl<R: Reader> PathNumbers<R> {
 
     /// The path of a file of the unit that was read last.
     fn path_again(&mut self, file: u64, reading: &Reading<R>) -> Result<Option<Vec<u8>>> {
-        match &mut self.again {
+        let path = match &mut self.again {
             Some((_, unit)) => path_in(unit, file, self.alloc, reading),
             None => Ok(None),
+        };
+        self.mapped(path?)
+    }
+
+    /// What a path counts as.
+    fn mapped(&self, path: Option<Vec<u8>>) -> Result<Option<Vec<u8>>> {
+        match (&self.map, path) {
+            (Some(map), Some(path)) => Ok(Some(map.mapped(self.alloc, path)?)),
+            (_, path) => Ok(path),
         }
+    }
+
+    /// The digest of the path of a file, and where it is met.
+    fn met(
+        &self,
+        header: &LineProgramHeader<R>,
+        file: u64,
+        is_new: bool,
+        reading: &mut Reading<R>,
+    ) -> Result<([u8; 32], Home)> {
+        let (path, _) = reading.path_of(header, file, false)?;
+        let home = Home {
+            is_new,
+            unit: header.offset().0.into_u64(),
+            file: path.is_some().then_some(file),
+        };
+        let path = self.mapped(path)?;
+        Ok((Sha256::digest(path.as_deref().unwrap_or(NO_PATH)), home))
     }
 
     /// Reads the unit of a place once more, unless it is the one that was read last.
@@ -142,22 +173,6 @@ impl<R: Reader> PathNumbers<R> {
             None => false,
         }
     }
-}
-
-/// The digest of the path of a file, and where it is met.
-fn met<R: Reader>(
-    header: &LineProgramHeader<R>,
-    file: u64,
-    is_new: bool,
-    reading: &mut Reading<R>,
-) -> Result<([u8; 32], Home)> {
-    let (path, _) = reading.path_of(header, file, false)?;
-    let home = Home {
-        is_new,
-        unit: header.offset().0.into_u64(),
-        file: path.is_some().then_some(file),
-    };
-    Ok((Sha256::digest(path.as_deref().unwrap_or(NO_PATH)), home))
 }
 
 /// The path of a file of a unit that is read once more.

@@ -45,7 +45,7 @@ impl<R: Reader> Stat<R> {
             ends: 0,
             not_statements: 0,
             units: Vec::new(alloc),
-            paths: PathNumbers::new(alloc),
+            paths: PathNumbers::new(alloc, None),
             of_unit: BTreeMap::new(alloc),
             files: BTreeMap::new(alloc),
         }

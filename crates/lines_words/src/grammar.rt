@@ -66,6 +66,7 @@ Example: lines check --deny odd --allow overlap a.out",
 >Example: lines stat a.out",
     "diff Prints the lines that have other code in a new program; the status is 1 for any
 NEW - needed The new program; FILE is the old one
+map - OLD=NEW Compares paths below the directory OLD as paths below NEW
 >Example: lines diff a.out.old a.out",
 ];
 
@@ -79,6 +80,7 @@ raw - little|big FILE is a section .debug_line alone, in this order of bytes
 address-size - N With --raw: the bytes of an address up to version 4: 1, 2, 4 or 8 (8 if unsaid)
 line-str - FILE The section .debug_line_str
 str - FILE The section .debug_str
+debug-dir - DIR Looks for debug files in this directory (/usr/lib/debug if unsaid)
 memory-limit - BYTES Refuses a compressed section of more bytes; K, M or G may follow them (256 \
     times the file and 64M if unsaid)";
 

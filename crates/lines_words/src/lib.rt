@@ -9,6 +9,7 @@ mod kinds;
 mod names;
 mod numbers;
 mod output;
+mod path_map;
 mod path_text;
 mod request;
 mod words;
@@ -16,11 +17,15 @@ mod words;
 pub use kinds::{CheckChoice, FindingKind, Severity};
 pub use names::{bytes_of_word, text_of_word};
 pub use numbers::{
-    build_id_of, map_path, parse_address, parse_code_address, parse_line_question, parse_offset,
-    parse_place, parse_target,
+    build_id_of, map_path, parse_address, parse_code_address, parse_code_question,
+    parse_line_question, parse_offset, parse_place, parse_target,
 };
 pub use output::{Json, Output, Screen, Style};
-pub use path_text::{ColumnMark, JsonBytes, NameText, PathText, SourceText, last_part, shown_path};
+pub use path_map::PathMap;
+pub use path_text::{
+    ColumnMark, JsonBytes, NameText, PathText, ShortName, ShortWord, SourceText, last_part,
+    shown_path,
+};
 pub use request::{
     CodeAddress, Command, Files, Form, InputKind, LineNames, Notation, PathForm, Request,
     SourceFiles, SourcePlace, UnitChoice, UnitFiles,

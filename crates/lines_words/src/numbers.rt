@@ -155,6 +155,17 @@ pub fn parse_line_question(line: &str) -> Option<(&str, u64)>
     Some((name, address))
 }
 
+/// What a line names, and where code is in it, parted as `parse_line_question` parts them. None for
+/// another line, and for an empty name.
+pub fn parse_code_question(line: &str) -> Option<(&str, CodeAddress<'_>)> {
+    let (name, word) = parts(line)?;
+    if name.is_empty() {
+        return None;
+    }
+    let address = parse_code_address(word)?;
+    Some((name, address))
+}
+
 /// The two parts of a line.
 fn parts(line: &str) -> Option<(&str, &str)>
     ensures { MatchOption result ((name word : List ℕ) → Parts line.now name word → ⊥)

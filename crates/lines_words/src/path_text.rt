@@ -119,6 +119,42 @@ impl Display for NameText<'_> {
     }
 }
 
+/// How many bytes of a word are reported at most.
+const SHOWN: usize = 200;
+
+/// A word that is reported, as `NameText`; of a long one the beginning, and two dots.
+#[derive(Clone, Copy)]
+pub struct ShortName<'n>(pub &'n str);
+
+impl Display for ShortName<'_> {
+    fn fmt<W: Write>(&self, f: &mut Formatter<W>) -> fmt::Result {
+        let end = self.0.floor_char_boundary(SHOWN);
+        Display::fmt(&NameText(self.0.get(..end).unwrap_or("")), f)?;
+        f.write_str(rest_of(self.0.len(), end))
+    }
+}
+
+/// A word of standard input that is reported, as `PathText`; of a long one the beginning, and two
+/// dots.
+#[derive(Clone, Copy)]
+pub struct ShortWord<'w>(pub &'w [u8]);
+
+impl Display for ShortWord<'_> {
+    fn fmt<W: Write>(&self, f: &mut Formatter<W>) -> fmt::Result {
+        let end = match str::from_utf8(self.0) {
+            Ok(text) => text.floor_char_boundary(SHOWN),
+            Err(_) => self.0.len().min(SHOWN),
+        };
+        Display::fmt(&PathText(self.0.get(..end).unwrap_or(b"")), f)?;
+        f.write_str(rest_of(self.0.len(), end))
+    }
+}
+
+/// What stands for the rest of a word of a length.
+fn rest_of(length: usize, end: usize) -> &'static str {
+    if end < length { ".." } else { "" }
+}
+
 /// A message that names words, whose lines stay apart.
 #[derive(Clone, Copy)]
 pub(crate) struct MessageText<'m>(pub(crate) &'m str);

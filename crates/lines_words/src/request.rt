@@ -24,6 +24,8 @@ pub struct Request<'w> {
     /// The most bytes of a compressed section once it is made whole; None where it goes by the
     /// size of its file.
     pub memory_limit: Option<u64>,
+    /// The directory where debug files are looked for; None where it is the usual one.
+    pub debug_directory: Option<&'w str>,
     /// Where source files are.
     pub source: SourceFiles<'w>,
     /// The addresses that are asked; those of standard input where there is none.
@@ -59,7 +61,7 @@ pub struct Request<'w> {
 pub struct SourceFiles<'w> {
     /// The file that is read in the place of all.
     pub file: Option<&'w str>,
-    /// A directory, and the one that stands in its place.
+    /// A directory, and the one that stands in its place. The command `diff` compares paths so.
     pub map: Option<(&'w str, &'w str)>,
     /// The directory below which relative paths are.
     pub directory: Option<&'w str>,
@@ -134,7 +136,10 @@ impl Command<'_> {
     pub fn prints_functions(&self) -> bool {
         matches!(
             self,
-            Command::Where { has_names: true } | Command::At(_) | Command::Source(_)
+            Command::Where { has_names: true }
+                | Command::AskLines(LineNames::Files)
+                | Command::At(_)
+                | Command::Source(_)
         )
     }
 }

@@ -6,7 +6,7 @@
 use crate::grammar::{command, program};
 use crate::kinds::{CheckChoice, add_kinds};
 use crate::numbers::{parse_address, parse_code_address, parse_offset, parse_target};
-use crate::path_text::{MessageText, NameText};
+use crate::path_text::{MessageText, ShortName};
 use crate::request::{
     CodeAddress, Command, Form, InputKind, LineNames, Notation, PathForm, Request, SourceFiles,
     SourcePlace, UnitChoice,
@@ -74,7 +74,7 @@ pub fn parse<'w>(alloc: Global, words: &'w [String]) -> Result<Request<'w>, Erro
         Ok(request) => Ok(request),
         Err(Mistake::Memory) => Err(Error::from(AllocError)),
         Err(Mistake::Word(word, name)) => {
-            let word = NameText(word);
+            let word = ShortName(word);
             let wanted = wanted_of(name);
             let mistake = format!(in alloc; "'{word}' is not {wanted}")?;
             let mut command = command(alloc, matches.subcommand_name().unwrap_or(""))?;
@@ -150,6 +150,7 @@ fn request_of<'w>(alloc: Global, matches: &ArgMatches<'w>) -> Result<Request<'w>
         line_str: matches.get_str("line-str"),
         strings: matches.get_str("str"),
         memory_limit: said!(matches, "memory-limit", parse_bytes),
+        debug_directory: directory_of(matches, "debug-dir"),
         source: SourceFiles {
             file: matches.get_str("source"),
             map: said!(matches, "map", parse_map),
@@ -299,10 +300,16 @@ fn parse_map(word: &str) -> Option<(&str, &str)> {
     }
 }
 
+/// The directory that an option names, without a slash at its end.
+fn directory_of<'w>(matches: &ArgMatches<'w>, option: &str) -> Option<&'w str> {
+    let directory = matches.get_str(option)?;
+    Some(directory.trim_end_matches('/'))
+}
+
 /// How much of a path is printed.
 fn path_form_of<'w>(matches: &ArgMatches<'w>) -> PathForm<'w> {
-    match matches.get_str("relative-to") {
-        Some(directory) => PathForm::From(directory.trim_end_matches('/')),
+    match directory_of(matches, "relative-to") {
+        Some(directory) => PathForm::From(directory),
         None if matches.get_flag("basenames") => PathForm::LastPart,
         None => PathForm::Whole,
     }
