@@ -3,7 +3,7 @@ use Rattle.std.proofs.Common.{◌≡◌, sym, ◌∙◌, ap, ℕ, ◌+◌, ◌<�
 use Rattle.std.proofs.lemmas.Bool.{cases_lt}
 use Rattle.gimli_index.specs.Parts.{Index}
 use Rattle.gimli_index.specs.Meaning.{Start, AreAscending, start_at, start_number, starts_of}
-use Rattle.gimli_index.specs.inside.Order.{CountIsBetween, NumbersAscend}
+use Rattle.gimli_index.specs.inside.Numbers.{CountIsBetween, NumbersAscend}
 use Rattle.gimli_index.proofs.Values.{value_at, no_value_at}
 
 pub numbers_ascend : (index : Index) → AreAscending (starts_of index) → NumbersAscend index

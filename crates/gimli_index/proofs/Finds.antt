@@ -7,7 +7,7 @@ use Rattle.gimli_index.specs.Meaning.{entry_place, place_at, start_at, start_num
 use Rattle.gimli_index.specs.Ranges.{first_start}
 use Rattle.gimli_index.specs.Spans.{start_up_to, HoldsAround, IsRangeOf}
 use Rattle.gimli_index.specs.declared.span.PlaceSpan.{PlaceSpan}
-use Rattle.gimli_index.specs.inside.Order.{NumbersAscend}
+use Rattle.gimli_index.specs.inside.Numbers.{NumbersAscend}
 use Rattle.gimli_index.proofs.Places.{first_above, last_place, last_start, none_above, none_below}
 use Rattle.gimli_index.proofs.Starts.{no_start, start_here}
 

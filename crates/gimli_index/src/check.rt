@@ -3,7 +3,7 @@
 ghost use Rattle.std.specs.Prelude.{◌≡◌, ◌<◌, true, false, OnOk, IfErr};
 ghost use Rattle.gimli_index.specs.Order.{IsOrdered};
 ghost use Rattle.gimli_index.specs.Sound.{ArePathsInside, IsFaultOf, IsSound};
-ghost use Rattle.gimli_index.specs.inside.Order.{NumbersAscend};
+ghost use Rattle.gimli_index.specs.inside.Numbers.{NumbersAscend};
 ghost use Rattle.gimli_index.specs.inside.Order.{AreNamesRight, HasRightName, RanksRise};
 
 use crate::error::IndexError;

@@ -11,7 +11,7 @@ ghost use Rattle.gimli_index.specs.Meaning.{source_at, start_at, start_number, s
 ghost use Rattle.gimli_index.specs.Meaning.{AreAscending, column_in, ends_prologue_in};
 ghost use Rattle.gimli_index.specs.Meaning.{is_statement_in, is_zero_at};
 ghost use Rattle.gimli_index.specs.Spans.{StandsIn};
-ghost use Rattle.gimli_index.specs.inside.Order.{CountIsBetween};
+ghost use Rattle.gimli_index.specs.inside.Numbers.{CountIsBetween};
 
 use crate::contents::{COLUMNS, PROLOGUE_END, STATEMENT};
 use crate::error::IndexError;

@@ -1,26 +1,12 @@
--- The order of the starts of an index, and where the statements of a line stand in it.
-use Rattle.std.specs.Prelude.{ℕ, ◌<◌, ◌≤◌, ◌≡◌, ◌+◌, ◌*◌, ◌^◌, List, true, false, nat_lt}
+-- Where the statements of a line stand in an index.
+use Rattle.std.specs.Prelude.{◌≡◌, ◌<◌, ◌≤◌, ◌+◌, ◌*◌, ◌^◌, ℕ, List, true, false, nat_lt}
 use Rattle.std.specs.Prelude.{if◌then◌else◌}
-use Rattle.gimli_index.specs.Parts.{Index}
-use Rattle.gimli_index.specs.Meaning.{start_number, path_of, source_at, statement_at}
-use Rattle.gimli_index.specs.Meaning.{statement_from}
 use Rattle.gimli_index.specs.Lines.{addresses_left, is_of}
+use Rattle.gimli_index.specs.Meaning.{path_of, source_at, statement_at, statement_from}
 use Rattle.gimli_index.specs.Header.{number_at}
 use Rattle.gimli_index.specs.Order.{key_of, name_at, path_number}
+use Rattle.gimli_index.specs.Parts.{Index}
 use Rattle.gimli_index.specs.declared.addresses.Addresses.{Addresses}
-
--- no start is below one before it
-abbrev pub NumbersAscend : Index → Type 0
-NumbersAscend index =
-    (i j : ℕ) → i < j → j < index.starts → start_number index i ≤ start_number index j
-
--- how many starts are at most a number is none below `low` and none above `high`, where they ascend
-pub record CountIsBetween (index : Index) (number low high : ℕ) : Type 0 where
-  pub order : low ≤ high
-  pub within : high ≤ index.starts
-  pub before : NumbersAscend index → (k : ℕ) → k < low → start_number index k ≤ number
-  pub after : NumbersAscend index → (k : ℕ) → high ≤ k → k < index.starts
-      → number < start_number index k
 
 -- at a place stands the first statement of a line of the files that a path names
 pub record IsFirstPlace (index : Index) (path : List ℕ) (line place : ℕ) : Type 0 where

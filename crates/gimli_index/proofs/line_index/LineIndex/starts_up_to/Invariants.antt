@@ -1,6 +1,6 @@
 use Rattle.std.proofs.Common.{◌-◌}
 use Rattle.gimli_index.specs.Views.{index_of}
-use Rattle.gimli_index.specs.inside.Order.{CountIsBetween}
+use Rattle.gimli_index.specs.inside.Numbers.{CountIsBetween}
 use Rattle.gimli_index.proofs.line_index.LineIndex.starts_up_to.Given as goal
 
 abbrev pub invariant-loop-low : goal.invariant-loop-low
