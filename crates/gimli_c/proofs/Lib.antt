@@ -1,5 +1,6 @@
 pub mod Locations
 pub mod Arrays
+pub mod Copied
 pub mod Files
 pub mod Runs
 pub mod Units
