@@ -182,11 +182,13 @@ typedef struct gimli_line_sections {
     uint8_t address_size;    /* in bytes: 1, 2, 4 or 8. It counts up to version 4; version 5 has
                               * its own */
     bool big;                /* big-endian */
+    const char *bad_section; /* the name of the section for which gimli_line_sections_of_elf
+                              * returned GIMLI_LINE_BAD_SECTION, else null; it is not freed */
 } gimli_line_sections;
 #define GIMLI_LINE_SECTIONS \
     { \
         sizeof(gimli_line_sections), NULL, NULL, NULL, NULL, NULL, NULL, 0, 0, 0, 0, 0, 0, 1, 8, \
-            false \
+            false, NULL \
     }
 
 gimli_line_status gimli_line_sections_of_elf(const void *file, size_t length,
@@ -200,9 +202,10 @@ gimli_line_status gimli_line_sections_of_elf(const void *file, size_t length,
  * Returns:
  *   GIMLI_LINE_NO_ELF        the bytes are no ELF file that can be read
  *   GIMLI_LINE_BAD_SECTION   a section can't be read, is compressed by Zstandard, or decompresses
- *                            to more bytes than 256 * length + 64 MiB
+ *                            to more bytes than 256 * length + 64 MiB: sections->bad_section
  *   GIMLI_LINE_UNKNOWN_OPTIONS, GIMLI_LINE_OUT_OF_MEMORY
- * On these there is nothing to free. */
+ * On these there is nothing to free. Unless struct_size is unknown, `sections` is then set to
+ * GIMLI_LINE_SECTIONS, but for bad_section. */
 
 void gimli_line_sections_free(gimli_line_sections *sections);
 /* Frees what gimli_line_sections_of_elf copied, and sets `sections` to GIMLI_LINE_SECTIONS. */
@@ -262,6 +265,7 @@ gimli_line_status gimli_line_index_of_elf(const void *file, size_t length, uint8
  *
  * Returns as gimli_line_sections_of_elf and gimli_line_index_of_sections do, and
  *   GIMLI_LINE_NO_SECTION        the file has no .debug_line
+ *   GIMLI_LINE_BAD_SECTION       gimli_line_sections_of_elf names the section
  *   GIMLI_LINE_INDEX_TOO_LARGE   also if .debug_line decompresses to more bytes than
  *                                4 * length + 1 MiB
  * `length` takes the place of the sizes of the sections in the limit of paths. On an error *index
@@ -410,7 +414,7 @@ static inline const char *gimli_line_place_path(const void *index, const gimli_l
 /* A unit. */
 typedef struct gimli_line_unit {
     uint64_t length;       /* in bytes, without the length itself */
-    uint64_t next;         /* the offset of what follows it in the section */
+    size_t next;           /* the offset of what follows it in the section */
     uint64_t directories;  /* how many its table has; numbers from gimli_line_first_number() on */
     uint64_t files;        /* how many it has, with those that its program defines; likewise */
     uint64_t rows;         /* how many its program gives before its first fault: at most `length` */

@@ -142,8 +142,10 @@ gimli_line_status gimli_line_sections_of_elf(const void *file, size_t length, gi
     if (!is_known(sections)) return GIMLI_LINE_UNKNOWN_OPTIONS;
     uint32_t status = gimli_line_proved_elf_open(READ(file), length, &found);
     *sections = made;
-    for (size_t i = 0; i < sizeof all / sizeof all[0] && status == GIMLI_LINE_OK; i++)
+    for (size_t i = 0; i < sizeof all / sizeof all[0] && status == GIMLI_LINE_OK; i++) {
         status = take_section(READ(file), length, all[i].name, all[i].section, all[i].size);
+        if (status == GIMLI_LINE_BAD_SECTION) sections->bad_section = all[i].name;
+    }
     if (status != GIMLI_LINE_OK) {
         gimli_line_sections_free(&made);
         return status_of(status);
@@ -212,16 +214,21 @@ gimli_line_status gimli_line_index_of_sections(const gimli_line_sections *in, co
                         identity, identity_length, index, size);
 }
 
+/* The sections of an ELF file that has lines. What is kept of their rows is at most 256 bytes for each byte of .debug_line. */
+static gimli_line_status lines_of_elf(const void *file, size_t length, gimli_line_sections *sections) {
+    gimli_line_status status = gimli_line_sections_of_elf(file, length, sections);
+    if (status == GIMLI_LINE_OK && sections->line == NULL) status = GIMLI_LINE_NO_SECTION;
+    if (status == GIMLI_LINE_OK && sections->line_size / 4 > length + (256 << 10)) status = GIMLI_LINE_INDEX_TOO_LARGE;
+    return status;
+}
+
 gimli_line_status gimli_line_index_of_elf(const void *file, size_t length, uint8_t **index, size_t *size) {
     gimli_line_sections sections = GIMLI_LINE_SECTIONS;
     uint8_t id[64];
     size_t id_size = 0;
-    gimli_line_status status = gimli_line_sections_of_elf(file, length, &sections);
+    gimli_line_status status = lines_of_elf(file, length, &sections);
     *index = NULL;
     *size = 0;
-    if (status == GIMLI_LINE_OK && sections.line == NULL) status = GIMLI_LINE_NO_SECTION;
-    /* What is kept of the rows is at most 256 bytes for each byte of .debug_line. */
-    if (status == GIMLI_LINE_OK && sections.line_size / 4 > length + (256 << 10)) status = GIMLI_LINE_INDEX_TOO_LARGE;
     if (status == GIMLI_LINE_OK) {
         gimli_line_status has = gimli_line_build_id(file, length, id, sizeof id, &id_size);
         if (has == GIMLI_LINE_BAD_SECTION) status = has;
@@ -255,10 +262,8 @@ gimli_line_status gimli_line_write_relocatable(const gimli_line_contents *in, ui
     gimli_line_element element;
     *size = *count = 0;
     if (in->struct_size != sizeof *in) return GIMLI_LINE_UNKNOWN_OPTIONS;
-    return status_of(gimli_line_proved_write_relocatable(&in->encoding, in->big, in->details, in->in_place, READ(in->texts),
-                                                         in->text_length, READ(in->directories), in->directory_count, READ(in->files),
-                                                         in->file_count, READ(in->rows), in->row_count, READ(in->symbols), in->symbol_count,
-                                                         AT((void *)unit), room, size, AT(relocations), relocation_room, count,
-                                                         AT(in->numbers), in->number_room,
-                                                         in->refused != NULL ? in->refused : &element));
+    return status_of(gimli_line_proved_write_relocatable(
+        &in->encoding, in->big, in->details, in->in_place, READ(in->texts), in->text_length, READ(in->directories), in->directory_count,
+        READ(in->files), in->file_count, READ(in->rows), in->row_count, READ(in->symbols), in->symbol_count, AT((void *)unit), room, size,
+        AT(relocations), relocation_room, count, AT(in->numbers), in->number_room, in->refused != NULL ? in->refused : &element));
 }
