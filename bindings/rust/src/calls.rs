@@ -87,7 +87,7 @@ pub struct Row {
 #[derive(Clone, Copy, Debug, Default)]
 pub struct Unit {
     pub length: u64,
-    pub next: u64,
+    pub next: usize,
     pub directories: u64,
     pub files: u64,
     pub rows: u64,

@@ -191,7 +191,7 @@ impl Unit {
         let mut found = calls::Unit::default();
         // The pointers are those of a slice and of a local.
         let read = Error::of(unsafe { call!(gimli_line_proved_read_unit([section], big, size, offset, &mut found)) });
-        let next = found.next as usize;
+        let next = found.next;
         read.map_err(|error| (error, (next > offset).then_some(next)))?;
         let mut rows = vec![calls::Row::default(); found.rows as usize];
         let mut count = 0;

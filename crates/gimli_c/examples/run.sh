@@ -37,7 +37,7 @@ work=$(mktemp -d)
 trap 'rm -rf "$work"' EXIT
 
 cc -std=c11 -Wall -Wextra -Werror -O2 -I "$crate/include" -c "$crate/make/calls.c" -o "$work/calls.o"
-for example in addr2line where_is directories make_index ask_index indexes compiler debug_links; do
+for example in addr2line where_is directories make_index ask_index indexes compiler debug_links bad_section no_index one_address; do
     cc -std=c11 -Wall -Wextra -Werror -O2 -I "$crate/include" -I "$here/c" "$here"/*/"$example.c" "$work/calls.o" \
         "$library" "$kit/liblibc_c.a" -lpthread -o "$work/$example"
 done
@@ -88,6 +88,14 @@ none" ]
             places=$((places + $(wc -l <"$work/places")))
         done
     done
+    # The same without an index.
+    # shellcheck disable=SC2086
+    "$work/no_index" "$work/built" $covered | sed -E "s,:[0-9]+\$,," | cmp "$work/places" -
+    # shellcheck disable=SC2086
+    [ "$("$work/one_address" "$work/compressed" ${covered%%[!0-9a-f]*} | sed -E "s,:[0-9]+\$,,")" = "$(head -n 1 "$work/places")" ]
+    [ "$("$work/no_index" "$work/built" 0 ffffffffffffffff; "$work/one_address" "$work/built" 0)" = "none
+none
+none" ]
     # The same by indexes that stand in files, which are named by the build id, and say the same of every address.
     for name in built compressed; do
         "$work/make_index" "$work/$name" "$work/$name.index" >"$work/named"
@@ -213,6 +221,19 @@ done
 none="the ELF file has no .debug_line, build ID or .gnu_debuglink"
 printf '%s\n' "abc 44332211" "abcd 44332211" " 44332211" "$none" "$none" "$none" "$none" "the bytes are no ELF file that can be read" |
     cmp - <("$work/debug_links" "${links[@]}" "$work/built" "$crate/include/gimli_line.h")
+# A section whose compressed bytes are damaged is named: the first byte that zlib wrote stands after 24 bytes of a header.
+named=""
+for section in .debug_line .debug_info; do
+    objcopy --compress-debug-sections=zlib "$work/built" "$work/damaged$section"
+    offset=$(readelf -SW "$work/damaged$section" | sed -nE "s/.* $section +PROGBITS +[0-9a-f]+ ([0-9a-f]+) .* C .*/\1/p")
+    [ -n "$offset" ] || continue
+    printf '\0' | dd of="$work/damaged$section" bs=1 seek=$((0x$offset + 24)) conv=notrunc status=none
+    [ "$("$work/bad_section" "$work/damaged$section")" = "$section: a section is cut, or its compression or relocations are unknown" ]
+    named="$named $section"
+done
+[ -n "$named" ]
+[ "$("$work/bad_section" "$work/built" "$crate/include/gimli_line.h")" = "-: the call did what it says
+-: the bytes are no ELF file that can be read" ]
 # A small file whose section is so large, made whole, that its rows might take hundreds of times as much.
 head -c 8388608 /dev/zero >"$work/zeros"
 objcopy --update-section ".debug_line=$work/zeros" "$work/built" "$work/grown"

@@ -18,7 +18,8 @@
  * Part 2  sections of an ELF file
  * Part 3  indexes: made once, and then asked by threads and signal handlers
  *         (examples/c/where_is.c, make_index.c, ask_index.c, crash.c, profile.c)
- * Part 4  units, rows, files and directories (examples/c/addr2line.c)
+ * Part 4  places without an index, units, rows, files and directories
+ *         (examples/c/one_address.c, addr2line.c)
  * Part 5  units written, for a compiler (examples/c/compiler.c)
  *
  * share/doc/gimli_line has these examples, and the pages CALLING and INDEX.
@@ -182,11 +183,13 @@ typedef struct gimli_line_sections {
     uint8_t address_size;    /* in bytes: 1, 2, 4 or 8. It counts up to version 4; version 5 has
                               * its own */
     bool big;                /* big-endian */
+    const char *bad_section; /* the name of the section for which gimli_line_sections_of_elf
+                              * returned GIMLI_LINE_BAD_SECTION, else null; it is not freed */
 } gimli_line_sections;
 #define GIMLI_LINE_SECTIONS \
     { \
         sizeof(gimli_line_sections), NULL, NULL, NULL, NULL, NULL, NULL, 0, 0, 0, 0, 0, 0, 1, 8, \
-            false \
+            false, NULL \
     }
 
 gimli_line_status gimli_line_sections_of_elf(const void *file, size_t length,
@@ -200,9 +203,10 @@ gimli_line_status gimli_line_sections_of_elf(const void *file, size_t length,
  * Returns:
  *   GIMLI_LINE_NO_ELF        the bytes are no ELF file that can be read
  *   GIMLI_LINE_BAD_SECTION   a section can't be read, is compressed by Zstandard, or decompresses
- *                            to more bytes than 256 * length + 64 MiB
+ *                            to more bytes than 256 * length + 64 MiB: sections->bad_section
  *   GIMLI_LINE_UNKNOWN_OPTIONS, GIMLI_LINE_OUT_OF_MEMORY
- * On these there is nothing to free. */
+ * On these there is nothing to free. Unless struct_size is unknown, `sections` is then set to
+ * GIMLI_LINE_SECTIONS, but for bad_section. */
 
 void gimli_line_sections_free(gimli_line_sections *sections);
 /* Frees what gimli_line_sections_of_elf copied, and sets `sections` to GIMLI_LINE_SECTIONS. */
@@ -262,6 +266,7 @@ gimli_line_status gimli_line_index_of_elf(const void *file, size_t length, uint8
  *
  * Returns as gimli_line_sections_of_elf and gimli_line_index_of_sections do, and
  *   GIMLI_LINE_NO_SECTION        the file has no .debug_line
+ *   GIMLI_LINE_BAD_SECTION       gimli_line_sections_of_elf names the section
  *   GIMLI_LINE_INDEX_TOO_LARGE   also if .debug_line decompresses to more bytes than
  *                                4 * length + 1 MiB
  * `length` takes the place of the sizes of the sections in the limit of paths. On an error *index
@@ -410,7 +415,7 @@ static inline const char *gimli_line_place_path(const void *index, const gimli_l
 /* A unit. */
 typedef struct gimli_line_unit {
     uint64_t length;       /* in bytes, without the length itself */
-    uint64_t next;         /* the offset of what follows it in the section */
+    size_t next;           /* the offset of what follows it in the section */
     uint64_t directories;  /* how many its table has; numbers from gimli_line_first_number() on */
     uint64_t files;        /* how many it has, with those that its program defines; likewise */
     uint64_t rows;         /* how many its program gives before its first fault: at most `length` */
@@ -482,6 +487,27 @@ gimli_line_status gimli_line_find_row(const gimli_line_sections *sections, size_
  * Returns:
  *   GIMLI_LINE_NO_ROW   there are none
  *   the status of the first fault of the program, in which no address is looked up then */
+
+gimli_line_status gimli_line_place_of_elf(const void *file, size_t length, uint64_t address,
+                                          gimli_line_row *row, char *path, size_t room,
+                                          size_t *size) GIMLI_LINE_CALL;
+/* Finds the row of an address of an ELF file, and writes the whole path of the row's file, without
+ * an index. Each call reads the whole line table: for more than a few addresses make an index.
+ *
+ * Returns as gimli_line_sections_of_elf and gimli_line_place_of_sections do, and
+ *   GIMLI_LINE_NO_SECTION        the file has no .debug_line
+ *   GIMLI_LINE_INDEX_TOO_LARGE   .debug_line decompresses to more bytes than 4 * length + 1 MiB */
+
+gimli_line_status gimli_line_place_of_sections(const gimli_line_sections *sections,
+                                               uint64_t address, gimli_line_row *row, char *path,
+                                               size_t room, size_t *size) GIMLI_LINE_CALL;
+/* Does the same for sections that you have. The row and the path are those that an index of these
+ * sections would give.
+ *
+ * Returns:
+ *   GIMLI_LINE_NO_ROW         no row covers the address
+ *   GIMLI_LINE_NO_ROOM        *row is written, and *size is the size of the path
+ *   GIMLI_LINE_UNKNOWN_PATH   *row is written; a string of the path can't be read */
 
 /* Where a string stands. */
 enum gimli_line_text_kind {

@@ -142,8 +142,10 @@ gimli_line_status gimli_line_sections_of_elf(const void *file, size_t length, gi
     if (!is_known(sections)) return GIMLI_LINE_UNKNOWN_OPTIONS;
     uint32_t status = gimli_line_proved_elf_open(READ(file), length, &found);
     *sections = made;
-    for (size_t i = 0; i < sizeof all / sizeof all[0] && status == GIMLI_LINE_OK; i++)
+    for (size_t i = 0; i < sizeof all / sizeof all[0] && status == GIMLI_LINE_OK; i++) {
         status = take_section(READ(file), length, all[i].name, all[i].section, all[i].size);
+        if (status == GIMLI_LINE_BAD_SECTION) sections->bad_section = all[i].name;
+    }
     if (status != GIMLI_LINE_OK) {
         gimli_line_sections_free(&made);
         return status_of(status);
@@ -212,22 +214,46 @@ gimli_line_status gimli_line_index_of_sections(const gimli_line_sections *in, co
                         identity, identity_length, index, size);
 }
 
+/* The sections of an ELF file that has lines. What is kept of their rows is at most 256 bytes for each byte of .debug_line. */
+static gimli_line_status lines_of_elf(const void *file, size_t length, gimli_line_sections *sections) {
+    gimli_line_status status = gimli_line_sections_of_elf(file, length, sections);
+    if (status == GIMLI_LINE_OK && sections->line == NULL) status = GIMLI_LINE_NO_SECTION;
+    if (status == GIMLI_LINE_OK && sections->line_size / 4 > length + (256 << 10)) status = GIMLI_LINE_INDEX_TOO_LARGE;
+    return status;
+}
+
 gimli_line_status gimli_line_index_of_elf(const void *file, size_t length, uint8_t **index, size_t *size) {
     gimli_line_sections sections = GIMLI_LINE_SECTIONS;
     uint8_t id[64];
     size_t id_size = 0;
-    gimli_line_status status = gimli_line_sections_of_elf(file, length, &sections);
+    gimli_line_status status = lines_of_elf(file, length, &sections);
     *index = NULL;
     *size = 0;
-    if (status == GIMLI_LINE_OK && sections.line == NULL) status = GIMLI_LINE_NO_SECTION;
-    /* What is kept of the rows is at most 256 bytes for each byte of .debug_line. */
-    if (status == GIMLI_LINE_OK && sections.line_size / 4 > length + (256 << 10)) status = GIMLI_LINE_INDEX_TOO_LARGE;
     if (status == GIMLI_LINE_OK) {
         gimli_line_status has = gimli_line_build_id(file, length, id, sizeof id, &id_size);
         if (has == GIMLI_LINE_BAD_SECTION) status = has;
         if (has != GIMLI_LINE_OK) id_size = 0;
     }
     if (status == GIMLI_LINE_OK) status = index_within(&sections, most_of(length), id, id_size, index, size);
+    gimli_line_sections_free(&sections);
+    return status;
+}
+
+gimli_line_status gimli_line_place_of_sections(const gimli_line_sections *in, uint64_t address, gimli_line_row *row, char *path,
+                                               size_t room, size_t *size) {
+    const gimli_line_proved_options by = {sizeof by, in->lowest, in->address_size, in->big, 0};
+    if (!is_known(in)) return GIMLI_LINE_UNKNOWN_OPTIONS;
+    return status_of(gimli_line_proved_place(READ(in->line), in->line_size, READ(in->line_strings), in->line_strings_size,
+                                             READ(in->strings), in->strings_size, READ(in->info), in->info_size, READ(in->abbreviations),
+                                             in->abbreviations_size, READ(in->string_offsets), in->string_offsets_size, &by, address, row,
+                                             AT((void *)path), room, size));
+}
+
+gimli_line_status gimli_line_place_of_elf(const void *file, size_t length, uint64_t address, gimli_line_row *row, char *path, size_t room,
+                                          size_t *size) {
+    gimli_line_sections sections = GIMLI_LINE_SECTIONS;
+    gimli_line_status status = lines_of_elf(file, length, &sections);
+    if (status == GIMLI_LINE_OK) status = gimli_line_place_of_sections(&sections, address, row, path, room, size);
     gimli_line_sections_free(&sections);
     return status;
 }
@@ -255,10 +281,8 @@ gimli_line_status gimli_line_write_relocatable(const gimli_line_contents *in, ui
     gimli_line_element element;
     *size = *count = 0;
     if (in->struct_size != sizeof *in) return GIMLI_LINE_UNKNOWN_OPTIONS;
-    return status_of(gimli_line_proved_write_relocatable(&in->encoding, in->big, in->details, in->in_place, READ(in->texts),
-                                                         in->text_length, READ(in->directories), in->directory_count, READ(in->files),
-                                                         in->file_count, READ(in->rows), in->row_count, READ(in->symbols), in->symbol_count,
-                                                         AT((void *)unit), room, size, AT(relocations), relocation_room, count,
-                                                         AT(in->numbers), in->number_room,
-                                                         in->refused != NULL ? in->refused : &element));
+    return status_of(gimli_line_proved_write_relocatable(
+        &in->encoding, in->big, in->details, in->in_place, READ(in->texts), in->text_length, READ(in->directories), in->directory_count,
+        READ(in->files), in->file_count, READ(in->rows), in->row_count, READ(in->symbols), in->symbol_count, AT((void *)unit), room, size,
+        AT(relocations), relocation_room, count, AT(in->numbers), in->number_room, in->refused != NULL ? in->refused : &element));
 }

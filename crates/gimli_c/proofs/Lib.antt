@@ -1,5 +1,6 @@
 pub mod Locations
 pub mod Arrays
+pub mod Copied
 pub mod Files
 pub mod Runs
 pub mod Units
@@ -12,4 +13,5 @@ pub mod PathsOfFiles
 pub mod Indexes
 pub mod Listings
 pub mod MadeIndexes
+pub mod Places
 pub mod TakenOne

@@ -1,6 +1,6 @@
 -- The index that is made of a program, by other names of what it is made of.
-use Rattle.std.proofs.Common.{◌≡◌, ◌^◌, ℕ, Bool, List, [], map, Option, subst}
-use Rattle.std.specs.Prelude.{All}
+use Rattle.std.proofs.Common.{◌≡◌, ◌^◌, ℕ, Bool, List, [], map, Option, refl, subst, sym, ◌∙◌}
+use Rattle.std.specs.Prelude.{◌≢◌, All}
 use Rattle.gimli_core.specs.Layout.{layout_of}
 use Rattle.gimli_compilation.specs.Sections.{Sections}
 use Rattle.gimli_index.specs.Found.{IsIndexAppended}
@@ -8,7 +8,12 @@ use Rattle.gimli_line.specs.Units.{AreUnits}
 use Rattle.gimli_lookup.specs.Section.{KeptUnit}
 use Rattle.gimli_lookup.specs.SectionUnits.{IsUnitOf}
 use Rattle.gimli_c.specs.MadeIndex.{IndexSource, given_of, index_source, program, entry_of, section_read, AreAllUnitsOf}
-use Rattle.gimli_c.specs.MadeIndex.{IsIndexBytesOf}
+use Rattle.gimli_c.specs.MadeIndex.{IsIndexBytesOf, IsIndexRefusal}
+use Rattle.gimli_c.proofs.Copied.{apart}
+use Rattle.gimli_c.specs.declared.status.TheConstants.{NO_ROOM, OK}
+use Rattle.gimli_index.specs.declared.error.MakeError.TheVariants.{NotAscending, TooManyEntries, TooManyStatements}
+use Rattle.gimli_index.specs.declared.error.MakeError.TheVariants.{TooManySources, PathsTooLarge, IdentityTooLarge}
+use Rattle.gimli_index.specs.declared.error.MakeError.TheVariants.{LineTooLarge, ColumnTooLarge, OutOfMemory}
 
 pub same_all_units : (section other : List ℕ) (is_big other_big : Bool) (size lowest : ℕ)
     (line_strings strings : List ℕ)
@@ -50,3 +55,24 @@ same_index section is_big size lowest line_strings strings l s compilations give
     (λ (x : List ℕ). IsIndexBytesOf (index_source (program section is_big size lowest x strings) compilations identity)
     bytes)
     line_strings_are is))
+
+-- the number of a refusal is neither that of an answer nor that of too little room
+pub refusal_is_none : (status : ℕ) → IsIndexRefusal status → (status ≢ OK) × (status ≢ NO_ROOM)
+refusal_is_none status (NotAscending, is) =
+    ((λ ok. apart 38 OK refl (sym is ∙ ok)), (λ room. apart 38 NO_ROOM refl (sym is ∙ room)))
+refusal_is_none status (TooManyEntries, is) =
+    ((λ ok. apart 47 OK refl (sym is ∙ ok)), (λ room. apart 47 NO_ROOM refl (sym is ∙ room)))
+refusal_is_none status (TooManyStatements, is) =
+    ((λ ok. apart 47 OK refl (sym is ∙ ok)), (λ room. apart 47 NO_ROOM refl (sym is ∙ room)))
+refusal_is_none status (TooManySources, is) =
+    ((λ ok. apart 47 OK refl (sym is ∙ ok)), (λ room. apart 47 NO_ROOM refl (sym is ∙ room)))
+refusal_is_none status (PathsTooLarge, is) =
+    ((λ ok. apart 47 OK refl (sym is ∙ ok)), (λ room. apart 47 NO_ROOM refl (sym is ∙ room)))
+refusal_is_none status (IdentityTooLarge, is) =
+    ((λ ok. apart 47 OK refl (sym is ∙ ok)), (λ room. apart 47 NO_ROOM refl (sym is ∙ room)))
+refusal_is_none status (LineTooLarge, is) =
+    ((λ ok. apart 48 OK refl (sym is ∙ ok)), (λ room. apart 48 NO_ROOM refl (sym is ∙ room)))
+refusal_is_none status (ColumnTooLarge, is) =
+    ((λ ok. apart 48 OK refl (sym is ∙ ok)), (λ room. apart 48 NO_ROOM refl (sym is ∙ room)))
+refusal_is_none status (OutOfMemory, is) =
+    ((λ ok. apart 17 OK refl (sym is ∙ ok)), (λ room. apart 17 NO_ROOM refl (sym is ∙ room)))

@@ -18,10 +18,10 @@ use Rattle.gimli_c.specs.declared.status.TheConstants.{UNSUPPORTED_LINE_ENCODING
 use Rattle.gimli_c.specs.declared.status.TheConstants.{TEXT_OUT_OF_BOUNDS, ZERO_IN_TEXT, EMPTY_TEXT}
 use Rattle.gimli_c.specs.declared.status.TheConstants.{NO_SOURCE_FILE, NO_SUCH_DIRECTORY}
 use Rattle.gimli_c.specs.declared.status.TheConstants.{NO_SUCH_FILE, ROW_OUT_OF_ORDER, UNKNOWN_FLAG}
-use Rattle.gimli_c.specs.declared.status.TheConstants.{OUT_OF_MEMORY}
+use Rattle.gimli_c.specs.declared.status.TheConstants.{NO_ROOM, OK, OUT_OF_MEMORY}
 use Rattle.gimli_c.specs.Handed.{IsRefusal, text_handed, line_encoding_of, ends, base_of}
 use Rattle.gimli_c.specs.Handed.{base_after}
-use Rattle.gimli_c.specs.Handing.{Handed, IsBuiltOf, write_status}
+use Rattle.gimli_c.specs.Handing.{Handed, GivesUnitOf, IsBuiltOf, NeedsRoom, write_status}
 use Rattle.gimli_c.specs.Refused.{encoding_fault, HasBadLines}
 
 -- ---- what a refusal speaks of
@@ -164,3 +164,19 @@ pub data HasCause (h : Handed) (at : GimliElement) (status : ℕ) : Type 0 where
 
 abbrev pub IsRefused : Handed → ℕ → GimliElement → Type 0
 IsRefused h = IsRefusedFor (HasCause h) (HasHandedFault h)
+
+-- ---- the call
+
+-- what a call does that copies the unit of what is handed over, and the numbers of its files, to
+-- arrays of the caller, by its status; it tells the element that a refusal speaks of
+pub record WritesUnit (h : Handed) (status : ℕ) (old new : List ℕ) (size : ℕ)
+    (numbers_old numbers_new : List ℕ) (element : GimliElement) : Type 0 where
+  pub ok : status ≡ OK → GivesUnitOf h old new size numbers_old numbers_new
+  pub room : status ≡ NO_ROOM → NeedsRoom h old size
+  pub fault : (s : ℕ) → encoding_fault h.encoding ≡ Some s → status ≡ s
+  pub bad_lines : HasBadLines h.encoding → status ≡ UNSUPPORTED_LINE_ENCODING
+  pub cause : status ≢ OK → status ≢ NO_ROOM → IsRefused h status element
+  pub refused : (at : GimliElement) (s : ℕ) → HasCause h at s → IsRefusal status
+  pub no_element : (status ≡ OK) ⊎ (status ≡ NO_ROOM) → element ≡ nowhere
+  pub kept : status ≢ OK → (new ≡ old) × (numbers_new ≡ numbers_old)
+  pub none : status ≢ OK → status ≢ NO_ROOM → size ≡ 0

@@ -1,9 +1,10 @@
 -- The directory of a compilation, by the offset of its line program (DWARF 5, section 3.1.1).
-use Rattle.std.specs.Prelude.{◌≡◌, ◌<◌, ◌^◌, ℕ, Bool, List, length, Option, Some}
+use Rattle.std.specs.Prelude.{◌≡◌, ◌^◌, ◌⊎◌, ℕ, Bool, List, None, Option, Some}
 use Rattle.gimli_core.specs.Layout.{layout_of}
 use Rattle.gimli_compilation.specs.Directories.{TellsDirectories}
 use Rattle.gimli_compilation.specs.Sections.{Sections}
-use Rattle.gimli_c.specs.Written.{IsPut}
+use Rattle.gimli_c.specs.Written.{Copies}
+use Rattle.gimli_c.specs.declared.status.TheConstants.{NO_COMP_DIR, OUT_OF_MEMORY}
 
 -- sections that are handed over, in one order of bytes; offsets have 64 bits
 abbrev pub sections_handed : List ℕ → List ℕ → List ℕ → List ℕ → List ℕ → Bool → Sections
@@ -22,14 +23,12 @@ abbrev pub TellsDirectory : Sections → ℕ → Option (List ℕ) → Type 0
 TellsDirectory sections offset directory =
     (tell : ℕ → Option (List ℕ)) × TellsDirectories sections tell × (tell offset ≡ directory)
 
--- that directory at the front of an array of the caller, and its length
-abbrev pub WritesDirectory : Sections → ℕ → List ℕ → List ℕ → ℕ → Type 0
-WritesDirectory sections offset old new size =
-    (whole : List ℕ) × TellsDirectory sections offset (Some whole) × IsPut whole old new
-    × (size ≡ length whole)
+-- why it isn't told: no unit has one, or memory lacks
+abbrev pub IsUntold : Sections → ℕ → ℕ → Type 0
+IsUntold sections offset status =
+    ((status ≡ NO_COMP_DIR) × TellsDirectory sections offset None) ⊎ (status ≡ OUT_OF_MEMORY)
 
--- it is longer than the array
-abbrev pub NeedsDirectoryRoom : Sections → ℕ → List ℕ → ℕ → Type 0
-NeedsDirectoryRoom sections offset old size =
-    (whole : List ℕ) × TellsDirectory sections offset (Some whole) × (length old < length whole)
-    × (size ≡ length whole)
+-- what a call does that copies that directory to an array of the caller
+abbrev pub CopiesDirectory : Sections → ℕ → ℕ → List ℕ → List ℕ → ℕ → ℕ → Type 0
+CopiesDirectory sections offset =
+    Copies (λ whole. TellsDirectory sections offset (Some whole)) (IsUntold sections offset)

@@ -1,5 +1,5 @@
 -- What C sees of an ELF file (System V ABI, chapter 4).
-use Rattle.std.specs.Prelude.{◌≡◌, ◌≤◌, ◌<◌, ◌⊎◌, ℕ, List, [], length, nat_eq, Option, Some}
+use Rattle.std.specs.Prelude.{◌≡◌, ◌≢◌, ◌≤◌, ◌<◌, ◌⊎◌, ℕ, List, [], length, nat_eq, Option, Some}
 use Rattle.std.specs.Prelude.{None, Result, Ok, Err}
 use Rattle.gimli_core.specs.Order.{is_big_endian}
 use Rattle.elf_sections.specs.File.{File, file_at, code_addresses, IsLeast}
@@ -9,7 +9,8 @@ use Rattle.elf_sections.specs.declared.error.ElfError.{ElfError}
 use Rattle.elf_sections.specs.declared.error.ElfError.TheVariants.{SectionTooLarge}
 use Rattle.elf_sections.specs.declared.place.SectionPlace.TheVariants.{AllAtZero}
 use Rattle.gimli_c.specs.declared.elf.GimliElf.{GimliElf}
-use Rattle.gimli_c.specs.Written.{slots_with}
+use Rattle.gimli_c.specs.declared.status.TheConstants.{BAD_SECTION, NO_ELF, NO_ROOM, NO_SECTION, OK}
+use Rattle.gimli_c.specs.Written.{slots_with, MemoryAside}
 
 -- the bytes are no ELF file that can be read
 abbrev pub IsNoElf : List ℕ → Type 0
@@ -64,3 +65,21 @@ pub record CantReadSection (bytes name : List ℕ) (room : ℕ) : Type 0 where
   pub is : file_at bytes ≡ Ok file
   pub error : ElfError
   pub refused : section_of room file name ≡ Err error
+
+-- why a section isn't told, where there is so much room: the file has none of the name, it can't be
+-- read, or the bytes are no file
+abbrev pub LacksSection : List ℕ → List ℕ → ℕ → ℕ → Type 0
+LacksSection bytes name room status =
+    ((status ≡ NO_SECTION) × HasNoSection bytes name room)
+    ⊎ (((status ≡ BAD_SECTION) × CantReadSection bytes name room)
+    ⊎ ((status ≡ NO_ELF) × IsNoElf bytes))
+
+-- what a call does that copies a section to an array of the caller, by its status
+pub record CopiesSection (bytes name : List ℕ) (status : ℕ) (old new : List ℕ)
+    (size_old size_new : ℕ) : Type 0 where
+  pub found : status ≡ OK → WritesSection bytes name old new size_new
+  pub larger : status ≡ NO_ROOM → NeedsSectionRoom bytes name (length old) size_new
+  pub refused : status ≢ OK → status ≢ NO_ROOM
+      → MemoryAside (LacksSection bytes name (length old)) status
+  pub kept : status ≢ OK → new ≡ old
+  pub no_size : status ≢ OK → status ≢ NO_ROOM → size_new ≡ size_old

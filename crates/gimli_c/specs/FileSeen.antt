@@ -1,5 +1,5 @@
 -- What C sees of a file, and of a directory.
-use Rattle.std.specs.Prelude.{◌≡◌, ◌<◌, ◌⊎◌, ◌+◌, ◌||◌, ℕ, true, List, [], Option, Some, None}
+use Rattle.std.specs.Prelude.{◌≡◌, ◌≢◌, ◌<◌, ◌⊎◌, ◌+◌, ◌||◌, ℕ, true, List, [], Option, Some, None}
 use Rattle.std.specs.Prelude.{length, nat_le}
 use Rattle.std.specs.Prelude.{unwrap_or}
 use Rattle.gimli_core.specs.Values.{Value}
@@ -17,9 +17,11 @@ use Rattle.gimli_line.specs.header.Header.{Header, directory_of, file_of, has_co
 use Rattle.gimli_line.specs.run.EventsWithFiles.{FilesAtEnd}
 use Rattle.gimli_c.specs.declared.file.GimliText.{GimliText}
 use Rattle.gimli_c.specs.declared.file.GimliFile.{GimliFile}
-use Rattle.gimli_c.specs.Location.{Location, layout_at, HasUnit}
+use Rattle.gimli_c.specs.declared.status.TheConstants.{NO_ROOM, NO_SUCH_DIRECTORY, NO_SUCH_FILE}
+use Rattle.gimli_c.specs.declared.status.TheConstants.{OK}
+use Rattle.gimli_c.specs.Location.{Location, layout_at, HasNoUnit, HasUnit}
 use Rattle.gimli_c.specs.Seen.{flag}
-use Rattle.gimli_c.specs.Written.{IsPut}
+use Rattle.gimli_c.specs.Written.{IsPut, MemoryAside}
 
 abbrev pub text_at : ℕ → ℕ → ℕ → GimliText
 text_at kind first size = record { kind = kind; first = first; size = size }
@@ -104,6 +106,22 @@ pub record GivesNoFile (p : Location) (index : ℕ) : Type 0 where
   pub unit : HasFiles p header
   pub none : file_of header index ≡ None
 
+-- why no file is told: the unit has none of the index, or can't be read
+abbrev pub HasNoFileAt : Location → ℕ → ℕ → Type 0
+HasNoFileAt p index status =
+    ((status ≡ NO_SUCH_FILE) × GivesNoFile p index) ⊎ HasNoUnit p status
+
+-- what a call does that tells a file and copies the bytes of its path and directory to arrays of
+-- the caller, by its status
+pub record CopiesFile (p : Location) (index status : ℕ) (seen_old seen_new : GimliFile)
+    (path_old path_new directory_old directory_new : List ℕ) : Type 0 where
+  pub found : status ≡ OK
+      → WritesFile p index seen_new path_old path_new directory_old directory_new
+  pub larger : status ≡ NO_ROOM → NeedsFileRoom p index seen_new path_old directory_old
+  pub refused : status ≢ OK → status ≢ NO_ROOM → MemoryAside (HasNoFileAt p index) status
+  pub kept : status ≢ OK → (path_new ≡ path_old) × (directory_new ≡ directory_old)
+  pub no_file : status ≢ OK → status ≢ NO_ROOM → seen_new ≡ seen_old
+
 -- the directory of an index of the unit at the location, and its bytes where they stand there
 pub record GivesDirectory (p : Location) (index : ℕ) (seen : GimliText) (bytes : List ℕ)
     : Type 0 where
@@ -129,3 +147,18 @@ pub record GivesNoDirectory (p : Location) (index : ℕ) : Type 0 where
   pub header : Header
   pub unit : HasUnit p header
   pub none : directory_of header index ≡ None
+
+-- why no directory is told: the unit has none of the index, or can't be read
+abbrev pub HasNoDirectoryAt : Location → ℕ → ℕ → Type 0
+HasNoDirectoryAt p index status =
+    ((status ≡ NO_SUCH_DIRECTORY) × GivesNoDirectory p index) ⊎ HasNoUnit p status
+
+-- what a call does that tells a directory and copies its bytes to an array of the caller, by its
+-- status
+pub record CopiesDirectoryText (p : Location) (index status : ℕ) (seen_old seen_new : GimliText)
+    (old new : List ℕ) : Type 0 where
+  pub found : status ≡ OK → WritesDirectoryText p index seen_new old new
+  pub larger : status ≡ NO_ROOM → NeedsTextRoom p index seen_new old
+  pub refused : status ≢ OK → status ≢ NO_ROOM → MemoryAside (HasNoDirectoryAt p index) status
+  pub kept : status ≢ OK → new ≡ old
+  pub no_text : status ≢ OK → status ≢ NO_ROOM → seen_new ≡ seen_old

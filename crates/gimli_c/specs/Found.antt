@@ -1,5 +1,6 @@
 -- What a look-up in a unit's program returns.
-use Rattle.std.specs.Prelude.{◌≡◌, ◌⊎◌, ℕ, List, None, Some}
+use Rattle.std.specs.Prelude.{◌≡◌, ◌≢◌, ◌⊎◌, ℕ, false, List, None, Some}
+use Rattle.gimli_core.specs.Numbers.{is_address_size}
 use Rattle.gimli_core.specs.declared.error.Error.{Error}
 use Rattle.gimli_line.specs.declared.run.row.LineRow.{LineRow}
 use Rattle.gimli_line.specs.header.Header.{Header}
@@ -7,6 +8,8 @@ use Rattle.gimli_line.specs.run.Sequences.{HasFirstFault}
 use Rattle.gimli_lookup.specs.FirstPair.{first_pair_of}
 use Rattle.gimli_lookup.specs.Run.{AreRowsOfSequences}
 use Rattle.gimli_c.specs.declared.row.GimliRow.{GimliRow}
+use Rattle.gimli_c.specs.declared.status.TheConstants.{NO_ROW, OK, OUT_OF_MEMORY}
+use Rattle.gimli_c.specs.declared.status.TheConstants.{UNSUPPORTED_ADDRESS_SIZE}
 use Rattle.gimli_c.specs.Location.{Location, layout_at, HasUnit, HasNoUnit}
 use Rattle.gimli_c.specs.Seen.{row_seen}
 use Rattle.gimli_c.specs.Status.{error_status}
@@ -46,3 +49,13 @@ pub record HasFault (p : Location) (status : ℕ) : Type 0 where
 -- fault; this is the number
 abbrev pub HasNoSequences : Location → ℕ → Type 0
 HasNoSequences p status = HasNoUnit p status ⊎ HasFault p status
+
+-- what a look-up in the unit at a location answers, by its status: the two rows, or nothing was
+-- written, since no rows cover the address, or nothing can be looked up there
+pub record AnswersRow (p : Location) (address status : ℕ)
+    (first_old first_new second_old second_new : GimliRow) : Type 0 where
+  pub found : status ≡ OK → GivesPair p address first_new second_new
+  pub none : status ≡ NO_ROW → GivesNoPair p address
+  pub refused : status ≢ OK → status ≢ NO_ROW → status ≢ OUT_OF_MEMORY → HasNoSequences p status
+  pub size : is_address_size p.address_size ≡ false → status ≡ UNSUPPORTED_ADDRESS_SIZE
+  pub kept : status ≢ OK → (first_new ≡ first_old) × (second_new ≡ second_old)

@@ -1,5 +1,5 @@
 -- What is answered where many files, or directories of compilations, are asked for at once.
-use Rattle.std.specs.Prelude.{◌≡◌, ◌<◌, ◌⊎◌, ◌++◌, ◌∷◌, ℕ, List, length, None, Option, Some}
+use Rattle.std.specs.Prelude.{◌≡◌, ◌⊎◌, ◌++◌, ◌∷◌, ℕ, List, length, None, Option, Some}
 use Rattle.std.specs.Prelude.{Result, Ok, Err}
 use Rattle.std.specs.List.{AllZip}
 use Rattle.gimli_compilation.specs.Directories.{TellsDirectories}
@@ -11,11 +11,12 @@ use Rattle.gimli_lookup.specs.Strings.{Strings}
 use Rattle.gimli_lookup.specs.declared.path_error.PathError.{PathError}
 use Rattle.gimli_c.specs.declared.comp_dir.GimliCompDir.{GimliCompDir}
 use Rattle.gimli_c.specs.declared.listed.GimliListedFile.{GimliListedFile}
-use Rattle.gimli_c.specs.declared.status.TheConstants.{NO_COMP_DIR, NO_SUCH_FILE, OK, UNKNOWN_PATH}
+use Rattle.gimli_c.specs.declared.status.TheConstants.{NO_COMP_DIR, NO_SUCH_FILE, OK, OUT_OF_MEMORY}
+use Rattle.gimli_c.specs.declared.status.TheConstants.{UNKNOWN_PATH}
 use Rattle.gimli_c.specs.FileSeen.{file_seen_by_c, HasFiles}
-use Rattle.gimli_c.specs.Location.{Location}
+use Rattle.gimli_c.specs.Location.{Location, HasNoUnit}
 use Rattle.gimli_c.specs.Path.{paths_handed}
-use Rattle.gimli_c.specs.Written.{IsPut}
+use Rattle.gimli_c.specs.Written.{Copies, MemoryAside}
 
 -- among texts one of so many bytes begins at an offset, and a zero byte follows it
 pub record StandsAt (texts : List ℕ) (first size : ℕ) (text : List ℕ) : Type 0 where
@@ -58,19 +59,11 @@ pub record GivesFiles (p : Location) (strings : Strings) (comp_dir : List ℕ)
   pub unit : HasFiles p header
   pub each : AllZip (IsFileAnswer header strings comp_dir texts) old new
 
--- these texts stand at the front of another array, and this is how many bytes they have
-abbrev pub WritesFiles : Location → Strings → List ℕ → List GimliListedFile → List GimliListedFile
-    → List ℕ → List ℕ → ℕ → Type 0
-WritesFiles p strings comp_dir old new texts_old texts_new size =
-    (texts : List ℕ) × GivesFiles p strings comp_dir old new texts × IsPut texts texts_old texts_new
-    × (size ≡ length texts)
-
--- they are longer than that array
-abbrev pub NeedsListRoom : Location → Strings → List ℕ → List GimliListedFile → List GimliListedFile
-    → List ℕ → ℕ → Type 0
-NeedsListRoom p strings comp_dir old new texts_old size =
-    (texts : List ℕ) × GivesFiles p strings comp_dir old new texts
-    × (length texts_old < length texts) × (size ≡ length texts)
+-- what a call does that copies these texts to another array
+abbrev pub CopiesFiles : Location → Strings → List ℕ → List GimliListedFile → List GimliListedFile
+    → ℕ → List ℕ → List ℕ → ℕ → ℕ → Type 0
+CopiesFiles p strings comp_dir old new =
+    Copies (GivesFiles p strings comp_dir old new) (MemoryAside (HasNoUnit p))
 
 -- ---- directories of compilations
 
@@ -94,14 +87,8 @@ pub record GivesCompDirs (sections : Sections) (old new : List GimliCompDir) (te
   pub tells : TellsDirectories sections tell
   pub each : AllZip (IsCompDirAnswer tell texts) old new
 
-abbrev pub WritesCompDirs : Sections → List GimliCompDir → List GimliCompDir → List ℕ → List ℕ → ℕ
-    → Type 0
-WritesCompDirs sections old new texts_old texts_new size =
-    (texts : List ℕ) × GivesCompDirs sections old new texts × IsPut texts texts_old texts_new
-    × (size ≡ length texts)
-
-abbrev pub NeedsCompDirsRoom : Sections → List GimliCompDir → List GimliCompDir → List ℕ → ℕ
-    → Type 0
-NeedsCompDirsRoom sections old new texts_old size =
-    (texts : List ℕ) × GivesCompDirs sections old new texts × (length texts_old < length texts)
-    × (size ≡ length texts)
+-- what a call does that copies their texts to another array
+abbrev pub CopiesCompDirs : Sections → List GimliCompDir → List GimliCompDir → ℕ → List ℕ → List ℕ
+    → ℕ → ℕ → Type 0
+CopiesCompDirs sections old new =
+    Copies (GivesCompDirs sections old new) (λ status. status ≡ OUT_OF_MEMORY)

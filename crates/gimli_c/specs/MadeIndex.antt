@@ -1,5 +1,6 @@
 -- The index that is made of a program (docs/INDEX.md).
-use Rattle.std.specs.Prelude.{◌≡◌, ◌≤◌, ◌<◌, ◌^◌, ℕ, Bool, Option, None, List, [], length, map, All}
+use Rattle.std.specs.Prelude.{◌≡◌, ◌≢◌, ◌⊎◌, ◌^◌, ℕ, Bool, false, Option, None, List, [], map, All}
+use Rattle.gimli_core.specs.Numbers.{is_address_size}
 use Rattle.gimli_core.specs.Layout.{layout_of}
 use Rattle.gimli_compilation.specs.Directories.{TellsDirectories}
 use Rattle.gimli_compilation.specs.Sections.{Sections}
@@ -18,7 +19,11 @@ use Rattle.gimli_index.specs.declared.error.MakeError.TheVariants.{
 use Rattle.gimli_index.specs.declared.error.MakeError.TheVariants.{PathsTooLarge, IdentityTooLarge}
 use Rattle.gimli_index.specs.declared.error.MakeError.TheVariants.{LineTooLarge, ColumnTooLarge}
 use Rattle.gimli_index.specs.declared.error.MakeError.TheVariants.{OutOfMemory}
-use Rattle.gimli_c.specs.Written.{slots_with}
+use Rattle.gimli_c.specs.declared.index.write.GimliIndexOptions.{GimliIndexOptions}
+use Rattle.gimli_c.specs.declared.index.write.TheConstants.{OPTIONS_SIZE}
+use Rattle.gimli_c.specs.declared.status.TheConstants.{UNKNOWN_OPTIONS, UNSUPPORTED_ADDRESS_SIZE}
+use Rattle.gimli_c.specs.CompDir.{sections_handed}
+use Rattle.gimli_c.specs.Written.{Copies}
 
 -- ---- what an index is made of
 
@@ -52,6 +57,14 @@ pub record IndexSource : Type 0 where
 abbrev pub index_source : IndexedProgram → Sections → List ℕ → IndexSource
 index_source program compilations identity =
     record { program = program; compilations = compilations; identity = identity }
+
+-- those that C hands over: options, `.debug_line`, `.debug_line_str`, `.debug_str`, `.debug_info`,
+-- `.debug_abbrev`, `.debug_str_offsets`, and the name
+abbrev pub source_handed : GimliIndexOptions → List ℕ → List ℕ → List ℕ → List ℕ → List ℕ → List ℕ
+    → List ℕ → IndexSource
+source_handed o lines line_strings strings info abbreviations string_offsets identity =
+    index_source (program lines o.is_big o.address_size o.lowest line_strings strings)
+    (sections_handed info abbreviations line_strings strings string_offsets o.is_big) identity
 
 -- offsets have 64 bits, and no directory and no name is handed in with a unit
 abbrev pub section_read : List ℕ → Bool → Unread
@@ -94,21 +107,6 @@ pub record IsIndexBytesOf (m : IndexSource) (bytes : List ℕ) : Type 0 where
   pub tells : TellsDirectories m.compilations directory
   pub index : IsIndexAppended (given_of m directory units) [] bytes
 
--- the index stands at the front of the room
-pub record GivesIndexOf (m : IndexSource) (old new : List ℕ) (size : ℕ) : Type 0 where
-  pub bytes : List ℕ
-  pub is_index : IsIndexBytesOf m bytes
-  pub fits : length bytes ≤ length old
-  pub written_is : new ≡ slots_with bytes old
-  pub size_is : size ≡ length bytes
-
--- the index is longer than the room
-pub record NeedsIndexRoom (m : IndexSource) (old : List ℕ) (size : ℕ) : Type 0 where
-  pub bytes : List ℕ
-  pub is_index : IsIndexBytesOf m bytes
-  pub passes : length old < length bytes
-  pub size_is : size ≡ length bytes
-
 -- ---- refusals
 
 -- the number of a refusal
@@ -127,3 +125,16 @@ make_status OutOfMemory = 17
 -- than their limit
 abbrev pub IsIndexRefusal : ℕ → Type 0
 IsIndexRefusal status = (error : MakeError) × (status ≡ make_status error)
+
+-- or the options aren't known, or name a size that addresses can't have
+abbrev pub HasNoIndexBy : GimliIndexOptions → ℕ → Type 0
+HasNoIndexBy options status =
+    IsIndexRefusal status
+    ⊎ (((status ≡ UNSUPPORTED_ADDRESS_SIZE) × (is_address_size options.address_size ≡ false))
+    ⊎ ((status ≡ UNKNOWN_OPTIONS) × (options.size ≢ OPTIONS_SIZE)))
+
+-- what a call does that copies the index to an array of the caller; unless it is made, its size is
+-- told to be 0
+abbrev pub CopiesIndex : IndexSource → GimliIndexOptions → ℕ → List ℕ → List ℕ → ℕ → Type 0
+CopiesIndex m options status old new size =
+    Copies (IsIndexBytesOf m) (HasNoIndexBy options) status old new 0 size

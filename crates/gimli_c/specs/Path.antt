@@ -1,5 +1,5 @@
 -- The whole path of a file of a unit (DWARF 5, section 6.2.4).
-use Rattle.std.specs.Prelude.{◌≡◌, ◌<◌, ◌⊎◌, ℕ, List, Some, Ok, Err, length}
+use Rattle.std.specs.Prelude.{◌≡◌, ◌⊎◌, ℕ, List, Some, Ok, Err}
 use Rattle.gimli_line.specs.header.File.{File}
 use Rattle.gimli_line.specs.header.Header.{Header, file_of}
 use Rattle.gimli_lookup.specs.Paths.{Paths, file_path}
@@ -8,7 +8,7 @@ use Rattle.gimli_lookup.specs.declared.path_error.PathError.{PathError}
 use Rattle.gimli_c.specs.declared.status.TheConstants.{NO_SUCH_FILE, UNKNOWN_PATH}
 use Rattle.gimli_c.specs.FileSeen.{GivesNoFile, HasFiles}
 use Rattle.gimli_c.specs.Location.{Location, HasNoUnit}
-use Rattle.gimli_c.specs.Written.{IsPut}
+use Rattle.gimli_c.specs.Written.{Copies, MemoryAside}
 
 -- the sections of strings that are handed over
 abbrev pub texts_handed : List ℕ → List ℕ → Strings
@@ -33,18 +33,6 @@ pub record GivesPath (p : Location) (texts : Strings) (number : ℕ) (comp_dir w
   pub is : IsFileAt p number header file
   pub is_path : file_path (paths_handed texts header comp_dir) file ≡ Ok whole
 
--- that path at the front of an array of the caller, and its length
-abbrev pub WritesPath : Location → Strings → ℕ → List ℕ → List ℕ → List ℕ → ℕ → Type 0
-WritesPath p texts number comp_dir old new size =
-    (whole : List ℕ) × GivesPath p texts number comp_dir whole × IsPut whole old new
-    × (size ≡ length whole)
-
--- it is longer than the array
-abbrev pub NeedsPathRoom : Location → Strings → ℕ → List ℕ → List ℕ → ℕ → Type 0
-NeedsPathRoom p texts number comp_dir old size =
-    (whole : List ℕ) × GivesPath p texts number comp_dir whole × (length old < length whole)
-    × (size ≡ length whole)
-
 -- a string of the path can't be told
 pub record CantTellPath (p : Location) (texts : Strings) (number : ℕ) (comp_dir : List ℕ)
     : Type 0 where
@@ -60,3 +48,8 @@ abbrev pub HasNoPath : Location → Strings → ℕ → List ℕ → ℕ → Typ
 HasNoPath p texts number comp_dir status =
     ((status ≡ NO_SUCH_FILE) × GivesNoFile p number)
     ⊎ (((status ≡ UNKNOWN_PATH) × CantTellPath p texts number comp_dir) ⊎ HasNoUnit p status)
+
+-- what a call does that copies the path to an array of the caller
+abbrev pub CopiesPath : Location → Strings → ℕ → List ℕ → ℕ → List ℕ → List ℕ → ℕ → ℕ → Type 0
+CopiesPath p texts number comp_dir =
+    Copies (GivesPath p texts number comp_dir) (MemoryAside (HasNoPath p texts number comp_dir))

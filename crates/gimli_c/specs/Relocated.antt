@@ -1,6 +1,7 @@
 -- A unit whose sequences begin at symbols, and the places of it that a linker fills in.
-use Rattle.std.specs.Prelude.{◌≡◌, ◌≤◌, ◌<◌, ◌⊎◌, ℕ, Bool, if◌then◌else◌, List, [], length, map}
-use Rattle.std.specs.Prelude.{IsTrue}
+use Rattle.std.specs.Prelude.{◌≡◌, ◌≢◌, ◌≤◌, ◌<◌, ◌⊎◌, ℕ, Bool, if◌then◌else◌, List, [], length}
+use Rattle.std.specs.Prelude.{map}
+use Rattle.std.specs.Prelude.{IsTrue, Some}
 use Rattle.gimli_core.specs.declared.common.SectionId.{SectionId}
 use Rattle.gimli_core.specs.declared.common.SectionId.TheVariants.{DebugInfo, DebugLine, DebugStr}
 use Rattle.gimli_core.specs.declared.common.SectionId.TheVariants.{DebugLineStr}
@@ -19,7 +20,10 @@ use Rattle.gimli_build.specs.Built.{Built}
 use Rattle.gimli_build.specs.Unit.{unit_bytes}
 use Rattle.gimli_c.specs.declared.relocatable.GimliRelocation.{GimliRelocation}
 use Rattle.gimli_c.specs.declared.check.GimliElement.{GimliElement}
+use Rattle.gimli_c.specs.declared.status.TheConstants.{NO_ROOM, OK, UNSUPPORTED_LINE_ENCODING}
 use Rattle.gimli_c.specs.Causes.{HasHandedFault, IsRefusedFor, nowhere}
+use Rattle.gimli_c.specs.Handed.{IsRefusal}
+use Rattle.gimli_c.specs.Refused.{encoding_fault, HasBadLines}
 use Rattle.gimli_c.specs.Handing.{Handed, IsBuiltOf, numbers_of, write_status}
 use Rattle.gimli_c.specs.Written.{slots_with}
 
@@ -98,3 +102,20 @@ pub record NeedsRelocatableRoom (h : Handed) (old : List ℕ) (size : ℕ)
   pub passes : (length old < length section.bytes) ⊎ (length slots_old < length section.relocations)
   pub size_is : size ≡ length section.bytes
   pub count_is : count ≡ length section.relocations
+
+-- what a call does that copies the unit of what is handed over, its relocations and the numbers of
+-- its files to arrays of the caller, by its status; it tells the element that a refusal speaks of
+pub record WritesRelocatable (h : Handed) (status : ℕ) (old new : List ℕ) (size : ℕ)
+    (slots_old slots_new : List GimliRelocation) (count : ℕ) (numbers_old numbers_new : List ℕ)
+    (element : GimliElement) : Type 0 where
+  pub ok : status ≡ OK
+      → GivesRelocatable h old new size slots_old slots_new count numbers_old numbers_new
+  pub room : status ≡ NO_ROOM → NeedsRelocatableRoom h old size slots_old count
+  pub fault : (s : ℕ) → encoding_fault h.encoding ≡ Some s → status ≡ s
+  pub bad_lines : HasBadLines h.encoding → status ≡ UNSUPPORTED_LINE_ENCODING
+  pub cause : status ≢ OK → status ≢ NO_ROOM → IsRefusedRelocatable h status element
+  pub refused : (at : GimliElement) (s : ℕ) → HasHandedFault h at s → IsRefusal status
+  pub no_element : (status ≡ OK) ⊎ (status ≡ NO_ROOM) → element ≡ nowhere
+  pub kept : status ≢ OK
+      → (new ≡ old) × (slots_new ≡ slots_old) × (numbers_new ≡ numbers_old)
+  pub none : status ≢ OK → status ≢ NO_ROOM → (size ≡ 0) × (count ≡ 0)

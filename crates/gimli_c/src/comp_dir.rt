@@ -1,19 +1,17 @@
 //! The directory of a compilation, which `.debug_info` has, and whole paths go on from.
 
-ghost use Rattle.std.specs.Prelude.{◌≡◌, ◌≢◌, ◌⊎◌, ◌++◌, ◌^◌, ℕ, IfErr, IfOk, List, None, OnOk};
-ghost use Rattle.std.specs.Prelude.{option_map};
+ghost use Rattle.std.specs.Prelude.{◌≡◌, ◌++◌, ◌^◌, ℕ, IfErr, IfOk, List, OnOk, option_map};
 ghost use Rattle.std.specs.List.{AllZip};
 ghost use Rattle.gimli_core.specs.Order.{is_big_endian};
 ghost use Rattle.gimli_compilation.specs.Directories.{directory_for};
 ghost use Rattle.gimli_compilation.specs.Sections.{sections_of};
-ghost use Rattle.gimli_c.specs.CompDir.{sections_handed, NeedsDirectoryRoom, TellsDirectory};
-ghost use Rattle.gimli_c.specs.CompDir.{WritesDirectory};
-ghost use Rattle.gimli_c.specs.Listed.{IsCompDirAnswer, NeedsCompDirsRoom, WritesCompDirs};
+ghost use Rattle.gimli_c.specs.CompDir.{sections_handed, CopiesDirectory};
+ghost use Rattle.gimli_c.specs.Listed.{CopiesCompDirs, IsCompDirAnswer};
 
 use crate::file::put_bytes;
 use crate::listed::add_text;
 use crate::location::order;
-use crate::status::{NO_COMP_DIR, NO_ROOM, OK, OUT_OF_MEMORY};
+use crate::status::{NO_COMP_DIR, OK, OUT_OF_MEMORY};
 use gimli_compilation::{CompilationSections, Compilations};
 use gimli_core::{EndianSlice, RunTimeEndian};
 use std::alloc::Global;
@@ -56,19 +54,9 @@ pub extern "C" fn gimli_line_proved_comp_dir(
     directory: &mut [u8],
     size: &mut usize,
 ) -> u32
-    ensures found { let sections = sections_handed info.now abbreviations.now
-        line_strings.now strings.now string_offsets.now is_big in
-        result ≡ OK → WritesDirectory sections offset directory.old directory.new size.new }
-    ensures larger { let sections = sections_handed info.now abbreviations.now
-        line_strings.now strings.now string_offsets.now is_big in
-        result ≡ NO_ROOM → NeedsDirectoryRoom sections offset directory.old size.new }
-    ensures none { let sections = sections_handed info.now abbreviations.now
-        line_strings.now strings.now string_offsets.now is_big in
-        result ≡ NO_COMP_DIR → TellsDirectory sections offset None }
-    ensures refused { result ≢ OK → result ≢ NO_ROOM
-        → (result ≡ NO_COMP_DIR) ⊎ (result ≡ OUT_OF_MEMORY) }
-    ensures kept { result ≢ OK → directory.new ≡ directory.old }
-    ensures no_size { result ≢ OK → result ≢ NO_ROOM → size.new ≡ size.old }
+    ensures { CopiesDirectory (sections_handed info.now abbreviations.now line_strings.now
+        strings.now string_offsets.now is_big) offset result directory.old directory.new
+        size.old size.new }
 {
     let sections = sections_in(
         info,
@@ -84,9 +72,7 @@ pub extern "C" fn gimli_line_proved_comp_dir(
     let Some(text) = compilations.directory_of(offset) else {
         return NO_COMP_DIR;
     };
-    let bytes = text.slice();
-    *size = bytes.len();
-    put_bytes(bytes, directory)
+    put_bytes(text.slice(), directory, size)
 }
 
 /// The directory of a compilation, which is asked for by the offset of its line program.
@@ -162,15 +148,9 @@ pub extern "C" fn gimli_line_proved_comp_dirs(
     texts: &mut [u8],
     size: &mut usize,
 ) -> u32
-    ensures found { result ≡ OK → WritesCompDirs (sections_handed info.now abbreviations.now
-        line_strings.now strings.now string_offsets.now is_big) directories.old directories.new
-        texts.old texts.new size.new }
-    ensures larger { result ≡ NO_ROOM → NeedsCompDirsRoom (sections_handed info.now
-        abbreviations.now line_strings.now strings.now string_offsets.now is_big)
-        directories.old directories.new texts.old size.new }
-    ensures refused { result ≢ OK → result ≢ NO_ROOM → result ≡ OUT_OF_MEMORY }
-    ensures kept { result ≢ OK → texts.new ≡ texts.old }
-    ensures no_size { result ≢ OK → result ≢ NO_ROOM → size.new ≡ size.old }
+    ensures { CopiesCompDirs (sections_handed info.now abbreviations.now line_strings.now
+        strings.now string_offsets.now is_big) directories.old directories.new result
+        texts.old texts.new size.old size.new }
 {
     let sections = sections_in(
         info,
@@ -186,7 +166,5 @@ pub extern "C" fn gimli_line_proved_comp_dirs(
     let Ok(whole) = list_comp_dirs(alloc, &compilations, directories) else {
         return OUT_OF_MEMORY;
     };
-    let bytes = whole.as_slice();
-    *size = bytes.len();
-    put_bytes(bytes, texts)
+    put_bytes(whole.as_slice(), texts, size)
 }

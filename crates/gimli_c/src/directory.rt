@@ -1,15 +1,15 @@
 //! The directories of a unit.
 
-ghost use Rattle.std.specs.Prelude.{◌≡◌, ◌≢◌, IfNone, IfSome, None, false, option_map};
+ghost use Rattle.std.specs.Prelude.{◌≡◌, IfNone, IfSome, None, false, option_map};
 ghost use Rattle.gimli_core.specs.Numbers.{is_address_size};
 ghost use Rattle.gimli_line.specs.header.Header.{directory_of};
-ghost use Rattle.gimli_c.specs.FileSeen.{GivesNoDirectory, NeedsTextRoom, WritesDirectoryText};
+ghost use Rattle.gimli_c.specs.FileSeen.{CopiesDirectoryText};
 ghost use Rattle.gimli_c.specs.inside.Told.{TellsDirectory};
-ghost use Rattle.gimli_c.specs.Location.{location, HasNoUnit};
+ghost use Rattle.gimli_c.specs.Location.{location};
 
 use crate::file::{GimliText, bytes_of, put_bytes, text_here};
 use crate::location::program_at;
-use crate::status::{NO_ROOM, NO_SUCH_DIRECTORY, OK, OUT_OF_MEMORY, UNSUPPORTED_ADDRESS_SIZE};
+use crate::status::{NO_SUCH_DIRECTORY, UNSUPPORTED_ADDRESS_SIZE};
 use gimli_core::Reader;
 use gimli_line::LineProgramHeader;
 use std::alloc::Global;
@@ -27,18 +27,9 @@ pub extern "C" fn gimli_line_proved_read_directory(
     directory: &mut GimliText,
     bytes: &mut [u8],
 ) -> u32
-    ensures found { result ≡ OK → WritesDirectoryText
-        (location section.now is_big address_size offset) number directory.new bytes.old bytes.new }
-    ensures larger { result ≡ NO_ROOM → NeedsTextRoom
-        (location section.now is_big address_size offset) number directory.new bytes.old }
-    ensures none { result ≡ NO_SUCH_DIRECTORY →
-        GivesNoDirectory (location section.now is_big address_size offset) number }
-    ensures refused { result ≢ OK → result ≢ NO_ROOM → result ≢ NO_SUCH_DIRECTORY
-        → result ≢ OUT_OF_MEMORY
-        → HasNoUnit (location section.now is_big address_size offset) result }
+    ensures directory { CopiesDirectoryText (location section.now is_big address_size offset)
+        number result directory.old directory.new bytes.old bytes.new }
     ensures size { is_address_size address_size ≡ false → result ≡ UNSUPPORTED_ADDRESS_SIZE }
-    ensures kept { result ≢ OK → bytes.new ≡ bytes.old }
-    ensures no_text { result ≢ OK → result ≢ NO_ROOM → directory.new ≡ directory.old }
 {
     let program = match program_at(alloc, section, is_big, address_size, offset) {
         Ok(program) => program,
@@ -49,7 +40,8 @@ pub extern "C" fn gimli_line_proved_read_directory(
         None => return NO_SUCH_DIRECTORY,
     };
     *directory = told;
-    put_bytes(bytes_of(text), bytes)
+    let mut size = 0;
+    put_bytes(bytes_of(text), bytes, &mut size)
 }
 
 /// Where the directory of a number of a header stands, and its text where that is the section

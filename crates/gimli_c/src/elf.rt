@@ -1,11 +1,10 @@
 //! The sections of an ELF file, made whole.
 
-ghost use Rattle.std.specs.Prelude.{◌≡◌, ◌≢◌, ◌⊎◌, length, IfErr, IfOk};
+ghost use Rattle.std.specs.Prelude.{◌≡◌, ◌≢◌, IfErr, IfOk};
 ghost use Rattle.elf_sections.specs.Elf.{file_of};
 ghost use Rattle.elf_sections.specs.File.{file_at};
 ghost use Rattle.elf_sections.specs.declared.error.ElfError.TheVariants.{OutOfMemory};
-ghost use Rattle.gimli_c.specs.ElfSeen.{CantReadSection, HasNoSection, IsLowest, IsNoElf, SeesElf};
-ghost use Rattle.gimli_c.specs.ElfSeen.{NeedsSectionRoom, WritesSection};
+ghost use Rattle.gimli_c.specs.ElfSeen.{CopiesSection, IsLowest, IsNoElf, SeesElf};
 
 use crate::file::copy_bytes;
 use crate::status::{BAD_SECTION, NO_ELF, NO_ROOM, NO_SECTION, OK, OUT_OF_MEMORY};
@@ -92,16 +91,7 @@ pub extern "C" fn gimli_line_proved_elf_section(
     bytes: &mut [u8],
     size: &mut usize,
 ) -> u32
-    ensures found { result ≡ OK →
-        WritesSection file.now name.now bytes.old bytes.new size.new }
-    ensures larger { result ≡ NO_ROOM →
-        NeedsSectionRoom file.now name.now (length bytes.old) size.new }
-    ensures none { result ≡ NO_SECTION → HasNoSection file.now name.now (length bytes.old) }
-    ensures refused { result ≢ OK → result ≢ NO_ROOM → result ≢ NO_SECTION →
-        result ≢ OUT_OF_MEMORY → ((result ≡ NO_ELF) × IsNoElf file.now)
-        ⊎ ((result ≡ BAD_SECTION) × CantReadSection file.now name.now (length bytes.old)) }
-    ensures kept { result ≢ OK → bytes.new ≡ bytes.old }
-    ensures no_size { result ≢ OK → result ≢ NO_ROOM → size.new ≡ size.old }
+    ensures { CopiesSection file.now name.now result bytes.old bytes.new size.old size.new }
 {
     let elf = match elf_in(file) {
         Ok(elf) => elf,

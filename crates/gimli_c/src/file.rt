@@ -1,24 +1,20 @@
 //! The files of a unit.
 
-ghost use Rattle.std.specs.Prelude.{◌≡◌, ◌≢◌, ◌<◌, [], length, IfNone, IfSome, None, false};
-ghost use Rattle.std.specs.Prelude.{option_map};
-ghost use Rattle.std.specs.Prelude.{unwrap_or};
+ghost use Rattle.std.specs.Prelude.{◌≡◌, [], IfNone, IfSome, None, false, option_map, unwrap_or};
 ghost use Rattle.gimli_core.specs.Numbers.{is_address_size};
 ghost use Rattle.gimli_core.specs.Values.{value_seen};
 ghost use Rattle.gimli_line.specs.header.File.{file_seen};
 ghost use Rattle.gimli_c.specs.FileSeen.{details_of, file_seen_by_c, optional_text_seen, text_here};
 ghost use Rattle.gimli_line.specs.header.Header.{file_of};
-ghost use Rattle.gimli_c.specs.FileSeen.{GivesNoFile, NeedsFileRoom, WritesFile};
+ghost use Rattle.gimli_c.specs.FileSeen.{CopiesFile};
 ghost use Rattle.gimli_c.specs.inside.Told.{TellsFile};
-ghost use Rattle.gimli_c.specs.Location.{location, HasNoUnit};
-ghost use Rattle.gimli_c.specs.Written.{slots_with, IsPut};
+ghost use Rattle.gimli_c.specs.Location.{location};
+ghost use Rattle.gimli_c.specs.Written.{Copies, slots_with};
 
 use crate::location::program_at;
 use crate::row::flag;
 use crate::run::run_to_file;
-use crate::status::{
-    NO_ROOM, NO_SUCH_FILE, OK, OUT_OF_MEMORY, UNSUPPORTED_ADDRESS_SIZE, error_status,
-};
+use crate::status::{NO_ROOM, NO_SUCH_FILE, OK, UNSUPPORTED_ADDRESS_SIZE, error_status};
 use gimli_core::{AttributeValue, EndianSlice, Reader, ReaderOffset, RunTimeEndian};
 use gimli_line::{FileEntry, LineProgramHeader};
 use std::alloc::Global;
@@ -95,19 +91,9 @@ pub extern "C" fn gimli_line_proved_read_file(
     path: &mut [u8],
     directory: &mut [u8],
 ) -> u32
-    ensures found { result ≡ OK → WritesFile (location section.now is_big address_size offset)
-        number file.new path.old path.new directory.old directory.new }
-    ensures larger { result ≡ NO_ROOM
-        → NeedsFileRoom (location section.now is_big address_size offset)
-        number file.new path.old directory.old }
-    ensures none { result ≡ NO_SUCH_FILE →
-        GivesNoFile (location section.now is_big address_size offset) number }
-    ensures refused { result ≢ OK → result ≢ NO_ROOM → result ≢ NO_SUCH_FILE
-        → result ≢ OUT_OF_MEMORY
-        → HasNoUnit (location section.now is_big address_size offset) result }
+    ensures file { CopiesFile (location section.now is_big address_size offset) number result
+        file.old file.new path.old path.new directory.old directory.new }
     ensures size { is_address_size address_size ≡ false → result ≡ UNSUPPORTED_ADDRESS_SIZE }
-    ensures kept { result ≢ OK → (path.new ≡ path.old) × (directory.new ≡ directory.old) }
-    ensures no_file { result ≢ OK → result ≢ NO_ROOM → file.new ≡ file.old }
 {
     let program = match program_at(alloc, section, is_big, address_size, offset) {
         Ok(program) => program,
@@ -227,13 +213,13 @@ pub(crate) fn bytes_of<'s>(text: Option<EndianSlice<'s, RunTimeEndian>>) -> &'s 
     }
 }
 
-/// Puts bytes to the front of an array. `NO_ROOM` where that is shorter: then none is written.
-pub(crate) fn put_bytes(bytes: &[u8], room: &mut [u8]) -> u32
-    ensures put { result ≡ OK → IsPut bytes.now room.old room.new }
-    ensures larger { result ≡ NO_ROOM → length room.old < length bytes.now }
-    ensures number { result ≢ OK → result ≡ NO_ROOM }
-    ensures kept { result ≢ OK → room.new ≡ room.old }
+/// Puts bytes to the front of an array, and says how many they are. `NO_ROOM` where that is
+/// shorter: then none is written.
+pub(crate) fn put_bytes(bytes: &[u8], room: &mut [u8], size: &mut usize) -> u32
+    ensures { Copies (λ whole. whole ≡ bytes.now) (λ _. ⊥) result room.old room.new
+        size.old size.new }
 {
+    *size = bytes.len();
     if bytes.len() > room.len() {
         return NO_ROOM;
     }

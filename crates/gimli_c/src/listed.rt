@@ -7,8 +7,7 @@ ghost use Rattle.gimli_core.specs.Numbers.{is_address_size};
 ghost use Rattle.gimli_line.specs.header.File.{file_seen};
 ghost use Rattle.gimli_lookup.specs.Paths.{file_path};
 ghost use Rattle.gimli_lookup.specs.Strings.{strings};
-ghost use Rattle.gimli_c.specs.Listed.{GivesFiles, IsFileAnswer, NeedsListRoom, WritesFiles};
-ghost use Rattle.gimli_c.specs.Listed.{SeesPathAmong};
+ghost use Rattle.gimli_c.specs.Listed.{CopiesFiles, GivesFiles, IsFileAnswer, SeesPathAmong};
 ghost use Rattle.gimli_c.specs.Location.{location, HasNoUnit};
 ghost use Rattle.gimli_c.specs.Path.{paths_handed, texts_handed};
 
@@ -185,18 +184,10 @@ pub extern "C" fn gimli_line_proved_read_files(
     texts: &mut [u8],
     size: &mut usize,
 ) -> u32
-    ensures found { result ≡ OK → WritesFiles (location section.now is_big address_size offset)
-        (texts_handed line_strings.now strings.now) comp_dir.now files.old files.new
-        texts.old texts.new size.new }
-    ensures larger { result ≡ NO_ROOM
-        → NeedsListRoom (location section.now is_big address_size offset)
-        (texts_handed line_strings.now strings.now) comp_dir.now files.old files.new
-        texts.old size.new }
-    ensures refused { result ≢ OK → result ≢ NO_ROOM → result ≢ OUT_OF_MEMORY →
-        HasNoUnit (location section.now is_big address_size offset) result }
+    ensures files { CopiesFiles (location section.now is_big address_size offset)
+        (texts_handed line_strings.now strings.now) comp_dir.now files.old files.new result
+        texts.old texts.new size.old size.new }
     ensures bad_size { is_address_size address_size ≡ false → result ≡ UNSUPPORTED_ADDRESS_SIZE }
-    ensures kept { result ≢ OK → texts.new ≡ texts.old }
-    ensures no_size { result ≢ OK → result ≢ NO_ROOM → size.new ≡ size.old }
     ensures no_files { result ≢ OK → result ≢ NO_ROOM → result ≢ OUT_OF_MEMORY
         → files.new ≡ files.old }
 {
@@ -215,11 +206,7 @@ pub extern "C" fn gimli_line_proved_read_files(
         comp_dir,
         files,
     ) {
-        Ok(whole) => {
-            let bytes = whole.as_slice();
-            *size = bytes.len();
-            put_bytes(bytes, texts)
-        }
+        Ok(whole) => put_bytes(whole.as_slice(), texts, size),
         Err(status) => status,
     }
 }

@@ -11,10 +11,10 @@ use gimli_core::{EndianSlice, Reader, Result};
 
 /// Where the next unit of a section begins: after the one at an offset, whatever its content is; at
 /// the end of the section where none begins there.
-pub(crate) fn next_unit(section: &[u8], is_big: bool, offset: usize) -> u64
+pub(crate) fn next_unit(section: &[u8], is_big: bool, offset: usize) -> usize
     ensures { IsNext (layout_of is_big (2 ^ 64)) section.now offset result }
 {
-    next_offset(EndianSlice::new(section, order(is_big)), offset) as u64
+    next_offset(EndianSlice::new(section, order(is_big)), offset)
 }
 
 /// The same, of any reader over the section.

@@ -8,8 +8,7 @@ ghost use Rattle.gimli_lookup.specs.Strings.{strings};
 ghost use Rattle.gimli_lookup.specs.declared.path_error.PathError.{PathError};
 ghost use Rattle.gimli_lookup.specs.declared.path_error.PathError.TheVariants.{OutOfMemory};
 ghost use Rattle.gimli_c.specs.Location.{location};
-ghost use Rattle.gimli_c.specs.Path.{paths_handed, texts_handed, GivesPath, HasNoPath};
-ghost use Rattle.gimli_c.specs.Path.{NeedsPathRoom, WritesPath};
+ghost use Rattle.gimli_c.specs.Path.{paths_handed, texts_handed, CopiesPath, GivesPath, HasNoPath};
 
 use crate::file::put_bytes;
 use crate::location::{order, program_at};
@@ -26,7 +25,7 @@ use std::alloc::Global;
 type Slice<'s> = EndianSlice<'s, RunTimeEndian>;
 
 /// The number of a refusal: `OUT_OF_MEMORY` or `UNKNOWN_PATH`.
-fn path_status(error: PathError) -> u32
+pub(crate) fn path_status(error: PathError) -> u32
     ensures number { result ≢ OUT_OF_MEMORY → (result ≡ UNKNOWN_PATH) × (error ≢ OutOfMemory) }
     ensures other { (result ≢ OK) × (result ≢ NO_ROOM) }
 {
@@ -112,17 +111,10 @@ pub extern "C" fn gimli_line_proved_read_path(
     path: &mut [u8],
     size: &mut usize,
 ) -> u32
-    ensures found { result ≡ OK → WritesPath (location section.now is_big address_size offset)
-        (texts_handed line_strings.now strings.now) number comp_dir.now path.old path.new size.new }
-    ensures larger { result ≡ NO_ROOM
-        → NeedsPathRoom (location section.now is_big address_size offset)
-        (texts_handed line_strings.now strings.now) number comp_dir.now path.old size.new }
-    ensures refused { result ≢ OK → result ≢ NO_ROOM → result ≢ OUT_OF_MEMORY → HasNoPath
-        (location section.now is_big address_size offset)
-        (texts_handed line_strings.now strings.now) number comp_dir.now result }
+    ensures path { CopiesPath (location section.now is_big address_size offset)
+        (texts_handed line_strings.now strings.now) number comp_dir.now result path.old path.new
+        size.old size.new }
     ensures bad_size { is_address_size address_size ≡ false → result ≡ UNSUPPORTED_ADDRESS_SIZE }
-    ensures kept { result ≢ OK → path.new ≡ path.old }
-    ensures no_size { result ≢ OK → result ≢ NO_ROOM → size.new ≡ size.old }
 {
     let order = order(is_big);
     let texts = StringSections {
@@ -139,11 +131,7 @@ pub extern "C" fn gimli_line_proved_read_path(
         number,
         comp_dir,
     ) {
-        Ok(whole) => {
-            let bytes = whole.as_slice();
-            *size = bytes.len();
-            put_bytes(bytes, path)
-        }
+        Ok(whole) => put_bytes(whole.as_slice(), path, size),
         Err(status) => status,
     }
 }

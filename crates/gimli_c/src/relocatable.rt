@@ -1,18 +1,12 @@
 //! A unit whose sequences begin at symbols, and its relocations.
 
-ghost use Rattle.std.specs.Prelude.{◌≡◌, ◌≢◌, ◌⊎◌, ◌<◌, ◌≤◌, ℕ, true, false, IfOk, IsTrue, Some};
-ghost use Rattle.std.specs.Prelude.{map};
+ghost use Rattle.std.specs.Prelude.{◌≡◌, IfOk, IsTrue, map};
 ghost use Rattle.gimli_bytes.specs.Relocations.{are_inside};
 ghost use Rattle.gimli_bytes.specs.Texts.{no_texts};
 ghost use Rattle.gimli_build.specs.Conditions.{CanWrite};
-ghost use Rattle.gimli_c.specs.declared.check.GimliElement.{GimliElement};
-ghost use Rattle.gimli_c.specs.Causes.{HasHandedFault, nowhere};
-ghost use Rattle.gimli_c.specs.Handed.{IsRefusal};
 ghost use Rattle.gimli_c.specs.Handing.{handed_of};
-ghost use Rattle.gimli_c.specs.Refused.{encoding_fault, HasBadLines};
 ghost use Rattle.gimli_c.specs.Relocated.{addends_of, relocation_seen, section_seen, target_seen};
-ghost use Rattle.gimli_c.specs.Relocated.{GivesRelocatable, IsRefusedRelocatable, IsUnitOnceLinked};
-ghost use Rattle.gimli_c.specs.Relocated.{NeedsRelocatableRoom};
+ghost use Rattle.gimli_c.specs.Relocated.{IsUnitOnceLinked, WritesRelocatable};
 ghost use Rattle.gimli_c.specs.Written.{slots_with};
 
 use crate::check::{GimliElement, NOWHERE};
@@ -21,7 +15,7 @@ use crate::file::copy_bytes;
 use crate::items::GimliSymbol;
 use crate::location::order;
 use crate::row::GimliRow;
-use crate::status::{NO_ROOM, OK, UNSUPPORTED_LINE_ENCODING};
+use crate::status::{NO_ROOM, OK};
 use crate::tables::GimliFileName;
 use crate::text::GimliName;
 use crate::write::{built, copy_numbers, write_status};
@@ -133,14 +127,6 @@ fn relocatable_of(
     Ok(section.0)
 }
 
-/// Whether so many bytes or so many relocations are more than the room of two arrays.
-fn passes(size: usize, room: usize, count: usize, slots: usize) -> bool
-    ensures more { result ≡ true → (room < size) ⊎ (slots < count) }
-    ensures fits { result ≡ false → (size ≤ room) × (count ≤ slots) }
-{
-    size > room || count > slots
-}
-
 /// Writes a unit whose sequences begin at symbols, and the places of these. Each status is that of
 /// `gimli_line_write_relocatable` in `include/gimli_line.h`.
 #[unsafe(no_mangle)]
@@ -162,24 +148,9 @@ pub extern "C" fn gimli_line_proved_write_relocatable(
     numbers: &mut [u64],
     element: &mut GimliElement,
 ) -> u32
-    ensures ok { result ≡ OK → GivesRelocatable (handed_of encoding.now is_big details texts.now
-        directories.now files.now rows.now symbols.now) unit.old unit.new size.new relocations.old
-        relocations.new count.new numbers.old numbers.new }
-    ensures room { result ≡ NO_ROOM → NeedsRelocatableRoom (handed_of encoding.now is_big details
-        texts.now directories.now files.now rows.now symbols.now) unit.old size.new
-        relocations.old count.new }
-    ensures fault { (s : ℕ) → encoding_fault encoding.now ≡ Some s → result ≡ s }
-    ensures bad_lines { HasBadLines encoding.now → result ≡ UNSUPPORTED_LINE_ENCODING }
-    ensures cause { result ≢ OK → result ≢ NO_ROOM → IsRefusedRelocatable (handed_of encoding.now
-        is_big details texts.now directories.now files.now rows.now symbols.now) result
-        element.new }
-    ensures refused { (at : GimliElement) → (s : ℕ) → HasHandedFault (handed_of encoding.now is_big
-        details texts.now directories.now files.now rows.now symbols.now) at s
-        → IsRefusal result }
-    ensures no_element { (result ≡ OK) ⊎ (result ≡ NO_ROOM) → element.new ≡ nowhere }
-    ensures err { result ≢ OK → (unit.new ≡ unit.old) × (relocations.new ≡ relocations.old)
-        × (numbers.new ≡ numbers.old) }
-    ensures none { result ≢ OK → result ≢ NO_ROOM → (size.new ≡ 0) × (count.new ≡ 0) }
+    ensures { WritesRelocatable (handed_of encoding.now is_big details texts.now directories.now
+        files.now rows.now symbols.now) result unit.old unit.new size.new relocations.old
+        relocations.new count.new numbers.old numbers.new element.new }
 {
     *size = 0;
     *count = 0;
@@ -208,7 +179,7 @@ pub extern "C" fn gimli_line_proved_write_relocatable(
     let places = section.relocations();
     *size = bytes.len();
     *count = places.len();
-    if passes(bytes.len(), unit.len(), places.len(), relocations.len()) {
+    if bytes.len() > unit.len() || places.len() > relocations.len() {
         return NO_ROOM;
     }
     copy_bytes(bytes, unit);

@@ -17,8 +17,7 @@ pub const BAD_SIGNED_LEB128: u32 = 3;
 pub const UNKNOWN_RESERVED_LENGTH: u32 = 4;
 /// The version of a unit is none of 2 to 5.
 pub const UNKNOWN_VERSION: u32 = 5;
-/// The size of addresses, in bytes, isn't 1, 2, 4 or 8: that of the unit, or the one that was
-/// handed in.
+/// The size of addresses, the unit's or the one that was handed in, isn't 1, 2, 4 or 8 bytes.
 pub const UNSUPPORTED_ADDRESS_SIZE: u32 = 6;
 /// The size of segment selectors isn't 0.
 pub const UNSUPPORTED_SEGMENT_SIZE: u32 = 7;
@@ -60,24 +59,18 @@ pub const NO_SOURCE_FILE: u32 = 24;
 pub const NO_SUCH_DIRECTORY: u32 = 25;
 /// No file has this number: the one that is asked for, or that a row has.
 pub const NO_SUCH_FILE: u32 = 26;
-/// A row can't follow the one before: its address is lower, or its operation at the same address
-/// is; or its address isn't a whole number of shortest instructions after the first of its
-/// sequence; or its operation or its line isn't one that a row can have.
+/// A row can't follow the one before, or its operation or line isn't one that a row can have.
 pub const ROW_OUT_OF_ORDER: u32 = 27;
 /// A row has a flag that isn't known.
 pub const UNKNOWN_FLAG: u32 = 28;
 /// An instruction has several operations, before version 4.
 pub const NEED_VERSION_4: u32 = 29;
-/// A length that offsets of this size can't say, or the first address of a sequence is wider than
-/// addresses are.
+/// A length or the first address of a sequence doesn't fit its word.
 pub const UNIT_TOO_LONG: u32 = 30;
 /// What is written is longer than the room for it.
 pub const NO_ROOM: u32 = 31;
-
-/// A string of a path can't be told: it is given by an index, stands in the supplementary file or
-/// outside its section, or has no zero byte at its end; or a file's directory isn't there.
+/// A string of a path can't be told, or a file's directory isn't there.
 pub const UNKNOWN_PATH: u32 = 33;
-
 /// The bytes don't begin as an index does.
 pub const NO_INDEX: u32 = 34;
 /// The version of an index is unknown.
@@ -90,7 +83,6 @@ pub const INDEX_HEADER: u32 = 37;
 pub const INDEX_DISORDERED: u32 = 38;
 /// A path isn't inside its index.
 pub const INDEX_PATH_OUTSIDE: u32 = 39;
-
 /// No line from the one that is asked for on has code.
 pub const NO_CODE: u32 = 41;
 /// No unit of `.debug_info` that can be read tells the directory of the compilation.
@@ -101,11 +93,9 @@ pub const UNKNOWN_OPTIONS: u32 = 43;
 pub const NO_ELF: u32 = 44;
 /// An ELF file has no section of this name, no build ID or no debug link.
 pub const NO_SECTION: u32 = 45;
-/// A section of an ELF file can't be read: it is cut, compressed in a way that is unknown, or its
-/// relocations are.
+/// A section of an ELF file is cut, or its compression or relocations are unknown.
 pub const BAD_SECTION: u32 = 46;
-/// An index would have ranges, statements, files, bytes of paths or bytes of its identity that 32
-/// bits don't count, or more bytes of paths than the limit for them.
+/// An index would have more of something than 32 bits count, or than the limit of its paths.
 pub const INDEX_TOO_LARGE: u32 = 47;
 /// A line that an index would have is one that 32 bits don't hold, or a column one that 30 don't.
 pub const PLACE_TOO_LARGE: u32 = 48;

@@ -2,10 +2,9 @@
 
 ghost use Rattle.std.specs.Prelude.{◌≡◌, ◌≢◌, ◌≤◌, All, Any, IfNone, IfSome, MatchBool};
 ghost use Rattle.gimli_build.specs.LineText.{Inline, line_text, HasNoZero, IsNotEmpty};
-ghost use Rattle.gimli_c.specs.Causes.{HasTextFault};
+ghost use Rattle.gimli_c.specs.Causes.{HasTextFault, StandsAmong};
 ghost use Rattle.gimli_c.specs.inside.Causes.{HasNone};
 ghost use Rattle.gimli_c.specs.Handed.{IsRefusal, text_handed};
-ghost use Rattle.gimli_c.specs.Causes.{StandsAmong};
 
 use crate::status::{EMPTY_TEXT, TEXT_OUT_OF_BOUNDS, ZERO_IN_TEXT};
 use gimli_build::LineString;

@@ -21,7 +21,7 @@ pub struct GimliUnit {
     /// Its length in bytes, without the length itself.
     pub length: u64,
     /// The offset of what follows it in the section.
-    pub next: u64,
+    pub next: usize,
     /// How many directories its table has. Up to version 4 they have the indices from 1 on, in
     /// version 5 from 0 on.
     pub directories: u64,
@@ -78,7 +78,7 @@ pub extern "C" fn gimli_line_proved_read_unit(
 
 /// What is said of the unit of a program, which the next one follows at an offset. Refused by
 /// `OutOfMemory` alone.
-fn read_unit<R: Reader>(program: IncompleteLineProgram<R>, next: u64) -> Result<GimliUnit>
+fn read_unit<R: Reader>(program: IncompleteLineProgram<R>, next: usize) -> Result<GimliUnit>
     ensures ok { IfOk result (λ unit. IsReadUnit next program.meaning program.layout unit) }
     ensures err { IfErr result (λ e. e ≡ Error.OutOfMemory) }
 {

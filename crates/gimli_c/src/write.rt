@@ -1,6 +1,6 @@
 //! A unit of directories, files and rows that are handed over.
 
-ghost use Rattle.std.specs.Prelude.{◌≡◌, ◌≢◌, ◌⊎◌, ℕ, [], Bool, Err, IfErr, IfOk, None, OnOk, Some};
+ghost use Rattle.std.specs.Prelude.{◌≡◌, ◌⊎◌, ℕ, [], Bool, Err, IfErr, IfOk, None, OnOk, Some};
 ghost use Rattle.std.specs.Prelude.{false};
 ghost use Rattle.gimli_bytes.specs.Hand.{plain};
 ghost use Rattle.gimli_bytes.specs.Texts.{no_texts};
@@ -10,12 +10,12 @@ ghost use Rattle.gimli_build.specs.Conditions.{CanWrite};
 ghost use Rattle.gimli_bytes.specs.Written.{Appends};
 ghost use Rattle.gimli_build.specs.Unit.{unit_bytes};
 ghost use Rattle.gimli_c.specs.declared.check.GimliElement.{GimliElement};
-ghost use Rattle.gimli_c.specs.Causes.{HasCause, HasHandedFault, IsRefused, nowhere};
+ghost use Rattle.gimli_c.specs.Causes.{HasHandedFault, WritesUnit};
 ghost use Rattle.gimli_c.specs.inside.Causes.{HasNone, IsRefusedOf, refusal_of};
 ghost use Rattle.gimli_c.specs.Handed.{IsRefusal};
 ghost use Rattle.gimli_c.specs.Refused.{encoding_fault, HasBadLines};
-ghost use Rattle.gimli_c.specs.Handing.{GivesUnitOf, IsBuiltWith, NeedsRoom, handed_of};
-ghost use Rattle.gimli_c.specs.Handing.{numbers_of, program_with, write_status};
+ghost use Rattle.gimli_c.specs.Handing.{IsBuiltWith, handed_of, numbers_of, program_with};
+ghost use Rattle.gimli_c.specs.Handing.{write_status};
 ghost use Rattle.gimli_c.specs.Written.{slots_with};
 
 use crate::check::{GimliElement, NOWHERE, Refusal, check_tables, refusal_of};
@@ -51,19 +51,9 @@ pub extern "C" fn gimli_line_proved_write(
     numbers: &mut [u64],
     element: &mut GimliElement,
 ) -> u32
-    ensures ok { result ≡ OK → GivesUnitOf (handed_of encoding.now is_big details texts.now
-        directories.now files.now rows.now []) unit.old unit.new size.new numbers.old numbers.new }
-    ensures room { result ≡ NO_ROOM → NeedsRoom (handed_of encoding.now is_big details texts.now
-        directories.now files.now rows.now []) unit.old size.new }
-    ensures fault { (s : ℕ) → encoding_fault encoding.now ≡ Some s → result ≡ s }
-    ensures bad_lines { HasBadLines encoding.now → result ≡ UNSUPPORTED_LINE_ENCODING }
-    ensures cause { result ≢ OK → result ≢ NO_ROOM → IsRefused (handed_of encoding.now is_big
-        details texts.now directories.now files.now rows.now []) result element.new }
-    ensures refused { (at : GimliElement) → (s : ℕ) → HasCause (handed_of encoding.now is_big
-        details texts.now directories.now files.now rows.now []) at s → IsRefusal result }
-    ensures no_element { (result ≡ OK) ⊎ (result ≡ NO_ROOM) → element.new ≡ nowhere }
-    ensures err { result ≢ OK → (unit.new ≡ unit.old) × (numbers.new ≡ numbers.old) }
-    ensures none { result ≢ OK → result ≢ NO_ROOM → size.new ≡ 0 }
+    ensures { WritesUnit (handed_of encoding.now is_big details texts.now directories.now
+        files.now rows.now []) result unit.old unit.new size.new numbers.old numbers.new
+        element.new }
 {
     *size = 0;
     *element = NOWHERE;

@@ -25,8 +25,8 @@ int LLVMFuzzerTestOneInput(const uint8_t *data, size_t size) {
     is_quick = true;
     size_t rest = data[1] < size - 2 ? data[1] : size - 2, length = size - 2 - rest;
     const uint8_t *first = data + 2, *last = first + length;
-    in = (gimli_line_sections){sizeof in,         first,      last, last, first, last, last, length, rest, rest, length, rest, rest, 0,
-                               data[0] >> 1 & 15, data[0] & 1};
+    in = (gimli_line_sections){sizeof in,         first,       last, last, first, last, last, length, rest, rest, length, rest, rest, 0,
+                               data[0] >> 1 & 15, data[0] & 1, NULL};
     ask_units();
     ask_index(first, length, 0, 1 << 22);
 
@@ -42,6 +42,7 @@ int LLVMFuzzerTestOneInput(const uint8_t *data, size_t size) {
     uint32_t status = gimli_line_build_id(in.line, in.line_size, NULL, 0, &length);
     uint32_t checksum = 0, linked = gimli_line_debug_link(in.line, in.line_size, NULL, 0, &length, &checksum);
     is((linked == GIMLI_LINE_NO_ELF) == (status == GIMLI_LINE_NO_ELF), "a debug link");
+    is((is_elf == GIMLI_LINE_BAD_SECTION) == (taken.bad_section != NULL), "the name of a bad section");
     is(is_elf != GIMLI_LINE_NO_ELF || (status == GIMLI_LINE_NO_ELF && taken.line == NULL), "no ELF file");
     gimli_line_sections_free(&taken);
     seen(16, is_elf);

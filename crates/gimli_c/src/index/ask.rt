@@ -1,7 +1,7 @@
 //! Asking an index.
 
-ghost use Rattle.std.specs.Prelude.{◌≡◌, ◌≢◌, ◌<◌, ◌^◌, MatchOption};
-ghost use Rattle.gimli_index.specs.Spans.{identity_begin, StandsIn};
+ghost use Rattle.std.specs.Prelude.{◌≡◌, ◌≢◌, MatchOption};
+ghost use Rattle.gimli_index.specs.Spans.{StandsIn};
 ghost use Rattle.gimli_index.specs.Views.{index_of};
 ghost use Rattle.gimli_c.specs.Indexed.{HasNoPlace, IsIndex, IsIndexAnswer, IsNoIndex, SeesPlaceAt};
 ghost use Rattle.gimli_c.specs.Indexed.{WritesIndexAnswers};

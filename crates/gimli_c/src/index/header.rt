@@ -1,12 +1,10 @@
 //! What an index says of itself.
 
 ghost use Rattle.std.specs.Prelude.{◌≡◌, ◌≢◌, IfErr, IfOk};
-ghost use Rattle.gimli_index.specs.Parts.{index_at};
 ghost use Rattle.gimli_index.specs.Spans.{StandsIn};
 ghost use Rattle.gimli_index.specs.Views.{index_of};
 ghost use Rattle.gimli_c.specs.Indexed.{index_status, IsIndex, IsNoIndex, IsSoundIndex};
-ghost use Rattle.gimli_c.specs.Indexed.{IsUnsoundIndex};
-ghost use Rattle.gimli_c.specs.Indexed.{SeesIndex};
+ghost use Rattle.gimli_c.specs.Indexed.{IsUnsoundIndex, SeesIndex};
 
 use crate::status::{
     INDEX_CUT, INDEX_DISORDERED, INDEX_HEADER, INDEX_PATH_OUTSIDE, NO_INDEX, NO_ROOM, OK,

@@ -1,10 +1,8 @@
 //! From a line of a path to addresses, by an index.
 
-ghost use Rattle.std.specs.Prelude.{◌≡◌, ◌≢◌, ◌≤◌, ◌+◌, ℕ, List, Some, length, slice_get, take};
+ghost use Rattle.std.specs.Prelude.{◌≡◌, ◌≤◌, ◌+◌, ℕ, List, Some, length, slice_get, take};
 ghost use Rattle.gimli_index.specs.Lines.{addresses_left};
-ghost use Rattle.gimli_c.specs.IndexLines.{HasNoIndexAddress, NeedsAddressRoom};
-ghost use Rattle.gimli_c.specs.IndexLines.{WritesIndexAddresses};
-ghost use Rattle.gimli_c.specs.Indexed.{IsNoIndex};
+ghost use Rattle.gimli_c.specs.IndexLines.{CopiesAddresses};
 ghost use Rattle.gimli_c.specs.Written.{slots_with};
 
 use crate::index::header::index_in;
@@ -51,16 +49,8 @@ pub extern "C" fn gimli_line_proved_index_addresses_of(
     addresses: &mut [u64],
     count: &mut usize,
 ) -> u32
-    ensures found { result ≡ OK → WritesIndexAddresses stored.now path.now line found_line.new
-        addresses.old addresses.new count.new }
-    ensures larger { result ≡ NO_ROOM → NeedsAddressRoom stored.now path.now line
-        addresses.old count.new }
-    ensures none { result ≡ NO_CODE → HasNoIndexAddress stored.now path.now line }
-    ensures refused { result ≢ OK → result ≢ NO_ROOM → result ≢ NO_CODE
-        → IsNoIndex stored.now result }
-    ensures kept { result ≢ OK
-        → (found_line.new ≡ found_line.old) × (addresses.new ≡ addresses.old) }
-    ensures no_count { result ≢ OK → result ≢ NO_ROOM → count.new ≡ count.old }
+    ensures { CopiesAddresses stored.now path.now line result found_line.old found_line.new
+        addresses.old addresses.new count.old count.new }
 {
     let index = match index_in(stored) {
         Ok(index) => index,

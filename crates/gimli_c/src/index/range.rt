@@ -1,7 +1,7 @@
 //! The ranges of an index, one by one.
 
-ghost use Rattle.std.specs.Prelude.{◌≡◌, ◌≢◌, ◌<◌, ◌^◌, MatchOption};
-ghost use Rattle.gimli_index.specs.Spans.{identity_begin, StandsIn};
+ghost use Rattle.std.specs.Prelude.{◌≡◌, ◌≢◌, MatchOption};
+ghost use Rattle.gimli_index.specs.Spans.{StandsIn};
 ghost use Rattle.gimli_index.specs.Views.{index_of};
 ghost use Rattle.gimli_c.specs.Indexed.{HasNoStart, IsIndex, IsNoIndex, SeesStart};
 

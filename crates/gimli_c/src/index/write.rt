@@ -1,20 +1,19 @@
 //! Making an index.
 
-ghost use Rattle.std.specs.Prelude.{◌≡◌, ◌≢◌, ◌⊎◌, ◌^◌, [], ℕ, true, false, IfErr, IfOk, List};
+ghost use Rattle.std.specs.Prelude.{◌≡◌, ◌≢◌, ◌^◌, [], ℕ, true, false, IfErr, IfOk, List};
 ghost use Rattle.gimli_core.specs.Numbers.{is_address_size};
 ghost use Rattle.gimli_core.specs.Order.{is_big_endian};
 ghost use Rattle.gimli_compilation.specs.Sections.{sections_of};
-ghost use Rattle.gimli_c.specs.CompDir.{sections_handed};
-ghost use Rattle.gimli_c.specs.MadeIndex.{make_status, index_source, program, AreAllUnitsOf};
-ghost use Rattle.gimli_c.specs.MadeIndex.{GivesIndexOf, IsIndexBytesOf, IsIndexRefusal};
-ghost use Rattle.gimli_c.specs.MadeIndex.{NeedsIndexRoom};
+ghost use Rattle.gimli_c.specs.MadeIndex.{make_status, index_source, program, source_handed};
+ghost use Rattle.gimli_c.specs.MadeIndex.{AreAllUnitsOf, CopiesIndex, IsIndexBytesOf};
+ghost use Rattle.gimli_c.specs.MadeIndex.{IsIndexRefusal};
 
 use crate::comp_dir::sections_in;
-use crate::file::copy_bytes;
+use crate::file::put_bytes;
 use crate::location::{is_address_size, order};
 use crate::status::{
-    INDEX_DISORDERED, INDEX_TOO_LARGE, NO_ROOM, OK, OUT_OF_MEMORY, PLACE_TOO_LARGE,
-    UNKNOWN_OPTIONS, UNSUPPORTED_ADDRESS_SIZE,
+    INDEX_DISORDERED, INDEX_TOO_LARGE, OUT_OF_MEMORY, PLACE_TOO_LARGE, UNKNOWN_OPTIONS,
+    UNSUPPORTED_ADDRESS_SIZE,
 };
 use gimli_compilation::{CompilationSections, Compilations};
 use gimli_core::{EndianSlice, RunTimeEndian};
@@ -64,7 +63,7 @@ fn make_status(error: MakeError) -> u32
 
 /// The units of a section, with their headers, and these sections of strings, while no compilation
 /// is known. Refused by `OUT_OF_MEMORY` alone.
-fn program_of<'s>(
+pub(crate) fn program_of<'s>(
     alloc: Global,
     section: &'s [u8],
     texts: &StringSections<Slice<'s>>,
@@ -138,23 +137,12 @@ pub extern "C" fn gimli_line_proved_index_write(
     stored: &mut [u8],
     size: &mut usize,
 ) -> u32
-    ensures ok { result ≡ OK → GivesIndexOf (index_source (program section.now options.now.is_big
-        options.now.address_size options.now.lowest line_strings.now strings.now)
-        (sections_handed info.now abbreviations.now line_strings.now strings.now
-        string_offsets.now options.now.is_big) identity.now) stored.old stored.new size.new }
-    ensures room { result ≡ NO_ROOM
-        → NeedsIndexRoom (index_source (program section.now options.now.is_big
-        options.now.address_size options.now.lowest line_strings.now strings.now)
-        (sections_handed info.now abbreviations.now line_strings.now strings.now
-        string_offsets.now options.now.is_big) identity.now) stored.old size.new }
+    ensures index { CopiesIndex (source_handed options.now section.now line_strings.now strings.now
+        info.now abbreviations.now string_offsets.now identity.now) options.now result
+        stored.old stored.new size.new }
     ensures options { options.now.size ≢ OPTIONS_SIZE → result ≡ UNKNOWN_OPTIONS }
     ensures size { options.now.size ≡ OPTIONS_SIZE →
         is_address_size options.now.address_size ≡ false → result ≡ UNSUPPORTED_ADDRESS_SIZE }
-    ensures refused { result ≢ OK → result ≢ NO_ROOM → IsIndexRefusal result
-        ⊎ ((result ≡ UNSUPPORTED_ADDRESS_SIZE) × (is_address_size options.now.address_size ≡ false))
-        ⊎ ((result ≡ UNKNOWN_OPTIONS) × (options.now.size ≢ OPTIONS_SIZE)) }
-    ensures kept { result ≢ OK → stored.new ≡ stored.old }
-    ensures none { result ≢ OK → result ≢ NO_ROOM → size.new ≡ 0 }
 {
     *size = 0;
     if options.size != OPTIONS_SIZE {
@@ -176,15 +164,8 @@ pub extern "C" fn gimli_line_proved_index_write(
         string_offsets,
         options.is_big,
     );
-    let made = match made_index(alloc, section, &texts, &sections, options, identity) {
-        Ok(made) => made,
-        Err(status) => return status,
-    };
-    let bytes = made.as_slice();
-    *size = bytes.len();
-    if bytes.len() > stored.len() {
-        return NO_ROOM;
+    match made_index(alloc, section, &texts, &sections, options, identity) {
+        Ok(made) => put_bytes(made.as_slice(), stored, size),
+        Err(status) => status,
     }
-    copy_bytes(bytes, stored);
-    OK
 }

@@ -1,40 +1,30 @@
-use Rattle.std.proofs.Common.{ℕ, List, length, ap, subst, arith}
+use Rattle.std.proofs.Common.{List, ℕ, subst, sym}
 use Rattle.gimli_lookup.specs.Strings.{Strings}
 use Rattle.gimli_c.specs.Location.{location}
-use Rattle.gimli_c.specs.Path.{GivesPath, HasNoPath}
-use Rattle.gimli_c.specs.Written.{IsPut}
+use Rattle.gimli_c.specs.Path.{GivesPath, HasNoPath, texts_handed}
+use Rattle.gimli_c.proofs.Copied.{copied, not_copied}
 use Rattle.gimli_c.proofs.PathsOfFiles.{same_texts}
 use Rattle.gimli_c.proofs.path.gimli_line_proved_read_path.Goals as goal
 
-pub returns-in-Err-clause-refused : goal.returns-in-Err-clause-refused
-returns-in-Err-clause-refused c = λ _ _ memory.
+pub returns-in-Err-clause-path : goal.returns-in-Err-clause-path
+returns-in-Err-clause-path c =
+    not_copied _ _ _ _ _ c.in-Err.ensures.other.0 c.in-Err.ensures.other.1
+    (λ memory.
     subst
     (λ (texts : Strings).
     HasNoPath (location c.args.section.now c.args.is_big c.args.address_size c.args.offset) texts c.args.number
     c.args.comp_dir.now c.in-Err.status)
     (same_texts _ _ c.args.line_strings.now c.args.strings.now c.new.ensures.bytes c.new-2.ensures.bytes)
-    (c.in-Err.ensures.err memory)
+    (c.in-Err.ensures.err memory))
 
-pub returns-in-Ok-clause-found : goal.returns-in-Ok-clause-found
-returns-in-Ok-clause-found c = λ ok.
-    let p = location c.args.section.now c.args.is_big c.args.address_size c.args.offset in (
-      c.in-Ok.whole.items,
-      subst (λ (texts : Strings). GivesPath p texts c.args.number c.args.comp_dir.now c.in-Ok.whole.items)
-          (same_texts _ _ c.args.line_strings.now c.args.strings.now c.new.ensures.bytes c.new-2.ensures.bytes)
-          c.in-Ok.ensures.ok,
-      subst (λ (xs : List ℕ). IsPut xs c.args.path.now c.put_bytes.new.room) c.as_slice-bytes.ensures.value
-          (c.put_bytes.ensures.put ok),
-      ap (λ (xs : List ℕ). length xs) c.as_slice-bytes.ensures.value,
-    )
-
-pub returns-in-Ok-clause-larger : goal.returns-in-Ok-clause-larger
-returns-in-Ok-clause-larger c = λ no_room.
+pub returns-in-Ok-clause-path : goal.returns-in-Ok-clause-path
+returns-in-Ok-clause-path c =
     let p = location c.args.section.now c.args.is_big c.args.address_size c.args.offset in
-    let same = ap (λ (xs : List ℕ). length xs) c.as_slice-bytes.ensures.value in (
-      c.in-Ok.whole.items,
-      subst (λ (texts : Strings). GivesPath p texts c.args.number c.args.comp_dir.now c.in-Ok.whole.items)
-          (same_texts _ _ c.args.line_strings.now c.args.strings.now c.new.ensures.bytes c.new-2.ensures.bytes)
-          c.in-Ok.ensures.ok,
-      omega (arith, c.put_bytes.ensures.larger no_room, same),
-      same,
-    )
+    let handed = texts_handed c.args.line_strings.now c.args.strings.now in
+    let same =
+    same_texts _ _ c.args.line_strings.now c.args.strings.now c.new.ensures.bytes c.new-2.ensures.bytes in
+    copied _ _ _ _ _ _ _ _
+    (subst (λ (xs : List ℕ). GivesPath p handed c.args.number c.args.comp_dir.now xs) (sym c.as_slice.ensures.value)
+    (subst (λ (texts : Strings). GivesPath p texts c.args.number c.args.comp_dir.now c.in-Ok.whole.items) same
+    c.in-Ok.ensures.ok))
+    c.put_bytes.ensures

@@ -1,34 +1,34 @@
-use Rattle.std.proofs.Common.{List, ℕ, length, ap, ◌∙◌, arith}
-use Rattle.gimli_c.specs.Written.{slots_with}
-use Rattle.gimli_c.proofs.MadeIndexes.{same_index}
+use Rattle.std.proofs.Common.{List, ℕ, inl, inr, refl, rules, subst, sym}
+use Rattle.gimli_c.specs.MadeIndex.{IsIndexBytesOf, source_handed}
+use Rattle.gimli_c.proofs.Copied.{copied, not_copied, not_copied_at}
+use Rattle.gimli_c.proofs.MadeIndexes.{refusal_is_none, same_index}
 use Rattle.gimli_c.proofs.index.write.gimli_line_proved_index_write.Goals as goal
 
-pub returns-then-bytes-stored-clause-room : goal.returns-then-bytes-stored-clause-room
-returns-then-bytes-stored-clause-room c = λ _.
-    let same = ap (λ (xs : List ℕ). length xs) c.as_slice-bytes.ensures.value in
-    record {
-      bytes = c.in-Ok.made.items;
-      is_index =
-          same_index c.args.section.now c.args.options.now.is_big _ _ _ _ _ _ _ _ c.args.identity.now _
-          c.new.ensures.bytes
-          c.new-2.ensures.bytes
-          c.sections_in-sections.ensures c.in-Ok.ensures.ok;
-      passes = omega (arith, c.if-bytes-stored.true, same);
-      size_is = same;
-    }
+pub returns-then-options-ne-OPTIONS_SIZE-clause-index : goal.returns-then-options-ne-OPTIONS_SIZE-clause-index
+returns-then-options-ne-OPTIONS_SIZE-clause-index c =
+    not_copied_at _ _ _ _ _ refl refl (inr (inr (refl, c.if-options-ne-OPTIONS_SIZE.true)))
 
-pub returns-clause-ok : goal.returns-clause-ok
-returns-clause-ok c = λ _.
-    let same = ap (λ (xs : List ℕ). length xs) c.as_slice-bytes.ensures.value in
-    record {
-      bytes = c.in-Ok.made.items;
-      is_index =
-          same_index c.args.section.now c.args.options.now.is_big _ _ _ _ _ _ _ _ c.args.identity.now _
-          c.new.ensures.bytes
-          c.new-2.ensures.bytes
-          c.sections_in-sections.ensures c.in-Ok.ensures.ok;
-      fits = omega (arith, c.if-bytes-stored.false, same);
-      written_is =
-          c.copy_bytes.ensures ∙ ap (λ (xs : List ℕ). slots_with xs c.args.stored.now) c.as_slice-bytes.ensures.value;
-      size_is = same;
-    }
+pub returns-then-not-is_address_size-clause-index : goal.returns-then-not-is_address_size-clause-index
+returns-then-not-is_address_size-clause-index c =
+    not_copied_at _ _ _ _ _ refl refl (inr (inl (refl, search rules)))
+
+pub returns-in-Err-clause-index : goal.returns-in-Err-clause-index
+returns-in-Err-clause-index c =
+    let none = refusal_is_none _ c.in-Err.ensures.err in
+    not_copied _ _ _ _ _ none.0 none.1 (inl c.in-Err.ensures.err)
+
+pub returns-in-Ok-clause-index : goal.returns-in-Ok-clause-index
+returns-in-Ok-clause-index c =
+    copied _ _ _ _ _ _ _ _
+    (subst
+    (λ (xs : List ℕ).
+    IsIndexBytesOf
+    (source_handed c.args.options.now c.args.section.now c.args.line_strings.now c.args.strings.now c.args.info.now
+    c.args.abbreviations.now c.args.string_offsets.now c.args.identity.now)
+    xs)
+    (sym c.as_slice.ensures.value)
+    (same_index c.args.section.now c.args.options.now.is_big _ _ _ _ _ _ _ _ c.args.identity.now _
+    c.new.ensures.bytes
+    c.new-2.ensures.bytes
+    c.sections_in-sections.ensures c.in-Ok.ensures.ok))
+    c.put_bytes.ensures
