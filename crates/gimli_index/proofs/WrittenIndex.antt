@@ -203,7 +203,7 @@ module _ (given : Given) {limit : ℕ} (table : Table) (entries : List Entry) (s
       fits = fits;
       ascending = ascending;
       ordered = ordered;
-      says = λ a found is. ap (place_at a) starts ∙ says a found is;
+      says = λ a. ap (place_at a) starts ∙ says a;
       lines = λ path line.
           lines path line
           ∙ ap (λ (ms : List StatementMeaning). addresses_of path ms line) same_meanings

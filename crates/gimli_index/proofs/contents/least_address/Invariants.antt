@@ -1,4 +1,4 @@
-use Rattle.std.proofs.Common.{◌≡◌, ◌++◌, map, take}
+use Rattle.std.proofs.Common.{◌≡◌, take}
 use Rattle.gimli_index.specs.Made.{all_addresses}
 use Rattle.gimli_index.specs.inside.Ranks.{least_of}
 use Rattle.gimli_index.proofs.contents.least_address.Given as goal

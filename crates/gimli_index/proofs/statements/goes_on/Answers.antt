@@ -1,4 +1,4 @@
-use Rattle.std.proofs.Common.{◌∙◌, ◌&&◌, Bool, nat_eq, Option, ap, sym, subst}
+use Rattle.std.proofs.Common.{◌∙◌, ◌&&◌, Bool, Option, ap, sym}
 use Rattle.std.proofs.lemmas.Bool.{eq-eqb}
 use Rattle.gimli_index.specs.Contents.{path_at}
 use Rattle.gimli_index.specs.Found.{is_one_path}

@@ -1,13 +1,12 @@
-use Rattle.std.proofs.Common.{◌≡◌, ◌∙◌, ◌++◌, ◌∷◌, ◌+◌, ◌≤◌, None, Some, List, arith, ap, drop, length, refl, subst}
+use Rattle.std.proofs.Common.{◌≡◌, ◌∙◌, ◌++◌, ◌∷◌, ◌+◌, ◌≤◌, List, arith, ap, drop, length, refl}
 use Rattle.std.proofs.Common.{sym}
-use Rattle.std.specs.Prelude.{slice_get, slice_index_or}
+use Rattle.std.specs.Prelude.{slice_get}
 use Rattle.std.proofs.lemmas.List.{drop_all, drop_more}
 use Rattle.std.proofs.lemmas.Option.{get_or_from_slice_get, slice_get_within}
 use Rattle.gimli_line.specs.declared.run.row.LineRow.{LineRow}
 use Rattle.gimli_lookup.specs.Section.{KeptUnit}
 use Rattle.gimli_lookup.specs.Section.{rows_of}
 use Rattle.gimli_lookup.specs.ProgramPaths.{texts_seen}
-use Rattle.gimli_index.specs.Meaning.{Statement}
 use Rattle.gimli_index.specs.inside.Begun.{begun, given_in, statements_in}
 use Rattle.gimli_index.proofs.BegunSteps.{keeps_on, keeps_self}
 use Rattle.gimli_index.proofs.CodeRows.{code_at}

@@ -1,6 +1,6 @@
-use Rattle.std.proofs.Common.{◌≡◌, ◌∙◌, ◌≤◌, [], List, Ok, Err, Result, ap, arith, get_or, length, map, rules, subst}
+use Rattle.std.proofs.Common.{◌≡◌, ◌∙◌, [], List, Ok, Err, Result, ap, arith, get_or, length, rules, subst}
 use Rattle.std.proofs.Common.{sym}
-use Rattle.std.specs.Prelude.{All, IfOk}
+use Rattle.std.specs.Prelude.{IfOk}
 use Rattle.std.specs.List.{Contains}
 use Rattle.std.specs.List.Sorted.{IsPermutation}
 use Rattle.std.proofs.lemmas.List.{length-map}

@@ -1,4 +1,4 @@
-use Rattle.std.proofs.Common.{◌≡◌, ◌∙◌, ◌++◌, [], List, ap, subst, sym, ℕ}
+use Rattle.std.proofs.Common.{◌∙◌, ◌++◌, List, ap, subst}
 use Rattle.gimli_index.specs.Contents.{index_bytes, Fits}
 use Rattle.gimli_index.specs.Made.{contents_of}
 use Rattle.gimli_index.specs.declared.contents.Statement.{Statement}

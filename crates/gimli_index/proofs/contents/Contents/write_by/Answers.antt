@@ -1,4 +1,4 @@
-use Rattle.std.proofs.Common.{◌≡◌, ◌++◌, true, length}
+use Rattle.std.proofs.Common.{◌≡◌, ◌++◌, length}
 use Rattle.std.specs.List.{Contains}
 use Rattle.gimli_index.specs.Contents.{Fits, index_bytes}
 use Rattle.gimli_index.specs.Made.{contents_of}

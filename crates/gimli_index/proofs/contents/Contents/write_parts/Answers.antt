@@ -1,12 +1,10 @@
-use Rattle.std.proofs.Common.{◌≡◌, ◌<◌, ◌≤◌, ◌+◌, ◌^◌, ◌++◌, ℕ, List, [], ap, arith, length, map, refl, subst, sym, ◌∙◌}
+use Rattle.std.proofs.Common.{◌≡◌, ◌<◌, ◌≤◌, ◌+◌, ◌^◌, ◌++◌, ℕ, List, ap, arith, refl, subst, sym, ◌∙◌}
 use Rattle.std.specs.Prelude.{flat_map, All}
 use Rattle.gimli_index.specs.Contents.{entry_bytes, header_bytes, source_bytes, start_bytes, statement_bytes}
-use Rattle.gimli_index.specs.Header.{highest_base}
 use Rattle.gimli_index.specs.Made.{all_addresses, base_for, contents_of, greatest, least, size_for}
 use Rattle.gimli_index.specs.declared.contents.Entry.{Entry}
 use Rattle.gimli_index.specs.declared.contents.Statement.{Statement}
 use Rattle.gimli_index.specs.declared.header.StartSize.{StartSize}
-use Rattle.gimli_index.specs.declared.header.StartSize.TheVariants.{Four}
 use Rattle.gimli_index.proofs.AddressEnds.{among_low, among_near, entries_low, entries_near}
 use Rattle.gimli_index.proofs.Puts.{then_put}
 use Rattle.gimli_index.proofs.contents.Contents.write_parts.Goals as goal
