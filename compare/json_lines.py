@@ -43,9 +43,12 @@ def is_flags(value):
 
 
 def are_rows(value):
-    return isinstance(value, list) and all(
-        list(it) == ["address", "is_stmt"] and is_address(it["address"]) and type(it["is_stmt"]) is bool for it in value
-    )
+    return isinstance(value, list) and all(is_row(it) for it in value)
+
+
+def is_row(value):
+    of_object = isinstance(value.get("section"), str) and list(value) == ["address", "section", "is_stmt"]
+    return (of_object or list(value) == ["address", "is_stmt"]) and is_address(value["address"]) and type(value["is_stmt"]) is bool
 
 
 def or_null(test):
@@ -62,6 +65,7 @@ BYTES = ("path_bytes", lambda value: bool(re.fullmatch("([0-9a-f]{2})+", value))
 TEXT_BYTES = ("text_bytes", BYTES[1])
 FUNCTION = ("function", or_null(is_text))
 UNIT = ("unit", is_address)
+END = [("range", is_range), ("is_stmt", lambda value: type(value) is bool)]
 FOUND = [*PLACE, ("range", is_range), ("discriminator", is_number), ("flags", is_flags)]
 COUNT = [("severity", one_of("fault", "lost", "odd", "usual")), ("kind", is_text), ("count", is_number)]
 DETAILS = [("time", is_number), ("size", is_number), ("md5", or_null(is_text)), ("source_bytes", or_null(is_number))]
@@ -73,7 +77,7 @@ FORMS = {
         [("address", is_address), PATH, FUNCTION, *FOUND],
     ],
     "where by an index": [[("address", or_null(is_address)), PATH], [("address", is_address), PATH, *PLACE]],
-    "at": [[("address", is_address), PATH, *PLACE, ("range", is_range), ("is_stmt", lambda value: type(value) is bool)]],
+    "at": [[("address", is_address), *section, PATH, *PLACE, *END] for section in ([], [("section", is_text)])],
     "source": [
         [PATH, ("line", is_number), ("text", or_null(is_text)), ("rows", are_rows)],
         [PATH, ("line", is_number), ("text", is_text), TEXT_BYTES, ("rows", are_rows)],
@@ -164,6 +168,12 @@ def check_program(program):
     check(program, "diff", [program, program])
 
 
+def check_object(program):
+    """An object file: the commands that name its sections."""
+    for name, place in (("at", "main"), ("at", "a.c:3"), ("source", "main")):
+        check(program, name, [program, place])
+
+
 def other_tables():
     """The tables of docs/reference/JSON.md that don't have the fields of the forms of their command, or aren't there."""
     with open(f"{TOP}/docs/reference/JSON.md", encoding="utf8") as file:
@@ -189,6 +199,14 @@ def made(folder):
     return [program]
 
 
+def made_object(folder):
+    """An object file, where gcc is there."""
+    with open(os.path.join(folder, "a.c"), "w", encoding="utf8") as file:
+        file.write("int main(void)\n{\n    return 0;\n}\n")
+    ran = subprocess.run(["gcc", "-g", "-c", "-o", f"{folder}/a.o", f"{folder}/a.c"], check=False)
+    return [f"{folder}/a.o"] if ran.returncode == 0 else []
+
+
 def main(programs):
     wrong = list(other_tables())
     print("\n".join(wrong), end="\n" if wrong else "")
@@ -196,6 +214,8 @@ def main(programs):
     with tempfile.TemporaryDirectory() as folder:
         for program in [*made(folder), *programs]:
             check_program(program)
+        for program in made_object(folder):
+            check_object(program)
     print(f"json: {counts['good']} lines as they have to be, {counts['bad']} not")
     sys.exit(1 if counts["bad"] or not counts["good"] else 0)
 

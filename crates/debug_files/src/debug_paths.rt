@@ -110,9 +110,8 @@ pub fn debug_file_paths(
     build_id: Option<&[u8]>,
     link: Option<&str>,
 ) -> Result<Vec<String>, AllocError>
-    ensures { IfOk result (λ paths. map string_bytes paths.items
-        ≡ debug_file_paths directory.now path.now (option_copied build_id.entry)
-        (option_copied link.entry)) }
+    ensures { IfOk result (λ paths. map string_bytes paths.items ≡ debug_file_paths
+        directory.now path.now (option_copied build_id.entry) (option_copied link.entry)) }
 {
     let mut paths = build_id_paths(alloc, directory, build_id)?;
     if let Some(name) = link {

@@ -13,9 +13,9 @@ use std::rt::Files;
 /// The sections of a program by its path. Where its own file has no line programs, its debug file
 /// is looked for, as [`debug_file_paths`] says with a directory of debug files, [`DEBUG_DIRECTORY`]
 /// unless there is another one: by the build id, and then by the name in the program's link. A file
-/// there with another build id, or another checksum, is passed over. Where code begins and ends is known of
-/// the file with the line programs, or else of the program. An object file is read whole. A
-/// compressed section that would have more bytes than the limit is refused; without a limit,
+/// there with another build id, or another checksum, is passed over. Where code begins and ends is
+/// known of the file with the line programs, or else of the program. An object file is read whole.
+/// A compressed section that would have more bytes than the limit is refused; without a limit,
 /// [`elf_sections::usual_limit`] of the size of its file holds.
 pub fn source_of<R: Files + AllocGlobal>(
     rt: &R,

@@ -9,10 +9,10 @@ use crate::outline::{Outline, checksum, whole};
 use crate::source::{FoundSections, PathSections, Wanted};
 use elf_sections::usual_limit;
 use std::alloc::Global;
+use std::fs;
 use std::fs::File;
 use std::io::{Read, Seek};
 use std::rt::Files;
-use std::fs;
 
 /// The name and the checksum of a debug file.
 #[derive(Drop)]

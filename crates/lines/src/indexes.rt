@@ -150,7 +150,11 @@ fn asked_index(run: Run<'_>, place: &str) -> io::Result<MadeIndex> {
     };
     let status = if bytes.is_some() { 0 } else { REFUSED };
     let starts = FunctionStarts::none(run.rt.alloc());
-    Ok(MadeIndex { bytes, starts, status })
+    Ok(MadeIndex {
+        bytes,
+        starts,
+        status,
+    })
 }
 
 /// The index of a program with this build id. None where it can't be read, which is reported.
@@ -162,7 +166,11 @@ fn make_index(mut session: Session<'_>, inputs: &Inputs, id: Option<&[u8]>) -> i
         None => (None, FunctionStarts::none(session.run.rt.alloc())),
     };
     let status = session.finish(Ok(()))?;
-    Ok(MadeIndex { bytes, starts, status })
+    Ok(MadeIndex {
+        bytes,
+        starts,
+        status,
+    })
 }
 
 /// The bytes of the index of a program, as `index_program` makes them, and where its functions

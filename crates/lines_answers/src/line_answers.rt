@@ -173,12 +173,7 @@ impl<'n> LineAnswers<'n> {
 }
 
 /// Prints the place of an address by an index that is kept.
-fn answer_by(
-    printer: &PlacePrinter<'_>,
-    kept: &KeptIndex,
-    address: u64,
-    output: &mut Output<'_>,
-) {
+fn answer_by(printer: &PlacePrinter<'_>, kept: &KeptIndex, address: u64, output: &mut Output<'_>) {
     match LineIndex::open(&kept.bytes) {
         Ok(index) => print_place(printer, index, address, output),
         Err(_) => printer.print(Some(address), None, None, output),

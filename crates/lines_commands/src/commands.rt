@@ -424,7 +424,16 @@ impl<'r> Session<'r> {
         let Run { rt, request } = self.run;
         let file = self.read_source(path)?;
         let (alloc, output) = (rt.alloc(), &mut self.output);
-        print_lines(alloc, path, file, rows, functions, place, request.context, output)?;
+        print_lines(
+            alloc,
+            path,
+            file,
+            rows,
+            functions,
+            place,
+            request.context,
+            output,
+        )?;
         self.hand_on()
     }
 

@@ -82,7 +82,9 @@ impl CodeLayout {
     /// The name of the section that has an address, or ends there, and the offset in it; None where
     /// none is placed so.
     pub(crate) fn place_of(&self, address: u64) -> Option<(&[u8], u64)> {
-        let after = self.placed.partition_point(|section| section.start <= address);
+        let after = self
+            .placed
+            .partition_point(|section| section.start <= address);
         let section = self.placed.get(after.checked_sub(1)?)?;
         if section.end < address {
             return None;
@@ -119,7 +121,9 @@ impl<'f> SectionNames<'f> {
     /// (`sh_name`, the first four bytes of a header); 0 where that can't be known.
     fn offset_of(&self, index: usize, count: usize) -> u32 {
         let size = self.entries.len() / count.max(1);
-        let entry = index.checked_mul(size).and_then(|at| self.entries.get(at..));
+        let entry = index
+            .checked_mul(size)
+            .and_then(|at| self.entries.get(at..));
         word_at(self.order, entry.unwrap_or(&[]), 0).unwrap_or(0)
     }
 }

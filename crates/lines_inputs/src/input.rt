@@ -339,7 +339,11 @@ impl<'i> InputSections<'i> {
     fn lay_out(&mut self, elf: Elf<'i>, file: &'i [u8]) -> Result<bool, ElfError> {
         let order = self.notation.order;
         let is_64_bit = self.notation.address_size.bytes() == 8;
-        let greatest = if is_64_bit { u64::MAX } else { u64::from(u32::MAX) };
+        let greatest = if is_64_bit {
+            u64::MAX
+        } else {
+            u64::from(u32::MAX)
+        };
         let sections = SectionNames::new(order, file)?;
         let sizes = &self.others.code_ends;
         if !self.layout.place_all(&sections, sizes, greatest)? {
@@ -351,7 +355,12 @@ impl<'i> InputSections<'i> {
     }
 
     /// Moves the addresses in line programs to where sections are placed.
-    fn move_lines(&mut self, elf: Elf<'i>, file: &'i [u8], is_64_bit: bool) -> Result<(), ElfError> {
+    fn move_lines(
+        &mut self,
+        elf: Elf<'i>,
+        file: &'i [u8],
+        is_64_bit: bool,
+    ) -> Result<(), ElfError> {
         let with_addends = elf.section(b".rela.debug_line")?.unwrap_or(&[]);
         let others = elf.section(b".rel.debug_line")?.unwrap_or(&[]);
         let relocations = Relocations {

@@ -51,7 +51,10 @@ impl Relocations<'_> {
     /// that section isn't placed.
     fn parse(&self, entry: &[u8]) -> Option<(usize, u64)> {
         let (offset, symbol) = if self.is_64_bit {
-            (self.long_at(entry)?, word_at(self.order, entry, self.place_of_symbol())?)
+            (
+                self.long_at(entry)?,
+                word_at(self.order, entry, self.place_of_symbol())?,
+            )
         } else {
             let offset = word_at(self.order, entry, 0)?;
             (u64::from(offset), word_at(self.order, entry, 4)? >> 8)
@@ -77,7 +80,11 @@ impl Relocations<'_> {
     /// The machine of the file (`e_machine`, at byte 18; `e_version` follows it).
     fn machine(&self) -> Option<u32> {
         let word = word_at(self.order, self.file, 18)?;
-        Some(if self.order.is_big_endian() { word >> 16 } else { word & 0xffff })
+        Some(if self.order.is_big_endian() {
+            word >> 16
+        } else {
+            word & 0xffff
+        })
     }
 
     /// The number of the first eight bytes.
@@ -92,7 +99,9 @@ impl Relocations<'_> {
     /// stand 0, the length of the instruction and its operation (DWARF 5, section 6.2.3).
     fn move_address(&self, offset: usize, start: u64, lines: &mut [u8]) {
         let width = if self.is_64_bit { 8 } else { 4 };
-        let before = offset.checked_sub(3).and_then(|from| lines.get(from..offset));
+        let before = offset
+            .checked_sub(3)
+            .and_then(|from| lines.get(from..offset));
         match before {
             Some([0, length, SET_ADDRESS]) if usize::from(*length) == width + 1 => {}
             _ => return,

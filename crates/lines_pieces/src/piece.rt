@@ -80,11 +80,7 @@ impl Display for Piece<'_> {
 }
 
 /// Writes an offset in a section.
-fn write_place<W: fmt::Write>(
-    name: &[u8],
-    offset: u64,
-    f: &mut fmt::Formatter<W>,
-) -> fmt::Result {
+fn write_place<W: fmt::Write>(name: &[u8], offset: u64, f: &mut fmt::Formatter<W>) -> fmt::Result {
     let name = PathText(name);
     write!(f, "{name}+0x{offset:x}")
 }

@@ -249,12 +249,18 @@ impl<'l> SourceListing<'l> {
         let (piece, width) = match self.functions.place_of(row.address) {
             Some((name, offset)) => (
                 Piece::InSection(name, offset),
-                name.len().saturating_add(1).saturating_add(width_of(offset)),
+                name.len()
+                    .saturating_add(1)
+                    .saturating_add(width_of(offset)),
             ),
             None => (Piece::Address(row.address), width_of(row.address)),
         };
         let blanks = BLANKS.get(width..).unwrap_or("");
-        add("  %%  %", &[piece, Piece::Word(blanks), Piece::Word(letter)], output);
+        add(
+            "  %%  %",
+            &[piece, Piece::Word(blanks), Piece::Word(letter)],
+            output,
+        );
     }
 
     /// Prints a row as an object of JSON.
