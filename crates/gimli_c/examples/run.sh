@@ -37,7 +37,7 @@ work=$(mktemp -d)
 trap 'rm -rf "$work"' EXIT
 
 cc -std=c11 -Wall -Wextra -Werror -O2 -I "$crate/include" -c "$crate/make/calls.c" -o "$work/calls.o"
-for example in addr2line where_is directories make_index ask_index indexes compiler debug_links bad_section; do
+for example in addr2line where_is directories make_index ask_index indexes compiler debug_links bad_section no_index one_address; do
     cc -std=c11 -Wall -Wextra -Werror -O2 -I "$crate/include" -I "$here/c" "$here"/*/"$example.c" "$work/calls.o" \
         "$library" "$kit/liblibc_c.a" -lpthread -o "$work/$example"
 done
@@ -88,6 +88,14 @@ none" ]
             places=$((places + $(wc -l <"$work/places")))
         done
     done
+    # The same without an index.
+    # shellcheck disable=SC2086
+    "$work/no_index" "$work/built" $covered | sed -E "s,:[0-9]+\$,," | cmp "$work/places" -
+    # shellcheck disable=SC2086
+    [ "$("$work/one_address" "$work/compressed" ${covered%%[!0-9a-f]*} | sed -E "s,:[0-9]+\$,,")" = "$(head -n 1 "$work/places")" ]
+    [ "$("$work/no_index" "$work/built" 0 ffffffffffffffff; "$work/one_address" "$work/built" 0)" = "none
+none
+none" ]
     # The same by indexes that stand in files, which are named by the build id, and say the same of every address.
     for name in built compressed; do
         "$work/make_index" "$work/$name" "$work/$name.index" >"$work/named"

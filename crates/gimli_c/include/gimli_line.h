@@ -18,7 +18,8 @@
  * Part 2  sections of an ELF file
  * Part 3  indexes: made once, and then asked by threads and signal handlers
  *         (examples/c/where_is.c, make_index.c, ask_index.c, crash.c, profile.c)
- * Part 4  units, rows, files and directories (examples/c/addr2line.c)
+ * Part 4  places without an index, units, rows, files and directories
+ *         (examples/c/one_address.c, addr2line.c)
  * Part 5  units written, for a compiler (examples/c/compiler.c)
  *
  * share/doc/gimli_line has these examples, and the pages CALLING and INDEX.
@@ -486,6 +487,27 @@ gimli_line_status gimli_line_find_row(const gimli_line_sections *sections, size_
  * Returns:
  *   GIMLI_LINE_NO_ROW   there are none
  *   the status of the first fault of the program, in which no address is looked up then */
+
+gimli_line_status gimli_line_place_of_elf(const void *file, size_t length, uint64_t address,
+                                          gimli_line_row *row, char *path, size_t room,
+                                          size_t *size) GIMLI_LINE_CALL;
+/* Finds the row of an address of an ELF file, and writes the whole path of the row's file, without
+ * an index. Each call reads the whole line table: for more than a few addresses make an index.
+ *
+ * Returns as gimli_line_sections_of_elf and gimli_line_place_of_sections do, and
+ *   GIMLI_LINE_NO_SECTION        the file has no .debug_line
+ *   GIMLI_LINE_INDEX_TOO_LARGE   .debug_line decompresses to more bytes than 4 * length + 1 MiB */
+
+gimli_line_status gimli_line_place_of_sections(const gimli_line_sections *sections,
+                                               uint64_t address, gimli_line_row *row, char *path,
+                                               size_t room, size_t *size) GIMLI_LINE_CALL;
+/* Does the same for sections that you have. The row and the path are those that an index of these
+ * sections would give.
+ *
+ * Returns:
+ *   GIMLI_LINE_NO_ROW         no row covers the address
+ *   GIMLI_LINE_NO_ROOM        *row is written, and *size is the size of the path
+ *   GIMLI_LINE_UNKNOWN_PATH   *row is written; a string of the path can't be read */
 
 /* Where a string stands. */
 enum gimli_line_text_kind {

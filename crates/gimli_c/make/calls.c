@@ -239,6 +239,25 @@ gimli_line_status gimli_line_index_of_elf(const void *file, size_t length, uint8
     return status;
 }
 
+gimli_line_status gimli_line_place_of_sections(const gimli_line_sections *in, uint64_t address, gimli_line_row *row, char *path,
+                                               size_t room, size_t *size) {
+    const gimli_line_proved_options by = {sizeof by, in->lowest, in->address_size, in->big, 0};
+    if (!is_known(in)) return GIMLI_LINE_UNKNOWN_OPTIONS;
+    return status_of(gimli_line_proved_place(READ(in->line), in->line_size, READ(in->line_strings), in->line_strings_size,
+                                             READ(in->strings), in->strings_size, READ(in->info), in->info_size, READ(in->abbreviations),
+                                             in->abbreviations_size, READ(in->string_offsets), in->string_offsets_size, &by, address, row,
+                                             AT((void *)path), room, size));
+}
+
+gimli_line_status gimli_line_place_of_elf(const void *file, size_t length, uint64_t address, gimli_line_row *row, char *path, size_t room,
+                                          size_t *size) {
+    gimli_line_sections sections = GIMLI_LINE_SECTIONS;
+    gimli_line_status status = lines_of_elf(file, length, &sections);
+    if (status == GIMLI_LINE_OK) status = gimli_line_place_of_sections(&sections, address, row, path, room, size);
+    gimli_line_sections_free(&sections);
+    return status;
+}
+
 gimli_line_status gimli_line_build_id(const void *file, size_t length, uint8_t *id, size_t room, size_t *size) {
     return status_of(gimli_line_proved_elf_build_id(READ(file), length, AT((void *)id), room, size));
 }

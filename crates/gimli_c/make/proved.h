@@ -39,6 +39,9 @@ uint32_t gimli_line_proved_index_addresses_of(const uint8_t *, size_t, const uin
 uint32_t gimli_line_proved_index_write(const uint8_t *, size_t, const uint8_t *, size_t, const uint8_t *, size_t, const uint8_t *, size_t,
                                        const uint8_t *, size_t, const uint8_t *, size_t, const gimli_line_proved_options *, const uint8_t *,
                                        size_t, uint8_t *, size_t, size_t *);
+uint32_t gimli_line_proved_place(const uint8_t *, size_t, const uint8_t *, size_t, const uint8_t *, size_t, const uint8_t *, size_t,
+                                 const uint8_t *, size_t, const uint8_t *, size_t, const gimli_line_proved_options *, uint64_t,
+                                 gimli_line_row *, uint8_t *, size_t, size_t *);
 uint32_t gimli_line_proved_elf_open(const uint8_t *, size_t, gimli_line_proved_elf *);
 uint32_t gimli_line_proved_elf_section(const uint8_t *, size_t, const uint8_t *, size_t, uint8_t *, size_t, size_t *);
 uint32_t gimli_line_proved_elf_build_id(const uint8_t *, size_t, uint8_t *, size_t, size_t *);

@@ -50,3 +50,20 @@ module _ (Is : List ℕ → Type 0) (IsReason : ℕ → Type 0) (status : ℕ) (
   pub not_copied_at : nat_eq status OK ≡ false → nat_eq status NO_ROOM ≡ false → IsReason status
       → Copies Is IsReason status old old size_old size_old
   not_copied_at some other reason = not_copied (apart status OK some) (apart status NO_ROOM other) reason
+
+-- what holds of what is copied, and why nothing is, by other names
+pub copies_more : (Is Other : List ℕ → Type 0) (IsReason OtherReason : ℕ → Type 0) (status : ℕ) (old new : List ℕ)
+    (size_old size_new : ℕ) → ((whole : List ℕ) → Is whole → Other whole)
+    → ((s : ℕ) → IsReason s → OtherReason s) → Copies Is IsReason status old new size_old size_new
+    → Copies Other OtherReason status old new size_old size_new
+copies_more Is Other IsReason OtherReason status old new size_old size_new f g c = record {
+  found = λ ok.
+      let given = c.found ok in
+      record { whole = given.whole; is = f given.whole given.is; put = given.put; size_is = given.size_is };
+  larger = λ no_room.
+      let given = c.larger no_room in
+      record { whole = given.whole; is = f given.whole given.is; longer = given.longer; size_is = given.size_is };
+  refused = λ some other. g status (c.refused some other);
+  kept = c.kept;
+  no_size = c.no_size;
+}

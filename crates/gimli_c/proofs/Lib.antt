@@ -13,4 +13,5 @@ pub mod PathsOfFiles
 pub mod Indexes
 pub mod Listings
 pub mod MadeIndexes
+pub mod Places
 pub mod TakenOne

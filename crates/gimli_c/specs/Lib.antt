@@ -19,6 +19,7 @@ pub mod Listed
 pub mod Indexed
 pub mod MadeIndex
 pub mod IndexLines
+pub mod Place
 pub mod ElfSeen
 pub mod BuildId
 pub mod DebugLink

@@ -4,3 +4,4 @@ pub mod Handed
 pub mod Run
 pub mod Unit
 pub mod Told
+pub mod Place

@@ -16,4 +16,5 @@ pub use header::{GimliIndex, gimli_line_index_check, gimli_line_index_open};
 pub use lines::gimli_line_proved_index_addresses_of;
 pub use place::{GimliPlace, NO_PATH_OUTSIDE};
 pub use range::gimli_line_index_range;
+pub(crate) use write::program_of;
 pub use write::{GimliIndexOptions, OPTIONS_SIZE, gimli_line_proved_index_write};

@@ -20,6 +20,7 @@ mod listed;
 mod location;
 mod next_unit;
 mod path;
+mod place;
 mod relocatable;
 mod row;
 mod rows;
@@ -52,6 +53,7 @@ pub use index::{
 pub use items::GimliSymbol;
 pub use listed::{GimliListedFile, gimli_line_proved_read_files};
 pub use path::gimli_line_proved_read_path;
+pub use place::gimli_line_proved_place;
 pub use relocatable::{GimliRelocation, gimli_line_proved_write_relocatable};
 pub use row::{BASIC_BLOCK, END_SEQUENCE, EPILOGUE_BEGIN, GimliRow, IS_STMT, PROLOGUE_END};
 pub use rows::gimli_line_proved_read_rows;

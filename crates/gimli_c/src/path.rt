@@ -25,7 +25,7 @@ use std::alloc::Global;
 type Slice<'s> = EndianSlice<'s, RunTimeEndian>;
 
 /// The number of a refusal: `OUT_OF_MEMORY` or `UNKNOWN_PATH`.
-fn path_status(error: PathError) -> u32
+pub(crate) fn path_status(error: PathError) -> u32
     ensures number { result ≢ OUT_OF_MEMORY → (result ≡ UNKNOWN_PATH) × (error ≢ OutOfMemory) }
     ensures other { (result ≢ OK) × (result ≢ NO_ROOM) }
 {

@@ -63,7 +63,7 @@ fn make_status(error: MakeError) -> u32
 
 /// The units of a section, with their headers, and these sections of strings, while no compilation
 /// is known. Refused by `OUT_OF_MEMORY` alone.
-fn program_of<'s>(
+pub(crate) fn program_of<'s>(
     alloc: Global,
     section: &'s [u8],
     texts: &StringSections<Slice<'s>>,
