@@ -65,7 +65,23 @@ static uint32_t unit_of(const void *contents, uint8_t *unit, size_t room, size_t
     return gimli_line_write(contents, unit, room, size);
 }
 
-/* What the index says of an address is what the first unit says that has a row of it. */
+/* What is said of an address without an index: this row and this path, by rooms that are too small and large enough. */
+static void ask_place(uint64_t address, uint32_t found, const gimli_line_row *row, const told *path) {
+    gimli_line_row *seen = room_in(ARRAY, sizeof *seen);
+    size_t *size = room_in(BESIDE, sizeof *size), whole = found == GIMLI_LINE_OK ? path->count : 0;
+    for (size_t room = whole < 2 ? 0 : whole - 2; room <= whole + 1; room++) {
+        char *bytes = room_in(CUT, room);
+        uint32_t status = gimli_line_place_of_sections(&in, address, seen, bytes, room, size);
+        size_t written = status == GIMLI_LINE_OK ? whole : 0;
+        is(status == (found == GIMLI_LINE_OK && room < whole ? (uint32_t)GIMLI_LINE_NO_ROOM : found), "a status without an index");
+        is(found == GIMLI_LINE_OK ? *size == whole && memcmp(seen, row, sizeof *row) == 0 && memcmp(bytes, path->array, written) == 0
+                                  : is_untouched(seen, sizeof *seen) && is_untouched(size, sizeof *size),
+           "a place without an index");
+        is(is_untouched(bytes + written, room - written), "beside its path");
+    }
+}
+
+/* What the index says of an address is what the first unit says that has a row of it, and so is what is said without an index. */
 static void ask_address(const uint8_t *index, size_t length, uint64_t address) {
     static told path, home;
     gimli_line_row *first = room_in(ARRAY, sizeof *first), *second = room_in(BESIDE, sizeof *second), row;
@@ -81,7 +97,10 @@ static void ask_address(const uint8_t *index, size_t length, uint64_t address) {
     gimli_line_place *there = room_in(ANOTHER, sizeof *there);
     is(gimli_line_index_find(index, length, address, there) == found, "the status of a place");
     is(found == GIMLI_LINE_OK || is_untouched(there, sizeof *there), "a place that isn't found");
-    if (found != GIMLI_LINE_OK) return;
+    if (found != GIMLI_LINE_OK) {
+        ask_place(address, found, NULL, NULL);
+        return;
+    }
     row = *first;
     is(try_rooms(comp_dir_in, offset, 0, 1, sizeof(size_t), 0, &home) == GIMLI_LINE_OK, "the directory of a compilation");
     comp_dir = (const char *)home.array;
@@ -92,6 +111,7 @@ static void ask_address(const uint8_t *index, size_t length, uint64_t address) {
        "a place");
     is(there->no_path == 0 && there->path_size == path.count && memcmp(gimli_line_place_path(index, there), path.array, path.count) == 0,
        "its path");
+    ask_place(address, found, &row, &path);
     uint64_t *addresses = room_in(ARRAY, 2 * sizeof *addresses), *line = room_in(BESIDE, sizeof *line);
     size_t count;
     found = gimli_line_index_addresses_of(index, length, gimli_line_place_path(index, there), there->path_size, row.line, line, addresses,

@@ -14,7 +14,7 @@ returns-in-Ok-clause-refusal g c =
     let program = c.args.program.now in
     let texts = texts_after program (texts_in c.args.strings.now c.args.line_strings.now) in
     let later = drop c.in-Ok.offset.0 c.write.new.w.0.bytes in
-    let known = (c.encoding.ensures.accepted c.requires.program).address_size in
+    let known = (c.encoding-encoding.ensures.accepted c.requires.program).address_size in
     let cause = cause-is is_big c.args.encoding program (texts_in c.args.strings.now c.args.line_strings.now) known in
     let read =
     subst (λ strings. IfErr c.read_unit.result
@@ -32,7 +32,7 @@ returns-in-Ok-clause-ok g c =
     let is_big = g.E.Endianity.is_big c.args.w.now.0.endian in
     let program = c.args.program.now in
     let texts = texts_in c.args.strings.now c.args.line_strings.now in
-    let known = (c.encoding.ensures.accepted c.requires.program).address_size in
+    let known = (c.encoding-encoding.ensures.accepted c.requires.program).address_size in
     let cause = cause-is is_big c.args.encoding program texts known in
     round_trip_answered (g.E.Endianity.is_big c.write.new.w.0.endian) c.args.encoding program texts
     (texts_in c.write.new.strings c.write.new.line_strings) _ _
@@ -44,7 +44,7 @@ returns-in-Err-clause-refusal g c =
     let is_big = g.E.Endianity.is_big c.args.w.now.0.endian in
     let program = c.args.program.now in
     let texts = texts_in c.args.strings.now c.args.line_strings.now in
-    let known = (c.encoding.ensures.accepted c.requires.program).address_size in
+    let known = (c.encoding-encoding.ensures.accepted c.requires.program).address_size in
     let cause = cause-is is_big c.args.encoding program texts known in
     let why = refused-for _ _ _ cause (c.in-Err.ensures.writes.err refl refl) in
     write_refused _ program _ _ _ _ _ _ why c.from_write.ensures.memory c.from_write.ensures.other
