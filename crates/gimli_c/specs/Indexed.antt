@@ -1,4 +1,4 @@
--- What an index says (docs/INDEX.md), as C sees it.
+-- What an index says (docs/reference/INDEX.md), as C sees it.
 use Rattle.std.specs.Prelude.{◌≡◌, ◌≤◌, ◌⊎◌, ℕ, ◌+◌, List, length, slice_range, Option, Some, None}
 use Rattle.std.specs.Prelude.{Result, Ok, Err, true, false, drop, slice_get, MatchOption}
 use Rattle.std.specs.List.{AllZip}

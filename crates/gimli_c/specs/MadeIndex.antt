@@ -1,4 +1,4 @@
--- The index that is made of a program (docs/INDEX.md).
+-- The index that is made of a program (docs/reference/INDEX.md).
 use Rattle.std.specs.Prelude.{◌≡◌, ◌≢◌, ◌⊎◌, ◌^◌, ℕ, Bool, false, Option, None, List, [], map, All}
 use Rattle.gimli_core.specs.Numbers.{is_address_size}
 use Rattle.gimli_core.specs.Layout.{layout_of}

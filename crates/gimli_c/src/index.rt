@@ -1,5 +1,5 @@
-//! Indexes: an index of lines that is bytes (`docs/INDEX.md`), made once and asked as it lies
-//! there.
+//! Indexes: an index of lines that is bytes (`docs/reference/INDEX.md`), made once and asked as it
+//! lies there.
 //!
 //! No call that asks takes memory, and none writes but its answer: so any number of threads may ask
 //! one index at once, and so may a signal handler.

@@ -1,4 +1,4 @@
--- What an index is made of, and its bytes (docs/INDEX.md).
+-- What an index is made of, and its bytes (docs/reference/INDEX.md).
 use Rattle.std.specs.Prelude.{◌≡◌, ◌≤◌, ◌<◌, ℕ, ◌+◌, ◌-◌, ◌^◌, true, false, List, ◌++◌, length}
 use Rattle.std.specs.Prelude.{flat_map, slice_get, nat_eq, if◌then◌else◌, Option, Some, None}
 use Rattle.std.specs.Prelude.{Result, Err, All, IfSome}

@@ -1,4 +1,4 @@
--- The sources of an index: files, each of a unit (docs/INDEX.md, "Sources").
+-- The sources of an index: files, each of a unit (docs/reference/INDEX.md, "Sources").
 use Rattle.std.specs.Prelude.{ℕ, List, map, drop, Result}
 use Rattle.std.specs.List.{range_with_len}
 use Rattle.gimli_core.specs.Reading.{result_map}

@@ -39,8 +39,8 @@ use Rattle.gimli_lookup.specs.declared.section_lookup.CoveringRows.{CoveringRows
 
 -- ---- paths
 
--- the number of the reason why a path can't be told (docs/INDEX.md, "Sources"). Missing memory is
--- none: then nothing is made
+-- the number of the reason why a path can't be told (docs/reference/INDEX.md, "Sources"). Missing
+-- memory is none: then nothing is made
 abbrev pub reason_of : PathError → ℕ
 reason_of UnsupportedStringIndex = 1
 reason_of UnsupportedSupplementaryString = 2

@@ -1,5 +1,5 @@
--- The header of an index, its first 48 bytes (docs/INDEX.md, "Header"), and its numbers: the least
--- significant byte comes first.
+-- The header of an index, its first 48 bytes (docs/reference/INDEX.md, "Header"), and its numbers:
+-- the least significant byte comes first.
 use Rattle.std.specs.Prelude.{ℕ, List, take, drop, Result, Ok, Err, ◌+◌, [], ◌∷◌, length, nat_eq}
 use Rattle.std.specs.Prelude.{nat_lt, not, if◌then◌else◌}
 use Rattle.gimli_core.specs.Numbers.{le_value, is_address_size}

@@ -1,4 +1,5 @@
--- What an index says: from some addresses on a place holds, or nothing (docs/INDEX.md, "Starts").
+-- What an index says: from some addresses on a place holds, or nothing (docs/reference/INDEX.md,
+-- "Starts").
 use Rattle.std.specs.Prelude.{◌≡◌, ℕ, ◌+◌, ◌*◌, ◌%◌, ◌^◌, ◌<◌, ◌≤◌, Bool, false, List, map, fold}
 use Rattle.std.specs.Prelude.{drop, slice_get}
 use Rattle.std.specs.Prelude.{slice_range, nat_eq, nat_le, nat_lt, if◌then◌else◌, Option, Some}

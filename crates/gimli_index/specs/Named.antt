@@ -1,4 +1,4 @@
--- The sources of an index that an entry or a statement names (docs/INDEX.md, "Sources").
+-- The sources of an index that an entry or a statement names (docs/reference/INDEX.md, "Sources").
 use Rattle.std.specs.Prelude.{◌≡◌, ◌⊎◌, ◌<◌, ◌*◌, ℕ, List, drop, length, slice_get, Option, None}
 use Rattle.std.specs.Prelude.{Some}
 use Rattle.gimli_index.specs.Contents.{Contents}

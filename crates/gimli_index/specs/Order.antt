@@ -1,5 +1,5 @@
 -- The order of the statements of an index: by the names of their files, of one name by their lines,
--- and of one line by their addresses (docs/INDEX.md, "Statements").
+-- and of one line by their addresses (docs/reference/INDEX.md, "Statements").
 use Rattle.std.specs.Prelude.{◌≡◌, ◌<◌, ℕ, ◌+◌, ◌*◌, ◌%◌, ◌^◌, List, [], ◌∷◌, fold, min, Result}
 use Rattle.std.specs.Prelude.{Ok, Err}
 use Rattle.std.specs.List.Sorted.{IsNonDecreasingBy}

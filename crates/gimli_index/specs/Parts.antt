@@ -1,4 +1,4 @@
--- The parts of an index after its header, one after the other (docs/INDEX.md, "Parts").
+-- The parts of an index after its header, one after the other (docs/reference/INDEX.md, "Parts").
 use Rattle.std.specs.Prelude.{ℕ, ◌+◌, ◌*◌, List, length, nat_lt, slice_range, if◌then◌else◌, Result}
 use Rattle.std.specs.Prelude.{Ok, Err}
 use Rattle.gimli_index.specs.Header.{◌>>=◌}

@@ -1,4 +1,4 @@
--- Where the paths of an index stand in its bytes (docs/INDEX.md, "Parts").
+-- Where the paths of an index stand in its bytes (docs/reference/INDEX.md, "Parts").
 use Rattle.std.specs.Prelude.{◌≡◌, ◌<◌, ◌≤◌, ℕ, ◌+◌, ◌*◌, List, [], ◌∷◌, fold, length, nat_le}
 use Rattle.std.specs.Prelude.{nat_lt, slice_range, Option, None, Some, if◌then◌else◌}
 use Rattle.std.specs.Prelude.{IfSome, MatchOption, option_map}

@@ -49,7 +49,8 @@ pub struct Source {
     pub first: u32,
     /// The bytes of the path, without the zero byte that follows it.
     pub size: u32,
-    /// 0 where the path is known, else the number of why not (`docs/INDEX.md`, "Sources").
+    /// 0 where the path is known, else the number of why not (`docs/reference/INDEX.md`,
+    /// "Sources").
     pub reason: u32,
 }
 
@@ -431,7 +432,7 @@ fn put_sizes(
 impl Contents<'_> {
     ghost use Rattle.gimli_index.specs.Made.{contents_of};
 
-    /// Appends the bytes of the index of these contents, as `docs/INDEX.md` has them: the
+    /// Appends the bytes of the index of these contents, as `docs/reference/INDEX.md` has them: the
     /// statements in order, each address of a line of a path once.
     ///
     /// Refuses entries of which one is below the one before it (`NotAscending`), more entries,

@@ -1,5 +1,5 @@
 //! An index of the lines of a program that is bytes: made once, mapped from a file, shared by
-//! threads, and asked without memory. `docs/INDEX.md` has its format.
+//! threads, and asked without memory. `docs/reference/INDEX.md` has its format.
 //!
 //! [`LineIndex::open`] takes the bytes as they lie there, in constant work. [`LineIndex::find`]
 //! tells where the code at an address comes from, and [`LineIndex::get`] gives what holds from each

@@ -316,10 +316,10 @@ fn write_entries<R: Reader>(
 /// statement names, each the file of a row of code.
 ///
 /// Adjacent starts of one place are one. A path that can't be told is a source with the number of
-/// its reason (`docs/INDEX.md`, "Sources"). Refuses lines, columns, and more entries, statements,
-/// sources or bytes of paths or of the identity than 32 bits count, by name, and appends nothing
-/// then; else it fails only with `OutOfMemory`, where a part of the bytes may be appended. Requires
-/// an address size of 1, 2, 4 or 8 bytes.
+/// its reason (`docs/reference/INDEX.md`, "Sources"). Refuses lines, columns, and more entries,
+/// statements, sources or bytes of paths or of the identity than 32 bits count, by name, and
+/// appends nothing then; else it fails only with `OutOfMemory`, where a part of the bytes may be
+/// appended. Requires an address size of 1, 2, 4 or 8 bytes.
 ///
 /// `limit` is the most bytes that all paths may have, each once with its zero byte: more are
 /// refused (`PathsTooLarge`) before there is memory for them. A directory stands in the path of

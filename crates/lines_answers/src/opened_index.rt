@@ -121,7 +121,7 @@ impl IndexPlaces<'_, '_> {
     }
 }
 
-/// Why an index has no path, by the numbers of `docs/INDEX.md`, "Sources".
+/// Why an index has no path, by the numbers of `docs/reference/INDEX.md`, "Sources".
 const REASONS: [&str; 9] = [
     "reason 0",
     "a string is given by an index into the string offsets",

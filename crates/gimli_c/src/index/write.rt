@@ -120,9 +120,10 @@ fn made_index<'s>(
     }
 }
 
-/// Makes the index of a program (`docs/INDEX.md`). At `NO_ROOM` `size` says how many bytes it
-/// takes, at another status than 0 it is 0; and nothing is written. Reads all units for each call.
-/// The other statuses are those of `gimli_line_index_of_sections` in `include/gimli_line.h`.
+/// Makes the index of a program (`docs/reference/INDEX.md`). At `NO_ROOM` `size` says how many
+/// bytes it takes, at another status than 0 it is 0; and nothing is written. Reads all units for
+/// each call. The other statuses are those of `gimli_line_index_of_sections` in
+/// `include/gimli_line.h`.
 #[unsafe(no_mangle)]
 pub extern "C" fn gimli_line_proved_index_write(
     alloc: Global,
