@@ -302,7 +302,7 @@ def wrap(page):
 
     for _, line, is_code in lines_of(page):
         item = None if is_code else ITEM.match(line)
-        if is_code or not line.strip() or re.match(r"#|\||<!--", line) or line.endswith(("  ", "\\")):
+        if is_code or not line.strip() or re.match(r"#|\s*\||<!--", line) or line.endswith(("  ", "\\")):
             close()
             out.append(line)
         elif item:
