@@ -7,7 +7,7 @@
 use crate::order::{OrderOf, READ};
 use crate::parse;
 use gimli_core::{DebugLineOffset, Reader};
-use gimli_line::{ColumnType, DebugLine, IncompleteLineProgram, LineRow};
+use gimli_line::{DebugLine, IncompleteLineProgram, LineRow};
 use std::alloc::Global;
 use std::{fs, io};
 
@@ -84,10 +84,7 @@ impl Total {
             Some(line) => line.get(),
             None => 0,
         };
-        let column = match row.column() {
-            ColumnType::Column(column) => column.get(),
-            ColumnType::LeftEdge => 0,
-        };
+        let column = row.column().number();
         let word = row.address()
             ^ line.rotate_left(20)
             ^ row.file_index().rotate_left(40)

@@ -4,7 +4,7 @@ ghost use Rattle.std.specs.Prelude.{◌≡◌, ◌≤◌};
 ghost use Rattle.gimli_c.specs.Handed.{has_flag};
 ghost use Rattle.gimli_c.specs.Seen.{flag, flags_of, row_seen};
 
-use gimli_line::{ColumnType, LineRow};
+use gimli_line::LineRow;
 
 /// A row of a line program.
 #[repr(C)]
@@ -56,7 +56,7 @@ impl GimliRow {
             op_index: row.op_index(),
             file: row.file_index(),
             line: line_number(row),
-            column: column_number(row),
+            column: row.column().number(),
             isa: row.isa(),
             discriminator: row.discriminator(),
             flags: flags(row),
@@ -71,16 +71,6 @@ fn line_number(row: &LineRow) -> u64
     match row.line() {
         Some(line) => line.get(),
         None => 0,
-    }
-}
-
-/// The column of a row, 0 for the left edge.
-fn column_number(row: &LineRow) -> u64
-    ensures { result ≡ row.now.column }
-{
-    match row.column() {
-        ColumnType::LeftEdge => 0,
-        ColumnType::Column(column) => column.get(),
     }
 }
 

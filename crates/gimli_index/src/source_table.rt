@@ -19,7 +19,7 @@ use crate::path_bytes::PathBytes;
 use crate::source_hints::SourceHints;
 use crate::source_keys::{SourceKey, SourceKeys};
 use gimli_core::{Reader, ReaderOffset};
-use gimli_line::{ColumnType, LineRow};
+use gimli_line::LineRow;
 use gimli_lookup::{CoveringRows, SectionLookup};
 use std::alloc::{AllocError, Global};
 use std::marker::Model;
@@ -68,10 +68,7 @@ fn column_of(row: &LineRow) -> Result<u32, MakeError>
     ensures few { IfOk result (λ column. column < 2 ^ 30) }
     ensures err { IfErr result (λ e. (e ≡ ColumnTooLarge) × (2 ^ 30 ≤ row.now.column)) }
 {
-    let column = match row.column() {
-        ColumnType::LeftEdge => 0,
-        ColumnType::Column(column) => column.get(),
-    };
+    let column = row.column().number();
     if column < u64::from(COLUMNS) {
         Ok(column as u32)
     } else {

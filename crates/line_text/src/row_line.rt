@@ -1,6 +1,6 @@
 //! The lines of rows and of sequences.
 
-use gimli_line::{ColumnType, LineRow};
+use gimli_line::LineRow;
 use std::fmt;
 
 /// The line of a row: its address in sixteen hexadecimal digits, its numbers, and its flags.
@@ -14,7 +14,7 @@ impl fmt::Display for RowLine {
         let op_index = row.op_index();
         let file = row.file_index();
         let line = line_number(&row);
-        let column = column_number(&row);
+        let column = row.column().number();
         let isa = row.isa();
         let discriminator = row.discriminator();
         let flags = [
@@ -58,14 +58,6 @@ fn line_number(row: &LineRow) -> u64 {
     match row.line() {
         Some(line) => line.get(),
         None => 0,
-    }
-}
-
-/// The column of a row, 0 for the left edge.
-fn column_number(row: &LineRow) -> u64 {
-    match row.column() {
-        ColumnType::LeftEdge => 0,
-        ColumnType::Column(column) => column.get(),
     }
 }
 

@@ -6,7 +6,7 @@ ghost use Rattle.std.specs.Prelude.{◌≡◌};
 use crate::input::Input;
 use gimli_core::{DebugLineOffset, Error, Reader, ReaderOffset};
 use gimli_line::{
-    ColumnType, IncompleteLineProgram, LineProgramHeader, LineRow, LineUnit, LineUnits,
+    IncompleteLineProgram, LineProgramHeader, LineRow, LineUnit, LineUnits,
     OneShotLineRows,
 };
 use lines_words::{Output, UnitChoice};
@@ -266,10 +266,7 @@ pub fn line_of(row: &LineRow) -> u64
 pub fn column_of(row: &LineRow) -> u64
     ensures { result ≡ row.now.column }
 {
-    match row.column() {
-        ColumnType::LeftEdge => 0,
-        ColumnType::Column(column) => column.get(),
-    }
+    row.column().number()
 }
 
 /// Each flag of a row, with its name and its letter.

@@ -9,7 +9,7 @@ use anyhow::bail;
 use elf_sections::{Elf, ElfError};
 use gimli_compilation::{CompilationSections, Compilations};
 use gimli_core::{EndianSlice, LittleEndian, Reader};
-use gimli_line::{ColumnType, DebugLine, LineRow};
+use gimli_line::{DebugLine, LineRow};
 use gimli_lookup::laws::found_among_all;
 use gimli_lookup::{PathError, Program, StringSections};
 use std::alloc::Global;
@@ -108,10 +108,7 @@ fn print_source(
 ) -> Result<(), PathError> {
     let path = String::from_utf8_lossy(alloc, path)?;
     let line = row.line().map_or(0, |line| line.get());
-    let column = match row.column() {
-        ColumnType::LeftEdge => 0,
-        ColumnType::Column(column) => column.get(),
-    };
+    let column = row.column().number();
     Ok(writeln!(text, "{address:#x} {path}:{line}:{column}")?)
 }
 

@@ -5,7 +5,7 @@
 
 use gimli_core::{DebugLineOffset, Error, Format, LittleEndian, Reader, Result};
 use gimli_line::{
-    ColumnType, IncompleteLineProgram, LineProgramHeader, LineRow, LineUnits, OneShotLineRows,
+    IncompleteLineProgram, LineProgramHeader, LineRow, LineUnits, OneShotLineRows,
 };
 use gimli_write::{
     Address, ConvertError, ConvertResult, DebugLine, EndianVec, FileId, LineProgram, LineString,
@@ -229,10 +229,7 @@ fn built_row(row: &LineRow, file: FileId, address_offset: u64) -> gimli_write::L
         op_index: row.op_index(),
         file,
         line: row.line().map_or(0, |line| line.get()),
-        column: match row.column() {
-            ColumnType::LeftEdge => 0,
-            ColumnType::Column(column) => column.get(),
-        },
+        column: row.column().number(),
         discriminator: row.discriminator(),
         is_statement: row.is_stmt(),
         basic_block: row.basic_block(),

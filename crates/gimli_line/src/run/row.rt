@@ -42,6 +42,20 @@ pub enum ColumnType {
     Column(NonZeroU64),
 }
 
+impl ColumnType {
+    ghost use Rattle.gimli_line.specs.run.Row.{column_number};
+
+    /// The number of the column; 0 for the left edge.
+    pub fn number(self) -> u64
+        ensures { result ≡ column_number self }
+    {
+        match self {
+            ColumnType::LeftEdge => 0,
+            ColumnType::Column(column) => column.get(),
+        }
+    }
+}
+
 /// The sum as an address of a size, as `add_sized` gives it; where the size is 8, nothing more is
 /// asked than that it fits.
 #[inline(always)]

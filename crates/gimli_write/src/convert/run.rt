@@ -7,7 +7,7 @@ use crate::convert_error::{ConvertError, ConvertResult};
 use gimli_build::{FileId, LineRow as BuiltRow};
 use gimli_core::Reader;
 use gimli_line::{
-    ColumnType, Executed, FileEntry, IncompleteLineProgram, LineInstruction, LineInstructions,
+    Executed, FileEntry, IncompleteLineProgram, LineInstruction, LineInstructions,
     LineRow,
 };
 use std::marker::Model;
@@ -40,10 +40,7 @@ impl SourceRow {
                 Some(line) => line.get(),
                 None => 0,
             },
-            column: match row.column() {
-                ColumnType::Column(column) => column.get(),
-                ColumnType::LeftEdge => 0,
-            },
+            column: row.column().number(),
             discriminator: row.discriminator(),
             is_statement: row.is_stmt(),
             basic_block: row.basic_block(),
