@@ -1,5 +1,7 @@
 -- Reading the values of attributes.
 use Rattle.std.proofs.Common.{ℕ, List, Option, Some, None}
+use Rattle.std.specs.Map.{lookup}
+use Rattle.std.specs.Prelude.{nat_eq}
 use Rattle.gimli_core.specs.Layout.{OrderAndLimit}
 use Rattle.gimli_core.specs.Production.{refuse, Reads}
 use Rattle.gimli_core.specs.declared.common.Encoding.{Encoding}
@@ -10,7 +12,7 @@ use Rattle.gimli_compilation.specs.declared.form.Value.{Value}
 use Rattle.gimli_compilation.specs.declared.form.Shape.{Shape}
 use Rattle.gimli_compilation.specs.declared.form.Shape.TheVariants.{Fixed, Unsigned, Signed, Block, Counted}
 use Rattle.gimli_compilation.specs.declared.form.Shape.TheVariants.{UnsignedCounted, String}
-use Rattle.gimli_compilation.specs.Form.{shape_among, shapes, shape_production, known_form_production, form_production}
+use Rattle.gimli_compilation.specs.Form.{shapes, shape_production, known_form_production, form_production}
 
 module _ (layout : OrderAndLimit) where
   reads_shape : (shape : Shape) → Reads (shape_production layout shape)
@@ -25,7 +27,7 @@ module _ (layout : OrderAndLimit) where
   module _ (encoding : Encoding) where
     reads_known_form : (form : ℕ) → Reads (known_form_production layout encoding form)
     unfolding known_form_production
-    reads_known_form form = at_shape (shape_among form (shapes encoding))
+    reads_known_form form = at_shape (lookup (nat_eq form) (shapes encoding))
       where
         at_shape : (shape : Option Shape)
             → Reads {A = Value (List ℕ)} (elim shape

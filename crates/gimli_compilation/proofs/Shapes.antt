@@ -1,6 +1,7 @@
 -- The numbers of the forms that are known are ones that can be read.
 use Rattle.std.proofs.Common.{◌≡◌, ℕ, ◌≤◌, Bool, true, false, if◌then◌else◌, List, [], ◌∷◌, Some, refl, subst, arith}
 use Rattle.std.proofs.Common.{IsTrue}
+use Rattle.std.specs.Map.{lookup}
 use Rattle.std.specs.Prelude.{nat_eq, nat_le, ◌||◌}
 use Rattle.std.proofs.lemmas.Bool.{eqb-true}
 use Rattle.gimli_core.specs.Numbers.{is_address_size, word_size}
@@ -8,7 +9,7 @@ use Rattle.gimli_core.specs.declared.common.Encoding.{Encoding}
 use Rattle.gimli_core.specs.declared.common.Format.{Format}
 use Rattle.gimli_core.specs.declared.common.Format.TheVariants.{Dwarf32, Dwarf64}
 use Rattle.gimli_compilation.specs.declared.form.Shape.{Shape}
-use Rattle.gimli_compilation.specs.Form.{reference_size, shape_among, shapes}
+use Rattle.gimli_compilation.specs.Form.{reference_size, shapes}
 use Rattle.gimli_compilation.specs.inside.Value.{IsReadable}
 
 abbrev AreReadable : List (ℕ × Shape) → Type 0
@@ -16,12 +17,12 @@ AreReadable [] = Unit {0}
 AreReadable (row ∷ rows) = IsReadable row.1 × AreReadable rows
 
 among_readable : (form : ℕ) (shape : Shape) (rows : List (ℕ × Shape)) → AreReadable rows
-    → shape_among form rows ≡ Some shape → IsReadable shape
+    → lookup (nat_eq form) rows ≡ Some shape → IsReadable shape
 among_readable form shape [] all is = absurd cc
 among_readable form shape (row ∷ rows) all is = at_test (nat_eq form row.0) is (among_readable form shape rows all.1)
   where
-    at_test : (test : Bool) → (if test then Some row.1 else shape_among form rows) ≡ Some shape
-        → (shape_among form rows ≡ Some shape → IsReadable shape)
+    at_test : (test : Bool) → (if test then Some row.1 else lookup (nat_eq form) rows) ≡ Some shape
+        → (lookup (nat_eq form) rows ≡ Some shape → IsReadable shape)
         → IsReadable shape
     at_test true is others = let same : row.1 ≡ shape = cc in subst IsReadable same all.0
     at_test false is others = others is
@@ -49,7 +50,8 @@ module _ (encoding : Encoding) (known : IsTrue (is_address_size encoding.address
       at_test true = address_readable encoding.address_size known
       at_test false = word_readable encoding.format
 
-  pub form_readable : (form : ℕ) (shape : Shape) → shape_among form (shapes encoding) ≡ Some shape → IsReadable shape
+  pub form_readable : (form : ℕ) (shape : Shape) → lookup (nat_eq form) (shapes encoding) ≡ Some shape
+      → IsReadable shape
   form_readable form shape is =
       let address = address_readable encoding.address_size known in
       let word = word_readable encoding.format in

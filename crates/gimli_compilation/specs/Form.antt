@@ -1,6 +1,7 @@
 -- The forms of attributes (DWARF 5, sections 7.5.5 and 7.5.6): how a value lies in the bytes, and
 -- what is kept of it.
-use Rattle.std.specs.Prelude.{ℕ, List, [], ◌∷◌, ◌++◌, Option, Some, None, nat_eq, nat_le}
+use Rattle.std.specs.Map.{lookup}
+use Rattle.std.specs.Prelude.{ℕ, List, [], ◌∷◌, ◌++◌, Some, None, nat_eq, nat_le}
 use Rattle.std.specs.Prelude.{if◌then◌else◌}
 use Rattle.gimli_core.specs.FormNumbers.{DW_FORM_block2, DW_FORM_block4, DW_FORM_data2}
 use Rattle.gimli_core.specs.FormNumbers.{DW_FORM_data4, DW_FORM_data8, DW_FORM_string}
@@ -106,11 +107,6 @@ block_shapes =
 abbrev pub shapes : Encoding → List (ℕ × Shape)
 shapes encoding = unit_shapes encoding ++ (number_shapes ++ (leb_shapes ++ block_shapes))
 
--- the shape of the first row that has the number of the form
-abbrev pub shape_among : ℕ → List (ℕ × Shape) → Option Shape
-shape_among form [] = None
-shape_among form (row ∷ rows) = if nat_eq form row.0 then Some row.1 else shape_among form rows
-
 module _ (layout : OrderAndLimit) where
   -- that many bytes, of which nothing is kept
   abbrev pub passed_production : ℕ → Production (Value (List ℕ))
@@ -143,7 +139,7 @@ module _ (layout : OrderAndLimit) where
 
 -- a value in a form of the table; a form that isn't there is refused, whatever comes
 unfoldable pub known_form_production : OrderAndLimit → Encoding → ℕ → Production (Value (List ℕ))
-known_form_production layout encoding form = elim (shape_among form (shapes encoding)) [
+known_form_production layout encoding form = elim (lookup (nat_eq form) (shapes encoding)) [
   | Some shape ↦ shape_production layout shape
   | None ↦ refuse (UnknownForm (record { 0 = form }))
 ]

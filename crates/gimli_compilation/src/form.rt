@@ -1,11 +1,12 @@
 //! Values of attributes, by their forms (DWARF 5, sections 7.5.5 and 7.5.6).
 
-ghost use Rattle.std.specs.Prelude.{◌≡◌, ◌++◌, IsTrue};
+ghost use Rattle.std.specs.Map.{lookup};
+ghost use Rattle.std.specs.Prelude.{◌≡◌, ◌++◌, nat_eq, IsTrue};
 ghost use Rattle.gimli_core.specs.Layout.{layout_of};
 ghost use Rattle.gimli_core.specs.Numbers.{is_address_size};
 ghost use Rattle.gimli_core.specs.Reading.{result_map};
 ghost use Rattle.gimli_compilation.specs.Form.{block_shapes, data_kind, leb_shapes, number_shapes};
-ghost use Rattle.gimli_compilation.specs.Form.{reference_size, shape_among, shapes};
+ghost use Rattle.gimli_compilation.specs.Form.{reference_size, shapes};
 ghost use Rattle.gimli_compilation.specs.inside.Value.{value_seen};
 ghost use Rattle.gimli_compilation.specs.Form.{form_production, known_form_production};
 ghost use Rattle.gimli_compilation.specs.Form.{passed_production, shape_production};
@@ -84,7 +85,7 @@ fn reference_size(encoding: Encoding) -> u8
 
 /// How a value of a form lies in the bytes; None where the form isn't known.
 fn shape_of(form: DwForm, encoding: Encoding) -> Option<Shape>
-    ensures { result ≡ shape_among form.0 (shapes encoding) }
+    ensures { result ≡ lookup (nat_eq form.0) (shapes encoding) }
 {
     let word_size = encoding.format.word_size();
     match form {
@@ -108,7 +109,7 @@ fn shape_of(form: DwForm, encoding: Encoding) -> Option<Shape>
 /// The forms after those that depend on the unit: numbers of a fixed size, and what comes after
 /// them.
 fn number_shape(form: DwForm) -> Option<Shape>
-    ensures { result ≡ shape_among form.0 (number_shapes ++ (leb_shapes ++ block_shapes)) }
+    ensures { result ≡ lookup (nat_eq form.0) (number_shapes ++ (leb_shapes ++ block_shapes)) }
 {
     match form {
         shared::DW_FORM_data1
@@ -136,7 +137,7 @@ fn number_shape(form: DwForm) -> Option<Shape>
 
 /// The forms after the numbers of a fixed size: LEB128 numbers, and what comes after them.
 fn leb_shape(form: DwForm) -> Option<Shape>
-    ensures { result ≡ shape_among form.0 (leb_shapes ++ block_shapes) }
+    ensures { result ≡ lookup (nat_eq form.0) (leb_shapes ++ block_shapes) }
 {
     match form {
         shared::DW_FORM_udata
@@ -154,7 +155,7 @@ fn leb_shape(form: DwForm) -> Option<Shape>
 
 /// The forms after the LEB128 numbers: blocks and texts.
 fn block_shape(form: DwForm) -> Option<Shape>
-    ensures { result ≡ shape_among form.0 block_shapes }
+    ensures { result ≡ lookup (nat_eq form.0) block_shapes }
 {
     match form {
         shared::DW_FORM_data16 => Some(Shape::Block(16)),

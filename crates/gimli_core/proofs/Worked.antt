@@ -1,18 +1,19 @@
 -- Worked calls of readers: what each takes from the front of bytes and what it leaves, by hand,
 -- computed from the definitions.
 use Rattle.std.proofs.Common.{◌≡◌, ℕ, true, false, List, [], ◌∷◌, ◌++◌, Option, Some, None, Ok, Err, refl}
+use Rattle.std.specs.Map.{lookup}
 use Rattle.std.specs.Prelude.{pos, negsuc, map, replicate, codes, not, nat_eq}
 use Rattle.gimli_core.specs
 use specs.Numbers.{value_of, number_bytes, word_size, initial_length_size}
 use specs.Layout.{layout_of}
 use specs.Production.{signed_byte, offset_word, unit_length, address_size}
 use specs.Reading.{split_at, skip_at, truncate_at, find_at, text_at, byte_at}
-use specs.Reading.{number_at, uleb_at, unsigned_at, unsigned_16_at}
+use specs.Reading.{number_at, uleb_at, unsigned_at}
 use specs.Reading.{sleb_at, signed_at, sized_sum}
 use specs.Order.{is_big_endian}
 use specs.Values.{Value, udata_value}
 use specs.Form.{Shape, fixed, three_bytes, word_offset, leb, signed_leb, leb_offset, block, counted, leb_counted}
-use specs.Form.{string, index, shapes, shape_among}
+use specs.Form.{string, index, shapes}
 use specs.declared.attribute_value.AttributeValue.TheVariants.{Block, Data1, Data2, Data4, Data8}
 use specs.declared.attribute_value.AttributeValue.TheVariants.{Udata, Sdata, Flag, SecOffset, String}
 use specs.declared.attribute_value.AttributeValue.TheVariants.{
@@ -147,14 +148,14 @@ pub unsigned_cut : map (λ n. unsigned_at (replicate n 0x80)) (0 ∷ 1 ∷ 9 ∷
 unfolding uleb_at
 unsigned_cut = refl
 
-pub unsigned_16 : map unsigned_16_at ((0xff ∷ 0x7f ∷ []) ∷ (0x80 ∷ 0x80 ∷ 1 ∷ []) ∷ (0xff ∷ 0xff ∷ 3 ∷ [])
+pub unsigned_16 : map (uleb_at 2 3) ((0xff ∷ 0x7f ∷ []) ∷ (0x80 ∷ 0x80 ∷ 1 ∷ []) ∷ (0xff ∷ 0xff ∷ 3 ∷ [])
     ∷ (0x80 ∷ 0x80 ∷ 0 ∷ []) ∷ (3 ∷ 0x55 ∷ []) ∷ [])
     ≡ (Ok 16383, []) ∷ (Ok 16384, []) ∷ (Ok 65535, []) ∷ (Ok 0, []) ∷ (Ok 3, 0x55 ∷ []) ∷ []
 unfolding uleb_at
 unsigned_16 = refl
 
 -- the third byte is at most 3
-pub unsigned_16_refused : map unsigned_16_at
+pub unsigned_16_refused : map (uleb_at 2 3)
     ((0x80 ∷ 0x80 ∷ 4 ∷ []) ∷ (0xff ∷ 0xff ∷ 0x7f ∷ 1 ∷ []) ∷ (0x80 ∷ 0x80 ∷ 0x83 ∷ []) ∷ (0x80 ∷ 0x80 ∷ []) ∷ [])
     ≡ (Err BadUnsignedLeb128, []) ∷ (Err BadUnsignedLeb128, 1 ∷ []) ∷ (Err BadUnsignedLeb128, [])
     ∷ (Err (missing 0), []) ∷ []
@@ -307,7 +308,7 @@ no_unsigned_values = refl
 -- ---- the forms (DWARF 5, table 7.6)
 
 abbrev shape_of : ℕ → Option Shape
-shape_of form = shape_among form shapes
+shape_of form = lookup (nat_eq form) shapes
 
 -- data1, data2, data4, data8, udata, sdata
 pub forms_of_numbers : map shape_of (0x0b ∷ 0x05 ∷ 0x06 ∷ 0x07 ∷ 0x0f ∷ 0x0d ∷ [])

@@ -1,5 +1,6 @@
 -- The forms of the tables of version 5 (DWARF 5, section 7.5.5): how a value lies in the bytes.
-use Rattle.std.specs.Prelude.{ℕ, List, [], ◌∷◌, Option, Some, None, not, nat_eq, if◌then◌else◌, ℤ}
+use Rattle.std.specs.Prelude.{ℕ, List, [], ◌∷◌, Some, None, not, nat_eq, ℤ}
+use Rattle.std.specs.Map.{lookup}
 use Rattle.gimli_core.specs
 use specs.Layout.{OrderAndLimit}
 use specs.Values.{Value}
@@ -52,6 +53,7 @@ pub data Shape : Type 0 where
   -- bytes that aren't zero, and a zero byte
   string : Shape
 
+-- an index into `.debug_str_offsets`
 abbrev pub index : ℕ → Value
 index n = DebugStrOffsetsIndex (record { 0 = n })
 
@@ -73,10 +75,6 @@ shapes =
     ∷ (DW_FORM_strx1, fixed 1 index) ∷ (DW_FORM_strx2, fixed 2 index)
     ∷ (DW_FORM_strx3, three_bytes index) ∷ (DW_FORM_strx4, fixed 4 index) ∷ []
 
-abbrev pub shape_among : ℕ → List (ℕ × Shape) → Option Shape
-shape_among form [] = None
-shape_among form (row ∷ rows) = if nat_eq form row.0 then Some row.1 else shape_among form rows
-
 -- that many bytes, as a block
 abbrev pub block_production : ℕ → Production Value
 block_production n = do
@@ -84,6 +82,7 @@ block_production n = do
   done (Block bytes)
 
 module _ (layout : OrderAndLimit) (format : Format) where
+  -- a value that lies so in the bytes
   abbrev pub shape_production : Shape → Production Value
   shape_production (fixed size make) = do
     n ← number layout.is_big size
@@ -116,7 +115,7 @@ module _ (layout : OrderAndLimit) (format : Format) where
 
   -- a value in a form; a form that isn't known is refused, whatever comes
   abbrev pub form_production : ℕ → Production Value
-  form_production form = elim (shape_among form shapes) [
+  form_production form = elim (lookup (nat_eq form) shapes) [
     | Some shape ↦ shape_production shape
     | None ↦ refuse (UnknownForm (record { 0 = form }))
   ]

@@ -2,6 +2,7 @@ pub mod Order
 pub mod Numbers
 pub mod Layout
 pub mod Values
+pub mod Results
 pub mod Reading
 pub mod Production
 pub mod FormNumbers

@@ -11,7 +11,7 @@ use specs.Numbers.{SpellsNumber, SpellsUleb128, SpellsSleb128}
 use specs.Numbers.{SpellsInitialLength, word_size, is_address_size}
 use specs.Layout.{OrderAndLimit}
 use specs.Reading.{Read, ◌>>=◌ as ◌>=>◌, eof, with_rest, byte_at, number_at, split_at, text_at}
-use specs.Reading.{unsigned_at, unsigned_16_at, signed_at, closed_at, long_or_short_at}
+use specs.Reading.{uleb_at, unsigned_at, signed_at, closed_at, long_or_short_at}
 use specs.declared.common.Format.{Format}
 use specs.declared.common.Format.TheVariants.{Dwarf32, Dwarf64}
 use specs.declared.error.Error.{Error}
@@ -23,6 +23,7 @@ use specs.declared.error.Error.TheVariants.{
   UnsupportedOffset,
 }
 
+-- a production of values of a type
 pub record Production (A : Type 0) : Type 1 where
   -- the bytes are a spelling of x
   pub Spells : List ℕ → A → Type 0
@@ -127,6 +128,7 @@ within inside l = record {
 abbrev pub IsWanting : ℕ → List ℕ → Error → Type 0
 IsWanting n bytes e = (length bytes < n) × (e ≡ eof bytes)
 
+-- so many bytes, whatever they are
 abbrev pub some_bytes : ℕ → Production (List ℕ)
 some_bytes n = record {
   Spells = λ bytes xs. (length bytes ≡ n) × (xs ≡ bytes);
@@ -172,7 +174,7 @@ IsLebFault most IsRefused bad bytes e =
     ⊎ ((front : List ℕ) × (last : ℕ) × (rest : List ℕ) × (bytes ≡ front ++ last ∷ rest)
     × (length front + 1 ≡ most) × AllHigh front × IsRefused last × (e ≡ bad))
 
--- unsigned LEB128 numbers of 64 bits, and of 16
+-- an unsigned LEB128 number of 64 bits
 abbrev pub unsigned : Production ℕ
 unsigned = record {
   Spells = SpellsUleb128 64;
@@ -180,14 +182,15 @@ unsigned = record {
   read = unsigned_at;
 }
 
+-- one of 16 bits
 abbrev pub unsigned_16 : Production ℕ
 unsigned_16 = record {
   Spells = SpellsUleb128 16;
   Fault = IsLebFault 3 (λ b. 3 < b) BadUnsignedLeb128;
-  read = unsigned_16_at;
+  read = uleb_at 2 3;
 }
 
--- signed ones of 64 bits
+-- a signed LEB128 number of 64 bits
 abbrev pub signed : Production ℤ
 signed = record {
   Spells = SpellsSleb128;

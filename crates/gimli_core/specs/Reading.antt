@@ -116,12 +116,9 @@ uleb_at (suc more) top bytes =
     if nat_lt b 128 then (Ok b, rest)
     else (uleb_at more top rest >>= λ high rest. (Ok (b % 128 + 128 * high), rest))
 
--- an unsigned LEB128 number of 64 bits, and one of 16
+-- an unsigned LEB128 number of 64 bits
 abbrev pub unsigned_at : List ℕ → Read ℕ
 unsigned_at bytes = uleb_at 9 1 bytes
-
-abbrev pub unsigned_16_at : List ℕ → Read ℕ
-unsigned_16_at bytes = uleb_at 2 3 bytes
 
 -- a signed number as a difference: its groups as an unsigned number, and what the sign takes from
 -- it

@@ -18,11 +18,12 @@ use Rattle.gimli_core.specs.declared.attribute_value.AttributeValue.TheVariants.
   DebugStrOffsetsIndex,
 }
 
+-- a value of a form, as it stands in a section
 abbrev pub Value : Type 0
 Value = AttributeValue (List ℕ) ℕ (Unit {0})
 
--- a value, its readers seen by bytes and its offsets by number
 module _ {R Offset Endian : Type 0} (bytes : R → List ℕ) (number : Offset → ℕ) where
+  -- a value, its readers seen by bytes and its offsets by number
   abbrev pub value_seen : AttributeValue R Offset Endian → Value
   value_seen (Block r) = Block (bytes r)
   value_seen (Data1 n) = Data1 n
@@ -39,8 +40,8 @@ module _ {R Offset Endian : Type 0} (bytes : R → List ℕ) (number : Offset �
   value_seen (DebugLineStrRef o) = DebugLineStrRef (record { 0 = number o.0 })
   value_seen (DebugStrOffsetsIndex i) = DebugStrOffsetsIndex (record { 0 = number i.0 })
 
--- the order of bytes of the reader of a value, where it is a text or a block
 module _ {R Offset Endian : Type 0} (is_big : R → Bool) where
+  -- the order of bytes of the reader of a value, where it is a text or a block
   abbrev pub value_order : AttributeValue R Offset Endian → Option Bool
   value_order (Block r) = Some (is_big r)
   value_order (String r) = Some (is_big r)
@@ -50,14 +51,14 @@ module _ {R Offset Endian : Type 0} (is_big : R → Bool) where
 abbrev pub IsOrder : Bool → Option Bool → Type 0
 IsOrder order o = IfSome o (λ is_big. is_big ≡ order)
 
--- so has that of a value
 module _ {R Offset Endian : Type 0} (is_big : R → Bool) (order : Bool) where
+  -- the reader of a value, where there is one, has this order
   abbrev pub ValueHasOrder : AttributeValue R Offset Endian → Type 0
   ValueHasOrder v = IsOrder order (value_order is_big v)
 
--- a value, its readers seen by bytes and order, and its offsets by number
 module _ {R Offset Endian : Type 0} (bytes : R → List ℕ) (is_big : R → Bool)
     (number : Offset → ℕ) where
+  -- a value, its readers seen by bytes and order, and its offsets by number
   abbrev pub value_by : AttributeValue R Offset Endian → Value × Option Bool
   value_by v = (value_seen bytes number v, value_order is_big v)
 

@@ -3,7 +3,7 @@
 use Rattle.std.specs.Prelude.{◌≡◌, ◌≢◌, ◌+◌, ◌<◌, ◌≤◌, ◌∷◌}
 use Rattle.gimli_line.proofs.Common
 use Common.{ℕ, zero, suc, Bool, true, false, List, [], length, Option, Some, None, refl, ap, arith}
-use Common.{nat_le, length-append, length-map, OrderAndLimit, IsLeb128, UnknownForm, Value, Production}
+use Common.{lookup, nat_eq, nat_le, length-append, length-map, OrderAndLimit, IsLeb128, UnknownForm, Value, Production}
 use Common.{Each, times, refuse, choose, table_of, offset_word, header_production, Format, Encoding, File, Header}
 use Common.{UnitEntry}
 use Common.{TableEntry, path_of, file_of_entry, paths_production, files_production, formats_production}
@@ -21,7 +21,6 @@ use Rattle.gimli_core.specs.Form.{
   counted,
   leb_counted,
   string,
-  shape_among,
   shapes,
   shape_production,
   form_production,
@@ -93,7 +92,7 @@ module _ (layout : OrderAndLimit) (format : Format) where
       → 0 < length bytes
   form_some form bytes v = at_shape _ refl
     where
-      at_shape : (found : Option Shape) → shape_among form shapes ≡ found
+      at_shape : (found : Option Shape) → lookup (nat_eq form) shapes ≡ found
           → (let l : Production Value = elim found
           [ Some shape ↦ shape_production layout format shape | None ↦ refuse (UnknownForm (record { 0 = form })) ] in
           l.Spells bytes v)

@@ -161,9 +161,11 @@ unfoldable pub use Rattle.gimli_line.specs.header.HeaderGrammar.{
 }
 pub use Rattle.gimli_line.specs.header.Orders.{HeaderSource, KeepsSource, source_of}
 pub use Rattle.gimli_line.specs.header.Parameters.{Parameters}
-pub use Rattle.gimli_line.specs.header.Productions.{bytes_of, operand_of, path_text}
+pub use Rattle.gimli_line.specs.header.Productions.{bytes_of, path_text}
+pub use Rattle.std.specs.Map.{lookup}
 unfoldable pub use Rattle.gimli_line.specs.header.Productions.{positive}
-pub use Rattle.gimli_line.specs.inside.header.Outcome.{IsAnswer, read_map, without_value}
+pub use Rattle.gimli_line.specs.inside.header.Outcome.{read_map, without_value}
+pub use Rattle.gimli_core.specs.Results.{Gives}
 pub use Rattle.gimli_line.specs.inside.run.Rows.{ReadsOn, StepIs, StepsTo, given_row}
 pub use Rattle.gimli_line.specs.run.Events.{
   Event,

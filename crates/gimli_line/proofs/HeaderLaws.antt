@@ -12,14 +12,13 @@ use Rattle.gimli_core.specs.Form.{
   counted,
   leb_counted,
   string,
-  shape_among,
   shapes,
   shape_production,
   form_production,
 }
 use Rattle.gimli_core.proofs.Readers.{readers}
 use Rattle.gimli_line.proofs.Common
-use Common.{ℕ, Bool, true, false, List, [], Option, Some, None, Ok, Err, refl, sym, ap, ◌∙◌, inl, inr}
+use Common.{lookup, nat_eq, ℕ, Bool, true, false, List, [], Option, Some, None, Ok, Err, refl, sym, ap, ◌∙◌, inl, inr}
 use Common.{OrderAndLimit, Read, Production, choose, refuse, Reads, Value, Encoding, Format, Error, UnknownForm}
 use Common.{reads_refuse, reads_both, reads_done, reads_if, operations_production, positive, TableEntry, HeaderOpening}
 use Common.{Header, UnitEntry, FileEntryFormat, SpellsUnit, HasUnitFault}
@@ -57,7 +56,7 @@ module _ (layout : OrderAndLimit) (format : Format) where
   reads_shape string = search readers
 
   pub reads_form : (form : ℕ) → Reads (form_production layout format form)
-  reads_form form = at_shape (shape_among form shapes)
+  reads_form form = at_shape (lookup (nat_eq form) shapes)
     where
       at_shape : (found : Option Shape)
           → Reads {A = Value} (elim found

@@ -4,7 +4,7 @@ use Rattle.gimli_line.proofs.Common
 use Common.{ℕ, zero, suc, List, [], length, take, Option, Some, None, Ok, Err, refl, sym, ap, subst, ◌∙◌, append_assoc}
 use Common.{arith, slice_index, length-append, take_at, OrderAndLimit, Read, Production, ◌>>>◌, done, within, Reads}
 use Common.{Error}
-use Common.{bind_ok, bind_refused, ok_parts, UnknownExtended, Ins, Header, bytes_of, operand_of, decoded_after}
+use Common.{bind_ok, bind_refused, ok_parts, UnknownExtended, Ins, Header, bytes_of, lookup, nat_eq, decoded_after}
 use Common.{decoded_at}
 use Rattle.gimli_core.proofs.Readers.{readers}
 use Rattle.gimli_line.specs
@@ -60,7 +60,7 @@ module _ (layout : OrderAndLimit) (h : Header) where
 
   pub reads_standard : (opcode : ℕ) → Reads (standard_production layout h opcode)
   unfolding standard_production
-  reads_standard opcode = at_operand (operand_of opcode standard_opcodes)
+  reads_standard opcode = at_operand (lookup (nat_eq opcode) standard_opcodes)
     where
       at_operand : (found : Option Operand) → Reads {A = Ins} (elim found [
         | Some operand ↦ operand_production layout h operand

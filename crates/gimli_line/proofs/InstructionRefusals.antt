@@ -4,7 +4,7 @@ use Rattle.gimli_line.proofs.Common
 use Common.{ℕ, zero, suc, Bool, true, false, List, Option, Some, None, inl, inr, arith, ltb-false, nat_eq, nat_le}
 use Common.{nat_lt, slice_index, OrderAndLimit, SpellsUleb128, Production, done, check, choose, times, within, byte}
 use Common.{number, some_bytes, text, unsigned, signed, below_limit, IsWanting, Error, UnsupportedOffset, Special}
-use Common.{UnknownStandard0, UnknownStandard1, UnknownStandardN, UnknownExtended, Header, operand_of}
+use Common.{UnknownStandard0, UnknownStandard1, UnknownStandardN, UnknownExtended, Header, lookup}
 use Common.{bytes_of, Ins}
 use Rattle.gimli_core.specs.Production.{◌>>=◌}
 use Rattle.gimli_line.specs
@@ -115,7 +115,7 @@ module _ (layout : OrderAndLimit) where
 
     standard_known : (opcode : ℕ) → IsKnown layout (standard_production layout h opcode)
     unfolding standard_production
-    standard_known opcode = at_operand (operand_of opcode standard_opcodes)
+    standard_known opcode = at_operand (lookup (nat_eq opcode) standard_opcodes)
       where
         at_operand : (found : Option Operand) → IsKnown {A = Ins} layout (elim found [
           | Some operand ↦ operand_production layout h operand

@@ -2,7 +2,7 @@
 use Rattle.std.specs.Prelude.{◌≡◌}
 use Rattle.gimli_line.proofs.Common
 use Common.{ℕ, Bool, List, Result, Ok, Err, refl, sym, ap, subst, ◌∙◌, OrderAndLimit, layout_of, Read, ◌>>=◌}
-use Common.{split_at, unit_length, Format, Error, IsAnswer, Header, UnitEntry, HeaderOpening}
+use Common.{split_at, unit_length, Format, Error, OutOfMemory, Gives, Header, UnitEntry, HeaderOpening}
 use Common.{opening_production, fields_production, header_production}
 use Rattle.gimli_core.specs.Reading.{with_rest}
 
@@ -41,10 +41,10 @@ module _ (is_big : Bool) (limit : ℕ) (unit_entry : UnitEntry) where
       → now ≡ is_big
       → (Ok opened, program) ≡ (opening_production (layout_of now limit) unit_entry.address_size unit.1).read inside
       → later ≡ is_big
-      → IsAnswer view result
+      → Gives OutOfMemory view result
       ((fields_production (layout_of later limit) (record unit_entry { address_size = size }) unit.0 opened
       program).read opened.fields).0
-      → IsAnswer view result ((header_production layout unit_entry).read bytes).0
+      → Gives OutOfMemory view result ((header_production layout unit_entry).read bytes).0
   header_answers view result size now later bytes unit rest inside left opened program length whole same opening kept
       answers =
       let again : (Ok opened, program)
@@ -56,4 +56,4 @@ module _ (is_big : Bool) (limit : ℕ) (unit_entry : UnitEntry) where
       opened.fields).0)
       kept in
       let free = ap (λ r. r.0) (size_free _ _ _ _) in
-      subst (λ r. IsAnswer view result r) (others ∙ free ∙ sym is) answers
+      subst (λ r. Gives OutOfMemory view result r) (others ∙ free ∙ sym is) answers

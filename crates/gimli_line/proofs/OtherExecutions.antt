@@ -5,7 +5,8 @@ use Common.{ℕ, arith, Bool, false, true, List, Some, refl, ap, subst, ◌∙�
 use Common.{byte, number, some_bytes, text, unsigned, below_limit, within, Quiet, Address, Row, LineRow, AdvancePc}
 use Common.{ConstAddPc, DefineFile, EndSequence, SetAddress, SetDiscriminator, File, Header, file_production}
 use Common.{Parameters}
-use Common.{operand_of, operand_production, Ins, Option, None, Production, ◌>>>◌, done, UnknownExtended, defines_file}
+use Common.{lookup, nat_eq, operand_production, Ins, Option, None, Production, ◌>>>◌, done, UnknownExtended}
+use Common.{defines_file}
 use Common.{step_of, is_refused}
 use Rattle.gimli_line.specs
 use specs.run.InstructionGrammar.{Operand, file, extended_opcodes}
@@ -62,7 +63,8 @@ pub extended_first : (layout : OrderAndLimit) (h : Header) (whole bytes : List �
 extended_first layout h whole bytes opcode is read = rw (← read, is) refl
 
 -- files are defined up to version 4
-file_opcode : (version : ℕ) → nat_le version 4 ≡ true → operand_of 3 (extended_opcodes version) ≡ Some (file DefineFile)
+file_opcode : (version : ℕ) → nat_le version 4 ≡ true
+    → lookup (nat_eq 3) (extended_opcodes version) ≡ Some (file DefineFile)
 file_opcode version old = rw old refl
 
 module _ (layout : OrderAndLimit) (h : Header) (inside operands rest : List ℕ) (opcode : ℕ)

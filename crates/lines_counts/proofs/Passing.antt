@@ -12,7 +12,7 @@ use Rattle.gimli_core.specs.Reading.{Read, ◌>>=◌}
 use Rattle.gimli_core.proofs.UnsignedLeb.{reads_unsigned}
 use Rattle.gimli_line.specs.declared.run.instruction.LineInstruction.TheVariants.{Special, UnknownExtended}
 use Rattle.gimli_line.specs.header.Header.{Header}
-use Rattle.gimli_line.specs.header.Productions.{operand_of}
+use Rattle.std.specs.Map.{lookup}
 use Rattle.gimli_line.specs.run.Instruction.{Ins}
 use Rattle.gimli_line.specs.run.InstructionGrammar.{Operand, operand_production, extended_opcodes, extended_operands}
 use Rattle.gimli_line.specs.run.InstructionGrammar.{standard_production, extended_production}
@@ -49,7 +49,7 @@ module _ (layout : OrderAndLimit) (h : Header) where
       → (extended_operands layout h opcode operands).Spells bytes i → bytes ≡ []
   unfolding extended_operands
   no_more opcode operands bytes i s =
-      at_operand (operand_of opcode (extended_opcodes h.parameters.encoding.version)) s
+      at_operand (lookup (nat_eq opcode) (extended_opcodes h.parameters.encoding.version)) s
     where
       production : Option Operand → Production Ins
       production (Some operand) = within operands (operand_production layout h operand) >>> (λ read. done read.0)

@@ -4,11 +4,12 @@ use specs.Prelude.{ℕ, Bool, List, Option, option_map, IfSome, value_seen, IsOr
 use specs.Prelude.{value_order}
 use specs.declared.header.file_entry.FileEntry.{FileEntry}
 
+-- a file of a table, as it stands in a section
 abbrev pub File : Type 0
 File = FileEntry (List ℕ) ℕ (Unit {0})
 
--- a file of readers, its readers seen by bytes and its offsets by number
 module _ {R Offset Endian : Type 0} (bytes : R → List ℕ) (number : Offset → ℕ) where
+  -- a file of readers, its readers seen by bytes and its offsets by number
   abbrev pub file_seen : FileEntry R Offset Endian → File
   file_seen f = record {
     path_name = value_seen bytes number f.path_name;
@@ -35,8 +36,8 @@ module _ {R Offset Endian : Type 0} (is_big : R → Bool) (order : Bool) where
   abbrev pub FileHasOrder : FileEntry R Offset Endian → Type 0
   FileHasOrder f = AreFileOrders order (file_orders is_big f)
 
--- a file, its readers seen by bytes and order, and its offsets by number
 module _ {R Offset Endian : Type 0} (bytes : R → List ℕ) (is_big : R → Bool)
     (number : Offset → ℕ) where
+  -- a file, its readers seen by bytes and order, and its offsets by number
   abbrev pub file_by : FileEntry R Offset Endian → File × FileOrders
   file_by f = (file_seen bytes number f, file_orders is_big f)

@@ -64,10 +64,12 @@ abbrev pub entry_of : {A : Type 0} → ℕ → Option A → List A → ℕ → O
 entry_of version handed entries i =
     if nat_le version 4 then from_one handed entries i else slice_get entries i
 
+-- the directory of an index
 abbrev pub directory_of : Header → ℕ → Option Value
 directory_of h i =
     entry_of h.parameters.encoding.version (option_map String h.comp_dir) h.directories i
 
+-- the file of an index
 abbrev pub file_of : Header → ℕ → Option File
 file_of h i = entry_of h.parameters.encoding.version h.comp_file h.files i
 
@@ -112,13 +114,14 @@ pub record SeenHeader (R Offset Endian : Type 0) : Type 0 where
   pub comp_dir : Option R
   pub comp_file : Option (FileEntry R Offset Endian)
 
--- the directory and the file of an index, with their readers as they are
 module _ {R Offset Endian : Type 0} where
+  -- the directory of an index, with its readers as they are
   abbrev pub own_directory_of : SeenHeader R Offset Endian → ℕ
       → Option (AttributeValue R Offset Endian)
   own_directory_of h i =
       entry_of h.meaning.parameters.encoding.version (option_map String h.comp_dir)
       h.include_directories.items i
 
+  -- the file of an index, likewise
   abbrev pub own_file_of : SeenHeader R Offset Endian → ℕ → Option (FileEntry R Offset Endian)
   own_file_of h i = entry_of h.meaning.parameters.encoding.version h.comp_file h.file_names.items i

@@ -126,6 +126,7 @@ abbrev pub digest : Value → Option (List ℕ)
 digest (Block bytes) = if nat_eq (length bytes) 16 then Some bytes else None
 digest v = None
 
+-- the path of an entry; empty where no format has one
 abbrev pub path_of : TableEntry → Value
 path_of entry = last_value DW_LNCT_path Some (String []) entry
 
@@ -167,6 +168,7 @@ pub record HeaderOpening : Type 0 where
   pub header_length : ℕ
   pub fields : List ℕ
 
+-- these fields, and the bytes after the header length
 unfoldable pub opening_production : OrderAndLimit → ℕ → Format → Production HeaderOpening
 opening_production layout handed format = do
   version ← version_production layout.is_big
@@ -220,10 +222,12 @@ table_of plain view layout encoding =
       table ← table_production layout encoding.format
       done (table.0, map view table.1))
 
+-- the directories of a header, with the formats of version 5
 abbrev pub directory_table : OrderAndLimit → Encoding
     → Production (List FileEntryFormat × List Value)
 directory_table = table_of (paths_production >>= λ paths. done (map String paths)) path_of
 
+-- its files, likewise
 abbrev pub file_table : OrderAndLimit → Encoding → Production (List FileEntryFormat × List File)
 file_table = table_of files_production file_of_entry
 
@@ -279,11 +283,6 @@ HasUnitFault layout unit_entry bytes e = (header_production layout unit_entry).F
 
 -- ---- what spells a table
 
--- the entries of a table of version 5
-abbrev pub SpellsEntries : OrderAndLimit → Format → List FileEntryFormat → List ℕ → List TableEntry
-    → Type 0
-SpellsEntries layout format formats = (entries_production layout format formats).Spells
-
 -- the bytes begin with a count, which spells n, and at least n bytes stand after it
 abbrev pub HoldsCount : List ℕ → ℕ → Type 0
 HoldsCount bytes n =
@@ -293,5 +292,6 @@ HoldsCount bytes n =
 -- whatever entries of these formats bytes spell, the bytes hold their count
 abbrev pub HaveCountedEntries : OrderAndLimit → Format → List FileEntryFormat → Type 0
 HaveCountedEntries layout format formats =
-    (bytes : List ℕ) (entries : List TableEntry) → SpellsEntries layout format formats bytes entries
+    (bytes : List ℕ) (entries : List TableEntry)
+    → (entries_production layout format formats).Spells bytes entries
     → HoldsCount bytes (length entries)

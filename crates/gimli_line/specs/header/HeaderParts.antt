@@ -27,17 +27,10 @@ pub record HeaderParts (R Offset Directory File : Type 0) : Type 0 where
   pub comp_dir : Option R
   pub comp_file : Option File
 
--- the parts as they are
-abbrev pub OwnParts : (R Offset Endian : Type 0) → Type 0
-OwnParts R Offset Endian =
-    HeaderParts R Offset (AttributeValue R Offset Endian) (FileEntry R Offset Endian)
-
--- the parts as they are seen: readers by bytes and order, offsets by number
-abbrev pub SeenParts : Type 0
-SeenParts = HeaderParts (List ℕ × Bool) ℕ (Value × Option Bool) (File × FileOrders)
-
 module _ {R Offset Endian : Type 0} where
-  abbrev pub parts_of : SeenHeader R Offset Endian → OwnParts R Offset Endian
+  -- the parts as they are
+  abbrev pub parts_of : SeenHeader R Offset Endian
+      → HeaderParts R Offset (AttributeValue R Offset Endian) (FileEntry R Offset Endian)
   parts_of h = record {
     parameters = h.parameters;
     offset = h.offset;
@@ -58,10 +51,11 @@ module _ {R Offset Endian : Type 0} where
       → Type 0
   ComparesParts eq = (x y : SeenHeader R Offset Endian) → Decides (eq x y) (parts_of x ≡ parts_of y)
 
--- a header by its parts as they are seen
 module _ {R Offset Endian : Type 0} (bytes : R → List ℕ) (is_big : R → Bool)
     (number : Offset → ℕ) where
-  abbrev pub header_by : SeenHeader R Offset Endian → SeenParts
+  -- the parts as they are seen: readers by bytes and order, offsets by number
+  abbrev pub header_by : SeenHeader R Offset Endian
+      → HeaderParts (List ℕ × Bool) ℕ (Value × Option Bool) (File × FileOrders)
   header_by h = record {
     parameters = h.parameters;
     offset = record { 0 = number h.offset.0 };

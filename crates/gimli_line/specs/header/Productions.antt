@@ -1,7 +1,7 @@
 -- Further productions of a format, beside those of the core.
-use Rattle.std.specs.Prelude.{◌≡◌, ◌≢◌, ◌-◌, ◌∷◌, if◌then◌else◌}
+use Rattle.std.specs.Prelude.{◌≡◌, ◌≢◌, ◌-◌}
 use Rattle.gimli_line.specs.Prelude
-use Prelude.{ℕ, List, [], length, take, nat_eq, not, Option, Some, None, Ok, Error, text_at}
+use Prelude.{ℕ, List, [], length, take, nat_eq, not, Ok, Error, text_at}
 use Rattle.gimli_core.specs.Production.{Production, ◌>>=◌, ◌>>◌, done, check, byte, text}
 use Rattle.gimli_core.specs.Reading.{◌>>=◌ as ◌>=>◌}
 
@@ -15,11 +15,6 @@ bytes_of l = record {
   read =
       λ bytes. l.read bytes >=> λ x rest. (Ok (take (length bytes - length rest) bytes), rest);
 }
-
--- what stands beside a number in a table
-abbrev pub operand_of : {A : Type 0} → ℕ → List (ℕ × A) → Option A
-operand_of n [] = None
-operand_of n (row ∷ rows) = if nat_eq n row.0 then Some row.1 else operand_of n rows
 
 -- ---- single productions
 

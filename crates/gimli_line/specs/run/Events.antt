@@ -42,6 +42,7 @@ row_at parameters past i =
       discriminator = nearest discriminator_operand 0 marks;
     }
 
+-- what a program makes at a point: a row, or a fault
 pub data Event : Type 0 where
   row : LineRow → Event
   fault : Error → Event

@@ -58,6 +58,7 @@ told_of EndSequence = Row
 told_of (SetAddress a) = Address a
 told_of i = Quiet
 
+-- an instruction was executed
 abbrev pub is_executed : Executed → Bool
 is_executed No = false
 is_executed told = true

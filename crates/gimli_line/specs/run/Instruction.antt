@@ -29,12 +29,14 @@ use specs.declared.run.instruction.LineInstruction.TheVariants.{
   UnknownExtended,
 }
 
+-- an instruction, as it stands in a program
 abbrev pub Ins : Type 0
 Ins = LineInstruction (List ℕ) ℕ (Unit {0})
 
--- ---- instructions of readers, their readers seen by bytes and their offsets by number
+-- ---- instructions of readers
 
 module _ {R Offset Endian : Type 0} (bytes : R → List ℕ) (number : Offset → ℕ) where
+  -- an instruction, its readers seen by bytes and its offsets by number
   abbrev pub ins_seen : LineInstruction R Offset Endian → Ins
   ins_seen (Special o) = Special o
   ins_seen Copy = Copy
@@ -58,26 +60,26 @@ module _ {R Offset Endian : Type 0} (bytes : R → List ℕ) (number : Offset �
   ins_seen (SetDiscriminator n) = SetDiscriminator n
   ins_seen (UnknownExtended o r) = UnknownExtended o (bytes r)
 
--- the readers of an instruction, in its operands or its file, have this order of bytes
 module _ {R Offset Endian : Type 0} (is_big : R → Bool) (order : Bool) where
+  -- the readers of an instruction, in its operands or its file, have this order of bytes
   abbrev pub InsHasOrder : LineInstruction R Offset Endian → Type 0
   InsHasOrder (UnknownStandardN o r) = is_big r ≡ order
   InsHasOrder (UnknownExtended o r) = is_big r ≡ order
   InsHasOrder (DefineFile f) = FileHasOrder is_big order f
   InsHasOrder i = Unit {0}
 
--- the orders of bytes of an instruction's readers: of its operands or its file's path, and of its
--- file's source
 module _ {R Offset Endian : Type 0} (is_big : R → Bool) where
+  -- the orders of bytes of an instruction's readers: of its operands or its file's path, and of
+  -- its file's source
   abbrev pub ins_orders : LineInstruction R Offset Endian → FileOrders
   ins_orders (UnknownStandardN o r) = (Some (is_big r), None)
   ins_orders (UnknownExtended o r) = (Some (is_big r), None)
   ins_orders (DefineFile f) = file_orders is_big f
   ins_orders i = (None, None)
 
--- an instruction, its readers seen by bytes and order, and its offsets by number
 module _ {R Offset Endian : Type 0} (bytes : R → List ℕ) (is_big : R → Bool)
     (number : Offset → ℕ) where
+  -- an instruction, its readers seen by bytes and order, and its offsets by number
   abbrev pub ins_by : LineInstruction R Offset Endian → Ins × FileOrders
   ins_by i = (ins_seen bytes number i, ins_orders is_big i)
 

@@ -1,6 +1,7 @@
 -- How instructions are spelled, and how a program is decoded into them (DWARF 5, sections 6.2.3 and
 -- 6.2.5).
 use Rattle.std.specs.Prelude.{◌≡◌, ◌≢◌, ◌<◌, ◌^◌, ◌-◌, ◌∷◌, ◌++◌, if◌then◌else◌}
+use Rattle.std.specs.Map.{lookup}
 use Rattle.gimli_line.specs.Prelude.{ℕ, zero, suc, List, [], length, nat_eq, nat_le, Option, Some}
 use Rattle.gimli_line.specs.Prelude.{None, Ok, Err, ℤ, slice_index, Error, UnexpectedEof}
 use Rattle.gimli_line.specs.Prelude.{BadUnsignedLeb128, BadSignedLeb128, UnsupportedOffset}
@@ -39,7 +40,7 @@ use Rattle.gimli_line.specs.run.Instruction.{Ins}
 use Rattle.gimli_line.specs.header.File.{File}
 use Rattle.gimli_line.specs.header.Header.{Header}
 use Rattle.gimli_line.specs.header.HeaderGrammar.{file_production}
-use Rattle.gimli_line.specs.header.Productions.{bytes_of, operand_of}
+use Rattle.gimli_line.specs.header.Productions.{bytes_of}
 use Rattle.gimli_line.specs.run.Unread.{Unread}
 
 -- ---- opcodes and their operands
@@ -77,6 +78,7 @@ extended_opcodes version =
     ∷ (if nat_le version 4 then (DW_LNE_define_file, file DefineFile) ∷ [] else [])
 
 module _ (layout : OrderAndLimit) (h : Header) where
+  -- what comes after the number of an opcode, and the instruction that it makes
   abbrev pub operand_production : Operand → Production Ins
   operand_production (none i) = done i
   operand_production (uleb make) = do
@@ -108,7 +110,7 @@ module _ (layout : OrderAndLimit) (h : Header) where
 
   -- after an opcode below the opcode base
   unfoldable pub standard_production : ℕ → Production Ins
-  standard_production opcode = elim (operand_of opcode standard_opcodes) [
+  standard_production opcode = elim (lookup (nat_eq opcode) standard_opcodes) [
     | Some operand ↦ operand_production operand
     | None ↦ unknown_production opcode (slice_index h.operand_counts (opcode - 1))
   ]
@@ -116,7 +118,7 @@ module _ (layout : OrderAndLimit) (h : Header) where
   -- an extended opcode, and the bytes after it within its instruction; surplus ones are skipped
   unfoldable pub extended_operands : ℕ → List ℕ → Production Ins
   extended_operands opcode operands =
-      elim (operand_of opcode (extended_opcodes h.parameters.encoding.version)) [
+      elim (lookup (nat_eq opcode) (extended_opcodes h.parameters.encoding.version)) [
         | Some operand ↦ within operands (operand_production operand) >>= λ read. done read.0
         | None ↦ done (UnknownExtended (record { 0 = opcode }) operands)
       ]

@@ -81,9 +81,11 @@ abbrev pub IsAllowed : Parameters → Ins → Type 0
 IsAllowed parameters (Special o) = parameters.opcode_base ≤ o
 IsAllowed parameters i = Unit {0}
 
+-- address and op_index of the registers
 abbrev pub pointer_of : LineRow → OperationPointer
 pointer_of r = record { address = r.address; op_index = r.op_index }
 
+-- the registers with another address and op_index
 abbrev pub at_pointer : OperationPointer → LineRow → LineRow
 at_pointer p r = record r { address = p.address; op_index = p.op_index }
 

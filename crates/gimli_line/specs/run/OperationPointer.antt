@@ -17,6 +17,7 @@ use specs.declared.run.instruction.LineInstruction.TheVariants.{
 use specs.header.Parameters.{Parameters}
 use specs.run.Instruction.{Ins, makes_row}
 
+-- the operation of a point: the address of its machine instruction, and its number there
 pub record OperationPointer : Type 0 where
   pub address : ℕ
   pub op_index : ℕ

@@ -37,50 +37,61 @@ abbrev pub is_odd : (Ins → Bool) → List Ins → Bool
 is_odd test [] = false
 is_odd test (i ∷ past) = if test i then not (is_odd test past) else is_odd test past
 
+-- the file that an instruction sets
 abbrev pub file_operand : Ins → Option ℕ
 file_operand (SetFile n) = Some n
 file_operand i = None
 
+-- the column that it sets
 abbrev pub column_operand : Ins → Option ℕ
 column_operand (SetColumn n) = Some n
 column_operand i = None
 
+-- the instruction set that it sets
 abbrev pub isa_operand : Ins → Option ℕ
 isa_operand (SetIsa n) = Some n
 isa_operand i = None
 
+-- the discriminator that it sets
 abbrev pub discriminator_operand : Ins → Option ℕ
 discriminator_operand (SetDiscriminator n) = Some n
 discriminator_operand i = None
 
+-- it negates is_stmt
 abbrev pub negates_statement : Ins → Bool
 negates_statement NegateStatement = true
 negates_statement i = false
 
+-- it sets basic_block
 abbrev pub sets_basic_block : Ins → Bool
 sets_basic_block SetBasicBlock = true
 sets_basic_block i = false
 
+-- it sets prologue_end
 abbrev pub sets_prologue_end : Ins → Bool
 sets_prologue_end SetPrologueEnd = true
 sets_prologue_end i = false
 
+-- it sets epilogue_begin
 abbrev pub sets_epilogue_begin : Ins → Bool
 sets_epilogue_begin SetEpilogueBegin = true
 sets_epilogue_begin i = false
 
 -- ---- registers that keep what was set in the sequence
 
+-- the file
 abbrev pub file_at : List Ins → ℕ
 file_at past = nearest file_operand 1 (sequence past)
 
+-- the column
 abbrev pub column_at : List Ins → ℕ
 column_at past = nearest column_operand 0 (sequence past)
 
+-- the instruction set
 abbrev pub isa_at : List Ins → ℕ
 isa_at past = nearest isa_operand 0 (sequence past)
 
--- the default, turned where it was negated an odd number of times
+-- is_stmt: the default, turned where it was negated an odd number of times
 abbrev pub is_stmt_at : Parameters → List Ins → Bool
 is_stmt_at parameters past =
     if is_odd negates_statement (sequence past) then not parameters.line_encoding.default_is_stmt

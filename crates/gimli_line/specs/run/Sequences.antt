@@ -18,6 +18,7 @@ pub record Sequence : Type 0 where
   pub end : ℕ
   pub unread : Unread
 
+-- a sequence of the code
 abbrev pub sequence_of : {A B C : Type 0} → LineSequence A B C → Sequence
 sequence_of s = record { start = s.start; end = s.end; unread = s.instructions }
 

@@ -2,6 +2,7 @@
 use Rattle.gimli_line.specs.Prelude.{ℕ, Bool, List, OrderAndLimit, layout_of}
 use Rattle.gimli_line.specs.header.Header.{Header}
 
+-- bytes that are still to be read, and how numbers are noted in them
 pub record Unread : Type 0 where
   -- the bytes left
   pub bytes : List ℕ

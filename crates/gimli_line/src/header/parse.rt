@@ -176,7 +176,8 @@ where
     R: Reader<Offset = Offset>,
     Offset: ReaderOffset,
 {
-    ghost use Rattle.gimli_line.specs.inside.header.Outcome.{IsAnswer};
+    ghost use Rattle.gimli_core.specs.Results.{Gives};
+    ghost use Rattle.gimli_core.specs.declared.error.Error.TheVariants.{OutOfMemory};
     ghost use Rattle.gimli_core.specs.declared.attribute_value.AttributeValue.TheVariants.{String};
     ghost use Rattle.gimli_line.specs.header.Header.{plain_file, unit_entry};
     ghost use Rattle.gimli_line.specs.header.Orders.{HasOneOrder};
@@ -198,7 +199,7 @@ where
         comp_name: Option<R>,
     ) -> Result<Self>
         requires { IsTrue (is_address_size address_size) }
-        ensures read { IsAnswer (λ header. header.meaning) result
+        ensures read { Gives OutOfMemory (λ header. header.meaning) result
             ((header_production (layout_of (R.is_big input.old) Offset.limit)
             (unit_entry R.bytes address_size comp_dir comp_name)).read (R.bytes input.old)).0 }
         ensures layout { IfOk result (λ header.
@@ -237,7 +238,7 @@ where
     ) -> Result<Self>
         requires size { IsTrue (is_address_size opening.encoding.address_size) }
         requires order { R.is_big opening.fields ≡ R.is_big program_buf }
-        ensures read { IsAnswer (λ header. header.meaning) result
+        ensures read { Gives OutOfMemory (λ header. header.meaning) result
             ((fields_production (layout_of (R.is_big program_buf) Offset.limit)
             (unit_entry R.bytes opening.encoding.address_size comp_dir comp_name)
             (Offset.number unit_length)

@@ -7,9 +7,10 @@ use Rattle.gimli_line.specs.declared.header.file_entry.FileEntryFormat.{FileEntr
 use Rattle.gimli_line.specs.header.HeaderGrammar.{paths_production, files_production}
 use Rattle.gimli_line.specs.header.HeaderGrammar.{formats_production, HeaderOpening}
 use Rattle.gimli_core.specs.Production.{Production, refuse}
-use Rattle.gimli_core.specs.Form.{Shape, shape_among, shape_production}
+use Rattle.gimli_core.specs.Form.{Shape, shape_production}
 use Rattle.gimli_line.specs.declared.header.parse.HeaderOpening.{HeaderOpening as HeaderOpeningOf}
-use Rattle.std.specs.Prelude.{◌<◌}
+use Rattle.std.specs.Map.{lookup}
+use Rattle.std.specs.Prelude.{◌<◌, nat_eq}
 use Rattle.gimli_core.specs.Numbers.{is_address_size}
 use Rattle.gimli_line.specs.header.Parameters.{Parameters, IsLineEncoding}
 
@@ -27,13 +28,13 @@ SpellsFormats = formats_production.Spells
 
 -- a value in a form among so many
 abbrev pub form_among : OrderAndLimit → Format → List (ℕ × Shape) → ℕ → Production Value
-form_among layout format rows form = elim (shape_among form rows) [
+form_among layout format rows form = elim (lookup (nat_eq form) rows) [
   | Some shape ↦ shape_production layout format shape
   | None ↦ refuse (UnknownForm (record { 0 = form }))
 ]
 
--- what a call took of them, its reader seen by bytes and its offset by number
 module _ {R Offset Endian : Type 0} (bytes : R → List ℕ) (number : Offset → ℕ) where
+  -- what a call took of them, its reader seen by bytes and its offset by number
   abbrev pub opening_seen : HeaderOpeningOf R Endian Offset → HeaderOpening
   opening_seen o = record {
     encoding = o.encoding;

@@ -32,11 +32,6 @@ abbrev pub IsTableOutcome : {F X Y : Type 0} → (X → Y) → Result (Vec F Glo
 IsTableOutcome view result left read =
     IsOutcome (λ table. (table.0.items, map view table.1.items)) result left read
 
--- the same of the answer alone
-abbrev pub IsAnswer : {X Y : Type 0} → (X → Y) → Result X Error → Result Y Error → Type 0
-IsAnswer view (Ok x) read = read ≡ Ok (view x)
-IsAnswer view (Err e) read = e ≢ OutOfMemory → read ≡ Err e
-
 -- what is read, its value passed over
 abbrev pub without_value : {A : Type 0} → Read A → Read (Unit {0})
 without_value r = r >>= λ x rest. (Ok tt, rest)
