@@ -3,6 +3,7 @@
 use Rattle.std.specs.Prelude.{ℕ, List, take, drop, Result, Ok, Err, ◌+◌, [], ◌∷◌, length, nat_eq}
 use Rattle.std.specs.Prelude.{nat_lt, not, if◌then◌else◌}
 use Rattle.gimli_core.specs.Numbers.{le_value, is_address_size}
+pub use Rattle.gimli_core.specs.Results.{◌>>=◌}
 use Rattle.std.specs.List.{starts_with}
 use Rattle.gimli_index.specs.declared.error.IndexError.{IndexError}
 use Rattle.gimli_index.specs.declared.error.IndexError.TheVariants.{NotIndex, HeaderCut, Version}
@@ -16,12 +17,6 @@ use Rattle.gimli_index.specs.declared.header.StartSize.TheVariants.{Four, Eight}
 -- the number in so many bytes at an offset
 abbrev pub number_at : ℕ → ℕ → List ℕ → ℕ
 number_at size offset bytes = le_value (take size (drop offset bytes))
-
--- one answer after another, up to the first refusal
-infixl 10 ◌>>=◌
-abbrev pub ◌>>=◌ : {A B E : Type 0} → Result A E → (A → Result B E) → Result B E
-(Ok x) >>= f = f x
-(Err e) >>= f = Err e
 
 -- the bytes that each index begins with: those of LINEIDX, and a zero byte
 abbrev pub magic : List ℕ

@@ -6,6 +6,7 @@ use Rattle.std.specs.Prelude.{Err, IsTrue}
 use Rattle.std.specs.Char.{is_ascii_alphabetic}
 use Rattle.std.specs.Option.{option_map_or}
 use Rattle.gimli_core.specs.Reading.{result_map}
+pub use Rattle.gimli_core.specs.Results.{◌>>=◌}
 use Rattle.gimli_line.specs.declared.run.row.LineRow.{LineRow}
 use Rattle.gimli_line.specs.header.File.{File}
 use Rattle.gimli_line.specs.header.Header.{Header, directory_of, file_of}
@@ -55,13 +56,6 @@ path_from directory path =
     if is_absolute path then Ok path else result_map (λ base. path_in base path) directory
 
 -- ---- paths of a header
-
--- one step after another, to the first refusal
-infixl 10 ◌>>=◌
-abbrev pub ◌>>=◌ : Result (List ℕ) PathError → (List ℕ → Result (List ℕ) PathError)
-    → Result (List ℕ) PathError
-Ok path >>= next = next path
-Err e >>= next = Err e
 
 -- what whole paths are made of: the strings of the sections, a header, and the directory of the
 -- compilation, where the caller has it

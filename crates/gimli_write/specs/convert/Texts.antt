@@ -5,15 +5,9 @@ use Prelude.{ℕ, List, Option, Some, None, Result, Ok, Err, length, nat_eq, nat
 use Prelude.{ConvertError, Read, InvalidAttributeValue, UnsupportedLineStringForm, OutOfMemory}
 use Rattle.std.specs.List.{list_any}
 use Rattle.std.specs.Result.{result_map_both}
+pub use Rattle.gimli_core.specs.Results.{◌>>=◌}
 use Rattle.gimli_core.specs.declared.attribute_value.AttributeValue.TheVariants.{DebugStrRefSup}
 use Rattle.gimli_write.specs.TextReading.{text_of}
-
--- one step after another, to the first refusal
-infixl 10 ◌>>=◌
-abbrev pub ◌>>=◌ : {A B : Type 0} → Result A ConvertError → (A → Result B ConvertError)
-    → Result B ConvertError
-Ok x >>= f = f x
-Err e >>= f = Err e
 
 -- a call is refused: memory is missing, or the step that it does is refused so
 abbrev pub IsRefusedBy : {A : Type 0} → Result A ConvertError → ConvertError → Type 0
