@@ -15,6 +15,7 @@ use Rattle.lines_counts.specs.Spent.{spent_on}
 use Rattle.lines_counts.specs.declared.spent.Spent.{Spent}
 use Rattle.lines_counts.specs.declared.spent.Spent.TheVariants.{Header as header, Tables, Unread}
 
+-- a piece of a unit, by the sizes of its parts
 pub record Piece : Type 0 where
   -- what it is
   pub kind : Spent
@@ -22,17 +23,19 @@ pub record Piece : Type 0 where
   pub bytes : ℕ
   pub operands : ℕ
 
+-- all its bytes
 abbrev pub all_bytes : Piece → ℕ
 all_bytes piece = piece.bytes + piece.operands
 
 -- ---- instructions
 
--- of the bytes of an instruction those that say which one it is: one, or of an extended instruction
--- the zero byte, the length and the opcode (DWARF 5, section 6.2.3)
+-- the bytes that say which instruction it is: one, or of an extended instruction the zero byte, the
+-- length and the opcode (DWARF 5, section 6.2.3)
 abbrev pub opened_size : Bool → List ℕ → ℕ
 opened_size is_extended rest =
     if is_extended then 2 + (length rest - length (unsigned.read rest).1) else 1
 
+-- how many of the bytes of an instruction say which one it is
 abbrev pub opcode_size : List ℕ → ℕ
 opcode_size [] = 0
 opcode_size (b ∷ rest) = opened_size (nat_eq b 0) rest

@@ -7,6 +7,7 @@ use Rattle.lines_counts.specs.declared.spent.Spent.{Spent}
 use Rattle.lines_counts.specs.declared.tally.Share.{Share}
 use Rattle.lines_counts.specs.declared.tally.Tally.{Tally}
 
+-- nothing was spent
 abbrev pub no_share : Share
 no_share = record { times = 0; bytes = 0; operands = 0 }
 
