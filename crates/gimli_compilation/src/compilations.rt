@@ -1,6 +1,6 @@
 //! The directories of compilations, by the offsets of their line programs.
 
-ghost use Rattle.std.specs.Prelude.{◌≡◌, ℕ, IfErr, IfOk, OnOk, option_map};
+ghost use Rattle.std.specs.Prelude.{◌≡◌, ℕ, IsOkUnless, IfOk, OnOk, option_map};
 ghost use Rattle.std.specs.BTreeMap.{get};
 ghost use Rattle.std.specs.Ordering.{nat_cmp};
 ghost use Rattle.gimli_compilation.specs.Directories.{TellsDirectories, directory_for};
@@ -54,7 +54,7 @@ impl<R: Reader> CompilationUnit<R> {
 fn keep<R: Reader>(directories: &mut BTreeMap<u64, R>, given: Option<(u64, R)>) -> Result<()>
     ensures ok { OnOk result ((line : ℕ) → get nat_cmp directories.new line
         ≡ first_of (get nat_cmp directories.old line) (directory_in line given)) }
-    ensures err { IfErr result (λ e. e ≡ Error.OutOfMemory) }
+    ensures err { IsOkUnless result Error.OutOfMemory }
 {
     match given {
         None => Ok(()),
@@ -72,7 +72,7 @@ impl<R: Reader> Compilations<R> {
         ensures ok { IfOk result (λ compilations.
             TellsDirectories (sections_of R.bytes R.is_big R.Offset.limit sections.now)
             (λ line. option_map R.bytes (directory_for compilations line))) }
-        ensures err { IfErr result (λ e. e ≡ Error.OutOfMemory) }
+        ensures err { IsOkUnless result Error.OutOfMemory }
     {
         let mut directories = BTreeMap::new(alloc);
         let mut units = sections.units(alloc);

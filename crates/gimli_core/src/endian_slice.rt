@@ -1,6 +1,6 @@
 //! The reader over a slice of bytes.
 
-ghost use Rattle.std.specs.Prelude.{◌≡◌, IfOk, IfErr, IsOkAnd, nat_eq, position};
+ghost use Rattle.std.specs.Prelude.{◌≡◌, IfOk, IsOkUnless, IsOkAnd, nat_eq, position};
 ghost use Rattle.std.specs.Cow.{cow_slice_items, IsBorrowedSlice};
 ghost use Rattle.gimli_core.specs.Reading.{eof};
 
@@ -109,7 +109,7 @@ impl<'i, E: Endianity> Reader for EndianSlice<'i, E> {
 
     fn to_slice(&self) -> Result<CowSlice<'_, u8>>
         ensures ok { IfOk result (λ slice. cow_slice_items slice ≡ self.now.slice.now) }
-        ensures err { IfErr result (λ e. e ≡ Error.OutOfMemory) }
+        ensures err { IsOkUnless result Error.OutOfMemory }
         // The bytes are lent, and so nothing is refused.
         ensures lent { IsOkAnd result IsBorrowedSlice }
     {

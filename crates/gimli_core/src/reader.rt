@@ -1,7 +1,7 @@
 //! What a reader does: numbers, texts, lengths and addresses, taken from the front of bytes.
 
 ghost use Rattle.std.specs.Prelude.{◌≡◌, ℕ, ◌+◌, ◌-◌, ◌≤◌, ◌↔◌, ◌++◌, Bool, List, [], length, take};
-ghost use Rattle.std.specs.Prelude.{IsTrue, IfOk, IfErr, OnErr};
+ghost use Rattle.std.specs.Prelude.{IsTrue, IfOk, IsOkUnless, OnErr};
 ghost use Rattle.std.specs.Cow.{cow_slice_items};
 ghost use Rattle.gimli_core.specs.Numbers.{is_address_size};
 ghost use Rattle.gimli_core.specs.Layout.{layout_of};
@@ -81,7 +81,7 @@ pub trait Reader: Copy {
     /// `OutOfMemory`, where the copy found no memory.
     fn to_slice(&self) -> Result<CowSlice<'_, u8>>
         ensures ok { IfOk result (λ slice. cow_slice_items slice ≡ bytes self.now) }
-        ensures err { IfErr result (λ e. e ≡ Error.OutOfMemory) };
+        ensures err { IsOkUnless result Error.OutOfMemory };
 
     /// Takes as many bytes as the buffer has, into the buffer. Where they are missing, the buffer
     /// stays as it was too.

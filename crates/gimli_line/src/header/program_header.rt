@@ -1,8 +1,8 @@
 //! The header of a line program, and its tables by index.
 
-ghost use Rattle.std.specs.Prelude.{◌≡◌, Bool, ◌-◌, ◌^◌, ◌<◌, ◌≤◌, ◌↔◌, ◌||◌, ◌++◌, ◌∷◌, [], IfErr};
-ghost use Rattle.std.specs.Prelude.{IfOk, IfSome, IsNone, IsTrue, OnErr, OnOk, map, min, nat_le};
-ghost use Rattle.std.specs.Prelude.{option_map, slice_get, slice_index};
+ghost use Rattle.std.specs.Prelude.{◌≡◌, Bool, ◌-◌, ◌^◌, ◌<◌, ◌≤◌, ◌↔◌, ◌||◌, ◌++◌, ◌∷◌, []};
+ghost use Rattle.std.specs.Prelude.{IfOk, IfSome, IsNone, IsOkUnless, IsTrue, OnErr, OnOk, map, min};
+ghost use Rattle.std.specs.Prelude.{nat_le, option_map, slice_get, slice_index};
 ghost use Rattle.gimli_core.specs.Numbers.{is_address_size};
 ghost use Rattle.gimli_core.specs.Values.{value_seen};
 ghost use Rattle.gimli_line.specs.header.Parameters.{IsLineEncoding};
@@ -134,7 +134,7 @@ where
         ensures meaning { IfOk result (λ copy. copy.meaning ≡ self.now.meaning) }
         ensures layout { IfOk result (λ copy. copy.layout ≡ self.now.layout) }
         ensures offset { IfOk result (λ copy. copy.offset ≡ self.now.offset) }
-        ensures err { IfErr result (λ e. e ≡ Error.OutOfMemory) }
+        ensures err { IsOkUnless result Error.OutOfMemory }
     {
         let (directory_entry_format, include_directories) = copied_both(
             &self.directory_entry_format,
@@ -411,7 +411,7 @@ where
         ensures ok { OnOk result (self.new.meaning
             ≡ with_file (file_seen R.bytes Offset.number file) self.old.meaning) }
         ensures err { OnErr result (self.new.meaning ≡ self.old.meaning) }
-        ensures memory { IfErr result (λ e. e ≡ Error.OutOfMemory) }
+        ensures memory { IsOkUnless result Error.OutOfMemory }
         ensures source { KeepsSource (λ order. FileHasOrder R.is_big order file)
             (source_of R.is_big Offset.number self.old)
             (source_of R.is_big Offset.number self.new) }
@@ -461,7 +461,7 @@ fn entry<T>(entries: &[T], index: u64) -> Option<&T>
 fn copied_both<A: Copy, B: Copy>(first: &Vec<A>, second: &Vec<B>) -> Result<(Vec<A>, Vec<B>)>
     ensures first { IfOk result (λ copies. copies.0.items ≡ first.now.items) }
     ensures second { IfOk result (λ copies. copies.1.items ≡ second.now.items) }
-    ensures err { IfErr result (λ e. e ≡ Error.OutOfMemory) }
+    ensures err { IsOkUnless result Error.OutOfMemory }
 {
     Ok((copied(first)?, copied(second)?))
 }
@@ -469,7 +469,7 @@ fn copied_both<A: Copy, B: Copy>(first: &Vec<A>, second: &Vec<B>) -> Result<(Vec
 /// A list of copies. Refused by `OutOfMemory` alone.
 fn copied<T: Copy>(items: &Vec<T>) -> Result<Vec<T>>
     ensures items { IfOk result (λ copy. copy.items ≡ items.now.items) }
-    ensures err { IfErr result (λ e. e ≡ Error.OutOfMemory) }
+    ensures err { IsOkUnless result Error.OutOfMemory }
 {
     match Vec::from_slice(*items.allocator(), items) {
         Ok(copy) => Ok(copy),

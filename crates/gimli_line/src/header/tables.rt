@@ -1,6 +1,6 @@
 //! The tables of directories and files.
 
-ghost use Rattle.std.specs.Prelude.{◌≡◌, [], ◌∷◌, ◌++◌, map, IfErr, IfOk, OnErr, OnOk};
+ghost use Rattle.std.specs.Prelude.{◌≡◌, [], ◌∷◌, ◌++◌, map, IsOkUnless, IfOk, OnErr, OnOk};
 ghost use Rattle.gimli_core.specs.Production.{times};
 ghost use Rattle.gimli_core.specs.Reading.{result_map};
 ghost use Rattle.std.specs.List.{All};
@@ -33,7 +33,7 @@ use std::alloc::Global;
 /// Adds an item at the end. Refused by `OutOfMemory` alone; the list is then as it was.
 pub(crate) fn push<T: Drop>(list: &mut Vec<T>, item: T) -> Result<()>
     ensures ok { OnOk result (list.new.items ≡ list.old.items ++ item ∷ []) }
-    ensures err { IfErr result (λ e. e ≡ Error.OutOfMemory) }
+    ensures err { IsOkUnless result Error.OutOfMemory }
     ensures kept { OnErr result (list.new.items ≡ list.old.items) }
 {
     if list.reserve(1).is_err() {

@@ -66,7 +66,7 @@ where
     R: Reader<Offset = Offset>,
     Offset: ReaderOffset,
 {
-    ghost use Rattle.std.specs.Prelude.{◌≡◌, IfErr, IfOk};
+    ghost use Rattle.std.specs.Prelude.{◌≡◌, IfOk, IsOkUnless};
     ghost use Rattle.gimli_line.specs.header.HeaderParts.{parts_of};
 
     /// A copy, which agrees with the program in all its parts and says what it says. Refused by
@@ -76,7 +76,7 @@ where
         ensures meaning { IfOk result (λ copy. copy.meaning ≡ self.now.meaning) }
         ensures layout { IfOk result (λ copy. copy.layout ≡ self.now.layout) }
         ensures offset { IfOk result (λ copy. copy.offset ≡ self.now.offset) }
-        ensures err { IfErr result (λ e. e ≡ Error.OutOfMemory) }
+        ensures err { IsOkUnless result Error.OutOfMemory }
     {
         Ok(IncompleteLineProgram {
             header: self.header.clone()?,
@@ -149,7 +149,7 @@ where
     R: Reader<Offset = Offset>,
     Offset: ReaderOffset,
 {
-    ghost use Rattle.std.specs.Prelude.{◌≡◌, IfErr, IfOk};
+    ghost use Rattle.std.specs.Prelude.{◌≡◌, IfOk, IsOkUnless};
     ghost use Rattle.gimli_line.specs.header.HeaderParts.{parts_of};
 
     /// A copy, which agrees with the program in all its parts and says what it says. Refused by
@@ -159,7 +159,7 @@ where
         ensures meaning { IfOk result (λ copy. copy.meaning ≡ self.now.meaning) }
         ensures layout { IfOk result (λ copy. copy.layout ≡ self.now.layout) }
         ensures offset { IfOk result (λ copy. copy.offset ≡ self.now.offset) }
-        ensures err { IfErr result (λ e. e ≡ Error.OutOfMemory) }
+        ensures err { IsOkUnless result Error.OutOfMemory }
     {
         Ok(CompleteLineProgram {
             header: self.header.clone()?,

@@ -360,12 +360,12 @@ impl<'program, R: Reader> LineRows<R, &'program CompleteLineProgram<R>> {
 }
 
 impl<R: Reader> LineRows<R, IncompleteLineProgram<R>> {
-    ghost use Rattle.std.specs.Prelude.{◌≡◌, IfErr, IfOk};
+    ghost use Rattle.std.specs.Prelude.{◌≡◌, IfOk, IsOkUnless};
 
     /// A copy with the same rows to come. Refused by `OutOfMemory` alone.
     pub fn clone(&self) -> Result<Self>
         ensures ok { IfOk result (λ copy. copy ≡ self.now) }
-        ensures err { IfErr result (λ e. e ≡ Error.OutOfMemory) }
+        ensures err { IsOkUnless result Error.OutOfMemory }
     {
         Ok(LineRows {
             program: self.program.clone()?,

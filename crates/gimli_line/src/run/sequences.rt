@@ -61,7 +61,7 @@ impl<R: Reader> Model for SequenceSplit<R> {
 }
 
 impl<R: Reader> SequenceSplit<R> {
-    ghost use Rattle.std.specs.Prelude.{◌≡◌, ◌++◌, ℕ, List, [], None, map, IfErr, OnOk};
+    ghost use Rattle.std.specs.Prelude.{◌≡◌, ◌++◌, ℕ, List, [], None, map, IsOkUnless, OnOk};
     ghost use Rattle.gimli_line.specs.inside.run.SequenceSplit.{with_row};
     ghost use Rattle.gimli_line.specs.run.Sequences.{sequence_of};
 
@@ -81,7 +81,7 @@ impl<R: Reader> SequenceSplit<R> {
     fn row(&mut self, row: &LineRow, rest: &LineInstructions<R>) -> Result<()>
         requires { (front : List ℕ) × (self.old.unread.bytes ≡ front ++ rest.now.bytes) }
         ensures ok { OnOk result (self.new ≡ with_row row.now rest.now self.old) }
-        ensures err { IfErr result (λ e. e ≡ Error.OutOfMemory) }
+        ensures err { IsOkUnless result Error.OutOfMemory }
     {
         let start = self.start;
         if !row.end_sequence() {
@@ -123,7 +123,7 @@ impl Model for RowSplit {
 }
 
 impl RowSplit {
-    ghost use Rattle.std.specs.Prelude.{◌≡◌, [], IfErr, OnOk};
+    ghost use Rattle.std.specs.Prelude.{◌≡◌, [], IsOkUnless, OnOk};
     ghost use Rattle.gimli_line.specs.inside.run.SequenceSplit.{with_kept_row};
 
     /// No rows yet.
@@ -139,7 +139,7 @@ impl RowSplit {
     /// Keeps the next row. Refused by `OutOfMemory` alone.
     fn keep(&mut self, row: &LineRow) -> Result<()>
         ensures ok { OnOk result (self.new ≡ with_kept_row row.now self.old) }
-        ensures err { IfErr result (λ e. e ≡ Error.OutOfMemory) }
+        ensures err { IsOkUnless result Error.OutOfMemory }
     {
         self.unended.push(row)?;
         if !row.end_sequence() {
