@@ -1,8 +1,8 @@
 //! The header of a line program, and its tables by index.
 
 ghost use Rattle.std.specs.Prelude.{◌≡◌, Bool, ◌-◌, ◌^◌, ◌<◌, ◌≤◌, ◌↔◌, ◌||◌, ◌++◌, ◌∷◌, []};
-ghost use Rattle.std.specs.Prelude.{IfOk, IfSome, IsNone, IsOkUnless, IsTrue, OnErr, OnOk, map, min};
-ghost use Rattle.std.specs.Prelude.{nat_le, option_map, slice_get, slice_index};
+ghost use Rattle.std.specs.Prelude.{IfOk, IfSome, IsNone, IsOkUnless, IsTrue, OnErr, OnOk, map};
+ghost use Rattle.std.specs.Prelude.{min, nat_le, option_map, slice_get, slice_index};
 ghost use Rattle.gimli_core.specs.Numbers.{is_address_size};
 ghost use Rattle.gimli_core.specs.Values.{value_seen};
 ghost use Rattle.gimli_line.specs.header.Parameters.{IsLineEncoding};
