@@ -5,7 +5,7 @@
   .ci/pages/pictures.py --check   says which one isn't what the data gives; the status is then 1
 
 layers.svg has the libraries, each above those that it stands on (crates.txt); lookups.svg the instructions of so many lookups, by
-each way of bench/peers/counts.tsv; index.svg the parts of an index, by the tables of docs/reference/INDEX.md.
+each way of compare/speed/peers/counts.tsv; index.svg the parts of an index, by the tables of docs/reference/INDEX.md.
 """
 import glob
 import math
@@ -122,7 +122,7 @@ def layers():
 
 def ways():
     """Each way with what it takes to open, of the first lookup, of each of 10,000, and of each one more."""
-    rows = [it.split("\t") for it in text_of("bench/peers/counts.tsv").splitlines() if it and not it.startswith("#")]
+    rows = [it.split("\t") for it in text_of("compare/speed/peers/counts.tsv").splitlines() if it and not it.startswith("#")]
     return [(name, *map(int, counts)) for name, *counts in rows]
 
 
