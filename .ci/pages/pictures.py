@@ -5,7 +5,7 @@
   .ci/pages/pictures.py --check   says which one isn't what the data gives; the status is then 1
 
 layers.svg has the libraries, each above those that it stands on (crates.txt); lookups.svg the instructions of so many lookups, by
-each way of compare/speed/peers/counts.tsv; index.svg the parts of an index, by the tables of docs/reference/INDEX.md.
+each way of compare/speed/peers.tsv; index.svg the parts of an index, by the tables of docs/reference/INDEX.md.
 """
 import glob
 import math
@@ -13,13 +13,16 @@ import os
 import re
 import sys
 
+sys.dont_write_bytecode = True
+import speed
+
 TOP = os.path.dirname(os.path.dirname(os.path.dirname(os.path.realpath(__file__))))
 FOLDER = "docs/pictures"
 # Where users begin; a picture marks these.
 ENTRIES = ("gimli_line", "gimli_lookup", "gimli_index", "gimli_write", "gimli_c")
 INK, PAPER, PALE, MARKED = "#222222", "#ffffff", "#eef2f7", "#cfe3ff"
 # Colours that also the colour-blind tell apart (Okabe and Ito).
-COLOURS = ("#0072b2", "#56b4e9", "#d55e00", "#009e73", "#cc79a7", "#e69f00", "#777777")
+COLOURS = ("#0072b2", "#56b4e9", "#d55e00", "#009e73", "#cc79a7", "#e69f00", "#777777", "#000000")
 
 
 def text_of(name):
@@ -120,18 +123,12 @@ def layers():
 # ---- lookups
 
 
-def ways():
-    """Each way with what it takes to open, of the first lookup, of each of 10,000, and of each one more."""
-    rows = [it.split("\t") for it in text_of("compare/speed/peers/counts.tsv").splitlines() if it and not it.startswith("#")]
-    return [(name, *map(int, counts)) for name, *counts in rows]
-
-
-def total(count, way):
-    """The instructions of so many lookups; between what was counted, in proportion."""
-    _, opened, first, each, more = way
-    if count <= 10000:
-        return opened + first + (count - 1) * (10000 * each - first) / 9999
-    return opened + 10000 * each + (count - 10000) * more
+# What a way of compare/speed/peers.tsv is called in the picture, if not by its name there.
+LABELS = {
+    "index": "gimli_line_index_find",
+    "index_all": "gimli_line_index_find_all",
+    "elf": "gimli_line_index_find, making the index",
+}
 
 
 def lookups():
@@ -150,17 +147,17 @@ def lookups():
     for power in range(7):
         parts += [line(x(10**power), top, x(10**power), bottom, "#dddddd"), text(x(10**power), bottom + 18, f"{10**power:,}", 12)]
     parts.append(text((left + right) / 2, bottom + 38, "lookups"))
-    labels = sorted((y(total(10**6, it)), it[0], colour) for it, colour in zip(ways(), COLOURS))
-    for i, way in enumerate(ways()):
-        places = [(x(count), y(total(count, way))) for count in (round(10 ** (step / 4)) for step in range(25))]
+    ways = speed.ways()
+    labels = sorted((y(speed.total(10**6, way)), name, colour) for (name, way), colour in zip(ways.items(), COLOURS))
+    for i, way in enumerate(ways.values()):
+        places = [(x(count), y(speed.total(count, way))) for count in (round(10 ** (step / 4)) for step in range(25))]
         route = " ".join(f"{one:.1f},{other:.1f}" for one, other in places)
         parts.append(f'<polyline points="{route}" fill="none" stroke="{COLOURS[i]}" stroke-width="2"/>')
     least = 0
     for at, name, colour in labels:
         least = max(at + 4, least + 15)
-        said = f"gimli_line_{name}" if name.startswith("index") else name
-        parts += [line(right, at, right + 12, least - 4, colour), text(right + 16, least, said, 12, "start", colour)]
-    return picture(800, bottom + 50, "Instructions over the number of lookups, for each way", parts)
+        parts += [line(right, at, right + 12, least - 4, colour), text(right + 16, least, LABELS.get(name, name), 12, "start", colour)]
+    return picture(880, bottom + 50, "Instructions over the number of lookups, for each way", parts)
 
 
 # ---- the parts of an index
