@@ -5,7 +5,8 @@
   .ci/pages/pictures.py --check   says which one isn't what the data gives; the status is then 1
 
 layers.svg has the libraries, each above those that it stands on (crates.txt); lookups.svg the instructions of so many lookups, by
-each way of compare/speed/peers.tsv; index.svg the parts of an index, by the tables of docs/reference/INDEX.md.
+each way of compare/speed/peers.tsv; index.svg the parts of an index, by the tables of docs/reference/INDEX.md; strip.svg the way from a
+file to rows to places, with the rows of crates/uses/data/HOW.md and what the first command of README.md prints.
 """
 import glob
 import math
@@ -186,7 +187,32 @@ def index():
     return picture(800, 200, "The parts of an index", parts)
 
 
-PICTURES = {"layers.svg": layers, "lookups.svg": lookups, "index.svg": index}
+# ---- from a file to rows to places
+
+
+def arrow(x, y, to_x, words, below):
+    """An arrow with words above it, and others below."""
+    tip = 7 if to_x > x else -7
+    parts = [line(x, y, to_x, y, width=2), line(to_x - tip, y - 5, to_x, y, width=2), line(to_x - tip, y + 5, to_x, y, width=2)]
+    parts.append(text((x + to_x) / 2, y - 9, words, 12, weight="bold"))
+    return parts + [text((x + to_x) / 2, y + 18, below, 11)]
+
+
+def strip():
+    """The program of README's first command: its rows by crates/uses/data/HOW.md, and what the command prints."""
+    rows = re.findall(r"^0x0*(\w+) +(\d+) +(\d+) ", text_of("crates/uses/data/HOW.md"), re.M)[:4]
+    printed = re.search(r"rt try -- where_is (\S+) (\w+)\) +# (\S+) (\S+)\n", text_of("README.md"))
+    parts = [box(10, 30, 150, 110, PALE), text(85, 55, "an ELF file", weight="bold"), text(85, 80, printed[1], 12)]
+    parts += [text(85, 100, "its section .debug_line", 11), text(85, 118, "(DWARF 2 to 5)", 11)]
+    parts += [box(290, 30, 190, 110, PALE), text(385, 50, "rows", weight="bold"), text(385, 68, "address, line, column", 11)]
+    parts += [text(385, 86 + 15 * i, f"0x{address}   {number}   {column}", 12) for i, (address, number, column) in enumerate(rows)]
+    parts += [box(640, 30, 150, 110, MARKED), text(715, 55, "a place", weight="bold"), text(715, 85, printed[3], 12), text(715, 107, printed[4], 12)]
+    parts += arrow(165, 66, 285, "gimli_line", "reads") + arrow(285, 110, 165, "gimli_write", "builds, writes")
+    parts += arrow(485, 66, 635, "gimli_lookup", "keeps rows") + arrow(485, 110, 635, "gimli_index", "is mapped bytes")
+    return picture(800, 155, "From a file to rows to places, and from rows to a file", parts)
+
+
+PICTURES = {"strip.svg": strip, "layers.svg": layers, "lookups.svg": lookups, "index.svg": index}
 
 
 def main(words):
