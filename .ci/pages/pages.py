@@ -212,7 +212,7 @@ def miscounted():
     texts = [open(os.path.join(TOP, it), encoding="utf8").read() for it in found(["crates/vectors/data/*.rows"])]
     rows = sum(len(re.findall(r"^== ", it, re.M)) for it in texts)
     page = " ".join(open(os.path.join(TOP, "crates/vectors/ROWS.md"), encoding="utf8").read().split())
-    if f"{rows:,} of them stand in `crates/vectors/data/`, in {len(texts)} files" not in page:
+    if f"`crates/vectors/data/` has {rows:,} of them, in {len(texts)} files" not in page:
         yield f"crates/vectors/ROWS.md: crates/vectors/data has {rows:,} rows in {len(texts)} files"
 
 

@@ -5,7 +5,8 @@
   .ci/pages/pictures.py --check   says which one isn't what the data gives; the status is then 1
 
 layers.svg has the libraries, each above those that it stands on (crates.txt); lookups.svg the instructions of so many lookups, by
-each way of bench/peers/counts.tsv; index.svg the parts of an index, by the tables of docs/reference/INDEX.md.
+each way of compare/speed/peers.tsv; index.svg the parts of an index, by the tables of docs/reference/INDEX.md; strip.svg the way from a
+file to rows to places, with the rows of crates/uses/data/HOW.md and what the first command of README.md prints.
 """
 import glob
 import math
@@ -13,13 +14,16 @@ import os
 import re
 import sys
 
+sys.dont_write_bytecode = True
+import speed
+
 TOP = os.path.dirname(os.path.dirname(os.path.dirname(os.path.realpath(__file__))))
 FOLDER = "docs/pictures"
 # Where users begin; a picture marks these.
 ENTRIES = ("gimli_line", "gimli_lookup", "gimli_index", "gimli_write", "gimli_c")
 INK, PAPER, PALE, MARKED = "#222222", "#ffffff", "#eef2f7", "#cfe3ff"
 # Colours that also the colour-blind tell apart (Okabe and Ito).
-COLOURS = ("#0072b2", "#56b4e9", "#d55e00", "#009e73", "#cc79a7", "#e69f00", "#777777")
+COLOURS = ("#0072b2", "#56b4e9", "#d55e00", "#009e73", "#cc79a7", "#e69f00", "#777777", "#000000")
 
 
 def text_of(name):
@@ -120,18 +124,12 @@ def layers():
 # ---- lookups
 
 
-def ways():
-    """Each way with what it takes to open, of the first lookup, of each of 10,000, and of each one more."""
-    rows = [it.split("\t") for it in text_of("bench/peers/counts.tsv").splitlines() if it and not it.startswith("#")]
-    return [(name, *map(int, counts)) for name, *counts in rows]
-
-
-def total(count, way):
-    """The instructions of so many lookups; between what was counted, in proportion."""
-    _, opened, first, each, more = way
-    if count <= 10000:
-        return opened + first + (count - 1) * (10000 * each - first) / 9999
-    return opened + 10000 * each + (count - 10000) * more
+# What a way of compare/speed/peers.tsv is called in the picture, if not by its name there.
+LABELS = {
+    "index": "gimli_line_index_find",
+    "index_all": "gimli_line_index_find_all",
+    "elf": "gimli_line_index_find, making the index",
+}
 
 
 def lookups():
@@ -150,17 +148,17 @@ def lookups():
     for power in range(7):
         parts += [line(x(10**power), top, x(10**power), bottom, "#dddddd"), text(x(10**power), bottom + 18, f"{10**power:,}", 12)]
     parts.append(text((left + right) / 2, bottom + 38, "lookups"))
-    labels = sorted((y(total(10**6, it)), it[0], colour) for it, colour in zip(ways(), COLOURS))
-    for i, way in enumerate(ways()):
-        places = [(x(count), y(total(count, way))) for count in (round(10 ** (step / 4)) for step in range(25))]
+    ways = speed.ways()
+    labels = sorted((y(speed.total(10**6, way)), name, colour) for (name, way), colour in zip(ways.items(), COLOURS))
+    for i, way in enumerate(ways.values()):
+        places = [(x(count), y(speed.total(count, way))) for count in (round(10 ** (step / 4)) for step in range(25))]
         route = " ".join(f"{one:.1f},{other:.1f}" for one, other in places)
         parts.append(f'<polyline points="{route}" fill="none" stroke="{COLOURS[i]}" stroke-width="2"/>')
     least = 0
     for at, name, colour in labels:
         least = max(at + 4, least + 15)
-        said = f"gimli_line_{name}" if name.startswith("index") else name
-        parts += [line(right, at, right + 12, least - 4, colour), text(right + 16, least, said, 12, "start", colour)]
-    return picture(800, bottom + 50, "Instructions over the number of lookups, for each way", parts)
+        parts += [line(right, at, right + 12, least - 4, colour), text(right + 16, least, LABELS.get(name, name), 12, "start", colour)]
+    return picture(880, bottom + 50, "Instructions over the number of lookups, for each way", parts)
 
 
 # ---- the parts of an index
@@ -189,7 +187,32 @@ def index():
     return picture(800, 200, "The parts of an index", parts)
 
 
-PICTURES = {"layers.svg": layers, "lookups.svg": lookups, "index.svg": index}
+# ---- from a file to rows to places
+
+
+def arrow(x, y, to_x, words, below):
+    """An arrow with words above it, and others below."""
+    tip = 7 if to_x > x else -7
+    parts = [line(x, y, to_x, y, width=2), line(to_x - tip, y - 5, to_x, y, width=2), line(to_x - tip, y + 5, to_x, y, width=2)]
+    parts.append(text((x + to_x) / 2, y - 9, words, 12, weight="bold"))
+    return parts + [text((x + to_x) / 2, y + 18, below, 11)]
+
+
+def strip():
+    """The program of README's first command: its rows by crates/uses/data/HOW.md, and what the command prints."""
+    rows = re.findall(r"^0x0*(\w+) +(\d+) +(\d+) ", text_of("crates/uses/data/HOW.md"), re.M)[:4]
+    printed = re.search(r"rt try -- where_is (\S+) (\w+)\) +# (\S+) (\S+)\n", text_of("README.md"))
+    parts = [box(10, 30, 150, 110, PALE), text(85, 55, "an ELF file", weight="bold"), text(85, 80, printed[1], 12)]
+    parts += [text(85, 100, "its section .debug_line", 11), text(85, 118, "(DWARF 2 to 5)", 11)]
+    parts += [box(290, 30, 190, 110, PALE), text(385, 50, "rows", weight="bold"), text(385, 68, "address, line, column", 11)]
+    parts += [text(385, 86 + 15 * i, f"0x{address}   {number}   {column}", 12) for i, (address, number, column) in enumerate(rows)]
+    parts += [box(640, 30, 150, 110, MARKED), text(715, 55, "a place", weight="bold"), text(715, 85, printed[3], 12), text(715, 107, printed[4], 12)]
+    parts += arrow(165, 66, 285, "gimli_line", "reads") + arrow(285, 110, 165, "gimli_write", "builds, writes")
+    parts += arrow(485, 66, 635, "gimli_lookup", "keeps rows") + arrow(485, 110, 635, "gimli_index", "is mapped bytes")
+    return picture(800, 155, "From a file to rows to places, and from rows to a file", parts)
+
+
+PICTURES = {"strip.svg": strip, "layers.svg": layers, "lookups.svg": lookups, "index.svg": index}
 
 
 def main(words):

@@ -1,7 +1,7 @@
 /* One call, so many times: calls PROGRAM CALL TIMES LOWEST HIGHEST, where CALL is index_find, index_addresses_of, find, path or file, the
  * last three in the unit of the place. Places are those of addresses at random, which are looked up before; what is counted is the
  * difference of two runs. */
-#include "../../crates/gimli_c/examples/c/file.h"
+#include "../../../crates/gimli_c/examples/c/file.h"
 #include "ask.h"
 
 enum { PLACES = 64 };

@@ -1,7 +1,7 @@
 #!/usr/bin/env python3
 """Measures `lines` beside its peers: processor time and peak memory, over programs. Outside the gate.
 
-    compare/speed.py [--one] PROGRAM..
+    compare/speed/lines.py [--one] PROGRAM..
 
 Prints one table: of each program 1, 1,000 and 100,000 addresses of its code, all rows printed, and a check; with --one 1 address
 alone. Each command is run three times, and the least processor time counts; a peer that isn't there has empty cells. The
@@ -16,9 +16,10 @@ import subprocess
 import sys
 import tempfile
 
-from places import newest
+TOP = os.path.dirname(os.path.dirname(os.path.dirname(os.path.realpath(__file__))))
+sys.path.insert(0, f"{TOP}/compare")
+from places import newest  # noqa: E402 - of the folder above
 
-TOP = os.path.dirname(os.path.dirname(os.path.realpath(__file__)))
 IS_ONE = sys.argv[1:2] == ["--one"]
 LINES = os.environ.get("LINES_PROGRAM", f"{TOP}/crates/lines/out/lines")
 
