@@ -1,9 +1,9 @@
-//! What the commands of `lines` read, and how they print it: the sections of a program, the names of
-//! its code, the paths of its files, its units and their rows; lines of several values; the places
-//! of addresses, and lines of source with the addresses of their code.
+//! What the commands of `lines` read, and how they print it: the sections of a program, the names
+//! of its code, the paths of its files, its units and their rows; lines of several values; the
+//! places of addresses, and lines of source with the addresses of their code.
 //!
-//! A printed line is a text with a [`Piece`] in the place of each `%`. [`print_fields`] prints it for
-//! people, or its pieces as an object of JSON.
+//! A printed line is a text with a [`Piece`] in the place of each `%`. [`print_fields`] prints it
+//! for people, or its pieces as an object of JSON.
 #![tactic(auto)]
 
 mod code_layout;
