@@ -142,15 +142,17 @@ impl SourceTable {
         Some(number as u32)
     }
 
-    /// Appends the source of a row's file. Requires an index of a unit.
+    /// Appends the source of a row's file. Requires an index of a unit. Takes the rows by value, so
+    /// that whoever knows their source needn't have them in memory.
+    #[inline(never)]
     fn add<R: Reader>(
         &mut self,
         origin: &Origin<'_, R>,
-        rows: &CoveringRows,
+        rows: CoveringRows,
     ) -> Result<u32, MakeError>
-        requires unit { rows.now.unit < length origin.now.lookup.now }
-        requires found { AreFound origin.now.lookup.now rows.now }
-        requires absent { All (λ k. k ≢ key_of rows.now) self.old.keys }
+        requires unit { rows.unit < length origin.now.lookup.now }
+        requires found { AreFound origin.now.lookup.now rows }
+        requires absent { All (λ k. k ≢ key_of rows) self.old.keys }
         requires are { AreSources
             (texts_seen R.bytes origin.now.paths.now)
             origin.now.lookup.now origin.now.limit self.old }
@@ -159,7 +161,7 @@ impl SourceTable {
             origin.now.lookup.now origin.now.limit self.new) }
         ensures keeps { OnOk result (Keeps self.old self.new) }
         ensures number { IfOk result
-            (λ number. slice_get self.new.keys number ≡ Some (key_of rows.now)) }
+            (λ number. slice_get self.new.keys number ≡ Some (key_of rows)) }
         ensures err { IfErr result (IsTableFault
             (texts_seen R.bytes origin.now.paths.now)
             origin.now.lookup.now origin.now.limit) }
@@ -172,7 +174,7 @@ impl SourceTable {
         let path = origin.path_of(unit, &rows.row)?;
         let offset = unit.offset().0.into_u64();
         let source = self.paths.source(origin.alloc, origin.limit, offset, path)?;
-        let key = key_of(rows);
+        let key = key_of(&rows);
         self.sources.push(source)?;
         self.keys.add(key)?;
         self.hints.set(key.unit, key.file, number as u32);
@@ -204,7 +206,7 @@ impl SourceTable {
     {
         match self.number_of(key_of(rows)) {
             Some(number) => Ok(number),
-            None => self.add(origin, rows),
+            None => self.add(origin, *rows),
         }
     }
 

@@ -73,6 +73,7 @@ fn goes_on(table: &SourceTable, given: Option<Given>, source: u32, line: u32) ->
 
 /// Takes in a row of a sequence, and returns what was given of the run that it stands in. Requires
 /// a row of a unit.
+#[inline(always)]
 fn take_row<R: Reader>(
     origin: &Origin<'_, R>,
     rows: &CoveringRows,

@@ -36,7 +36,9 @@ pub(crate) fn first_above(rows: &KeptRows, a: u64, probes: &mut u64) -> usize
     low
 }
 
-/// The first rows that cover `a`, found by halves. Requires addresses that never go down.
+/// The first rows that cover `a`, found by halves. Requires addresses that never go down. In line,
+/// so that the rows are copied once.
+#[inline(always)]
 pub(crate) fn find_by_halves(
     rows: &KeptRows,
     a: u64,

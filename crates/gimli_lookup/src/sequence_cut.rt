@@ -58,6 +58,7 @@ impl SequenceCut {
     }
 
     /// Takes in the next row that the program makes. Fails only with `OutOfMemory`.
+    #[inline(always)]
     pub(crate) fn row(&mut self, row: &LineRow) -> Result<()>
         ensures ok { OnOk result (self.new ≡ with_row row.now self.old) }
         ensures err { IfErr result (λ e. e ≡ Error.OutOfMemory) }

@@ -162,6 +162,7 @@ impl StepTable {
 
     /// What `find` returns, without its probes. Requires the sequences that the table was made of,
     /// whose addresses never go down, and what the steps say at `a`.
+    #[inline(always)]
     fn find_from(
         &self,
         sequences: &[KeptRows],
@@ -190,6 +191,7 @@ impl StepTable {
     /// What `find` returns at `a`, and the address up to which it returns the same; None where it
     /// does so at all addresses from `a` on. The search begins where a walk stands, which goes on
     /// to `a`. Requires the sequences that the table was made of, whose addresses never go down.
+    #[inline(always)]
     pub(crate) fn find_with_end(
         &self,
         sequences: &[KeptRows],

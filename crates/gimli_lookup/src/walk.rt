@@ -126,6 +126,7 @@ fn rows_up_to(rows: &KeptRows, a: u64, stand: Stand, sequence: usize) -> usize
 
 /// The first rows of the sequence at an index that cover `a`. Requires addresses that never go
 /// down.
+#[inline(always)]
 pub(crate) fn find_from(
     rows: &KeptRows,
     a: u64,

@@ -15,7 +15,7 @@ returns-then-number-ge-MOST-clause-err g c =
     let t = texts_seen g.R.Reader.bytes c.args.origin.now.paths.now in
     let units = c.args.origin.now.lookup.now in
     let limit = c.args.origin.now.limit in
-    let f = c.args.rows.now in
+    let f = c.args.rows in
     let inside : Table = record {
       keys = c.self.inside.keys;
       sources = c.self.inside.sources.items;
@@ -47,7 +47,7 @@ pub returns-in_err-source-clause-err : goal.returns-in_err-source-clause-err
 returns-in_err-source-clause-err g c =
     let t = texts_seen g.R.Reader.bytes c.args.origin.now.paths.now in
     let units = c.args.origin.now.lookup.now in
-    let f = c.args.rows.now in
+    let f = c.args.rows in
     let inside : Table = record {
       keys = c.self.inside.keys;
       sources = c.self.inside.sources.items;
@@ -66,7 +66,7 @@ returns-in_err-source-clause-err g c =
 
 pub add-requires : goal.add-requires
 add-requires g c =
-    let f = c.args.rows.now in
+    let f = c.args.rows in
     let absent = subst (λ (o : Table). All (λ k. k ≢ key_of f) o.keys) (sym c.self.view_is) c.requires.absent in
     λ k d within same. absent k d within (same ∙ c.key_of-key.ensures)
 
@@ -74,7 +74,7 @@ pub returns-clause-are : goal.returns-clause-are
 returns-clause-are g c =
     let t = texts_seen g.R.Reader.bytes c.args.origin.now.paths.now in
     let units = c.args.origin.now.lookup.now in
-    let f = c.args.rows.now in
+    let f = c.args.rows in
     let inside : Table = record {
       keys = c.self.inside.keys;
       sources = c.self.inside.sources.items;
@@ -97,7 +97,7 @@ pub returns-clause-keeps : goal.returns-clause-keeps
 returns-clause-keeps g c =
     let t = texts_seen g.R.Reader.bytes c.args.origin.now.paths.now in
     let units = c.args.origin.now.lookup.now in
-    let f = c.args.rows.now in
+    let f = c.args.rows in
     let inside : Table = record {
       keys = c.self.inside.keys;
       sources = c.self.inside.sources.items;
@@ -121,7 +121,7 @@ pub returns-clause-number : goal.returns-clause-number
 returns-clause-number g c =
     let t = texts_seen g.R.Reader.bytes c.args.origin.now.paths.now in
     let units = c.args.origin.now.lookup.now in
-    let f = c.args.rows.now in
+    let f = c.args.rows in
     let inside : Table = record {
       keys = c.self.inside.keys;
       sources = c.self.inside.sources.items;
