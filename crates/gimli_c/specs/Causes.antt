@@ -162,6 +162,8 @@ pub data HasCause (h : Handed) (at : GimliElement) (status : ℕ) : Type 0 where
   of_handed : HasHandedFault h at status → HasCause h at status
   of_unit : at ≡ nowhere → HasUnitFault h status → HasCause h at status
 
+-- this number says that memory lacks, or has such a cause at this element, and no element before
+-- it has a fault
 abbrev pub IsRefused : Handed → ℕ → GimliElement → Type 0
 IsRefused h = IsRefusedFor (HasCause h) (HasHandedFault h)
 

@@ -23,6 +23,7 @@ use Rattle.gimli_c.specs.Location.{Location, layout_at, HasNoUnit, HasUnit}
 use Rattle.gimli_c.specs.Seen.{flag}
 use Rattle.gimli_c.specs.Written.{IsPut, MemoryAside}
 
+-- a text of a kind, as C sees it
 abbrev pub text_at : ℕ → ℕ → ℕ → GimliText
 text_at kind first size = record { kind = kind; first = first; size = size }
 
@@ -35,6 +36,7 @@ text_seen (DebugStrRefSup o) = text_at 4 o.0 0
 text_seen (DebugStrOffsetsIndex i) = text_at 5 i.0 0
 text_seen v = text_at 0 0 0
 
+-- the same of a value that may be missing
 abbrev pub optional_text_seen : Option Value → GimliText
 optional_text_seen None = text_at 0 0 0
 optional_text_seen (Some v) = text_seen v
@@ -56,6 +58,7 @@ details_of h =
     + flag (has_content DW_LNCT_MD5 h.file_formats) 4
     + flag (has_content DW_LNCT_LLVM_source h.file_formats) 8
 
+-- a file of a header, as C sees it
 abbrev pub file_seen_by_c : Header → File → GimliFile
 file_seen_by_c h f = record {
   path = text_seen f.path_name;

@@ -27,6 +27,7 @@ IsRefusal status = (1 ≤ status) × (status ≤ 30)
 
 -- ---- encodings
 
+-- what the numbers of a unit are encoded by: offsets of 8 bytes are those of the 64-bit format
 abbrev pub encoding_of : GimliEncoding → Encoding
 encoding_of e = record {
   address_size = e.address_size;
@@ -34,6 +35,7 @@ encoding_of e = record {
   version = e.version;
 }
 
+-- how its rows are encoded
 abbrev pub line_encoding_of : GimliEncoding → LineEncoding
 line_encoding_of e = record {
   minimum_instruction_length = e.minimum_instruction_length;
@@ -146,6 +148,7 @@ abbrev pub key_handed : List ℕ → List ℕ → GimliFileName → FileKey
 key_handed texts ids f =
     (Inline (text_handed texts f.path), unwrap_or (slice_get ids f.directory) 0)
 
+-- what else is known of a file
 abbrev pub details_handed : GimliFileName → Details
 details_handed f = record { timestamp = f.timestamp; size = f.size; md5 = f.md5; source = None }
 

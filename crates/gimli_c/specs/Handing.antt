@@ -32,6 +32,7 @@ pub record Handed : Type 0 where
   -- those at which the first sequences begin
   pub symbols : List GimliSymbol
 
+-- the same as one record
 abbrev pub handed_of : GimliEncoding → Bool → ℕ → List ℕ → List GimliName → List GimliFileName
     → List GimliRow → List GimliSymbol → Handed
 handed_of encoding is_big details texts directories files rows symbols = record {

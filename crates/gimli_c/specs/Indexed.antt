@@ -57,11 +57,13 @@ pub record IsFaultyIndex (bytes : List ℕ) (status : ℕ) : Type 0 where
   pub fault : IsFaultOf index error
   pub status_is : status ≡ index_status error
 
+-- bytes are no index, or one with a fault, by this number
 abbrev pub IsUnsoundIndex : List ℕ → ℕ → Type 0
 IsUnsoundIndex bytes status = IsNoIndex bytes status ⊎ IsFaultyIndex bytes status
 
 -- ---- what an index says of itself
 
+-- what the index that bytes begin with says of itself, as C sees it
 pub record SeesIndex (bytes : List ℕ) (seen : GimliIndex) : Type 0 where
   pub index : Index
   pub is : IsIndex bytes index
@@ -83,6 +85,7 @@ SeesPath bytes (Err (Reason n)) first size no_path = (no_path ≡ n) × (first �
 SeesPath bytes (Err Outside) first size no_path =
     (no_path ≡ 0xffff_ffff) × (first ≡ 0) × (size ≡ 0)
 
+-- a place of an index that stands in some bytes, as C sees it
 pub record SeesPlace (bytes : List ℕ) (address : ℕ) (place : Place) (seen : GimliPlace)
     : Type 0 where
   pub address_is : seen.address ≡ address
@@ -139,6 +142,7 @@ unknown_place address first end = record {
 abbrev pub no_index_place : ℕ → GimliPlace
 no_index_place address = unknown_place address 0 0
 
+-- what is answered to an address: its place, or that the index says nothing of it
 abbrev pub IsIndexAnswer : List ℕ → ℕ → GimliPlace → Type 0
 IsIndexAnswer bytes address seen =
     SeesPlaceAt bytes address seen ⊎ ((seen ≡ no_index_place address) × HasNoPlace bytes address)

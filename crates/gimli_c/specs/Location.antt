@@ -16,6 +16,7 @@ pub record Location : Type 0 where
   pub address_size : ℕ
   pub offset : ℕ
 
+-- the same as one record
 abbrev pub location : List ℕ → Bool → ℕ → ℕ → Location
 location section is_big address_size offset =
     record { section = section; is_big = is_big; address_size = address_size; offset = offset }

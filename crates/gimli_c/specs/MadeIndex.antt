@@ -37,6 +37,7 @@ pub record IndexedProgram : Type 0 where
   pub line_strings : List ℕ
   pub strings : List ℕ
 
+-- the same as one record
 abbrev pub program : List ℕ → Bool → ℕ → ℕ → List ℕ → List ℕ → IndexedProgram
 program section is_big address_size lowest line_strings strings = record {
   section = section;
@@ -54,6 +55,7 @@ pub record IndexSource : Type 0 where
   pub compilations : Sections
   pub identity : List ℕ
 
+-- the same as one record
 abbrev pub index_source : IndexedProgram → Sections → List ℕ → IndexSource
 index_source program compilations identity =
     record { program = program; compilations = compilations; identity = identity }
@@ -70,6 +72,7 @@ source_handed o lines line_strings strings info abbreviations string_offsets ide
 abbrev pub section_read : List ℕ → Bool → Unread
 section_read section is_big = record { bytes = section; layout = layout_of is_big (2 ^ 64) }
 
+-- what is handed in with a unit: the size of addresses
 abbrev pub entry_of : ℕ → UnitEntry
 entry_of address_size = record { address_size = address_size; directory = None; name = None }
 

@@ -51,6 +51,8 @@ pub record HasNoRowIn (p : IndexedProgram) (address : ℕ) : Type 0 where
   pub are_units : AreAllUnitsOf p units
   pub none : None ≡ found_at address units
 
+-- why a status has no path with it: no row covers the address, its path can't be told, memory
+-- lacks, or the size of addresses is none
 abbrev pub HasNoPlaceIn : IndexedProgram → Sections → ℕ → GimliRow → ℕ → Type 0
 HasNoPlaceIn p sections address row status =
     ((status ≡ NO_ROW) × HasNoRowIn p address)
@@ -58,6 +60,7 @@ HasNoPlaceIn p sections address row status =
     ⊎ ((status ≡ OUT_OF_MEMORY)
     ⊎ ((status ≡ UNSUPPORTED_ADDRESS_SIZE) × (is_address_size p.address_size ≡ false))))
 
+-- what a call does that copies the whole path of an address to an array, by its status
 abbrev pub CopiesPlace : IndexedProgram → Sections → ℕ → GimliRow → ℕ → List ℕ → List ℕ → ℕ → ℕ
     → Type 0
 CopiesPlace p sections address row =

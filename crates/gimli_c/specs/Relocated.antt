@@ -41,6 +41,7 @@ abbrev pub target_seen : RelocationTarget → ℕ × ℕ
 target_seen (OfSymbol symbol) = (symbol, 0)
 target_seen (OfSection section) = (0, section_seen section)
 
+-- a relocation, as C sees it
 abbrev pub relocation_seen : Relocation → GimliRelocation
 relocation_seen r = record {
   offset = r.offset;
@@ -52,6 +53,7 @@ relocation_seen r = record {
 
 -- ---- what is written
 
+-- where addends stand
 abbrev pub addends_of : Bool → Addends
 addends_of in_place = if in_place then InPlace else Listed
 
@@ -61,6 +63,8 @@ HasRelocatableCause h at status =
     HasHandedFault h at status
     ⊎ ((at ≡ nowhere) × (error : Error) × (status ≡ write_status error))
 
+-- this number says that memory lacks, or has such a cause at this element, and no element before
+-- it has a fault
 abbrev pub IsRefusedRelocatable : Handed → ℕ → GimliElement → Type 0
 IsRefusedRelocatable h = IsRefusedFor (HasRelocatableCause h) (HasHandedFault h)
 

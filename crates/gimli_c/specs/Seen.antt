@@ -13,6 +13,7 @@ flags_of r =
     flag r.is_stmt 1 + flag r.basic_block 2 + flag r.end_sequence 4 + flag r.prologue_end 8
     + flag r.epilogue_begin 16
 
+-- a row, as C sees it
 abbrev pub row_seen : LineRow → GimliRow
 row_seen r = record {
   address = r.address;

@@ -22,5 +22,6 @@ pub record IsFirstOf (array : ℕ) (Fault : ℕ → ℕ → Type 0) (r : Refusal
   pub memory : r.status ≡ OUT_OF_MEMORY → r.at ≡ nowhere
   pub first : (i s : ℕ) → Fault i s → IsNotAfter r.at (record { array = array; index = i })
 
+-- the same of what is handed over, before anything is written
 abbrev pub IsRefusedOf : Handed → ℕ → GimliElement → Type 0
 IsRefusedOf h = IsRefusedFor (HasHandedFault h) (HasHandedFault h)
