@@ -1,4 +1,4 @@
-//! Where a unit stands in a section, and the reader of a section.
+//! Where a unit is in a section, and the reader of a section.
 
 use crate::order_and_size::AddressSize;
 use gimli_core::{EndianSlice, RunTimeEndian};
@@ -6,7 +6,7 @@ use gimli_core::{EndianSlice, RunTimeEndian};
 /// The reader of a section.
 pub type Slice<'i> = EndianSlice<'i, RunTimeEndian>;
 
-/// Where a unit stands in a section, and how its numbers are read.
+/// Where a unit is in a section, and how its numbers are read.
 #[derive(Clone, Copy, Debug, PartialEq, Eq)]
 pub struct UnitLocation {
     /// The order of bytes.

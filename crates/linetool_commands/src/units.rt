@@ -76,7 +76,7 @@ fn print_units_of<O: Write>(
     finish(outcome, out)
 }
 
-/// The same of units of any reader, without what stands in the writer's own memory.
+/// The same for units of any reader, without what is in the writer's own memory.
 fn print_each<R: Reader, O: Write>(units: LineUnits<R>, out: &mut O) -> Result<(), Refusal> {
     let mut units = units;
     'units: loop {
