@@ -2,13 +2,16 @@
 
 ghost use Rattle.std.specs.Prelude.{◌≡◌, IsErr};
 
+use crate::arguments::Arguments;
+use crate::lines::Lines;
 use crate::lookup_text::{print_lookup, print_paths, print_units, watch_rows};
+use crate::stop::{Attempts, Stop};
 use crate::unit_text::{print_header, print_instructions};
+use crate::words::reader;
 use gimli_core::{DebugLineOffset, EndianSlice, Error, Reader, ReaderOffset};
 use gimli_line::{DebugLine, IncompleteLineProgram};
 use gimli_lookup::StringSections;
 use line_text::{AddressSize, Slice};
-use row_text::{Arguments, Attempts, Lines, Stop, reader};
 use std::alloc::Global;
 use std::fmt::Debug;
 

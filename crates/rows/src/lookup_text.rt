@@ -1,11 +1,12 @@
 //! Units of a section, lookups over it, and the paths and the rows of a unit.
 
 use crate::command::Asked;
+use crate::lines::Lines;
+use crate::lines::Piece::{Address, Number, Row, Text};
+use crate::words::parse_number;
 use gimli_core::{Error, Reader, ReaderOffset};
 use gimli_line::{LineProgram, LineProgramHeader, LineRows};
 use gimli_lookup::{PathError, Paths, Program};
-use row_text::Piece::{Address, Number, Row, Text};
-use row_text::{Lines, parse_number};
 
 /// Prints the line of a unit: its version, and the first fault of its run; without a version, why
 /// the unit is refused.

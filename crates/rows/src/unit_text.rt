@@ -1,10 +1,10 @@
 //! A header, a line for each part, and the instructions of a program, a line for each.
 
 use crate::command::Lender;
+use crate::lines::Lines;
+use crate::lines::Piece::{Digits, Flags, Hex, Number, Signed, Word};
 use gimli_core::{AttributeValue, Format, ReaderOffset};
 use gimli_line::{FileEntry, FileEntryFormat, LineInstruction, LineProgramHeader};
-use row_text::Lines;
-use row_text::Piece::{Digits, Flags, Hex, Number, Signed, Word};
 
 /// Prints a header.
 pub(crate) fn print_header<R: Lender>(header: &LineProgramHeader<R>, lines: &mut Lines) {

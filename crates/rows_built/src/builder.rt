@@ -7,7 +7,7 @@ ghost use Rattle.gimli_write.specs.LineText.{line_text, HasNoZero, IsNotEmpty};
 use crate::script::Script;
 use gimli_core::Encoding;
 use gimli_write::{Address, DirectoryId, FileId, FileInfo, LineProgram, LineString};
-use row_text::{Arguments, Attempts, Form, Stop};
+use rows::{Arguments, Attempts, Form, Stop};
 use std::alloc::Global;
 use std::fmt;
 use std::fmt::Write;

@@ -5,8 +5,8 @@ use gimli_write::{
     ConvertError, DebugLineStr, DebugStr, EndianVec, LineRow, LineStringId, LineStringTable,
     Result, RoundTrip, RoundTripFile, StringId, StringTable,
 };
-use row_text::Lines;
-use row_text::Piece::{Digits, Flags, Number, Row, Text, Word};
+use rows::Lines;
+use rows::Piece::{Digits, Flags, Number, Row, Text, Word};
 use std::alloc::Global;
 
 /// The tables of texts.

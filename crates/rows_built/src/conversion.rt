@@ -16,8 +16,8 @@ use gimli_write::{
     LineStringTable,
 };
 use line_text::AddressSize;
-use row_text::Piece::{Number, Word};
-use row_text::{Arguments, Attempts, Lines, Stop, reader};
+use rows::Piece::{Number, Word};
+use rows::{Arguments, Attempts, Lines, Stop, reader};
 use std::alloc::Global;
 
 /// Prints a conversion, by the words after its command, of a unit in the sections `.debug_line`,

@@ -7,8 +7,8 @@ use gimli_write::{
     ConvertError, ConvertResult, DebugLine, EndianVec, Error, LineProgram, LineString, PieceVec,
     RoundTrip, Symbols, round_trip,
 };
-use row_text::Piece::{Bytes, Number, Word};
-use row_text::{Arguments, Attempts, Lines, Stop, Target};
+use rows::Piece::{Bytes, Number, Word};
+use rows::{Arguments, Attempts, Lines, Stop, Target};
 use std::alloc::Global;
 
 /// What is printed of a program that is built.

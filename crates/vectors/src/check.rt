@@ -1,7 +1,7 @@
 //! Rows that are run and compared with what is expected of them.
 
 use crate::run::run_command;
-use row_text::{Attempts, RowCommand, TestRow, is_expected};
+use rows::{Attempts, RowCommand, TestRow, is_expected};
 use std::alloc::Global;
 use std::io;
 use std::io::Write;

@@ -3,7 +3,7 @@
 use crate::check::check_rows;
 use crate::run::run;
 use linetool_commands::words_after_name;
-use row_text::{Attempts, CONVERSION_WORDS, Input, Lines, Stop, parse_rows, repeat_lines};
+use rows::{Attempts, CONVERSION_WORDS, Input, Lines, Stop, parse_rows, repeat_lines};
 use std::alloc::Global;
 use std::env::Env;
 use std::fs::{File, Files};

@@ -1,7 +1,6 @@
 //! The program `linetool`, as a command of a row.
 
-use row_text::{Attempts, Lines, Stop, parse_number};
-use rows::{Command, print};
+use rows::{Attempts, Command, Lines, Stop, parse_number, print};
 use std::alloc::Global;
 use std::io;
 use std::io::{ErrorKind, Read, Write};

@@ -2,7 +2,7 @@
 
 ghost use Rattle.std.specs.Prelude.{◌≡◌, ◌↔◌, IsTrue};
 ghost use Rattle.std.specs.List.{list_all};
-ghost use Rattle.row_text.specs.Output.{is_blank, EndsLine, IsExpected};
+ghost use Rattle.rows.specs.Output.{is_blank, EndsLine, IsExpected};
 
 /// Whether an output is the expected one, to the last byte. Blank lines at the end of what is
 /// expected don't count.

@@ -2,8 +2,8 @@ use Rattle.std.proofs.Common.{◌≡◌, ◌++◌, List, ℕ, None, Some, sym}
 use mathlib.Core.Bool.{true≢false}
 use Rattle.std.proofs.lemmas.Bool.Decides.{Decides-eqb}
 use Rattle.std.proofs.lemmas.Slice.Eq.{strip_prefix_is}
-use Rattle.row_text.specs.Output.{IsExpected}
-use Rattle.row_text.proofs.comparison.is_expected.Goals as goal
+use Rattle.rows.specs.Output.{IsExpected}
+use Rattle.rows.proofs.comparison.is_expected.Goals as goal
 
 -- the output is a beginning of what is expected, and its gap is blank
 pub returns-then-is_all_blank : goal.returns-then-is_all_blank
