@@ -138,16 +138,16 @@ fn build<R: Reader>(
 fn add_files(alloc: Global, program: &mut LineProgram, count: usize) -> ConvertResult<Vec<FileId>> {
     let mut files = Vec::new(alloc);
     for number in 0..count {
-        let name = name_of(alloc, program.version(), number)?;
-        let is_empty = program.version() <= 4 && name.is_empty();
-        let path = LineString::String(name);
-        if program.is_none() || is_empty || !path.has_no_zero() {
-            return Err(ConvertError::InvalidFileIndex);
-        }
-        let id = program.add_file(path, program.default_directory(), None);
-        files.push(id.map_err(ConvertError::Write)?)?;
+        files.push(add_file(alloc, program, number)?)?;
     }
     Ok(files)
+}
+
+/// Adds a file with a name of its own.
+fn add_file(alloc: Global, program: &mut LineProgram, number: usize) -> ConvertResult<FileId> {
+    let path = LineString::String(name_of(alloc, program.version(), number)?);
+    let file = program.try_add_file(path, program.default_directory(), None);
+    file.map_err(ConvertError::Write)
 }
 
 /// The name of the file of a number. The first one of version 5 has the path that the program
@@ -189,11 +189,10 @@ fn add_rows(program: &mut LineProgram, files: &[FileId], rows: &[LineRow]) -> Co
 
 /// Begins a sequence at an address.
 fn begin(program: &mut LineProgram, address: u64) -> ConvertResult<()> {
-    if program.is_none() || program.in_sequence() {
-        return Err(ConvertError::UnsupportedLineInstruction);
-    }
     let start = Some(Address::Constant(address));
-    program.begin_sequence(start).map_err(ConvertError::Write)
+    program
+        .try_begin_sequence(start)
+        .map_err(ConvertError::Write)
 }
 
 /// Adds a row or an end, so many bytes after the start of its sequence.
@@ -205,10 +204,9 @@ fn add_row(
 ) -> ConvertResult<()> {
     if row.end_sequence() {
         program.row().op_index = row.op_index();
-        if program.is_none() || !program.can_end_sequence(offset) {
-            return Err(ConvertError::UnsupportedLineInstruction);
-        }
-        return program.end_sequence(offset).map_err(ConvertError::Write);
+        return program
+            .try_end_sequence(offset)
+            .map_err(ConvertError::Write);
     }
     let first = u64::from(program.version() <= 4);
     let index = usize::try_from(row.file_index().wrapping_sub(first));
@@ -216,10 +214,7 @@ fn add_row(
         return Err(ConvertError::InvalidFileIndex);
     };
     *program.row() = built_row(row, *file, offset);
-    if program.is_none() || !program.can_generate_row() {
-        return Err(ConvertError::UnsupportedLineInstruction);
-    }
-    program.generate_row().map_err(ConvertError::Write)
+    program.try_generate_row().map_err(ConvertError::Write)
 }
 
 /// A row of a source as it is built.

@@ -1,9 +1,7 @@
 //! What a command of a row gives.
 
 use crate::linetool::run_linetool;
-use rows::{
-    Attempts, Command, Input, Lines, Piece, RowCommand, Stop, print, words_before_parts,
-};
+use rows::{Attempts, Command, Input, Lines, Piece, RowCommand, Stop, print, words_before_parts};
 use rows_built::{Told, convert, write};
 use std::alloc::{AllocError, Global};
 
