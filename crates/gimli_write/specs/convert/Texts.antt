@@ -8,8 +8,8 @@ use Rattle.std.specs.Result.{result_map_both}
 use Rattle.gimli_core.specs.declared.attribute_value.AttributeValue.TheVariants.{DebugStrRefSup}
 use Rattle.gimli_write.specs.TextReading.{text_of}
 
--- one step after another, to the first refusal
 infixl 10 ◌>>=◌
+-- one step after another, to the first refusal
 abbrev pub ◌>>=◌ : {A B : Type 0} → Result A ConvertError → (A → Result B ConvertError)
     → Result B ConvertError
 Ok x >>= f = f x
