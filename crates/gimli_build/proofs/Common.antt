@@ -30,7 +30,7 @@ pub use specs.FileNumber.{file_number}
 pub use specs.Joined.{format_word}
 pub use specs.InstructionBytes.{FitsInstructions, IsWritten, instruction_bytes, instructions_bytes, set_address_bytes}
 pub use specs.Items.{AddressesFit, AreFit, FitsItem, item_bytes, item_instructions, items_bytes, items_instructions}
-pub use specs.Items.{items_rows, next_previous}
+pub use specs.Items.{HasFittingAddresses, items_rows, next_previous, program_rows}
 pub use specs.Joined.{after_length, result_append, result_concat}
 pub use specs.LineText.{
   HasNoZero,
@@ -48,7 +48,7 @@ pub use specs.ReadsBack.{AreFormats, IsDirectory, IsFile, IsFound, IsOffsetHeld,
 pub use specs.ReadsBack.{ReadsBack, ReadsBackAt, directories_from_zero}
 pub use specs.Refused.{cause_of_directory, cause_of_file, cause_of_item, wanted_form}
 pub use specs.Rows.{at_position, initial_row}
-pub use specs.SameRow.{RowsMatch, built_rules, read_end, read_row, registers_after_row}
+pub use specs.ReadRows.{built_rules, read_end, read_row, registers_after_row}
 pub use specs.TableFields.{details}
 pub use specs.Tables.{AreTables, Details, File, FileKey, Keeps, has_file, index_of_directory, index_of_file, key_eq}
 pub use specs.Tables.{keys_of, no_details, with_details, with_directory, with_file, with_indexes}

@@ -6,11 +6,11 @@ use Rattle.gimli_line.specs.declared.run.instruction.LineInstruction.TheVariants
 use specs.declared.built.row.LineRow.{LineRow}
 use specs.declared.built.items.BuiltItem.{BuiltItem}
 use specs.declared.built.items.BuiltItem.TheVariants.{SetAddress, Row, End}
-use specs.Built.{address_value, position_after}
+use specs.Built.{Built, address_value, position_after}
 use specs.Rows.{initial_row}
 use specs.Encode.{row_instructions, end_instructions}
 use specs.InstructionBytes.{instructions_bytes, set_address_bytes, FitsInstructions}
-use specs.SameRow.{read_row, read_end}
+use specs.ReadRows.{read_row, read_end}
 use specs.Joined.{result_append}
 
 -- the row that the next item follows: after a set address offsets count anew, after an end a
@@ -62,6 +62,24 @@ AddressesFit size base position (Row r ∷ items) =
 AddressesFit size base position (End offset op_index ∷ items) =
     (base + offset < 2 ^ (8 * size))
     × AddressesFit size 0 (position_after (End offset op_index)) items
+
+-- ---- those of a program
+
+-- its instructions
+abbrev pub program_instructions : Built → List Ins
+program_instructions p =
+    items_instructions p.encoding.version p.line_encoding
+    (initial_row p.encoding.version p.line_encoding.default_is_stmt) p.items
+
+-- the rows that they are read as
+abbrev pub program_rows : Built → List ReadRow
+program_rows p =
+    items_rows p.encoding.version p.line_encoding 0
+    (initial_row p.encoding.version p.line_encoding.default_is_stmt) p.items
+
+-- addresses hold its items, and none of them is a tombstone
+abbrev pub HasFittingAddresses : Built → Type 0
+HasFittingAddresses p = AddressesFit p.encoding.address_size 0 (0, 0) p.items
 
 -- ---- their bytes
 

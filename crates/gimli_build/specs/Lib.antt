@@ -10,7 +10,7 @@ pub mod TableFields
 pub mod FirstTables
 pub mod Built
 pub mod Calls
-pub mod SameRow
+pub mod ReadRows
 pub mod Joined
 pub mod Writes
 pub mod WrittenTables
@@ -26,9 +26,7 @@ pub mod Version5Tables
 pub mod Unit
 pub mod Cause
 pub mod Refused
-pub mod NoFiles
 pub mod Traps
-pub mod TrapPlaces
 pub mod Stored
 pub mod Texts
 pub mod ReadsBack

@@ -2,9 +2,9 @@
 use Rattle.std.specs.Prelude.{◌≡◌, ◌-◌, ◌<◌, ◌≤◌, ◌++◌, if◌then◌else◌}
 use Rattle.gimli_build.specs
 use specs.Prelude
-use Prelude.{ℕ, All, List, [], length, map, slice_get, Bool, false, None, option_map, nat_le}
+use Prelude.{ℕ, All, List, length, map, slice_get, Bool, false, None, option_map, nat_le}
 use Prelude.{IfSome, option_to_list, OrderAndLimit, Value, Dwarf64, DebugStr, DebugLineStr, String}
-use Prelude.{Header, UnitEntry, Decodes, Events, row, ReadRow, Placement, unplaced, offset_of}
+use Prelude.{Header, UnitEntry, Decodes, Events, row, Placement, unplaced, offset_of}
 use Prelude.{StringTables}
 use Rattle.gimli_line.specs.declared.header.file_entry.FileEntryFormat.{FileEntryFormat}
 use specs.Version5Tables.{directory_formats, file_formats}
@@ -18,9 +18,8 @@ use specs.LineText.{LineText, Inline, InStrings, InLineStrings, bytes_in}
 use specs.Tables.{File}
 use specs.Texts.{Sections, StandsAt, IsText, IsOptionalText, OneByOne}
 use specs.Stored.{stored_details}
-use specs.Items.{AddressesFit}
-use specs.Runs.{program_instructions}
-use specs.SameRow.{built_rules, RowsMatch}
+use specs.Items.{program_instructions, program_rows, HasFittingAddresses}
+use specs.ReadRows.{built_rules}
 use specs.Built.{Built}
 use specs.Unit.{operand_counts}
 use specs.Cause.{emitted_texts}
@@ -87,9 +86,8 @@ pub record ReadsBack (layout : OrderAndLimit) (unit_entry : UnitEntry) (sections
       p.directories
   pub files : OneByOne (IsFile sections p texts) header.files p.files
   pub decoding : DecodesAs layout header p
-  pub rows : AddressesFit p.encoding.address_size 0 (0, 0) p.items
-      → (rows : List ReadRow) × Events layout header header.program (map row rows)
-      × RowsMatch p.encoding.version [] p.items rows
+  pub rows : HasFittingAddresses p
+      → Events layout header header.program (map row (program_rows p))
 
 -- an offset of a reader is below this limit, and holds what the offset of a text becomes
 abbrev pub IsOffsetHeld : ℕ → Placement → StringTables → LineText → Type 0

@@ -66,6 +66,15 @@ first_trap p past (item ∷ others) = item_trap p (base_of past) (begins_unset p
 abbrev pub trap_at : Built → ℕ → Option Trap
 trap_at p i = first_trap p (reverse (take i p.items)) (drop i p.items)
 
+-- ---- several traps
+
+-- before the item at an index: the address that offsets count from there, and whether a row there
+-- begins a sequence whose address wasn't set
+pub record IsTrapPlace (p : Built) (next base : ℕ) (begins : Bool) : Type 0 where
+  pub program : p.is_none ≡ false
+  pub base_is : base ≡ base_of (reverse (take next p.items))
+  pub begins_is : begins ≡ begins_unset (reverse (take next p.items))
+
 -- the items from one index up to another have none
 abbrev pub HaveNoTrap : Built → ℕ → ℕ → Type 0
 HaveNoTrap p from to = (i : ℕ) → from ≤ i → i < to → trap_at p i ≡ None

@@ -2,7 +2,7 @@
 //! half, give what was built; their bytes spell them; they are few; and they define no file. And
 //! laws of equality and of clones.
 
-ghost use Rattle.std.specs.Prelude.{◌≡◌, ℕ, Bool, false, All, ◌≤◌, List, [], ◌∷◌, length, map};
+ghost use Rattle.std.specs.Prelude.{◌≡◌, ℕ, Bool, false, All, ◌≤◌, List, length, map};
 ghost use Rattle.std.specs.Prelude.{IfOk, IsTrue, option_map};
 ghost use Rattle.std.specs.Bool.{Decides};
 ghost use Rattle.gimli_core.specs.Equality.{ClonesGiveSame, IsSameClone};
@@ -32,14 +32,12 @@ ghost use Rattle.gimli_build.specs.InstructionBytes.{
   instructions_bytes,
   IsWritten,
 };
-ghost use Rattle.gimli_build.specs.SameRow.{built_rules};
-ghost use Rattle.gimli_build.specs.Runs.{Run, run_start, past_row, past_address, rules, registers};
-ghost use Rattle.gimli_build.specs.Runs.{events_from, Gives};
-ghost use Rattle.gimli_build.specs.Runs.{Follows, IsUnderWay, IsNextRow, IsNextEnd, IsNextAddress};
-ghost use Rattle.gimli_build.specs.Runs.{AreNext};
-ghost use Rattle.gimli_build.specs.Runs.{written_row, given_row, written_end, given_end};
-ghost use Rattle.gimli_build.specs.Runs.{written_items, given_items};
-ghost use Rattle.gimli_build.specs.Runs.{program_rows, run_of_program, CanRun};
+ghost use Rattle.gimli_build.specs.ReadRows.{built_rules};
+ghost use Rattle.gimli_build.specs.Runs.{Run, run_start, after_items, registers, Follows, AreNext};
+ghost use Rattle.gimli_build.specs.Runs.{written_row, written_end, written_items, given_items};
+ghost use Rattle.gimli_build.specs.Runs.{Gives};
+ghost use Rattle.gimli_build.specs.Items.{program_rows};
+ghost use Rattle.gimli_build.specs.Runs.{run_of_program, CanRun};
 ghost use Rattle.gimli_build.specs.UnitReader.{UnitReader, Spells, AreSpelled, bytes_of_address};
 ghost use Rattle.gimli_build.specs.UnitReader.{bytes_of_items, IsWritableRow, AreWritable};
 ghost use Rattle.gimli_build.specs.Sizes.{IsMove, SpecialSuffices, SpecialAndConstantSuffice};
@@ -48,10 +46,10 @@ ghost use Rattle.gimli_build.specs.Built.{Built};
 ghost use Rattle.gimli_build.specs.Conditions.{CanWrite};
 ghost use Rattle.gimli_build.specs.Cause.{first_cause, refusal};
 ghost use Rattle.gimli_build.specs.Refused.{first_refusal, program_seen, error_of};
-ghost use Rattle.gimli_build.specs.declared.unit.refusal.Symbols.TheVariants.{Taken, Refused};
+ghost use Rattle.gimli_build.specs.declared.unit.refusal.Symbols.{Symbols};
 ghost use Rattle.gimli_build.specs.ReadsBack.{DecodesAs, IsFound};
 ghost use Rattle.gimli_build.specs.Texts.{Sections};
-ghost use Rattle.gimli_build.specs.NoFiles.{DefinesNoFile, program_started};
+ghost use Rattle.gimli_build.specs.Runs.{DefinesNoFile, program_started};
 ghost use Rattle.gimli_build.specs.declared.built.files.FileInfo.{FileInfo};
 ghost use Rattle.gimli_build.specs.declared.built.line_string.LineString.{LineString};
 ghost use Rattle.gimli_build.specs.LineText.{LineText, line_text};
@@ -78,25 +76,12 @@ pub use gimli_bytes::laws::{
 use std::alloc::AllocError;
 use std::hash::Hash;
 
-/// The instructions of a row, run from the registers after the row before it, make one row, which
-/// is the built one, and leave the registers after it; whatever instructions follow.
-pub fn row_runs()
-    ensures { (here : Run) (r : LineRow) → IsUnderWay here → IsNextRow here r →
-        Gives here (written_row here r) (given_row here r ∷ []) (registers (past_row r here)) }
-{}
-
-/// The instructions of an end at the offset o and the operation i, run from the registers after the
-/// row before it, make one row, which ends the sequence there, and leave the registers of a start.
-pub fn end_runs()
-    ensures { (here : Run) (o i : ℕ) → IsUnderWay here → IsNextEnd here o i →
-        Gives here (written_end here o i) (given_end here o i ∷ []) (initial (rules here)) }
-{}
-
-/// A set address that isn't below the address reached, and isn't one of the two greatest, which
-/// stand for nothing, makes no row; offsets count from it, from 0 on.
-pub fn set_address_runs()
-    ensures { (here : Run) (address : ℕ) → IsNextAddress here address →
-        Gives here (SetAddress address ∷ []) [] (registers (past_address address here)) }
+/// The instructions of built items, run from the registers after the row before them, give one row
+/// for each row and each end, in order, and no fault, and leave the registers after the items,
+/// whatever instructions follow: where addresses hold the items, and no set address is a tombstone.
+pub fn items_run()
+    ensures { (here : Run) (items : List BuiltItem) → AreNext here items →
+        Gives here (written_items here items) (given_items here items) (after_items items here) }
 {}
 
 /// A sequence starts with the registers after its initial row, whose file has the number 1.
@@ -144,15 +129,8 @@ pub fn moving_rows_are_short()
         IsMove here r → SpecialAndConstantSuffice here r → row_size here r ≤ 2 }
 {}
 
-/// The instructions of built items, run from the registers after the row before them, give one row
-/// for each row and each end, in order, and no fault, where addresses hold them and no set address
-/// is a tombstone.
-pub fn items_run()
-    ensures { (here : Run) (items : List BuiltItem) → IsUnderWay here → AreNext here items →
-        events_from here (written_items here items) ≡ map row (given_items here items) }
-{}
-
-/// So do those of a program's items, from its start.
+/// The instructions of a program, run from the registers of a start, give its rows and nothing
+/// else, on the same conditions.
 pub fn program_runs()
     ensures { (p : Built) → CanRun p → run_of_program p ≡ map row (program_rows p) }
 {}
@@ -277,12 +255,8 @@ pub fn first_cause_is_refusal()
 /// address 0 in place of each symbol. `write` into a vector is refused for that first cause, or for
 /// memory.
 pub fn first_refusal_is_first_cause()
-    ensures refused { (is_big : Bool) (unit : Encoding) (p : Built) (handed : StringTables) →
-        CanWrite p handed →
-        option_map error_of (first_refusal Refused is_big unit p handed)
-        ≡ first_cause is_big unit p handed }
-    ensures taken { (is_big : Bool) (unit : Encoding) (p : Built) (handed : StringTables) →
-        CanWrite p handed →
-        option_map error_of (first_refusal Taken is_big unit p handed)
-        ≡ first_cause is_big unit (program_seen Taken p) handed }
+    ensures { (symbols : Symbols) (is_big : Bool) (unit : Encoding) (p : Built)
+        (handed : StringTables) → CanWrite p handed →
+        option_map error_of (first_refusal symbols is_big unit p handed)
+        ≡ first_cause is_big unit (program_seen symbols p) handed }
 {}

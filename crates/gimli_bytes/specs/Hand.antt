@@ -30,9 +30,11 @@ abbrev pub section_word : Bool → ℕ → ℕ → Result (List ℕ) Error
 section_word is_big n size =
     if nat_eq size 8 then Ok (number_bytes is_big 8 n) else udata is_big n size
 
+-- an offset into a section, as the number that it is
 abbrev pub plain_offset : Bool → SectionId → ℕ → ℕ → Result (List ℕ) Error
 plain_offset is_big section n size = section_word is_big n size
 
+-- a reference to a symbol, which is no number
 abbrev pub plain_reference : Bool → ℕ → ℕ → Result (List ℕ) Error
 plain_reference is_big symbol size = Err InvalidReference
 

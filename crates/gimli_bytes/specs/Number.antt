@@ -136,34 +136,43 @@ length_word is_big Dwarf64 n = Ok (number_bytes is_big 8 n)
 -- ---- pointers of .eh_frame
 
 -- the formats of a pointer, and how it is applied (Linux Standard Base,
--- "DWARF Exception Header Encoding")
+-- "DWARF Exception Header Encoding"): an address of the target
 abbrev pub DW_EH_PE_absptr : ℕ
 DW_EH_PE_absptr = 0x00
 
+-- an unsigned LEB128 number
 abbrev pub DW_EH_PE_uleb128 : ℕ
 DW_EH_PE_uleb128 = 0x01
 
+-- an unsigned number of two bytes
 abbrev pub DW_EH_PE_udata2 : ℕ
 DW_EH_PE_udata2 = 0x02
 
+-- of four bytes
 abbrev pub DW_EH_PE_udata4 : ℕ
 DW_EH_PE_udata4 = 0x03
 
+-- of eight bytes
 abbrev pub DW_EH_PE_udata8 : ℕ
 DW_EH_PE_udata8 = 0x04
 
+-- a signed LEB128 number
 abbrev pub DW_EH_PE_sleb128 : ℕ
 DW_EH_PE_sleb128 = 0x09
 
+-- a signed number of two bytes
 abbrev pub DW_EH_PE_sdata2 : ℕ
 DW_EH_PE_sdata2 = 0x0a
 
+-- of four bytes
 abbrev pub DW_EH_PE_sdata4 : ℕ
 DW_EH_PE_sdata4 = 0x0b
 
+-- of eight bytes
 abbrev pub DW_EH_PE_sdata8 : ℕ
 DW_EH_PE_sdata8 = 0x0c
 
+-- the application: the number counts from the place where it stands
 abbrev pub DW_EH_PE_pcrel : ℕ
 DW_EH_PE_pcrel = 0x10
 

@@ -1,6 +1,5 @@
 -- What is written where addresses aren't known yet: bytes, and the places that a linker fills in
--- (System V ABI,
--- chapter 4, "Relocation").
+-- (System V ABI, chapter 4, "Relocation").
 use Rattle.std.specs.Prelude.{◌≡◌, ◌⊎◌, ◌+◌, ◌%◌, ◌<◌, ◌^◌, ◌+ℤ◌, ◌&&◌, if◌then◌else◌, ◌∷◌, ◌++◌, ℕ}
 use Rattle.std.specs.Prelude.{ℤ, pos, negsuc, FitsSigned, unsigned_abs, Bool, nat_le, nat_lt, List}
 use Rattle.std.specs.Prelude.{[], length, take, drop, All, Result, Ok, Err}
@@ -55,6 +54,7 @@ all_relocated placement is_big bytes [] = bytes
 all_relocated placement is_big bytes (r ∷ others) =
     all_relocated placement is_big (relocated placement is_big bytes r) others
 
+-- the bytes of a vector once all of its relocations are applied
 abbrev pub applied : Placement → Relocatable → List ℕ
 applied placement v = all_relocated placement v.is_big v.bytes v.relocations
 
@@ -74,6 +74,7 @@ abbrev pub number_in_place : Addends → ℤ → ℕ → ℕ
 number_in_place Listed addend size = 0
 number_in_place InPlace addend size = cast_unsigned w64 addend % 256 ^ size
 
+-- the addend that stands in the relocation itself
 abbrev pub addend_in_list : Addends → ℤ → ℤ
 addend_in_list Listed addend = addend
 addend_in_list InPlace addend = pos 0
@@ -116,6 +117,7 @@ with_place_at v offset target addend size =
     (unless_touched v.relocations offset size
     (patch (udata v.is_big (number_in_place v.addends addend size) size) v.bytes offset))
 
+-- one step after another, to the first refusal
 abbrev pub result_then : {A B : Type 0} → Result A Error → (A → Result B Error) → Result B Error
 result_then (Ok x) f = f x
 result_then (Err e) f = Err e
@@ -177,6 +179,7 @@ plainly_after placement is_big old (BytesAt offset bytes) = overwrite_of old off
 plainly_after placement is_big old (OffsetAt offset section n size) =
     patch (udata is_big (placement.section section n) size) old offset
 
+-- the same of calls, one after the other, up to the first that is refused
 abbrev pub plainly_after_calls : Placement → Bool → List ℕ → List Call → Result (List ℕ) Error
 plainly_after_calls placement is_big old [] = Ok old
 plainly_after_calls placement is_big old (call ∷ calls) =
@@ -208,26 +211,32 @@ CallsFit placement calls = All (CallFits placement) calls
 abbrev pub are_within : ℕ → List Relocation → Bool
 are_within size relocations = list_all (λ r. nat_le (r.offset + r.size) size) relocations
 
+-- each place is within the bytes
 abbrev pub are_inside : Relocatable → Bool
 are_inside v = are_within (length v.bytes) v.relocations
 
 -- ---- what stands at the places once a linker has filled them in: the lowest bytes of each sum
 
+-- as many of the lowest bytes of a sum
 abbrev pub lowest_bytes : Bool → ℕ → ℕ → Result (List ℕ) Error
 lowest_bytes is_big sum size = udata is_big (sum % 256 ^ size) size
 
+-- an address: a constant as it is, a symbol as the sum of its address and the addend
 abbrev pub placed_address : Placement → Bool → Address → ℕ → Result (List ℕ) Error
 placed_address placement is_big (Constant n) size = udata is_big n size
 placed_address placement is_big (Symbol symbol addend) size =
     lowest_bytes is_big (placement.symbol symbol + cast_unsigned w64 addend) size
 
+-- an offset into a section, as what it becomes
 abbrev pub placed_offset : Placement → Bool → SectionId → ℕ → ℕ → Result (List ℕ) Error
 placed_offset placement is_big section n size =
     lowest_bytes is_big (placement.section section (n % 256 ^ size)) size
 
+-- a reference to a symbol, as the symbol's address
 abbrev pub placed_reference : Placement → Bool → ℕ → ℕ → Result (List ℕ) Error
 placed_reference placement is_big symbol size = lowest_bytes is_big (placement.symbol symbol) size
 
+-- what stands there of each
 abbrev pub placed : Placement → Hand
 placed placement = record {
   address = placed_address placement;
@@ -243,7 +252,7 @@ address_placed placement (Constant n) = Constant n
 address_placed placement (Symbol symbol addend) =
     Constant (unsigned_abs (pos (placement.symbol symbol) +ℤ addend))
 
--- an offset into a section, as what it becomes
+-- an offset into a section, as what it becomes; eight bytes hold each
 abbrev pub counted_offset : Placement → Bool → SectionId → ℕ → ℕ → Result (List ℕ) Error
 counted_offset placement is_big section n size =
     section_word is_big (placement.section section n) size

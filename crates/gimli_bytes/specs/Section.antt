@@ -2,6 +2,7 @@
 use Rattle.std.specs.Prelude.{ℕ, List, refl}
 use Rattle.std.specs.Coded.{Coded, code_by, coded×, coded_ℕ, coded_list}
 
+-- the bytes of a section, and its byte order
 pub record Section (E : Type 0) : Type 0 where
   pub bytes : List ℕ
   pub endian : E

@@ -5,7 +5,8 @@ use proofs.Common
 use Common.{ℕ, Bool, List, [], length, drop, map, refl, sym, ap, ◌∙◌, subst, Result, Option, Some, None, IfOk, IfErr}
 use Common.{append-nil, IfOk-weaker, MatchResult-weaker, OrderAndLimit, Value, Error, StringTables, Header, UnitEntry}
 use Common.{SpellsUnit, ReadFile, Event, row, fault, Events, program_events, ReadRow, one_header, one_decoding}
-use Common.{bytes_in, Built, AddressesFit, RowsMatch, Sections, IsText, IsOptionalText, OneByOne, ConvertError, Read}
+use Common.{bytes_in, Built, HasFittingAddresses, program_rows, Sections, IsText, IsOptionalText, OneByOne}
+use Common.{ConvertError, Read}
 use Common.{NoMemory, RoundTrip, FileAnswer, built_file, Answers, answers, IsFileAnswer, AreAnswers, AnswersUnit}
 use Common.{AnswersProgram, IsRunRefusal, RefusesUnit, slice_layout, unit_entry_of, sections_of}
 use Rattle.gimli_build.specs.Tables.{File}
@@ -130,11 +131,8 @@ module _ (layout : OrderAndLimit) (unit_entry : UnitEntry) (sections : Sections)
       one_by_one_same _ _ _ (λ read built answer is also. file_same _ is also) _ _ _ back.files (answered is).files
 
   rows_built : (a : Answers) → AnswersUnit layout unit_entry sections unit a
-      → AddressesFit p.encoding.address_size 0 (0, 0) p.items → RowsMatch p.encoding.version [] p.items a.rows
-  rows_built a is held =
-      let rows = back.rows held in
-      let same = rows_same _ _ (events_same rows.1 (answered is).rows) in
-      subst (λ xs. RowsMatch p.encoding.version [] p.items xs) same rows.2
+      → HasFittingAddresses p → a.rows ≡ program_rows p
+  rows_built a is held = rows_same _ _ (events_same (answered is).rows (back.rows held))
 
   as_built : (a : Answers) → AnswersUnit layout unit_entry sections unit a → IsAsBuilt p texts a
   as_built a is = record {
@@ -143,11 +141,10 @@ module _ (layout : OrderAndLimit) (unit_entry : UnitEntry) (sections : Sections)
     rows = rows_built a is;
   }
 
-  refused_for_memory : (e : ConvertError) → AddressesFit p.encoding.address_size 0 (0, 0) p.items
+  refused_for_memory : (e : ConvertError) → HasFittingAddresses p
       → RefusesUnit layout unit_entry unit e → e ≡ NoMemory
   refused_for_memory e held refused =
-      let rows = back.rows held in
-      rows_refused _ e rows.1 (subst (λ h. IsRunRefusal layout h e) (header_same refused.1) refused.2)
+      rows_refused _ e (back.rows held) (subst (λ h. IsRunRefusal layout h e) (header_same refused.1) refused.2)
 
 -- ---- the unit of a program
 
@@ -163,6 +160,6 @@ module _ (is_big : Bool) (p : Built) (texts : StringTables) (section : List ℕ)
 
   pub never_read : (r : Result RoundTrip ConvertError)
       → IfErr r (RefusesUnit (slice_layout is_big) (unit_entry_of p texts) (drop n section))
-      → AddressesFit p.encoding.address_size 0 (0, 0) p.items → IfErr r (λ e. e ≡ NoMemory)
+      → HasFittingAddresses p → IfErr r (λ e. e ≡ NoMemory)
   never_read r is held =
       MatchResult-weaker r is (λ _ u. u) (λ e f. refused_for_memory _ _ _ p texts _ read_again e held f)

@@ -64,9 +64,9 @@ pub use Rattle.gimli_line.specs.run.OperationPointer.{next_pointer, pointer_at, 
 pub use Rattle.gimli_line.specs.run.Rows.{FaultIs, events_left, live_events}
 pub use Rattle.gimli_line.specs.run.Sequences.{HasFirstFault, events_of}
 pub use Rattle.gimli_line.specs.run.Unread.{Unread}
-pub use Rattle.gimli_build.specs.Built.{base_of}
 pub use Rattle.gimli_build.specs.Calls.{after_address, after_end, after_file, after_row}
-pub use Rattle.gimli_build.specs.Items.{AddressesFit}
+pub use Rattle.gimli_build.specs.Items.{AddressesFit, items_rows}
+pub use Rattle.gimli_build.specs.ReadRows.{read_row}
 pub use Rattle.gimli_build.specs.LineText.{
   HasNoZero,
   InLineStrings,
@@ -206,10 +206,11 @@ pub use specs.inside.TextReading.{HasFileTexts, HasText}
 pub use specs.inside.convert.SourceRun.{Shortens, StepsSource, step_made, step_reading}
 pub use Prelude.{Address, All, Bool, Built, BuiltItem, CanWrite, ConvertError, ConvertLineRow, Decodes, Encoding, Err}
 pub use Prelude.{Error, Events, File, Header, IfErr, IfOk, IfSome, Ins, InvalidAddress, InvalidDirectoryIndex}
-pub use Prelude.{InvalidFileIndex, IsOptionalText, IsText, KeepsTexts, LineEncoding, LineRow, LineText, List, Made}
+pub use Prelude.{HasFittingAddresses, InvalidFileIndex, IsOptionalText, IsText, KeepsTexts, LineEncoding, LineRow}
+pub use Prelude.{LineText, List, Made}
 pub use Prelude.{MatchResult, MissingCompilationDirectory, MissingLineEndSequence, More, None, OrderAndLimit, Ok, OnErr}
-pub use Prelude.{OnOk, OneByOne, Option, Parameters, Read, ReadFile, ReadRow, Result, RowsMatch, Sections, Some}
+pub use Prelude.{OnOk, OneByOne, Option, Parameters, Read, ReadFile, ReadRow, Result, Sections, Some}
 pub use Prelude.{SourceRow, SourceStep, StringTables, UnitEntry, UnsupportedLineInstruction, Value, Write, [], bytes_in}
 pub use Prelude.{decoded_at, directory_of, empty_built, false, file_seen, is_end, is_under_tombstone, length}
 pub use Prelude.{made_table, made_text, makes_row, map, nat_eq, nat_le, not, ok_or, option_map, option_map_or}
-pub use Prelude.{overflows, pos, read_row, row, row_at, slice_get, texts_in, true, unwrap_or, ℕ}
+pub use Prelude.{overflows, pos, program_rows, row, row_at, slice_get, texts_in, true, unwrap_or, ℕ}

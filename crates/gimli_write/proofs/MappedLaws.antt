@@ -10,14 +10,15 @@ use Common.{TablesAndTexts, version_of, with_path, directory_added, file_added, 
 use Common.{tables_of_header, Reading, stops, offers, source_row, built_row, address_offered, row_offered}
 use Common.{row_or_end_offered, source_row_offered, reading_at, end_reading, reading_with, tables_at, with_definition}
 use Common.{reading_after, ReadsItems, Outcome, outcome_of, with_tables, ToConvert, IsConverted, MatchResult, arith}
-use Common.{AllByRecursion, All-from_recursion, ReadRow, Decodes, one_decoding, base_of, AddressesFit, RowsMatch}
-use Common.{read_row, OneByOne, BuiltItem, map, slice_get, unwrap_or, option_map, All, slice_get-map, slice_get_within}
+use Common.{AllByRecursion, All-from_recursion, ReadRow, decoded_at, one_decoding, AddressesFit, HasFittingAddresses}
+use Common.{items_rows, program_rows, OneByOne, Encoding, map, slice_get, unwrap_or, option_map, All, slice_get-map}
+use Common.{slice_get_within}
 use Common.{get_or_from_slice_get, KeepsTexts, with_text, StringTables, with_text-KeepsTexts, row, Events, File}
 use Common.{LineText, Inline, InStrings, InLineStrings, IsWithin, bytes_in, FileAnswer, built_file}
 use Rattle.gimli_write.specs
 use specs.convert.Mapped
-use Mapped.{AreFilesMapped, CanBeFaithful, NoneEndsUnderTombstone, RowsMapped, AreRowsMapped, IsReadAs, SetsConstant}
-use Mapped.{HasConstantAddresses, IsFaithful, HasPaths, IsLastWithPaths, AreFilesReadAs, IsDirectoryPath}
+use Mapped.{AreFilesMapped, CanBeFaithful, NoneEndsUnderTombstone, AreSourceRows, IsReadAs, SetsConstant}
+use Mapped.{IsFaithful, HasPaths, IsLastWithPaths, AreFilesReadAs, IsDirectoryPath}
 use Mapped.{IsSourceKept, HasDetails}
 use Common.{nat_le, BuiltFile, ReadFile, Handed, Header, IsOptionalText, IfSome, option_map_or, file_parts, with_parts}
 use Rattle.gimli_write.specs.Prelude.{has_content}
@@ -44,7 +45,8 @@ use proofs.MappedFiles.{
   files_mapped,
 }
 use Rattle.std.proofs.Math.Pow.{pow_mono}
-use Rattle.gimli_build.specs.declared.built.items.BuiltItem.TheVariants.{SetAddress, Row, End}
+use Rattle.gimli_build.specs.Rows.{initial_row}
+use specs.RoundTrip.{AreBuiltRows}
 use proofs.MappedRows.{follows_start, Rest, rest_mapped}
 use Rattle.gimli_line.specs.run.EventsWithFiles.{FilesAtEnd}
 use Rattle.gimli_build.specs.Version5Tables.{texts_after}
@@ -352,80 +354,57 @@ module _ {convert_address : ℕ → Option Address} {s : ToConvert} {line_string
       (λ l n d a so. directories_stay s.sections s.header l d a so) whole_past comes.there directories_are)
       (files_defined whole_past comes.there files_are))
 
--- ---- one row
-
--- a row that is read back says what the source's row says, but for the number of its file
-same_others : (source_version version base : ℕ) (built : LineRow) {source back : ReadRow}
-    → source ≡ record (read_row source_version base built) { file = source.file } → back ≡ read_row version base built
-    → back ≡ record source { file = back.file }
-same_others source_version version base built mapped matches = grind arith
-
 -- ---- the whole
 
 module _ {convert_address : ℕ → Option Address} {s : ToConvert} {line_strings : List (List ℕ)} {c : Outcome}
     (w : WasConverted convert_address s line_strings c) (can : CanBeFaithful convert_address s) where
-  decodes_once : {list : List Ins} {end : Option Error} → Decodes s.layout s.header s.header.program list end
-      → list ≡ w.reads.list
-  decodes_once decoding =
-      ap (λ p. p.0)
-      (one_decoding s.layout s.header _ _ _ decoding ∙ sym (one_decoding s.layout s.header _ _ _ w.reads.decoding))
+  read_once : w.reads.list ≡ (decoded_at s.layout s.header s.header.program).0
+  read_once = ap (λ p. p.0) (one_decoding s.layout s.header _ _ _ w.reads.decoding)
 
-  whole : Rest s.sections s.header.parameters w.first (encoding_of s.header s.given).address_size c [] w.reads.list
+  pub whole : Rest s.sections s.header.parameters w.first (encoding_of s.header s.given).address_size c [] w.reads.list
       w.reads.end 0 (0, 0) w.first.program
   whole =
-      let seen = can.no_end_under_tombstone in
       rest_mapped s.sections s.header.parameters w.first (encoding_of s.header s.given).address_size c convert_address
       can.itself (pow_mono (omega arith)) _ _ _ 0 _ _ (follows_start _)
-      (subst (NoneEndsUnderTombstone s.header.parameters []) (decodes_once seen.decoding) seen.seen) (read_to_end w)
+      (subst (NoneEndsUnderTombstone s.header.parameters []) (sym read_once) can.no_end_under_tombstone) (read_to_end w)
 
   -- what was built is what was built after the start
   all_items : whole.items ≡ c.program.items
   all_items = sym (whole.built ∙ ap (λ l. l ++ whole.items) (first_ready w []).items)
 
-  pub rows_mapped : AreRowsMapped s.layout s.header s.header.program c
-  rows_mapped = grind (arith, all_items)
+  -- its rows are read as those of the source
+  pub rows_there : OneByOne (IsReadAs s.header.parameters.encoding.version c.program.encoding.version c.file_ids)
+      whole.rows (program_rows c.program)
+  rows_there =
+      let first = initial_row c.program.encoding.version c.program.line_encoding.default_is_stmt in
+      subst (λ items. OneByOne
+      (IsReadAs s.header.parameters.encoding.version c.program.encoding.version c.file_ids) whole.rows
+      (items_rows c.program.encoding.version c.program.line_encoding 0 first items)) all_items (whole.mapped first)
 
-  pub addresses_fit : AddressesFit c.program.encoding.address_size 0 (0, 0) c.program.items
+  pub rows_given : Events s.layout s.header s.header.program (map row whole.rows)
+  rows_given = record {
+    list = w.reads.list;
+    end = w.reads.end;
+    decoding = w.reads.decoding;
+    given = sym whole.events;
+  }
+
+  pub rows_mapped : AreSourceRows s c.file_ids (program_rows c.program)
+  rows_mapped = record {
+    rows = whole.rows;
+    events = rows_given;
+    same =
+        subst (λ (version : ℕ). OneByOne (IsReadAs s.header.parameters.encoding.version version c.file_ids) whole.rows
+        (program_rows c.program)) (ap (λ (e : Encoding). e.version) (encoding_kept w)) rows_there;
+  }
+
+  pub addresses_fit : HasFittingAddresses c.program
   addresses_fit =
       subst (λ e. AddressesFit e.address_size 0 (0, 0) c.program.items) (sym (encoding_kept w))
       (subst (AddressesFit (encoding_of s.header s.given).address_size 0 (0, 0)) all_items whole.fit)
 
-  pub constants_set : HasConstantAddresses c.program
+  pub constants_set : All SetsConstant c.program.items
   constants_set = All-from_recursion _ _ (subst (AllByRecursion SetsConstant) all_items whole.constants)
-
--- ---- what is read back of it
-
--- rows that are mapped to items, and rows that these items are read as, say the same
-pub rows_again : (source_version version : ℕ) (file_ids : List ℕ) (past items : List BuiltItem)
-    (source back : List ReadRow)
-    → RowsMapped source_version file_ids (base_of past) items source → RowsMatch version past items back
-    → OneByOne (IsReadAs source_version version file_ids) source back
-rows_again source_version version file_ids past [] source back mapped matches = rw (mapped, matches) tt
-rows_again source_version version file_ids past (SetAddress a ∷ items) source back mapped matches =
-    rows_again source_version version file_ids (SetAddress a ∷ past) items source back mapped matches
-rows_again source_version version file_ids past (Row built ∷ items) [] back mapped matches = elim mapped [ ]
-rows_again source_version version file_ids past (Row built ∷ items) (s ∷ source) [] mapped matches = elim matches [ ]
-rows_again source_version version file_ids past (Row built ∷ items) (s ∷ source) (b ∷ back) mapped matches = (
-  record {
-    address = grind arith;
-    ends = grind arith;
-    registers = grind (arith, same_others);
-    file = grind arith;
-  },
-  rows_again source_version version file_ids (Row built ∷ past) items source back mapped.1 matches.1,
-)
-rows_again source_version version file_ids past (End offset op_index ∷ items) [] back mapped matches = elim mapped [ ]
-rows_again source_version version file_ids past (End offset op_index ∷ items) (s ∷ source) [] mapped matches =
-    elim matches [ ]
-rows_again source_version version file_ids past (End offset op_index ∷ items) (s ∷ source) (b ∷ back) mapped matches = (
-  record {
-    address = grind arith;
-    ends = grind arith;
-    registers = grind arith;
-    file = grind arith;
-  },
-  rows_again source_version version file_ids (End offset op_index ∷ past) items source back mapped.1 matches.1,
-)
 
 -- ---- tables that gained a text
 
@@ -472,14 +451,11 @@ module _ (convert_address : ℕ → Option Address) (s : ToConvert) (line_string
 
   module _ (can : CanBeFaithful convert_address s) where
     pub conversion_back : (rows back : List ReadRow) → Events s.layout s.header s.header.program (map row rows)
-        → (AddressesFit c.program.encoding.address_size 0 (0, 0) c.program.items
-        → RowsMatch c.program.encoding.version [] c.program.items back) → OneByOne IsRow rows back
+        → AreBuiltRows c.program back → OneByOne IsRow rows back
     conversion_back rows back events built =
-        let mapped = rows_mapped done can in
-        let same : mapped.rows ≡ rows = rows_same mapped.rows rows (events_same mapped.events events) in
-        subst (λ (source : List ReadRow). OneByOne IsRow source back) same
-        (rows_again s.header.parameters.encoding.version c.program.encoding.version c.file_ids [] c.program.items
-        mapped.rows back mapped.mapped (built (addresses_fit done can)))
+        let same = rows_same _ rows (events_same (rows_given done can) events) in
+        subst (OneByOne IsRow rows) (sym (built (addresses_fit done can)))
+        (subst (λ (source : List ReadRow). OneByOne IsRow source (program_rows c.program)) same (rows_there done can))
 
     pub conversion_faithful : (strings : List (List ℕ)) → IsFaithful s strings c
     conversion_faithful strings =
@@ -492,15 +468,16 @@ module _ (convert_address : ℕ → Option Address) (s : ToConvert) (line_string
           can_write = can_write done strings;
           constants = constants_set done can;
           addresses = addresses_fit done can;
-          read_back = λ rows back events built. conversion_back rows back events (λ fits. built);
         }
 
     -- the same of a unit that is read back
     pub unit_back : (rows : List ReadRow) → Events s.layout s.header s.header.program (map row rows)
         → (u : UnitReadBack c.program) → (found : List ReadRow) × UnitGives u found × OneByOne IsRow rows found
-    unit_back rows events u =
-        let found = u.back.rows (addresses_fit done can) in
-        (found.0, found.1, conversion_back _ found.0 events (λ fit. found.2))
+    unit_back rows events u = (
+      program_rows c.program,
+      u.back.rows (addresses_fit done can),
+      conversion_back rows (program_rows c.program) events (λ fits. refl),
+    )
 
   pub files_back : (strings : List (List ℕ)) {files : List File}
       → FilesAtEnd s.layout true s.header s.header.program files

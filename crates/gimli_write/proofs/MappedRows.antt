@@ -8,7 +8,7 @@ use Common.{OperationPointer, address_limit, is_tombstone, is_too_large, pointer
 use Common.{is_under_tombstone, base_at, pending_address, zero, suc, map, slice_get, subst, append_assoc}
 use Common.{Option, ok_or, Result, Ok, Err, AllByRecursion, append-nil, Error, AddressOverflow, Address, Constant}
 use Common.{ReadRow, DefineFile, row, fault, events_after, overflows, after_address, after_row, after_end, Built}
-use Common.{AddressesFit, Sections, LineRow, BuiltItem, ConvertError, Read}
+use Common.{AddressesFit, items_rows, read_row, OneByOne, Sections, LineRow, BuiltItem, ConvertError, Read}
 use Common.{MissingLineEndSequence, InvalidAddress, UnsupportedLineInstruction, ◌>>=◌, TablesAndTexts, FileParts}
 use Common.{with_parts, Reading, stops, offers, source_row, file_id, row_in, built_row}
 use Common.{address_offered, row_offered, row_or_end_offered, source_row_offered, reading_at, end_reading, reading_with}
@@ -16,7 +16,7 @@ use Common.{tables_after_definition, tables_at, with_definition, reading_after, 
 use Rattle.std.proofs.lemmas.Nat.{pow_pos}
 use Rattle.gimli_line.proofs.NonDecreasingLaws.{rises}
 use Rattle.gimli_write.specs.convert.Mapped
-use Mapped.{gave_row, MapsToItself, NoneEndsUnderTombstone, IsFileId, RowsMapped, SetsConstant}
+use Mapped.{gave_row, MapsToItself, NoneEndsUnderTombstone, IsFileId, IsReadAs, SetsConstant}
 use Rattle.gimli_line.proofs.RunLists.{events_at}
 use proofs.Outcomes.{definition_passed}
 use proofs.MappedFiles.{finished}
@@ -154,16 +154,29 @@ row_parts : (r : ReadRow) {address : ℕ} → r.tombstone ≡ false → r.addres
     → r ≡ record r { tombstone = false; address = address; end_sequence = false }
 row_parts r seen at inner = grind arith
 
+-- a built row is read as the row of the source says, but for the number of its file
+pub same_others : (source_version version base : ℕ) (built : LineRow) {source back : ReadRow}
+    → source ≡ record (read_row source_version base built) { file = source.file } → back ≡ read_row version base built
+    → back ≡ record source { file = back.file }
+same_others source_version version base built mapped matches = grind arith
+
 -- ---- what comes of the rest of a program
 
 module _ (sections : Sections) (parameters : Parameters) (first : TablesAndTexts) (size : ℕ) (c : Outcome) where
+  -- items after a base are read as rows of the source say, whatever the row before them was
+  abbrev pub AreReadBack : ℕ → List BuiltItem → List ReadRow → Type 0
+  AreReadBack base items rows =
+      (previous : LineRow)
+      → OneByOne (IsReadAs parameters.encoding.version c.program.encoding.version c.file_ids) rows
+      (items_rows c.program.encoding.version c.program.line_encoding base previous items)
+
   -- what comes of these instructions and this end after a past, from a program on
   pub record Rest (past list : List Ins) (end : Option Error) (base : ℕ) (position : ℕ × ℕ) (p : Built) : Type 0 where
     pub rows : List ReadRow
     pub events : events_after parameters past list end ≡ map row rows
     pub items : List BuiltItem
     pub built : c.program.items ≡ p.items ++ items
-    pub mapped : RowsMapped parameters.encoding.version c.file_ids base items rows
+    pub mapped : AreReadBack base items rows
     pub fit : AddressesFit size base position items
     pub constants : AllByRecursion SetsConstant items
     pub tables : TablesAndTexts
@@ -191,7 +204,7 @@ module _ (sections : Sections) (parameters : Parameters) (first : TablesAndTexts
               events = refl;
               items = [];
               built = grind (arith, append-nil);
-              mapped = refl;
+              mapped = λ previous. tt;
               fit = tt;
               constants = tt;
               tables = tables;
@@ -256,8 +269,8 @@ module _ (sections : Sections) (parameters : Parameters) (first : TablesAndTexts
       -- a point gives a row, and an item is built of it
       taken : (base after : ℕ) (position after_it : ℕ × ℕ) (p next : Built) (built : BuiltItem) → GivesRow
           → next.items ≡ p.items ++ built ∷ [] → SetsConstant built
-          → ((items : List BuiltItem) (rows : List ReadRow) → RowsMapped version c.file_ids after items rows
-          → RowsMapped version c.file_ids base (built ∷ items) (here ∷ rows))
+          → ((items : List BuiltItem) (rows : List ReadRow) → AreReadBack after items rows
+          → AreReadBack base (built ∷ items) (here ∷ rows))
           → ((items : List BuiltItem) → AddressesFit size after after_it items
           → AddressesFit size base position (built ∷ items)) → Later after after_it next → Here base position p
       taken base after position after_it p next built one pushed constant mapped fit r = record {
@@ -282,7 +295,7 @@ module _ (sections : Sections) (parameters : Parameters) (first : TablesAndTexts
         events = r.events;
         items = item.SetAddress (Constant a) ∷ r.items;
         built = grind (arith, append_assoc);
-        mapped = r.mapped;
+        mapped = λ previous. r.mapped (record previous { address_offset = 0; op_index = 0 });
         fit = (ahead, omega arith, r.fit);
         constants = ((a, refl), r.constants);
         tables = r.tables;
@@ -315,7 +328,15 @@ module _ (sections : Sections) (parameters : Parameters) (first : TablesAndTexts
             let within : (pointer_at parameters past).address < address_limit parameters =
             address_within parameters past in
             taken base 0 position _ p _ built one refl tt
-            (λ items rows mapped. (record { address = omega arith; ends = closes }, mapped))
+            (λ items rows mapped previous. (
+              record {
+                address = omega arith;
+                ends = sym closes;
+                registers = λ inner. absurd cc;
+                file = λ inner. absurd cc;
+              },
+              mapped _,
+            ))
             (λ items fit. (omega arith, fit)) (follow 0 (0, 0) next (follows_end parameters past i closes)
             (was_built _ _ is))
 
@@ -340,12 +361,16 @@ module _ (sections : Sections) (parameters : Parameters) (first : TablesAndTexts
             let number : IsFileId version tables.file_ids here.file file = file_id-is _ tables _ known in
             let found : slice_get c.file_ids here.file ≡ Some file =
             rest.stay here.file file (stays rest.there _ _ number.there) in
-            taken base _ position _ p _ built one refl tt (λ items rows mapped. (
+            taken base _ position _ p _ built one refl tt (λ items rows mapped previous. (
               record {
-                file = record { from_one = number.from_one; there = found };
-                others = row_parts _ seen sum inner;
+                address = sym sum;
+                ends = sym inner;
+                registers = λ is.
+                    same_others version c.program.encoding.version base r {source = here}
+                    {back = read_row c.program.encoding.version base r} (row_parts here seen sum inner) refl;
+                file = λ is. (file, record { from_one = number.from_one; there = found }, refl);
               },
-              subst (λ b. RowsMapped version c.file_ids b items rows) (sym same) mapped,
+              subst (λ b. AreReadBack b items rows) (sym same) mapped r,
             )) (λ items fit. (
               omega (arith, wide),
               subst (λ b. AddressesFit size b (r.address_offset, r.op_index) items) (sym same) fit,

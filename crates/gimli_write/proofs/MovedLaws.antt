@@ -2,8 +2,9 @@
 use Rattle.std.specs.Prelude.{◌≡◌, ◌+◌, ◌≤◌, ◌∷◌, ◌++◌}
 use Rattle.gimli_write.proofs
 use proofs.Common
-use Common.{ℕ, List, [], refl, sym, ap, subst, ◌∙◌, Option, Error, Address, Ins, Decodes, one_decoding, AddressesFit}
-use Common.{RowsMatch, ReadRow, OneByOne, Outcome, ToConvert, encoding_of, Bool, true, false, map, arith, Some}
+use Common.{ℕ, List, [], refl, sym, ap, subst, ◌∙◌, Option, Address, Ins, one_decoding, AddressesFit}
+use Common.{HasFittingAddresses, program_rows, items_rows, ReadRow, OneByOne, Outcome, ToConvert, encoding_of, Bool}
+use Common.{true, false, map, arith, Some}
 use Common.{Parameters, SetAddress, EndSequence, Special, Copy, is_end, row_at, row, Events, pointer_at}
 use Common.{is_under_tombstone, base_at, pending_address}
 use Rattle.gimli_line.proofs.NonDecreasingLaws.{rises}
@@ -11,64 +12,72 @@ use Rattle.gimli_write.specs
 use specs.convert.Mapped.{NoneEndsUnderTombstone, IsReadAs}
 use specs.convert.Moved
 use Moved.{AreInOrder, CanBeMoved, AreMovedRows, gives_row, source_rows, moved, moved_base, moved_address, moved_row}
-use Moved.{moved_rows, moved_to, AddsToEach, shifted, sets_address, HaveSpace, CanBeShifted}
+use Moved.{instructions_of, moved_rows, moved_to, AddsToEach, shifted, sets_address, HaveSpace, CanBeShifted}
 use specs.convert.DoneConversions.{UnitReadBack, UnitGives}
-use proofs.MappedLaws.{WasConverted, read_to_end, first_ready, encoding_kept, rows_again}
+use specs.RoundTrip.{AreBuiltRows}
+use Rattle.gimli_build.specs.Rows.{initial_row}
+use proofs.MappedLaws.{WasConverted, read_to_end, first_ready, encoding_kept}
 use proofs.BuiltAnswers.{events_same, rows_same}
 use proofs.MappedRows.{pending_is_base, base_below, base_below_row}
 use proofs.MovedRows.{follows_start, Rest, rest_moved}
 
 module _ {g : ℕ → Option Address} {s : ToConvert} {line_strings : List (List ℕ)} {c : Outcome}
     (w : WasConverted g s line_strings c) (can : CanBeMoved g s) where
-  decodes_once : {list : List Ins} {end : Option Error} → Decodes s.layout s.header s.header.program list end
-      → list ≡ w.reads.list
-  decodes_once decoding =
-      ap (λ p. p.0)
-      (one_decoding s.layout s.header _ _ _ decoding ∙ sym (one_decoding s.layout s.header _ _ _ w.reads.decoding))
+  read_once : w.reads.list ≡ instructions_of s
+  read_once = ap (λ p. p.0) (one_decoding s.layout s.header _ _ _ w.reads.decoding)
 
   abbrev size : ℕ
   size = (encoding_of s.header s.given).address_size
 
   whole : Rest g s.sections s.header.parameters w.first size c [] w.reads.list w.reads.end 0 (0, 0) w.first.program
   whole =
-      let seen = can.no_end_under_tombstone in
-      let order = can.in_order in
       rest_moved g s.sections s.header.parameters w.first size c _ _ _ 0 _ _ (follows_start g s.header.parameters)
-      (subst (NoneEndsUnderTombstone s.header.parameters []) (decodes_once seen.decoding) seen.seen)
-      (subst (AreInOrder g s.header.parameters size []) (decodes_once order.decoding) order.rows) (read_to_end w)
+      (subst (NoneEndsUnderTombstone s.header.parameters []) (sym read_once) can.no_end_under_tombstone)
+      (subst (AreInOrder g s.header.parameters size []) (sym read_once) can.in_order) (read_to_end w)
 
   -- what was built is what was built after the start
   all_items : whole.items ≡ c.program.items
   all_items = sym (whole.built ∙ ap (λ l. l ++ whole.items) (first_ready w []).items)
 
-  addresses_fit : AddressesFit c.program.encoding.address_size 0 (0, 0) c.program.items
+  addresses_fit : HasFittingAddresses c.program
   addresses_fit =
       subst (λ e. AddressesFit e.address_size 0 (0, 0) c.program.items) (sym (encoding_kept w))
       (subst (AddressesFit size 0 (0, 0)) all_items whole.fit)
 
   -- rows that its items are read as are those of the source, moved
   pub rows_moved : (version : ℕ) → c.program.encoding.version ≡ version → (back : List ReadRow)
-      → (AddressesFit c.program.encoding.address_size 0 (0, 0) c.program.items
-      → RowsMatch c.program.encoding.version [] c.program.items back) → AreMovedRows g s version c.file_ids back
-  rows_moved version is back built = record {
-    list = w.reads.list;
-    end = w.reads.end;
-    decoding = w.reads.decoding;
-    events = whole.events;
-    same =
-        let rows = moved_rows g s.header.parameters [] w.reads.list in
-        let before = s.header.parameters.encoding.version in
-        subst (λ (version : ℕ). OneByOne (IsReadAs before version c.file_ids) rows back) is
-        (rows_again before c.program.encoding.version c.file_ids [] whole.items rows back whole.mapped
-        (subst (λ items. RowsMatch c.program.encoding.version [] items back) (sym all_items) (built addresses_fit)));
-  }
+      → AreBuiltRows c.program back → AreMovedRows g s version c.file_ids back
+  rows_moved version is back built =
+      let before = s.header.parameters.encoding.version in
+      let rows = moved_rows g s.header.parameters [] w.reads.list in
+      let first = initial_row c.program.encoding.version c.program.line_encoding.default_is_stmt in
+      let given : Events s.layout s.header s.header.program
+      (map row (source_rows s.header.parameters [] w.reads.list)) = record {
+        list = w.reads.list;
+        end = w.reads.end;
+        decoding = w.reads.decoding;
+        given = sym whole.events;
+      } in
+      let there = subst (λ items. OneByOne (IsReadAs before c.program.encoding.version c.file_ids) rows
+      (items_rows c.program.encoding.version c.program.line_encoding 0 first items)) all_items (whole.mapped first) in
+      let same = subst (λ (version : ℕ). OneByOne (IsReadAs before version c.file_ids) rows back) is
+      (subst (OneByOne (IsReadAs before c.program.encoding.version c.file_ids) rows) (sym (built addresses_fit))
+      there) in
+      record {
+        events = subst (λ list. Events s.layout s.header s.header.program
+            (map row (source_rows s.header.parameters [] list))) read_once given;
+        same = subst (λ list. OneByOne (IsReadAs before version c.file_ids)
+            (moved_rows g s.header.parameters [] list) back) read_once same;
+      }
 
   -- the same of a unit that is read back
   pub unit_moved : (u : UnitReadBack c.program)
       → (found : List ReadRow) × UnitGives u found × AreMovedRows g s c.program.encoding.version c.file_ids found
-  unit_moved u =
-      let found = u.back.rows addresses_fit in
-      (found.0, found.1, rows_moved c.program.encoding.version refl found.0 (λ fit. found.2))
+  unit_moved u = (
+    program_rows c.program,
+    u.back.rows addresses_fit,
+    rows_moved c.program.encoding.version refl (program_rows c.program) (λ fits. refl),
+  )
 
 -- ---- a map that adds a number
 
@@ -187,12 +196,7 @@ module _ {g : ℕ → Option Address} {s : ToConvert} {line_strings : List (List
 
   moves : CanBeMoved g s
   moves = record {
-    in_order = record {
-      list = can.space.list;
-      end = can.space.end;
-      decoding = can.space.decoding;
-      rows = shift_in_order g s.header.parameters n can.adds new_size [] can.space.list can.space.rows;
-    };
+    in_order = shift_in_order g s.header.parameters n can.adds new_size [] (instructions_of s) can.space;
     no_end_under_tombstone = can.no_end_under_tombstone;
   }
 
@@ -200,19 +204,13 @@ module _ {g : ℕ → Option Address} {s : ToConvert} {line_strings : List (List
       → AreMovedRows g s version c.file_ids back
       → OneByOne (IsReadAs s.header.parameters.encoding.version version c.file_ids) (map (shifted n) rows) back
   same_shifted version rows back events m =
-      let once : m.list ≡ can.space.list =
-      ap (λ p. p.0) (one_decoding s.layout s.header _ _ _ m.decoding
-      ∙ sym (one_decoding s.layout s.header _ _ _ can.space.decoding)) in
-      let given : Events s.layout s.header s.header.program (map row (source_rows s.header.parameters [] m.list)) =
-      record { list = m.list; end = m.end; decoding = m.decoding; given = sym m.events } in
-      let same : source_rows s.header.parameters [] m.list ≡ rows = rows_same _ rows (events_same given events) in
-      let space = subst (HaveSpace s.header.parameters n new_size []) (sym once) can.space.rows in
+      let list = instructions_of s in
+      let same = rows_same (source_rows s.header.parameters [] list) rows (events_same m.events events) in
       subst (λ rows. OneByOne (IsReadAs s.header.parameters.encoding.version version c.file_ids) rows back)
-      (rows_shifted g s.header.parameters n can.adds new_size [] m.list space ∙ ap (map (shifted n)) same) m.same
+      (rows_shifted g s.header.parameters n can.adds new_size [] list can.space ∙ ap (map (shifted n)) same) m.same
 
   pub shift_back : (rows back : List ReadRow) → Events s.layout s.header s.header.program (map row rows)
-      → (AddressesFit c.program.encoding.address_size 0 (0, 0) c.program.items
-      → RowsMatch c.program.encoding.version [] c.program.items back)
+      → AreBuiltRows c.program back
       → OneByOne (IsReadAs s.header.parameters.encoding.version c.program.encoding.version c.file_ids)
       (map (shifted n) rows) back
   shift_back rows back events built =

@@ -7,21 +7,21 @@ use Common.{EndSequence, SetAddress, Parameters, Ins, is_end, makes_row, row_at}
 use Common.{is_under_tombstone, base_at, pending_address, map, slice_get, subst, append_assoc}
 use Common.{Option, ok_or, Result, Ok, Err, append-nil, Error, AddressOverflow, Address}
 use Common.{ReadRow, row, fault, events_after, overflows, after_address, after_row, after_end, Built}
-use Common.{AddressesFit, Sections, LineRow, BuiltItem, ConvertError, Read}
+use Common.{AddressesFit, items_rows, OneByOne, Sections, LineRow, BuiltItem, ConvertError, Read}
 use Common.{MissingLineEndSequence, InvalidAddress, UnsupportedLineInstruction, ◌>>=◌, TablesAndTexts}
 use Common.{Reading, stops, offers, source_row, file_id, row_in, built_row}
 use Common.{address_offered, row_offered, row_or_end_offered, source_row_offered, reading_at, end_reading, reading_with}
 use Common.{tables_after_definition, tables_at, with_definition, reading_after, Outcome, outcome_of, with_tables}
 use Rattle.gimli_build.specs.Built.{address_value}
 use Rattle.gimli_write.specs.convert.Mapped
-use Mapped.{gave_row, NoneEndsUnderTombstone, IsFileId, RowsMapped}
+use Mapped.{gave_row, NoneEndsUnderTombstone, IsFileId, IsReadAs}
 use Rattle.gimli_write.specs.convert.Moved
 use Moved.{gives_row, source_rows, moved, moved_base, moved_address, moved_row, moved_rows, moved_to, IsInOrder}
 use Moved.{AreInOrder}
 use Rattle.gimli_line.proofs.RunLists.{events_at}
 use proofs.Outcomes.{definition_passed}
 use proofs.MappedFiles.{finished}
-use proofs.MappedRows.{ids_stay, file_id-is}
+use proofs.MappedRows.{ids_stay, file_id-is, same_others}
 use Rattle.gimli_build.specs.declared.built.items.BuiltItem.TheVariants as item
 use Rattle.gimli_write.specs.declared.convert.rows.ConvertLineRow.TheVariants as offer
 
@@ -85,12 +85,19 @@ row_parts r seen inner = grind arith
 
 module _ (g : ℕ → Option Address) (sections : Sections) (parameters : Parameters) (first : TablesAndTexts) (size : ℕ)
     (c : Outcome) where
+  -- items after a base are read as these rows say, whatever the row before them was
+  abbrev pub AreReadBack : ℕ → List BuiltItem → List ReadRow → Type 0
+  AreReadBack base items rows =
+      (previous : LineRow)
+      → OneByOne (IsReadAs parameters.encoding.version c.program.encoding.version c.file_ids) rows
+      (items_rows c.program.encoding.version c.program.line_encoding base previous items)
+
   -- what comes of these instructions and this end after a past, from a program on
   pub record Rest (past list : List Ins) (end : Option Error) (base : ℕ) (position : ℕ × ℕ) (p : Built) : Type 0 where
     pub events : events_after parameters past list end ≡ map row (source_rows parameters past list)
     pub items : List BuiltItem
     pub built : c.program.items ≡ p.items ++ items
-    pub mapped : RowsMapped parameters.encoding.version c.file_ids base items (moved_rows g parameters past list)
+    pub mapped : AreReadBack base items (moved_rows g parameters past list)
     pub fit : AddressesFit size base position items
     pub tables : TablesAndTexts
     pub there : tables_at sections first past ≡ Ok tables
@@ -114,7 +121,7 @@ module _ (g : ℕ → Option Address) (sections : Sections) (parameters : Parame
             events = refl;
             items = [];
             built = grind (arith, append-nil);
-            mapped = refl;
+            mapped = λ previous. tt;
             fit = tt;
             tables = tables;
             there = there;
@@ -173,8 +180,8 @@ module _ (g : ℕ → Option Address) (sections : Sections) (parameters : Parame
     -- a point gives a row, and an item is built of it
     taken : (base after : ℕ) (position after_it : ℕ × ℕ) (p next : Built) (built : BuiltItem) → GivesRow
         → gives_row parameters past i ≡ true → next.items ≡ p.items ++ built ∷ []
-        → ((items : List BuiltItem) (rows : List ReadRow) → RowsMapped version c.file_ids after items rows
-        → RowsMapped version c.file_ids base (built ∷ items) (moved_row g parameters past i ∷ rows))
+        → ((items : List BuiltItem) (rows : List ReadRow) → AreReadBack after items rows
+        → AreReadBack base (built ∷ items) (moved_row g parameters past i ∷ rows))
         → ((items : List BuiltItem) → AddressesFit size after after_it items
         → AddressesFit size base position (built ∷ items)) → Later after after_it next → Here base position p
     taken base after position after_it p next built one gives pushed mapped fit r = record {
@@ -196,7 +203,7 @@ module _ (g : ℕ → Option Address) (sections : Sections) (parameters : Parame
       events = r.events;
       items = item.SetAddress m ∷ r.items;
       built = grind (arith, append_assoc);
-      mapped = r.mapped;
+      mapped = λ previous. r.mapped (record previous { address_offset = 0; op_index = 0 });
       fit = (ahead, below, r.fit);
       tables = r.tables;
       there = r.there;
@@ -230,7 +237,15 @@ module _ (g : ℕ → Option Address) (sections : Sections) (parameters : Parame
           let next : Built = after_end offset q in
           let sum : moved_address g parameters past i ≡ base + offset = ap (λ b. b + offset) (sym same) in
           taken base 0 position _ p _ built one gives refl
-          (λ items rows mapped. (record { address = sum; ends = closes }, mapped))
+          (λ items rows mapped previous. (
+            record {
+              address = sym sum;
+              ends = sym closes;
+              registers = λ inner. absurd cc;
+              file = λ inner. absurd cc;
+            },
+            mapped _,
+          ))
           (λ items fit. (subst (λ a. a < 2 ^ (8 * size)) sum order.fits, fit))
           (follow 0 (0, 0) next (follows_end g parameters past i closes) (was_built _ _ is))
 
@@ -251,14 +266,17 @@ module _ (g : ℕ → Option Address) (sections : Sections) (parameters : Parame
           let number : IsFileId version tables.file_ids here.file file = file_id-is _ tables _ known in
           let found : slice_get c.file_ids here.file ≡ Some file =
           rest.stay here.file file (stays rest.there _ _ number.there) in
-          taken base base position _ p _ built one gives refl (λ items rows mapped. (
+          taken base base position _ p _ built one gives refl (λ items rows mapped previous. (
             record {
-              file = record { from_one = number.from_one; there = found };
-              others =
-                  ap (λ a. let there : ReadRow = record here { address = a } in there) sum
-                  ∙ row_parts here {address = base + offset} seen inner;
+              address = sym sum;
+              ends = sym inner;
+              registers = λ is.
+                  same_others version c.program.encoding.version base r
+                  (ap (λ a. let there : ReadRow = record here { address = a } in there) sum
+                  ∙ row_parts here {address = base + offset} seen inner) refl;
+              file = λ is. (file, record { from_one = number.from_one; there = found }, refl);
             },
-            mapped,
+            mapped r,
           )) (λ items fit. (subst (λ a. a < 2 ^ (8 * size)) sum order.fits, fit)) rest
 
       -- a row, or an end

@@ -2,9 +2,10 @@
 use Rattle.std.specs.Prelude.{◌≡◌, ◌≢◌, ◌⊎◌, ◌++◌}
 use Rattle.gimli_write.proofs.Common
 use Common.{ℕ, Bool, List, length, drop, refl, ap, ◌∙◌, subst, inl, inr, Some, None, Result, Ok}
-use Common.{Err, IfErr, UnitEntry, Built, ConvertError, Read, Write, NoMemory, RoundTrip, RefusesUnit}
+use Common.{Err, IfErr, UnitEntry, Built, HasFittingAddresses, ConvertError, Read, Write, NoMemory, RoundTrip}
+use Common.{RefusesUnit}
 use Common.{ToWrite, WasWritten, IsRefusal, slice_layout, Encoding, StringTables, IfOk, AnswersProgram, answers}
-use Rattle.gimli_write.specs.RoundTrip.{HasFittingAddresses, IsAsBuilt, IsCausedRefusal, IsRoundTrip}
+use Rattle.gimli_write.specs.RoundTrip.{IsAsBuilt, IsCausedRefusal, IsRoundTrip}
 use Rattle.gimli_write.specs.RoundTrip.{IsRoundTripRefusal, to_write}
 use Rattle.gimli_core.specs.declared.common.DebugLineOffset.{DebugLineOffset}
 use Rattle.gimli_bytes.specs.Hand.{plain}

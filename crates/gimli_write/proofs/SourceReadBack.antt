@@ -3,7 +3,7 @@ use Rattle.std.specs.Prelude.{◌≡◌, if◌then◌else◌}
 use Rattle.gimli_write.proofs
 use proofs.Common
 use Common.{ℕ, Bool, true, false, List, [], refl, sym, ap, subst, inl, inr, Option, Ok, StringTables, texts_in}
-use Common.{KeepsTexts, with_text, with_text-KeepsTexts, bytes_in, Built, Address, Encoding, OneByOne, map}
+use Common.{KeepsTexts, with_text, with_text-KeepsTexts, bytes_in, Built, Address, Encoding, map}
 use Common.{Answers, FileAnswer, built_file, Outcome, ToConvert, IsConverted, defined_files, past_at_end}
 use Rattle.gimli_build.specs.Version5Tables.{texts_after}
 use Rattle.gimli_build.specs.WrittenTables.{KeepTables}
@@ -11,9 +11,9 @@ use Rattle.gimli_write.specs
 use specs.Prelude.{Vec, Global, ConvertError}
 use specs.RoundTrip.{AreBuiltRows, IsRoundTripRefusal}
 use specs.convert.Conversion.{ConvertsTo}
-use specs.convert.Mapped.{CanBeFaithful, IsReadAs, AreFilesReadAs, IsFaithful}
+use specs.convert.Mapped.{CanBeFaithful, AreFilesReadAs, AreSourceRows, IsFaithful, version_after}
 use specs.convert.Moved.{CanBeMoved, AreMovedRows}
-use specs.convert.SourceReadBack.{AreSourceRows, AreSourceFiles, IsSourceRefusal, version_after}
+use specs.convert.SourceReadBack.{AreSourceFiles, IsSourceRefusal}
 use proofs.ConvertSteps.{kept_self}
 use proofs.MovedLaws.{rows_moved}
 use proofs.MappedLaws.{
@@ -83,15 +83,7 @@ module _ (convert_address : ℕ → Option Address) (s : ToConvert) (old : List 
       → AreSourceRows s c.file_ids back.rows
   rows_read built can =
       let faithful : IsFaithful s [] c = conversion_faithful convert_address s old c so can [] in
-      let mapped = faithful.rows in
-      record {
-        rows = mapped.rows;
-        events = mapped.events;
-        same =
-            subst (λ (version : ℕ). OneByOne (IsReadAs s.header.parameters.encoding.version version c.file_ids)
-            mapped.rows back.rows) version_is
-            (faithful.read_back mapped.rows back.rows mapped.events (built faithful.addresses));
-      }
+      subst (AreSourceRows s c.file_ids) (sym (built faithful.addresses)) faithful.rows
 
   pub moved_read : AreBuiltRows c.program back.rows → CanBeMoved convert_address s
       → AreMovedRows convert_address s (version_after s) c.file_ids back.rows

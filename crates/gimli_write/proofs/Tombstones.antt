@@ -3,8 +3,8 @@ use Rattle.std.specs.Prelude.{◌≡◌, ◌≢◌, ◌&&◌, ◌∷◌, ◌++�
 use Rattle.gimli_write.proofs
 use proofs.Common
 use Common.{ℕ, Bool, true, false, List, [], refl, sym, ap, ◌∙◌, subst, Some}
-use Common.{OrderAndLimit, Error, Header, Parameters, Ins, is_end, decoded_at, is_decoded}
-use Common.{one_decoding, registers_after, Unread, SpellsInstruction, instruction_production}
+use Common.{OrderAndLimit, Error, Header, Parameters, Ins, is_end, decoded_at}
+use Common.{registers_after, Unread, SpellsInstruction, instruction_production}
 use Rattle.gimli_write.specs
 use specs.convert.Mapped.{gave_row, NoneEndsUnderTombstone, NoSequenceEndsUnderTombstone}
 use specs.inside.convert.Tombstones.{Watched, first_watched, gave_after, hides, none_hides, none_left_hides, WatchSays}
@@ -59,19 +59,10 @@ module _ (layout : OrderAndLimit) (h : Header) (bytes : List ℕ) where
   whole = record { layout = layout; bytes = bytes }
 
   pub all_seen : none_left_hides h (first_watched h whole) ≡ true → NoSequenceEndsUnderTombstone layout h bytes
-  all_seen is = record {
-    list = (decoded_at layout h bytes).0;
-    end = (decoded_at layout h bytes).1;
-    decoding = is_decoded layout h bytes;
-    seen = seen_then h.parameters [] (decoded_at layout h bytes).0 is;
-  }
+  all_seen = seen_then h.parameters [] (decoded_at layout h bytes).0
 
   pub seen_all : NoSequenceEndsUnderTombstone layout h bytes → none_left_hides h (first_watched h whole) ≡ true
-  seen_all none =
-      let once : none.list ≡ (decoded_at layout h bytes).0 =
-      ap (λ p. p.0) (one_decoding layout h bytes none.list none.end none.decoding) in
-      then_seen h.parameters [] (decoded_at layout h bytes).0
-      (subst (NoneEndsUnderTombstone h.parameters []) once none.seen)
+  seen_all = then_seen h.parameters [] (decoded_at layout h bytes).0
 
 -- what is left at the start, where the header was lent
 pub from_start : (layout : OrderAndLimit) (h k : Header) (n : OrderAndLimit) (first : Watched) → k ≡ h → n ≡ layout

@@ -22,11 +22,10 @@ pub use Rattle.gimli_build.specs.Items
 pub use Rattle.gimli_build.specs.LentRow
 pub use Rattle.gimli_build.specs.LineText
 pub use Rattle.gimli_build.specs.Linked
-pub use Rattle.gimli_build.specs.NoFiles
 pub use Rattle.gimli_build.specs.ReadsBack
 pub use Rattle.gimli_build.specs.Rows
 pub use Rattle.gimli_build.specs.Runs
-pub use Rattle.gimli_build.specs.SameRow
+pub use Rattle.gimli_build.specs.ReadRows
 pub use Rattle.gimli_build.specs.Sizes
 pub use Rattle.gimli_build.specs.Stored
 pub use Rattle.gimli_build.specs.Tables

@@ -66,9 +66,9 @@ pub use Rattle.gimli_line.specs.run.OperationPointer.{is_under_tombstone, overfl
 pub use Rattle.gimli_build.specs.Built.{Built, address_value, empty_built, previous_position}
 pub use Rattle.gimli_build.specs.Conditions.{CanBuild, CanWrite}
 pub use Rattle.gimli_build.specs.FileNumber.{file_number}
+pub use Rattle.gimli_build.specs.Items.{HasFittingAddresses, program_rows}
 pub use Rattle.gimli_build.specs.LineText.{LineText, bytes_in, made_table, made_text}
 pub use Rattle.gimli_build.specs.ReadsBack.{IsUnit, ReadsBack, directories_from_zero}
-pub use Rattle.gimli_build.specs.SameRow.{RowsMatch, read_row}
 pub use Rattle.gimli_build.specs.Texts.{IsOptionalText, IsText, OneByOne, Sections}
 pub use Rattle.gimli_build.specs.Version5Tables.{texts_after}
 pub use Rattle.gimli_build.specs.declared.built.items.BuiltItem.{BuiltItem}

@@ -2,11 +2,11 @@
 use Rattle.std.specs.Prelude.{◌≡◌, ◌^◌, ◌++◌}
 use Rattle.gimli_write.specs
 use specs.Prelude
-use Prelude.{ℕ, List, [], length, map, slice_get, Option, Some, None, option_map, Result}
+use Prelude.{ℕ, List, length, map, slice_get, Option, Some, None, option_map, Result}
 use Prelude.{Ok, Bool, OrderAndLimit, Encoding, Header, UnitEntry, ReadFile, Events, row, ReadRow}
 use Prelude.{table_bytes, StringTables, bytes_in, Sections, IsText, IsOptionalText, OneByOne}
-use Prelude.{IsUnit, directories_from_zero, Built, texts_after, RowsMatch, ConvertError, Read}
-use Prelude.{Write, OutOfMemory}
+use Prelude.{IsUnit, directories_from_zero, Built, texts_after, HasFittingAddresses, program_rows}
+use Prelude.{ConvertError, Read, Write, OutOfMemory}
 use Rattle.gimli_line.specs.run.Sequences.{HasFirstFault}
 use Rattle.gimli_bytes.specs.Hand.{plain}
 use Rattle.gimli_bytes.specs.Written.{Appends}
@@ -15,7 +15,6 @@ use Rattle.gimli_build.specs.Tables.{File}
 use Rattle.gimli_build.specs.Stored.{stored_details}
 use Rattle.gimli_build.specs.Unit.{unit_bytes}
 use Rattle.gimli_build.specs.Cause.{first_cause}
-use Rattle.gimli_build.specs.Items.{AddressesFit}
 use Rattle.gimli_build.specs.WrittenTables.{HaveEmptySource}
 use specs.declared.read_back.RoundTrip.{RoundTrip}
 use specs.declared.read_back.RoundTripFile.{RoundTripFile}
@@ -110,12 +109,6 @@ AnswersProgram is_big p texts unit answer =
     AnswersUnit (slice_layout is_big) (unit_entry_of p texts) (sections_of texts) unit
     (answers answer)
 
--- what was appended is a unit and nothing else, and what is read of it is answered, where it is
--- read as a program's unit is
-abbrev pub AnswersAppended : Bool → Built → StringTables → List ℕ → List ℕ → RoundTrip → Type 0
-AnswersAppended is_big p texts old new answer =
-    (unit : List ℕ) × (new ≡ old ++ unit) × AnswersProgram is_big p texts unit answer
-
 -- ---- what was built
 
 -- a built file, as it is answered with these tables
@@ -129,13 +122,9 @@ built_file p texts f = record {
   source = (stored_details p texts f.1).source;
 }
 
--- the addresses of a program fit its address size, and none of them is a tombstone
-abbrev pub HasFittingAddresses : Built → Type 0
-HasFittingAddresses p = AddressesFit p.encoding.address_size 0 (0, 0) p.items
-
--- rows are the rows and ends that were built, one by one, where the addresses fit
+-- rows are the rows and ends that were built, where the addresses fit
 abbrev pub AreBuiltRows : Built → List ReadRow → Type 0
-AreBuiltRows p rows = HasFittingAddresses p → RowsMatch p.encoding.version [] p.items rows
+AreBuiltRows p rows = HasFittingAddresses p → rows ≡ program_rows p
 
 -- what is answered is what was built, with these tables
 pub record IsAsBuilt (p : Built) (texts : StringTables) (a : Answers) : Type 0 where
@@ -155,8 +144,9 @@ pub record IsRoundTrip (is_big : Bool) (encoding : Encoding) (p : Built)
   pub unit : Appends (unit_bytes plain is_big encoding p texts) old new
   pub offset : answer.offset.0 ≡ length old
   pub tables : HaveEmptySource p texts texts_then
-  -- what is read is what the unit says, and what was built
-  pub read : AnswersAppended is_big p texts_then old new answer
+  -- what is read is what the appended unit says, and what was built
+  pub read : (unit : List ℕ) × (new ≡ old ++ unit)
+      × AnswersProgram is_big p texts_then unit answer
   pub built : IsAsBuilt p texts_then (answers answer)
 
 -- ---- refusals

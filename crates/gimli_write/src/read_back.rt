@@ -63,7 +63,8 @@ pub struct RoundTripFile {
 ghost use Rattle.gimli_write.specs.RoundTrip.{answers, file_answer, IsFileAnswer, AreAnswers};
 ghost use Rattle.gimli_write.specs.RoundTrip.{slice_layout, unit_entry_of, sections_of};
 ghost use Rattle.gimli_write.specs.RoundTrip.{IsRunRefusal, RefusesUnit, IsRoundTripRefusal};
-ghost use Rattle.gimli_write.specs.RoundTrip.{HasFittingAddresses, AnswersProgram, IsAsBuilt};
+ghost use Rattle.gimli_build.specs.Items.{HasFittingAddresses};
+ghost use Rattle.gimli_write.specs.RoundTrip.{AnswersProgram, IsAsBuilt};
 ghost use Rattle.gimli_write.specs.RoundTrip.{IsRoundTrip};
 ghost use Rattle.gimli_write.specs.inside.RoundTrip.{HasTexts, unit_entry_with, BeginsUnit};
 ghost use Rattle.gimli_write.specs.inside.RoundTrip.{CanRead};

@@ -1,7 +1,7 @@
 //! A conversion whose rows are the source's, and are known to be.
 
 ghost use Rattle.std.specs.Prelude.{IfOk, None};
-ghost use Rattle.gimli_write.specs.convert.SourceReadBack.{AreSourceRows};
+ghost use Rattle.gimli_write.specs.convert.Mapped.{AreSourceRows};
 ghost use Rattle.gimli_write.specs.convert.Sources.{to_convert};
 
 use gimli_core::{Endianity, Reader};

@@ -1,12 +1,16 @@
 -- The machine over the instructions of built items.
-use Rattle.std.specs.Prelude.{◌≡◌, ◌^◌, ◌<◌, ◌≤◌, ◌∷◌}
+use Rattle.std.specs.Prelude.{◌≡◌, ◌<◌, ◌≤◌, ◌∷◌, ◌++◌}
 use Rattle.gimli_build.proofs
 use proofs.Common
-use Common.{ℕ, List, [], refl, ap, ◌∙◌, arith, lit<, map, IsTrue, is_address_size, Encoding, LineEncoding, run, LineRow}
+use Common.{ℕ, List, [], refl, ap, ◌∙◌, arith, lit<, map, Encoding, LineEncoding, run}
 use Common.{BuiltItem, SetAddress, Row, End, CanEncode, IsPosition, address_value, AreBuilt, initial_row, built_rules}
-use Common.{registers_after_row, read_row, read_end, items_instructions, items_rows, AddressesFit, Ok, sym, None}
-use Common.{append-nil, OrderAndLimit, Each, Header, Ins, SpellsInstruction, Decodes, Parameters, ReadRow, plain, Built}
-use Common.{base_of, IsBuilt, items_bytes, next_previous, AreFit, RowsMatch, program_bytes}
+use Common.{read_row, read_end, items_instructions, Ok, sym, None}
+use Common.{append-nil, append_assoc, OrderAndLimit, Each, Header, Ins, SpellsInstruction, Decodes, Parameters, plain}
+use Common.{Built, IsBuilt, items_bytes, AreFit, HasFittingAddresses, program_rows, program_bytes}
+use Rattle.gimli_build.specs.Items.{program_instructions}
+use Rattle.gimli_build.specs.Runs
+use Runs.{Run, run_start, after_items, AreNext, Gives, written_row, written_end, written_items, given_items, rules}
+use Runs.{registers, run_of_program, CanRun}
 use Rattle.gimli_line.specs.run.Events.{row, Events, events_after, program_events}
 use Rattle.gimli_line.proofs.Backwards.{starts}
 use proofs.reading.RowRuns.{row-runs, end-runs, set-address-runs, start-is}
@@ -16,34 +20,71 @@ use proofs.spellings.ItemSpellings.{items-spelled}
 pub start_position : (e : LineEncoding) → CanEncode e → IsPosition e 0 0
 start_position e can = grind arith
 
-module _ (encoding : Encoding) (e : LineEncoding) (known : IsTrue (is_address_size encoding.address_size))
-    (can : CanEncode e)
-    (version : encoding.version ≤ 5) where
-  pub items-run : (base : ℕ) (previous : LineRow) (items : List BuiltItem)
-      → IsPosition e previous.address_offset previous.op_index → previous.line < 2 ^ 63
-      → AreBuilt e (previous.address_offset, previous.op_index) items
-      → AddressesFit encoding.address_size base (previous.address_offset, previous.op_index) items
-      → run (built_rules encoding e) (registers_after_row encoding.version base previous)
-      (items_instructions encoding.version e previous items)
-      ≡ map row (items_rows encoding.version e base previous items)
-  items-run base previous [] position line built held = refl
-  items-run base previous (SetAddress a ∷ items) position line built held =
-      let next : LineRow = record previous { address_offset = 0; op_index = 0 } in
-      set-address-runs encoding e _ _ previous held.0 held.1 (items_instructions encoding.version e next items)
-      ∙ items-run (address_value a) next items (start_position e can) line built.1 held.2
-  items-run base previous (Row r ∷ items) position line built held =
-      row-runs encoding e _ previous r known can position built.0.0 line built.0.1 held.0
-      (items_instructions encoding.version e r items) ∙ ap (λ events. row (read_row encoding.version base r) ∷ events)
-      (items-run base r items built.0.0.position built.0.1 built.1 held.1)
-  items-run base previous (End o i ∷ items) position line built held =
-      let next = initial_row encoding.version e.default_is_stmt in
-      end-runs encoding e _ previous o i known can position built.0 held.0
-      (items_instructions encoding.version e next items)
-      ∙ ap
-      (λ r. row (read_end encoding.version base previous o i)
-      ∷ run (built_rules encoding e) r (items_instructions encoding.version e next items))
-      (start-is encoding e version) ∙ ap (λ events. row (read_end encoding.version base previous o i) ∷ events)
-      (items-run 0 next items (start_position e can) (lit< tt) built.1 held.1)
+-- the instructions of items, run from where a run stands, give their rows, and leave it after them
+pub items-run : (here : Run) (items : List BuiltItem) → AreNext here items
+    → Gives here (written_items here items) (given_items here items) (after_items items here)
+items-run here [] next list = refl
+items-run here (SetAddress a ∷ items) next list =
+    let e = here.line_encoding in
+    let there : Run = after_items (SetAddress a ∷ []) here in
+    set-address-runs here.encoding e here.base (address_value a) here.previous next.addresses.0 next.addresses.1
+    (written_items there items ++ list)
+    ∙ items-run there items (record {
+      accepts = next.accepts;
+      version = next.version;
+      position = start_position e next.accepts.lines;
+      line_before = next.line_before;
+      built = next.built.1;
+      addresses = next.addresses.2;
+    }) list
+items-run here (Row r ∷ items) next list =
+    let e = here.line_encoding in
+    let there : Run = after_items (Row r ∷ []) here in
+    ap (run (rules here) (registers here)) (append_assoc (written_row here r) (written_items there items) list)
+    ∙ row-runs here.encoding e here.base here.previous r next.accepts.address_size next.accepts.lines next.position
+    next.built.0.0 next.line_before next.built.0.1 next.addresses.0 (written_items there items ++ list)
+    ∙ ap (λ events. row (read_row here.encoding.version here.base r) ∷ events)
+    (items-run there items (record {
+      accepts = next.accepts;
+      version = next.version;
+      position = next.built.0.0.position;
+      line_before = next.built.0.1;
+      built = next.built.1;
+      addresses = next.addresses.1;
+    }) list)
+items-run here (End o i ∷ items) next list =
+    let e = here.line_encoding in
+    let there : Run = after_items (End o i ∷ []) here in
+    let end = row (read_end here.encoding.version here.base here.previous o i) in
+    ap (run (rules here) (registers here)) (append_assoc (written_end here o i) (written_items there items) list)
+    ∙ end-runs here.encoding e here.base here.previous o i next.accepts.address_size next.accepts.lines next.position
+    next.built.0 next.addresses.0 (written_items there items ++ list)
+    ∙ ap (λ r. end ∷ run (rules here) r (written_items there items ++ list)) (start-is here.encoding e next.version)
+    ∙ ap (λ events. end ∷ events)
+    (items-run there items (record {
+      accepts = next.accepts;
+      version = next.version;
+      position = start_position e next.accepts.lines;
+      line_before = lit< tt;
+      built = next.built.1;
+      addresses = next.addresses.1;
+    }) list)
+
+-- a program whose items could be built, and whose addresses fit, gives its rows
+pub program-runs : (p : Built) → CanRun p → run_of_program p ≡ map row (program_rows p)
+program-runs p can =
+    let rules = built_rules p.encoding p.line_encoding in
+    ap (λ r. run rules r (program_instructions p)) (start-is p.encoding p.line_encoding can.version)
+    ∙ ap (run rules (registers (run_start p.encoding p.line_encoding))) (sym (append-nil (program_instructions p)))
+    ∙ items-run (run_start p.encoding p.line_encoding) p.items (record {
+      accepts = can.accepts;
+      version = can.version;
+      position = start_position p.line_encoding can.accepts.lines;
+      line_before = lit< tt;
+      built = can.built;
+      addresses = can.addresses;
+    }) []
+    ∙ append-nil (map row (program_rows p))
 
 -- ---- the instructions that a written program is decoded into, and the rows that they give
 
@@ -86,48 +127,27 @@ cut-back layout h p built wide parameters written = cut_whole _ h _ _
 
 -- ---- the rows
 
--- the rows of items are the built ones
-same_rows : (version : ℕ) (e : LineEncoding) (past : List BuiltItem) (previous : LineRow) (items : List BuiltItem)
-    → RowsMatch version past items (items_rows version e (base_of past) previous items)
-same_rows version e past previous [] = refl
-same_rows version e past previous (SetAddress a ∷ items) =
-    same_rows version e (SetAddress a ∷ past) (next_previous version e.default_is_stmt previous (SetAddress a)) items
-same_rows version e past previous (Row r ∷ items) = (refl, same_rows version e (Row r ∷ past) r items)
-same_rows version e past previous (End offset op_index ∷ items) = (
-  record { address = refl; operation = refl; ends = refl },
-  same_rows version e (End offset op_index ∷ past) (initial_row version e.default_is_stmt) items,
-)
-
--- the events of items from a start are their rows
-rows_given : (parameters : Parameters) (encoding : Encoding) (e : LineEncoding) (items : List BuiltItem)
-    → parameters ≡ built_rules encoding e
-    → IsTrue (is_address_size encoding.address_size) → CanEncode e → encoding.version ≤ 5 → AreBuilt e (0, 0) items
-    → AddressesFit encoding.address_size 0 (0, 0) items
-    → map row (items_rows encoding.version e 0 (initial_row encoding.version e.default_is_stmt) items)
-    ≡ program_events parameters
-    (items_instructions encoding.version e (initial_row encoding.version e.default_is_stmt) items) None
-rows_given parameters encoding e items same known can version built held =
-    let first = initial_row encoding.version e.default_is_stmt in
-    let list = items_instructions encoding.version e first items in
-    sym (items-run encoding e known can version 0 first items (start_position e can) (lit< tt) built held)
-    ∙ sym (ap (λ r. run (built_rules encoding e) r list) (start-is encoding e version))
-    ∙ starts (built_rules encoding e) list ∙ ap (λ r. events_after r [] list None) (sym same)
+-- the events of a program from a start are its rows
+rows_given : (parameters : Parameters) (p : Built) → parameters ≡ built_rules p.encoding p.line_encoding → CanRun p
+    → map row (program_rows p) ≡ program_events parameters (program_instructions p) None
+rows_given parameters p same can =
+    let list = program_instructions p in
+    sym (program-runs p can)
+    ∙ starts (built_rules p.encoding p.line_encoding) list ∙ ap (λ r. events_after r [] list None) (sym same)
 
 -- the rows of a written program, where addresses hold its items and none is a tombstone
 pub rows-back : (layout : OrderAndLimit) (h : Header) (p : Built) → IsBuilt p → p.encoding.version ≤ 5
     → 11 < layout.limit
     → h.parameters ≡ built_rules p.encoding p.line_encoding → program_bytes plain layout.is_big p ≡ Ok h.program
-    → AddressesFit p.encoding.address_size 0 (0, 0) p.items
-    → (rows : List ReadRow) × Events layout h h.program (map row rows) × RowsMatch p.encoding.version [] p.items rows
-rows-back layout h p built known wide parameters written held =
-    let first = initial_row p.encoding.version p.line_encoding.default_is_stmt in (
-      items_rows p.encoding.version p.line_encoding 0 first p.items,
-      record {
-        list = items_instructions p.encoding.version p.line_encoding first p.items;
-        end = None;
-        decoding = cut-back _ _ _ built wide parameters written;
-        given = rows_given _ _ _ _ parameters (built.is.address_size refl)
-            built.is.lines known built.is.items_built held;
-      },
-      same_rows p.encoding.version p.line_encoding [] first p.items,
-    )
+    → HasFittingAddresses p → Events layout h h.program (map row (program_rows p))
+rows-back layout h p built known wide parameters written held = record {
+  list = program_instructions p;
+  end = None;
+  decoding = cut-back _ _ _ built wide parameters written;
+  given = rows_given _ p parameters (record {
+    accepts = record { address_size = built.is.address_size refl; lines = built.is.lines };
+    version = known;
+    built = built.is.items_built;
+    addresses = held;
+  });
+}

@@ -20,7 +20,7 @@ use Rattle.gimli_line.specs.run.Passing.{with_reset_row, PassesOver}
 use Rattle.gimli_line.specs.run.Rows.{live_events, WantsMemory, FaultIs}
 use Rattle.gimli_line.proofs.InstructionLaws.{is_decoded, one_decoding}
 use Rattle.gimli_build.proofs.spellings.ItemSpellings.{each_append}
-use Rattle.gimli_build.specs.NoFiles.{DefinesNoFile, program_started}
+use Rattle.gimli_build.specs.Runs.{DefinesNoFile, program_started}
 
 -- ---- the instructions of items
 

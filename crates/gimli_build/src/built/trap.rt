@@ -7,7 +7,7 @@ ghost use Rattle.gimli_build.specs.Built.{base_of};
 ghost use Rattle.gimli_build.specs.Traps.{is_set_address, begins_unset, is_past_greatest};
 ghost use Rattle.gimli_build.specs.Traps.{has_later_opcode, item_trap, trap_at, HaveNoTrap};
 ghost use Rattle.gimli_build.specs.Traps.{traps_from, traps_of};
-ghost use Rattle.gimli_build.specs.TrapPlaces.{IsTrapPlace};
+ghost use Rattle.gimli_build.specs.Traps.{IsTrapPlace};
 ghost use Rattle.gimli_build.specs.declared.built.items.BuiltItem.{BuiltItem};
 
 use crate::built::items::BuiltItem;
@@ -58,7 +58,7 @@ pub struct Traps<'a> {
 impl<'a> Model for Traps<'a> {
     ghost use Rattle.std.specs.Prelude.{List, ℕ};
     ghost use Rattle.gimli_build.specs.Traps.{traps_from};
-    ghost use Rattle.gimli_build.specs.TrapPlaces.{IsTrapPlace};
+    ghost use Rattle.gimli_build.specs.Traps.{IsTrapPlace};
     ghost use Rattle.gimli_build.specs.declared.built.trap.Trap.{Trap};
 
     ghost Value = { List (ℕ × Trap) };

@@ -132,14 +132,12 @@ AddsFiles old new = new ≡ record old { files = new.files }
 abbrev pub CanBuildRow : Built → LineRow → Type 0
 CanBuildRow p row = CanBuild p.line_encoding (previous_position p.items) (Row row)
 
--- a call is refused: what the builder asks doesn't hold, or, where it does, memory is missing
-abbrev pub IsBuildRefusal : Type 0 → ConvertError → Type 0
-IsBuildRefusal asked e = ((e ≡ OutOfMemory) × asked) ⊎ ((e ≡ UnsupportedLineInstruction) × ¬ asked)
-
--- a call asks this: it holds where the call isn't refused, and else the call is refused so
+-- a call asks this: it holds where the call isn't refused; else it doesn't hold, or memory is
+-- missing
 pub record Asks {A : Type 0} (asked : Type 0) (result : Result A ConvertError) : Type 0 where
   pub holds : OnOk result asked
-  pub refusal : IfErr result (IsBuildRefusal asked)
+  pub refusal : IfErr result (λ e.
+      ((e ≡ OutOfMemory) × asked) ⊎ ((e ≡ UnsupportedLineInstruction) × ¬ asked))
 
 -- the same conversion with another program
 abbrev pub with_program : Built → Conversion → Conversion
@@ -159,26 +157,18 @@ abbrev pub IsHeaderRefusal : ToConvert → List (List ℕ) → ConvertError → 
 IsHeaderRefusal s line_strings =
     IsRefusedBy (tables_of_header s.sections s.header s.given line_strings)
 
--- the whole program of a source is still to be read, with these tables at its start
-abbrev pub ReadsWhole : ToConvert → Progress → Type 0
-ReadsWhole s p =
-    ReadsItems s.layout s.sections s.header (tables_with p.line_strings p.conversion.tables)
-    s.header.program (reading_of p)
-
--- nothing of the program of a source is read yet
-abbrev pub IsUnread : ToConvert → Conversion → Type 0
-IsUnread s c =
-    c ≡ start_of_conversion s.sections
-    (start_of_source s.header (record { bytes = s.header.program; layout = s.layout })) c.tables
-
 -- a conversion of a source is begun, which had these line strings
 pub record IsBegun (s : ToConvert) (old : List (List ℕ)) (new : Progress) : Type 0 where
   -- its directories and files are added
   pub prepared : IsPrepared s old new
-  -- all that its program gives is still to be read
-  pub reads : ReadsWhole s new
+  -- all that its program gives is still to be read, with these tables at its start
+  pub reads : ReadsItems s.layout s.sections s.header
+      (tables_with new.line_strings new.conversion.tables) s.header.program (reading_of new)
   -- nothing of it was read
-  pub unread : IsUnread s new.conversion
+  pub unread : new.conversion
+      ≡ start_of_conversion s.sections
+      (start_of_source s.header (record { bytes = s.header.program; layout = s.layout }))
+      new.conversion.tables
   -- its program can be written
   pub writable : HasWritable new
 

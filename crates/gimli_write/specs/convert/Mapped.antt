@@ -12,15 +12,15 @@ use Rattle.gimli_line.specs.LineNumbers.{
   DW_LNCT_MD5,
   DW_LNCT_LLVM_source,
 }
-use Prelude.{All, Ok, Vec, Global, OrderAndLimit, Value, Error, Address, StringTables, texts_in}
+use Prelude.{All, Ok, Vec, Global, OrderAndLimit, Value, Address, StringTables, texts_in}
 use Prelude.{ReadRow, File, Header, directory_of, entry_of, Parameters, Events, row, FilesAtEnd}
-use Prelude.{Ins, is_end, makes_row, Decodes, is_under_tombstone, Built, address_value, file_number}
-use Prelude.{LineText, bytes_in, CanWrite, read_row, RowsMatch, Sections, IsText, IsOptionalText}
-use Prelude.{OneByOne, LineRow, BuiltItem, Row, End}
+use Prelude.{Ins, is_end, makes_row, decoded_at, is_under_tombstone, Built, file_number}
+use Prelude.{HasFittingAddresses, program_rows, LineText, bytes_in, CanWrite, Sections, IsText}
+use Prelude.{IsOptionalText, OneByOne, BuiltItem}
 use Rattle.gimli_bytes.specs.declared.address.Address.TheVariants.{Constant}
 use Rattle.gimli_build.specs.Tables.{File as BuiltFile}
 use Rattle.gimli_build.specs.declared.built.items.BuiltItem.TheVariants.{SetAddress}
-use specs.RoundTrip.{FileAnswer, HasFittingAddresses}
+use specs.RoundTrip.{FileAnswer}
 use specs.convert.Outcome.{Outcome}
 use specs.convert.Preparation.{encoding_of, has_before_5}
 use specs.convert.Sources.{ToConvert}
@@ -47,12 +47,9 @@ NoneEndsUnderTombstone parameters past (i ∷ list) =
     × NoneEndsUnderTombstone parameters (i ∷ past) list
 
 -- no sequence of a program that gave a row ends under a tombstone
-pub record NoSequenceEndsUnderTombstone (layout : OrderAndLimit) (h : Header) (bytes : List ℕ)
-    : Type 0 where
-  pub list : List Ins
-  pub end : Option Error
-  pub decoding : Decodes layout h bytes list end
-  pub seen : NoneEndsUnderTombstone h.parameters [] list
+abbrev pub NoSequenceEndsUnderTombstone : OrderAndLimit → Header → List ℕ → Type 0
+NoSequenceEndsUnderTombstone layout h bytes =
+    NoneEndsUnderTombstone h.parameters [] (decoded_at layout h bytes).0
 
 -- what is asked of a source and of what is handed, so that a conversion is faithful
 pub record CanBeFaithful (convert_address : ℕ → Option Address) (s : ToConvert) : Type 0 where
@@ -60,43 +57,37 @@ pub record CanBeFaithful (convert_address : ℕ → Option Address) (s : ToConve
   pub wide : s.header.parameters.encoding.address_size ≤ (encoding_of s.header s.given).address_size
   pub no_end_under_tombstone : NoSequenceEndsUnderTombstone s.layout s.header s.header.program
 
--- ---- rows and ends
+-- ---- rows and ends, as they are read back
 
 -- the id of a file number, in a source of this version; up to version 4 none has number 0
 pub record IsFileId (version : ℕ) (file_ids : List ℕ) (number id : ℕ) : Type 0 where
   pub from_one : version ≤ 4 → number ≢ 0
   pub there : slice_get file_ids number ≡ Some id
 
--- a row of the source says what a built one says, where the address `base` was set before it; the
--- built one has the id of its file
-pub record IsMappedRow (version : ℕ) (file_ids : List ℕ) (base : ℕ) (built : LineRow)
-    (source : ReadRow) : Type 0 where
-  pub file : IsFileId version file_ids source.file built.file
-  pub others : source ≡ record (read_row version base built) { file = source.file }
-
--- an end of the source has the address of the built one
-pub record IsMappedEnd (base offset : ℕ) (source : ReadRow) : Type 0 where
-  pub address : source.address ≡ base + offset
-  pub ends : source.end_sequence ≡ true
-
--- the rows of a source are the built rows and ends one by one, where the address `base` was set
--- before them
-abbrev pub RowsMapped : ℕ → List ℕ → ℕ → List BuiltItem → List ReadRow → Type 0
-RowsMapped version file_ids base [] rows = rows ≡ []
-RowsMapped version file_ids base (SetAddress a ∷ items) rows =
-    RowsMapped version file_ids (address_value a) items rows
-RowsMapped version file_ids base (Row built ∷ items) (source ∷ rows) =
-    IsMappedRow version file_ids base built source × RowsMapped version file_ids base items rows
-RowsMapped version file_ids base (End offset op_index ∷ items) (source ∷ rows) =
-    IsMappedEnd base offset source × RowsMapped version file_ids 0 items rows
-RowsMapped version file_ids base (item ∷ items) [] = ⊥
-
--- the events of a source are rows, and these are the built rows and ends
-pub record AreRowsMapped (layout : OrderAndLimit) (h : Header) (bytes : List ℕ) (c : Outcome)
+-- a row that is read back of a conversion in this version says what a row of the source in its
+-- version says: an end has its address, and any other row all its registers, with the number that
+-- its file has now
+pub record IsReadAs (source_version version : ℕ) (file_ids : List ℕ) (source back : ReadRow)
     : Type 0 where
+  pub address : back.address ≡ source.address
+  pub ends : back.end_sequence ≡ source.end_sequence
+  pub registers : source.end_sequence ≡ false → back ≡ record source { file = back.file }
+  pub file : source.end_sequence ≡ false
+      → (id : ℕ) × IsFileId source_version file_ids source.file id
+      × (back.file ≡ file_number version id)
+
+-- the version that a source is converted to
+abbrev pub version_after : ToConvert → ℕ
+version_after s = (encoding_of s.header s.given).version
+
+-- the source gives rows and no fault, and rows that are read back say what these say, one by one:
+-- an end has its address, and any other row all its registers, with the number that its file has
+-- now
+pub record AreSourceRows (s : ToConvert) (file_ids : List ℕ) (back : List ReadRow) : Type 0 where
   pub rows : List ReadRow
-  pub events : Events layout h bytes (map row rows)
-  pub mapped : RowsMapped h.parameters.encoding.version c.file_ids 0 c.program.items rows
+  pub events : Events s.layout s.header s.header.program (map row rows)
+  pub same : OneByOne
+      (IsReadAs s.header.parameters.encoding.version (version_after s) file_ids) rows back
 
 -- ---- files
 
@@ -150,18 +141,6 @@ pub record AreFilesMapped (sections : Sections) (h : Header) (files : List File)
       → (f : File) × (entry_of h.parameters.encoding.version None files n ≡ Some f)
 
 -- ---- what is read back
-
--- a row that is read back of a conversion in this version says what a row of the source in its
--- version says: an end has its address, and any other row all its registers, with the number that
--- its file has now
-pub record IsReadAs (source_version version : ℕ) (file_ids : List ℕ) (source back : ReadRow)
-    : Type 0 where
-  pub address : back.address ≡ source.address
-  pub ends : back.end_sequence ≡ source.end_sequence
-  pub registers : source.end_sequence ≡ false → back ≡ record source { file = back.file }
-  pub file : source.end_sequence ≡ false
-      → (id : ℕ) × IsFileId source_version file_ids source.file id
-      × (back.file ≡ file_number version id)
 
 -- a program of this version, converted from a source with this header, keeps this content of files:
 -- timestamps and sizes stand in each header up to version 4, digests and sources in none of them;
@@ -218,31 +197,20 @@ abbrev pub SetsConstant : BuiltItem → Type 0
 SetsConstant (SetAddress a) = (n : ℕ) × (a ≡ Constant n)
 SetsConstant item = Unit {0}
 
--- each address that a program sets is
-abbrev pub HasConstantAddresses : Built → Type 0
-HasConstantAddresses p = All SetsConstant p.items
-
 -- ---- all of it
 
 -- a converted program says what its source says, beside these strings
 pub record IsFaithful (s : ToConvert) (strings : List (List ℕ)) (c : Outcome) : Type 0 where
-  -- its rows and ends are those of the source, one by one
-  pub rows : AreRowsMapped s.layout s.header s.header.program c
+  -- its rows and ends are read as those of the source, one by one
+  pub rows : AreSourceRows s c.file_ids (program_rows c.program)
   -- its files stand for those of the source, the ones that its program defines too
   pub source_files : List File
   pub at_end : FilesAtEnd s.layout true s.header s.header.program source_files
   pub files : AreFilesMapped s.sections s.header source_files strings c
   -- it can be written, and its addresses are numbers, fit and hide nothing
   pub can_write : CanWrite c.program (texts_in strings c.line_strings)
-  pub constants : HasConstantAddresses c.program
+  pub constants : All SetsConstant c.program.items
   pub addresses : HasFittingAddresses c.program
-  -- rows that are read back as it was built say what the rows of the source say
-  pub read_back : (rows back : List ReadRow)
-      → Events s.layout s.header s.header.program (map row rows)
-      → RowsMatch c.program.encoding.version [] c.program.items back
-      → OneByOne
-      (IsReadAs s.header.parameters.encoding.version c.program.encoding.version c.file_ids) rows
-      back
 
 -- a source is converted to this answer: by what this map of addresses answers, and, for each
 -- function that gives what it may answer, as that function says; and then it says what the source

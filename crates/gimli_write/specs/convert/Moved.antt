@@ -5,12 +5,10 @@ use Rattle.std.specs.Prelude.{◌≡◌, ◌+◌, ◌-◌, ◌*◌, ◌^◌, ◌
 use Rattle.gimli_write.specs
 use specs.Prelude
 use Prelude.{ℕ, Bool, true, not, List, [], map, Option, Some, is_some, option_map, option_map_or}
-use Prelude.{Error}
 use Prelude.{Address, address_value, Parameters, Ins, is_end, makes_row, is_under_tombstone, row_at}
-use Prelude.{ReadRow, row, Decodes, OneByOne}
+use Prelude.{ReadRow, row, Events, decoded_at, OneByOne}
 use Rattle.std.specs.List.{list_any}
 use Rattle.gimli_bytes.specs.declared.address.Address.TheVariants.{Constant}
-use Rattle.gimli_line.specs.run.Events.{program_events}
 use Rattle.gimli_line.specs.run.Registers.{sequence, nearest}
 use specs.convert.Items.{address_operand, base_at, pending_address}
 use specs.convert.Mapped.{IsReadAs, NoSequenceEndsUnderTombstone}
@@ -83,17 +81,15 @@ module _ (convert_address : ℕ → Option Address) (parameters : Parameters) wh
 
 -- ---- a source
 
--- a map keeps the order of the addresses in each sequence of a source
-pub record KeepsOrder (convert_address : ℕ → Option Address) (s : ToConvert) : Type 0 where
-  pub list : List Ins
-  pub end : Option Error
-  pub decoding : Decodes s.layout s.header s.header.program list end
-  pub rows : AreInOrder convert_address s.header.parameters
-      (encoding_of s.header s.given).address_size [] list
+-- the instructions of its program
+abbrev pub instructions_of : ToConvert → List Ins
+instructions_of s = (decoded_at s.layout s.header s.header.program).0
 
--- what is asked of a source and of what is handed, so that a conversion moves its rows
+-- what is asked of a source and of what is handed, so that a conversion moves its rows: the map
+-- keeps the order of the addresses in each sequence
 pub record CanBeMoved (convert_address : ℕ → Option Address) (s : ToConvert) : Type 0 where
-  pub in_order : KeepsOrder convert_address s
+  pub in_order : AreInOrder convert_address s.header.parameters
+      (encoding_of s.header s.given).address_size [] (instructions_of s)
   pub no_end_under_tombstone : NoSequenceEndsUnderTombstone s.layout s.header s.header.program
 
 -- the source gives rows and no fault, and rows that are read back in this version say what these
@@ -101,13 +97,10 @@ pub record CanBeMoved (convert_address : ℕ → Option Address) (s : ToConvert)
 -- its other registers, with the number that its file has now
 pub record AreMovedRows (convert_address : ℕ → Option Address) (s : ToConvert) (version : ℕ)
     (file_ids : List ℕ) (back : List ReadRow) : Type 0 where
-  pub list : List Ins
-  pub end : Option Error
-  pub decoding : Decodes s.layout s.header s.header.program list end
-  pub events : program_events s.header.parameters list end
-      ≡ map row (source_rows s.header.parameters [] list)
+  pub events : Events s.layout s.header s.header.program
+      (map row (source_rows s.header.parameters [] (instructions_of s)))
   pub same : OneByOne (IsReadAs s.header.parameters.encoding.version version file_ids)
-      (moved_rows convert_address s.header.parameters [] list) back
+      (moved_rows convert_address s.header.parameters [] (instructions_of s)) back
 
 -- ---- a map that adds a number
 
@@ -133,17 +126,11 @@ HaveSpace parameters n size past (i ∷ list) =
     × ((row_at parameters past i).address + n < 2 ^ (8 * size) - 2))
     × HaveSpace parameters n size (i ∷ past) list
 
--- the rows of a source have
-pub record RowsHaveSpace (n : ℕ) (s : ToConvert) : Type 0 where
-  pub list : List Ins
-  pub end : Option Error
-  pub decoding : Decodes s.layout s.header s.header.program list end
-  pub rows : HaveSpace s.header.parameters n (encoding_of s.header s.given).address_size [] list
-
 -- what is asked of a source and of what is handed, so that a conversion moves all of its rows by so
 -- many bytes
 pub record CanBeShifted (n : ℕ) (convert_address : ℕ → Option Address) (s : ToConvert)
     : Type 0 where
   pub adds : AddsToEach n convert_address
-  pub space : RowsHaveSpace n s
+  pub space : HaveSpace s.header.parameters n (encoding_of s.header s.given).address_size []
+      (instructions_of s)
   pub no_end_under_tombstone : NoSequenceEndsUnderTombstone s.layout s.header s.header.program

@@ -2,27 +2,13 @@
 use Rattle.std.specs.Prelude.{◌⊎◌}
 use Rattle.gimli_write.specs
 use specs.Prelude
-use Prelude.{ℕ, true, Bool, List, map, Option, Vec, Global, Address, ReadRow, File, Events, row}
-use Prelude.{FilesAtEnd, Built, OneByOne, ConvertError, StringTables, texts_in}
+use Prelude.{ℕ, true, Bool, List, Option, Vec, Global, Address, File, FilesAtEnd, Built}
+use Prelude.{ConvertError, StringTables, texts_in}
 use specs.RoundTrip.{Answers, IsRoundTripRefusal}
 use specs.convert.Conversion.{AnswersAs, ConvertsTo, IsConvertRefusal}
-use specs.convert.Mapped.{CanBeFaithful, IsReadAs, AreFilesReadAs}
+use specs.convert.Mapped.{CanBeFaithful, AreSourceRows, AreFilesReadAs, version_after}
 use specs.convert.Moved.{CanBeMoved, AreMovedRows}
-use specs.convert.Preparation.{encoding_of}
 use specs.convert.Sources.{ToConvert}
-
--- the version that a source is converted to
-abbrev pub version_after : ToConvert → ℕ
-version_after s = (encoding_of s.header s.given).version
-
--- the source gives rows and no fault, and rows that are read back say what these say, one by one:
--- an end has its address, and any other row all its registers, with the number that its file has
--- now
-pub record AreSourceRows (s : ToConvert) (file_ids : List ℕ) (back : List ReadRow) : Type 0 where
-  pub rows : List ReadRow
-  pub events : Events s.layout s.header s.header.program (map row rows)
-  pub same : OneByOne
-      (IsReadAs s.header.parameters.encoding.version (version_after s) file_ids) rows back
 
 -- files that are read back stand for those of the source, the ones that its program defines too
 pub record AreSourceFiles (s : ToConvert) (file_ids : List ℕ) (a : Answers) : Type 0 where

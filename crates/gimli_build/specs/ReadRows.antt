@@ -1,13 +1,10 @@
 -- A built row or end as the reading half has it (DWARF 5, section 6.2.2).
-use Rattle.std.specs.Prelude.{◌≡◌, ◌+◌, ◌∷◌}
+use Rattle.std.specs.Prelude.{◌+◌}
 use Rattle.gimli_build.specs
-use specs.Prelude.{ℕ, true, false, List, [], Encoding, LineEncoding, ReadRow, Parameters}
+use specs.Prelude.{ℕ, true, false, Encoding, LineEncoding, ReadRow, Parameters}
 use specs.declared.built.row.LineRow.{LineRow}
 use specs.FileNumber.{file_number}
 use specs.Encode.{built_opcode_base}
-use specs.Built.{base_of}
-use specs.declared.built.items.BuiltItem.{BuiltItem}
-use specs.declared.built.items.BuiltItem.TheVariants.{SetAddress, Row, End}
 
 -- what the instructions of a built program are executed by
 abbrev pub built_rules : Encoding → LineEncoding → Parameters
@@ -52,25 +49,3 @@ read_end version base previous offset op_index =
       op_index = op_index;
       end_sequence = true;
     }
-
--- a read row says what a built one says, where the address `base` was set before it
-abbrev pub IsSameRow : ℕ → ℕ → LineRow → ReadRow → Type 0
-IsSameRow version base built read = read ≡ read_row version base built
-
--- a read row is the end at this offset and this operation
-pub record IsSameEnd (base offset op_index : ℕ) (read : ReadRow) : Type 0 where
-  pub address : read.address ≡ base + offset
-  pub operation : read.op_index ≡ op_index
-  pub ends : read.end_sequence ≡ true
-
--- the rows are the built rows and ends one by one, after items, the nearest first
-abbrev pub RowsMatch : ℕ → List BuiltItem → List BuiltItem → List ReadRow → Type 0
-RowsMatch version past [] rows = rows ≡ []
-RowsMatch version past (SetAddress a ∷ items) rows =
-    RowsMatch version (SetAddress a ∷ past) items rows
-RowsMatch version past (Row r ∷ items) (read ∷ rows) =
-    IsSameRow version (base_of past) r read × RowsMatch version (Row r ∷ past) items rows
-RowsMatch version past (End offset op_index ∷ items) (read ∷ rows) =
-    IsSameEnd (base_of past) offset op_index read
-    × RowsMatch version (End offset op_index ∷ past) items rows
-RowsMatch version past (item ∷ items) [] = ⊥
