@@ -157,30 +157,18 @@ const VERSION_4: Encoding = Encoding {
 
 /// Adds the rows and the end.
 fn add_rows(program: &mut LineProgram) -> Result<()> {
-    if program.is_none() {
-        return Err(Error::InvalidRange);
-    }
-    program.set_address(Address::Constant(0x1000))?;
+    program.try_set_address(Address::Constant(0x1000))?;
     add_row(program, 0, 1)?;
     add_row(program, 4, 3)?;
-    if program.is_none() || !program.can_end_sequence(8) {
-        return Err(Error::InvalidRange);
-    }
-    program.end_sequence(8)
+    program.try_end_sequence(8)
 }
 
 /// Adds a row.
 fn add_row(program: &mut LineProgram, address_offset: u64, line: u64) -> Result<()> {
-    if program.is_none() {
-        return Err(Error::InvalidRange);
-    }
     let row = program.row();
     row.address_offset = address_offset;
     row.line = line;
-    if program.is_none() || !program.can_generate_row() {
-        return Err(Error::InvalidRange);
-    }
-    program.generate_row()
+    program.try_generate_row()
 }
 
 /// The program of a unit without its rows, whose texts go to these tables from version 5 on.
@@ -216,11 +204,7 @@ fn add_file(program: &mut LineProgram, encoding: Encoding, texts: &mut Texts) ->
     } else {
         LineString::new(b"b.c", encoding, lines)?
     };
-    if program.is_none() {
-        return Err(Error::InvalidRange);
-    }
-    let directory = program.default_directory();
-    program.add_file(name, directory, None)?;
+    program.try_add_file(name, program.default_directory(), None)?;
     program.file_has_source = true;
     Ok(())
 }

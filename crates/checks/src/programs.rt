@@ -61,19 +61,39 @@ fn has_path<R: Reader>(alloc: Global, program: &Program<R>, path: &[u8]) -> bool
         && begin.addresses.as_slice() == [0x1000].as_slice()
 }
 
-/// What a program has otherwise, which needs a directory of a compilation, or one that needs none.
-pub fn late_directories(alloc: Global) -> Found {
-    let mut program = program_of(alloc, DEMO)?;
+/// What a program has otherwise that needs the directory of a compilation, before it is handed in
+/// and after it.
+fn first_wrong<R: Reader>(
+    alloc: Global,
+    program: &mut Program<R>,
+    directories: Compilations<R>,
+) -> Option<usize> {
     let needs = program.needs_compilations();
-    let before = has_path(alloc, &program, b"a.c");
-    program.set_compilations(directories(alloc)?);
-    Ok(first_false(&[
+    let before = has_path(alloc, program, b"a.c");
+    program.set_compilations(directories);
+    first_false(&[
         needs,
         before,
-        has_path(alloc, &program, b"/w/a.c"),
-        !has_path(alloc, &program, b"a.c"),
+        has_path(alloc, program, b"/w/a.c"),
+        !has_path(alloc, program, b"a.c"),
         program.place(0x1008).is_none(),
         program.paths().directory_of(1).is_none(),
-        !program_of(alloc, WITH_DIRECTORY)?.needs_compilations(),
-    ]))
+    ])
+}
+
+/// The same, where the directory is `/w`.
+fn first_wrong_with_directory(
+    alloc: Global,
+    program: &mut Program<EndianSlice<'_, LittleEndian>>,
+) -> Found {
+    Ok(first_wrong(alloc, program, directories(alloc)?))
+}
+
+/// What is otherwise of a program that needs no directory, or of one that needs it.
+pub fn late_directories(alloc: Global) -> Found {
+    if program_of(alloc, WITH_DIRECTORY)?.needs_compilations() {
+        return Ok(Some(6));
+    }
+    let mut program = program_of(alloc, DEMO)?;
+    first_wrong_with_directory(alloc, &mut program)
 }
