@@ -23,9 +23,9 @@ use lines_words::{Files, InputKind, Notation, Output, UnitFiles};
 use std::alloc::{AllocError, Global};
 use std::fmt;
 
-/// Why an object file is refused by a command that needs addresses.
+/// Why an object file is refused where an index is made.
 const NOT_LINKED: &str = "an object file, whose addresses are not known before it is linked; \
-    the command where takes a section and an offset in it";
+    the commands where, at and source take it by its sections and functions";
 
 /// Why a file of split DWARF is refused by a command that needs rows (DWARF 5, section 7.3.2).
 const SPLIT: &str = "a file of split DWARF (.dwo, .dwp), which has no rows of code; name the \
