@@ -6,13 +6,12 @@ ghost use Rattle.gimli_index.specs.Parts.{Index, index_at};
 ghost use Rattle.lines_answers.specs.Indexes.{IsStale};
 
 use crate::inputs::{Inputs, STANDARD_INPUT, can_be_opened, inputs_of, read, report};
+use crate::session::{Questions, REFUSED, Run, Session};
 use gimli_index::LineIndex;
 use lines_answers::{
     IndexPlaces, LineAnswers, MadeIndex, index_of_program, open_index, program_identity,
 };
-use lines_commands::{Questions, REFUSED, Run, Session};
-use lines_inputs::{FunctionStarts, InputSections, build_id_in, write_file};
-use lines_places::PlacePrinter;
+use lines_inputs::{FunctionStarts, InputSections, PlacePrinter, build_id_in, write_file};
 use lines_words::{Command, InputKind, LineNames};
 use std::io::{self, Write};
 

@@ -2,9 +2,9 @@
 
 ghost use Rattle.std.specs.Prelude.{◌≤◌, IfOk};
 
+use crate::session::{REFUSED, Run, Session};
 use debug_files::{DEBUG_DIRECTORY, Found, Missing, Wanted};
 use elf_sections::usual_limit;
-use lines_commands::{REFUSED, Run, Session};
 use lines_inputs::{InputError, InputSections, tell_refusal};
 use lines_words::{Files, InputKind, NameText, Notation, UnitFiles};
 use std::io::{Read, Write};

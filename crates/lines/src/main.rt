@@ -1,14 +1,16 @@
 //! The program `lines`: what the line tables of a program say.
 #![tactic(auto)]
 
+mod commands;
 mod indexes;
 mod inputs;
+mod session;
 
 use crate::indexes::{ask, ask_lines, write_index};
 use crate::inputs::{compare, inputs_of};
+use crate::session::{REFUSED, Run};
 use clap::Error;
 use clap::error::ErrorKind as WordsError;
-use lines_commands::{REFUSED, Run};
 use lines_words::{Command, Request};
 use std::env::{Env, FillError};
 use std::io::{self, ErrorKind, Write};

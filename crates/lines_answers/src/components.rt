@@ -5,7 +5,7 @@
 //! without bytes.
 
 use crate::written_path::is_separator;
-use lines_pieces::Result;
+use lines_inputs::Result;
 use std::alloc::Global;
 
 /// Whether a path begins at the root.

@@ -3,8 +3,7 @@
 
 use gimli_core::{Error, Reader};
 use gimli_line::{IncompleteLineProgram, LineRow, LineUnit, LineUnits, OneShotLineRows};
-use lines_inputs::Input;
-use lines_pieces::Result;
+use lines_inputs::{Input, Result};
 use lines_words::Output;
 use std::alloc::{AllocError, Global};
 

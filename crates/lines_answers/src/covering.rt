@@ -4,8 +4,7 @@ use crate::counted_rows::{CountedRow, CountedRows};
 use gimli_core::Reader;
 use gimli_line::LineRow;
 use gimli_lookup::SectionLookup;
-use lines_inputs::Input;
-use lines_pieces::Result;
+use lines_inputs::{Input, Result};
 use std::alloc::{AllocError, Global};
 
 /// A row that covers an address.

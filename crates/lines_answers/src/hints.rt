@@ -1,7 +1,6 @@
 //! What is said of names that may be meant by one that no function has.
 
-use lines_inputs::Functions;
-use lines_pieces::{Piece, Result, note};
+use lines_inputs::{Functions, Piece, Result, note};
 use lines_words::Output;
 use std::alloc::Global;
 

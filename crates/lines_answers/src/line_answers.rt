@@ -3,9 +3,7 @@
 use crate::made_index::MadeIndex;
 use crate::opened_index::{open_index, print_place};
 use gimli_index::LineIndex;
-use lines_inputs::FunctionStarts;
-use lines_pieces::{Piece, Result, tell};
-use lines_places::PlacePrinter;
+use lines_inputs::{FunctionStarts, Piece, PlacePrinter, Result, tell};
 use lines_words::{
     CodeAddress, LineNames, Output, Request, ShortName, build_id_of, map_path, parse_code_question,
     parse_line_question,

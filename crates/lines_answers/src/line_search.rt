@@ -5,8 +5,7 @@ use crate::meant_files::MeantFiles;
 use crate::path_rows::{PathRow, PathRows};
 use gimli_core::{Error, Reader, ReaderOffset};
 use gimli_line::{LineUnit, LineUnits};
-use lines_inputs::{Input, column_of, line_of};
-use lines_pieces::Result;
+use lines_inputs::{Input, Result, column_of, line_of};
 use lines_words::Output;
 use std::alloc::{AllocError, Global};
 

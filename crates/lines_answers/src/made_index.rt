@@ -7,8 +7,7 @@ use crate::opened_index::identity_of;
 use elf_sections::{Elf, ElfError, usual_limit};
 use gimli_core::Reader;
 use gimli_index::{MakeError, write_index};
-use lines_inputs::{FunctionStarts, Input, InputError, InputSections, program_of};
-use lines_pieces::Result;
+use lines_inputs::{FunctionStarts, Input, InputError, InputSections, Result, program_of};
 use lines_words::{Files, InputKind, Output};
 use std::alloc::{AllocError, Global};
 

@@ -4,8 +4,7 @@ use crate::path_digests::{PathDigests, Sum, sum_of_entry};
 use crate::written_path::{WrittenPath, WrittenPaths};
 use gimli_core::Reader;
 use gimli_line::{FileEntry, LineProgramHeader};
-use lines_inputs::PathBudget;
-use lines_pieces::Result;
+use lines_inputs::{PathBudget, Result};
 use std::alloc::Global;
 use std::collections::BTreeMap;
 

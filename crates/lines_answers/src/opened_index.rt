@@ -9,8 +9,7 @@ ghost use Rattle.gimli_index.specs.Views.{index_of, place_of};
 ghost use Rattle.lines_answers.specs.Indexes.{identity, IsAsked, IsRefused, IsStale};
 
 use gimli_index::{IndexError, LineIndex, NoPath, Place};
-use lines_pieces::{Piece, Result, tell_of_unit};
-use lines_places::{Asked, FoundPlace, PlacePrinter};
+use lines_inputs::{Asked, FoundPlace, Piece, PlacePrinter, Result, tell_of_unit};
 use lines_words::{CodeAddress, Output};
 use sha2::{Digest, Sha256};
 use std::alloc::Global;

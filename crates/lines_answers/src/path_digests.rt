@@ -8,8 +8,7 @@ use crate::components::begins_with_root;
 use crate::written_path::{WrittenPath, append_piece, bytes_in, is_separator};
 use gimli_core::{AttributeValue, Reader, ReaderOffset};
 use gimli_line::FileEntry;
-use lines_inputs::PathBudget;
-use lines_pieces::Result;
+use lines_inputs::{PathBudget, Result};
 use sha2::{Digest, Sha256};
 use std::alloc::Global;
 

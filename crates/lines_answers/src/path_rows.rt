@@ -1,6 +1,6 @@
 //! Rows of paths by their addresses.
 
-use lines_pieces::Result;
+use lines_inputs::Result;
 use std::alloc::Global;
 
 /// How many rows are put in order at first.

@@ -1,7 +1,7 @@
 //! The strings of a section, each found without a second search for an end that is known.
 
 use gimli_core::{Reader, ReaderOffset};
-use lines_pieces::Result;
+use lines_inputs::Result;
 use std::alloc::Global;
 use std::collections::BTreeMap;
 

@@ -6,9 +6,10 @@ use crate::path_digests::{PathDigests, Sum, sum_of_entry};
 use crate::written_path::{WrittenPath, WrittenPaths};
 use gimli_core::{Reader, ReaderOffset};
 use gimli_line::{FileEntry, LineProgramHeader, LineRow};
-use lines_inputs::{Functions, Input, PathBudget, Printing, UnitRows, Walk, line_of};
-use lines_pieces::{Piece, Result, note, tell};
-use lines_places::SourceRow;
+use lines_inputs::{
+    Functions, Input, PathBudget, Piece, Printing, Result, SourceRow, UnitRows, Walk, line_of,
+    note, tell,
+};
 use lines_words::{Output, SourcePlace, UnitChoice, bytes_of_word};
 use std::alloc::{AllocError, Global};
 use std::collections::BTreeMap;

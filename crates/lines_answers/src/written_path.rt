@@ -8,8 +8,7 @@ use crate::components::PathLeft;
 use crate::section_strings::SectionStrings;
 use gimli_core::{AttributeValue, Reader, ReaderOffset};
 use gimli_line::LineProgramHeader;
-use lines_inputs::{Input, PathBudget, PathSources};
-use lines_pieces::Result;
+use lines_inputs::{Input, PathBudget, PathSources, Result};
 use std::alloc::{AllocError, Global};
 use std::borrow::CowSlice;
 

@@ -195,6 +195,18 @@ impl fmt::Display for PathFault {
     }
 }
 
+/// A path, or why it can't be told. Missing memory is no such reason.
+pub fn path_or_fault<R: Reader>(
+    sources: &PathSources<R>,
+    path: Result<Vec<u8>, PathError>,
+) -> Result<(Option<Vec<u8>>, Option<PathFault>), AllocError> {
+    match path {
+        Ok(path) => Ok((Some(path), None)),
+        Err(PathError::OutOfMemory) => Err(AllocError),
+        Err(error) => Ok((None, Some(sources.fault(error)))),
+    }
+}
+
 /// The components of a path, each with `/` before it: the same bytes for all spellings of one path,
 /// and for no other. `/` and backslashes part components; an empty one and `.` are dropped; `..`
 /// drops the one before it, but nothing above the root. Where it has none before it, it stays. The

@@ -8,7 +8,7 @@ use crate::row_check::{RowCheck, Sequence};
 use crate::unit_check::UnitCheck;
 use gimli_core::{Reader, ReaderOffset};
 use gimli_line::LineUnit;
-use lines_pieces::{Piece, Result};
+use lines_inputs::{Piece, Result};
 use lines_words::{FindingKind, Output};
 use std::alloc::Global;
 

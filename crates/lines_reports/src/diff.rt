@@ -1,12 +1,11 @@
 //! The command `diff`: which lines have other code in a new program than in an old one.
 
+use crate::coverage::{Change, Coverage, LinePlace};
 use crate::path_numbers::PathNumbers;
 use crate::report::Reading;
 use gimli_core::Reader;
 use gimli_line::{LineProgramHeader, LineRow};
-use lines_counts::{Change, Coverage, LinePlace};
-use lines_inputs::{Input, Printing, UnitRows, line_of};
-use lines_pieces::{Piece, Result, add, print, print_fields};
+use lines_inputs::{Input, Piece, Printing, Result, UnitRows, add, line_of, print, print_fields};
 use lines_words::{Json, Output, PathMap, UnitChoice};
 use std::alloc::Global;
 use std::collections::BTreeMap;

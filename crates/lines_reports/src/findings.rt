@@ -1,6 +1,6 @@
 //! What a check has found, and what of it is told.
 
-use lines_pieces::{Piece, add, print, print_fields};
+use lines_inputs::{Piece, add, print, print_fields};
 use lines_words::{FindingKind, Json, Output, Style};
 
 /// What was found so far.

@@ -2,7 +2,7 @@
 
 use crate::findings::Findings;
 use crate::row_check::Sequence;
-use lines_pieces::Piece;
+use lines_inputs::Piece;
 use lines_words::{FindingKind, Output};
 
 /// How far sequences were looked at, in the order of their addresses.

@@ -3,8 +3,7 @@
 use crate::report::Reading;
 use gimli_core::{Reader, ReaderOffset};
 use gimli_line::LineProgramHeader;
-use lines_inputs::UnitRows;
-use lines_pieces::Result;
+use lines_inputs::{Result, UnitRows};
 use lines_words::PathMap;
 use sha2::{Digest, Sha256};
 use std::alloc::Global;

@@ -7,8 +7,9 @@ use crate::stat::Stat;
 use crate::unit_list::{print_heading, print_unit};
 use gimli_core::Reader;
 use gimli_line::LineProgramHeader;
-use lines_inputs::{Input, PathBudget, PathFault, PathSources, Printing, UnitRows, Walk};
-use lines_pieces::{Result, path_or_fault};
+use lines_inputs::{
+    Input, PathBudget, PathFault, PathSources, Printing, Result, UnitRows, Walk, path_or_fault,
+};
 use lines_words::{Command, Output, Request, UnitChoice};
 use std::alloc::Global;
 

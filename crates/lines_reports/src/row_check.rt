@@ -4,7 +4,7 @@ use crate::findings::Findings;
 use crate::report::Reading;
 use gimli_core::{Error, Reader};
 use gimli_line::LineRow;
-use lines_pieces::Piece;
+use lines_inputs::Piece;
 use lines_words::{FindingKind, Notation, Output};
 
 /// The addresses of a sequence, by its rows that are not left out.

@@ -2,12 +2,12 @@
 
 use crate::path_numbers::PathNumbers;
 use crate::report::Reading;
+use crate::spent::Spent;
+use crate::tally::{Share, Tally};
 use crate::unit_list::unit_bytes;
 use gimli_core::Reader;
 use gimli_line::{LineProgramHeader, LineRow};
-use lines_counts::{Share, Spent, Tally};
-use lines_inputs::UnitRows;
-use lines_pieces::{Piece, Result, print, print_fields};
+use lines_inputs::{Piece, Result, UnitRows, print, print_fields};
 use lines_words::Output;
 use std::alloc::Global;
 use std::collections::BTreeMap;

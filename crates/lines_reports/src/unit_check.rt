@@ -5,7 +5,7 @@ use gimli_core::{Error, Reader, ReaderOffset};
 use gimli_line::{
     IncompleteLineProgram, LineInstruction, LineInstructions, LineProgramHeader, LineRow,
 };
-use lines_pieces::Result;
+use lines_inputs::Result;
 use lines_words::Output;
 use std::alloc::AllocError;
 

@@ -2,8 +2,7 @@
 
 use gimli_core::{Format, Reader, ReaderOffset};
 use gimli_line::LineProgramHeader;
-use lines_inputs::UnitRows;
-use lines_pieces::{Piece, Result, print_fields};
+use lines_inputs::{Piece, Result, UnitRows, print_fields};
 use lines_words::Output;
 
 /// Prints what stands above the lines of units.

@@ -1,5 +1,0 @@
-use Rattle.lines_counts.proofs.Counting.{all_are_counted}
-use Rattle.lines_counts.proofs.laws.pieces_have_all_bytes.Goals as goal
-
-pub returns : goal.returns
-returns c layout h bytes pieces are = all_are_counted layout h bytes pieces are

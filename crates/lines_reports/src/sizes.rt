@@ -1,0 +1,78 @@
+//! How many bytes an instruction has.
+
+ghost use Rattle.std.specs.Prelude.{◌≡◌, ◌-◌, ◌++◌, ℕ, List, Ok, length};
+ghost use Rattle.gimli_core.specs.Layout.{OrderAndLimit};
+ghost use Rattle.gimli_line.specs.header.Header.{Header};
+ghost use Rattle.gimli_line.specs.run.Instruction.{Ins};
+ghost use Rattle.gimli_line.specs.run.InstructionGrammar.{SpellsInstruction};
+ghost use Rattle.lines_reports.specs.Pieces.{opcode_size};
+ghost use Rattle.lines_reports.specs.inside.Sizes.{bytes_after, opcode_at, size_at};
+
+use gimli_core::{Reader, ReaderOffset, Result};
+
+/// The bytes of an instruction.
+#[derive(Clone, Copy)]
+pub(crate) struct InstructionBytes {
+    /// Those that say which one it is: one, or of an extended instruction the zero, the length and
+    /// the opcode (DWARF 5, section 6.2.3).
+    pub(crate) opcode: u64,
+    /// Those of its operands.
+    pub(crate) operands: u64,
+}
+
+/// Takes the bytes of an instruction away, after which so many are left, and counts them. Refused
+/// only where other bytes stand there.
+pub(crate) fn instruction_bytes<R: Reader>(rest: &mut R, left: u64) -> Result<InstructionBytes>
+    ensures sizes { (layout : OrderAndLimit) (h : Header) (i : Ins) (front after : List ℕ)
+        → R.bytes rest.old ≡ front ++ after → left ≡ length after
+        → SpellsInstruction layout h front i
+        → result ≡ Ok (record {
+          opcode = opcode_size front;
+          operands = length front - opcode_size front;
+        }) }
+    ensures left { (layout : OrderAndLimit) (h : Header) (i : Ins) (front after : List ℕ)
+        → R.bytes rest.old ≡ front ++ after → left ≡ length after
+        → SpellsInstruction layout h front i → R.bytes rest.new ≡ after }
+    ensures order { R.is_big rest.new ≡ R.is_big rest.old }
+{
+    count_bytes(rest, left)
+}
+
+/// Takes all but so many bytes away, and counts them.
+fn count_bytes<R: Reader>(rest: &mut R, left: u64) -> Result<InstructionBytes>
+    ensures read { (result, R.bytes rest.new) ≡ size_at left (R.bytes rest.old) }
+    ensures order { R.is_big rest.new ≡ R.is_big rest.old }
+{
+    let whole = rest.len().into_u64();
+    skip_opcode(rest)?;
+    let after_opcode = rest.len().into_u64();
+    let operands = after_opcode.saturating_sub(left);
+    skip_bytes(operands, rest)?;
+    Ok(InstructionBytes {
+        opcode: whole.saturating_sub(after_opcode),
+        operands,
+    })
+}
+
+/// Takes away the bytes that say which instruction it is.
+fn skip_opcode<R: Reader>(rest: &mut R) -> Result<()>
+    ensures read { (result, R.bytes rest.new) ≡ opcode_at (R.bytes rest.old) }
+    ensures order { R.is_big rest.new ≡ R.is_big rest.old }
+{
+    if rest.read_u8()? == 0 {
+        rest.read_uleb128()?;
+        rest.read_u8()?;
+    }
+    Ok(())
+}
+
+/// Takes so many bytes away.
+fn skip_bytes<R: Reader>(count: u64, rest: &mut R) -> Result<()>
+    ensures read { (result, R.bytes rest.new) ≡ bytes_after count (R.bytes rest.old) }
+    ensures order { R.is_big rest.new ≡ R.is_big rest.old }
+{
+    for _ in 0..count {
+        rest.read_u8()?;
+    }
+    Ok(())
+}
