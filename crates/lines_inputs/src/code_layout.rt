@@ -41,11 +41,6 @@ impl CodeLayout {
         }
     }
 
-    /// Whether sections are placed.
-    pub(crate) fn is_known(&self) -> bool {
-        !self.placed.is_empty()
-    }
-
     /// An address below which no section is placed.
     pub(crate) fn lowest(&self) -> u64 {
         FIRST

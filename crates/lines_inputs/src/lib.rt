@@ -29,7 +29,7 @@ pub use locate::{Answered, Places, SourceLine};
 pub use lookup::{Covering, look_up_any, look_up_each, program_of};
 pub use named_code::FunctionStarts;
 pub use path_budget::PathBudget;
-pub use path_sources::{PathFault, PathSources, path_or_fault, resolved_path};
+pub use path_sources::{PathFault, PathSources, path_or_fault};
 pub use piece::Piece;
 pub use place_printer::{Asked, FoundPlace, PlacePrinter, asked_by};
 pub use sentence::{add, note, print, print_fields, tell, tell_of_unit};

@@ -4,19 +4,15 @@
 //! 3.1.1 and 6.2.4). In version 5 a header has it as directory 0, and that of `.debug_info` counts
 //! only if this one is empty (DWARF 5, the same sections).
 
-ghost use Rattle.std.specs.Prelude.{◌≡◌, ◌≢◌, Err, IfErr, IfOk, Ok, option_map};
+ghost use Rattle.std.specs.Prelude.{◌≡◌, IfOk, option_map};
 ghost use Rattle.gimli_compilation.specs.Directories.{TellsDirectories, directory_for};
 ghost use Rattle.gimli_compilation.specs.Sections.{sections_of};
-ghost use Rattle.gimli_line.specs.header.File.{file_seen};
-ghost use Rattle.gimli_lookup.specs.Paths.{file_path, row_path};
-ghost use Rattle.gimli_lookup.specs.ProgramPaths.{texts_seen, unit_paths};
-ghost use Rattle.gimli_lookup.specs.declared.path_error.PathError.TheVariants.{OutOfMemory};
 
 use crate::input::Input;
 use crate::path_budget::PathBudget;
 use gimli_compilation::Compilations;
 use gimli_core::{AttributeValue, Reader, ReaderOffset};
-use gimli_line::{FileEntry, LineProgramHeader, LineRow};
+use gimli_line::{FileEntry, LineProgramHeader};
 use gimli_lookup::{PathError, ProgramPaths, StringSections};
 use std::alloc::{AllocError, Global};
 use std::fmt;
@@ -69,45 +65,7 @@ impl<R: Reader> PathSources<R> {
         &self.paths
     }
 
-    /// The whole path of a file of a header. Where no directory of its compilation is known, the
-    /// path stays as `Paths` has it. Refused as `PathError` says.
-    pub fn of_file(
-        &self,
-        alloc: Global,
-        header: &LineProgramHeader<R>,
-        file: &FileEntry<R>,
-    ) -> Result<Vec<u8>, PathError>
-        ensures ok { let paths = unit_paths (texts_seen R.bytes self.now.paths)
-            (R.Offset.number header.now.offset.0) header.now.meaning in
-            IfOk result (λ path. file_path paths (file_seen R.bytes R.Offset.number file.now)
-            ≡ Ok path.items) }
-        ensures err { let paths = unit_paths (texts_seen R.bytes self.now.paths)
-            (R.Offset.number header.now.offset.0) header.now.meaning in
-            IfErr result (λ e. e ≢ OutOfMemory
-            → file_path paths (file_seen R.bytes R.Offset.number file.now) ≡ Err e) }
-    {
-        self.paths.of_file(alloc, header, file)
-    }
-
-    /// The whole path of a row's file. Refused as `of_file` is, and by `InvalidFileIndex` where the
-    /// header has no such file.
-    pub fn of_row(
-        &self,
-        alloc: Global,
-        header: &LineProgramHeader<R>,
-        row: &LineRow,
-    ) -> Result<Vec<u8>, PathError>
-        ensures ok { let paths = unit_paths (texts_seen R.bytes self.now.paths)
-            (R.Offset.number header.now.offset.0) header.now.meaning in
-            IfOk result (λ path. row_path paths row.now ≡ Ok path.items) }
-        ensures err { let paths = unit_paths (texts_seen R.bytes self.now.paths)
-            (R.Offset.number header.now.offset.0) header.now.meaning in
-            IfErr result (λ e. e ≢ OutOfMemory → row_path paths row.now ≡ Err e) }
-    {
-        self.paths.of_row(alloc, header, row)
-    }
-
-    /// The whole path of the file of an index, as `of_row` tells it, whose bytes are counted; where
+    /// The whole path of the file of an index, whose bytes are counted; where
     /// it can't be told, those that were read to find that.
     pub fn counted(
         &self,
@@ -119,7 +77,7 @@ impl<R: Reader> PathSources<R> {
         let Some(file) = header.file(index) else {
             return Err(PathError::InvalidFileIndex(index));
         };
-        let path = self.of_file(alloc, header, file);
+        let path = self.paths.of_file(alloc, header, file);
         budget.count(match &path {
             Ok(path) => path.len() as u64,
             Err(_) => self.texts_length(header, file),
@@ -167,7 +125,7 @@ impl<R: Reader> PathSources<R> {
         let Some(file) = header.file(index) else {
             return Ok(None);
         };
-        match self.of_file(alloc, header, file) {
+        match self.paths.of_file(alloc, header, file) {
             Ok(path) => Ok(Some(path)),
             Err(PathError::OutOfMemory) => Err(AllocError),
             Err(_) => Ok(None),
@@ -205,31 +163,4 @@ pub fn path_or_fault<R: Reader>(
         Err(PathError::OutOfMemory) => Err(AllocError),
         Err(error) => Ok((None, Some(sources.fault(error)))),
     }
-}
-
-/// The components of a path, each with `/` before it: the same bytes for all spellings of one path,
-/// and for no other. `/` and backslashes part components; an empty one and `.` are dropped; `..`
-/// drops the one before it, but nothing above the root. Where it has none before it, it stays. The
-/// root is a component without bytes.
-pub fn resolved_path(alloc: Global, path: &[u8]) -> Result<Vec<u8>, AllocError> {
-    let is_whole = matches!(path, [b'/' | b'\\', ..]);
-    let mut resolved = Vec::from_slice(alloc, if is_whole { b"/" } else { b"" })?;
-    // Where the components begin that `..` drops.
-    let mut begins = Vec::new(alloc);
-    for component in path.split(|byte| *byte == b'/' || *byte == b'\\') {
-        match component {
-            [] | [b'.'] => {}
-            [b'.', b'.'] => match begins.pop() {
-                Some(begin) => resolved.truncate(begin),
-                None if is_whole => {}
-                None => resolved.extend_from_slice(b"/..")?,
-            },
-            _ => {
-                begins.push(resolved.len())?;
-                resolved.push(b'/')?;
-                resolved.extend_from_slice(component)?;
-            }
-        }
-    }
-    Ok(resolved)
 }
