@@ -4,8 +4,8 @@ use crate::report::Reading;
 use gimli_core::{AttributeValue, Reader, ReaderOffset};
 use gimli_line::{FileEntry, LineProgramHeader};
 use gimli_lookup::PathError;
-use lines_inputs::{PathFault, Piece, Result, UnitRows, add, path_or_fault, tell_of_unit};
-use lines_words::{Json, Output};
+use lines_inputs::{PathFault, Piece, Result, UnitRows, add, path_or_fault};
+use lines_words::{Json, Output, PathText};
 
 /// How far the directories and files of a unit are printed.
 #[derive(Clone, Copy)]
