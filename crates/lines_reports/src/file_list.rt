@@ -98,14 +98,8 @@ impl<R: Reader> Reading<R> {
             self.budget.count(self.sources.text_length(directory));
         }
         let (path, fault) = path_or_fault(&self.sources, path)?;
-        begin_entry(
-            unit.offset,
-            "directory",
-            index,
-            path.as_deref(),
-            fault,
-            output,
-        );
+        begin_entry(unit.offset, "directory", index, path.as_deref(), output);
+        tell_fault(unit.offset, "directory", index, fault, output);
         end_entry(output);
         Ok(())
     }
@@ -121,7 +115,8 @@ impl<R: Reader> Reading<R> {
             return Ok(());
         };
         let (path, fault) = self.path_of(unit.header(), index, true)?;
-        begin_entry(unit.offset, "file", index, path.as_deref(), fault, output);
+        begin_entry(unit.offset, "file", index, path.as_deref(), output);
+        tell_fault(unit.offset, "file", index, fault, output);
         self.add_details(unit.header(), file, output);
         end_entry(output);
         Ok(())
@@ -184,17 +179,8 @@ fn add_number(text: &str, number: u64, output: &mut Output<'_>) {
     }
 }
 
-/// Prints what stands first in the line of a directory or a file of the unit at an offset. Why it
-/// has no path is reported.
-fn begin_entry(
-    unit: u64,
-    kind: &str,
-    index: u64,
-    path: Option<&[u8]>,
-    fault: Option<PathFault>,
-    output: &mut Output<'_>,
-) {
-    let (word, number) = (Piece::Word(kind), Piece::Number(index));
+/// Prints what stands first in the line of a directory or a file of the unit at an offset.
+fn begin_entry(unit: u64, kind: &str, index: u64, path: Option<&[u8]>, output: &mut Output<'_>) {
     if output.is_json() {
         let fields = [
             ("unit", Json::Offset(Some(unit))),
@@ -203,10 +189,21 @@ fn begin_entry(
         ];
         output.add_fields("{", &fields);
     } else {
-        add("% %  %", &[word, number, Piece::Path(path)], output);
+        let path = PathText(path.unwrap_or(b"??"));
+        output.add(format_args!("{kind} {index}  {path}"));
     }
+}
+
+/// Reports why a directory or a file of the unit at an offset has no path.
+fn tell_fault(
+    unit: u64,
+    kind: &str,
+    index: u64,
+    fault: Option<PathFault>,
+    output: &mut Output<'_>,
+) {
     if let Some(fault) = fault {
-        tell_of_unit(unit, "% %: %", &[word, number, Piece::Fault(fault)], output);
+        output.tell_of_unit(unit, format_args!("{kind} {index}: {fault}"));
     }
 }
 

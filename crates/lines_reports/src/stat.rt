@@ -157,24 +157,39 @@ impl<R: Reader> Stat<R> {
     fn print_files(&mut self, reading: &Reading<R>, output: &mut Output<'_>) -> Result<()> {
         output.print_heading("most rows");
         let largest = self.largest_files(reading.alloc)?;
-        for (count, number) in largest.iter().rev().take(LARGEST) {
-            self.print_file(*number, *count, reading, output)?;
-        }
-        Ok(())
+        self.print_largest(&largest, reading, output)
     }
 
     /// The numbers of rows of all paths, and the paths' numbers, in ascending order.
     fn largest_files(&self, alloc: Global) -> Result<Vec<(u64, usize)>> {
         let mut largest = Vec::new(alloc);
-        for (number, count) in &self.files {
-            largest.push((*count, *number))?;
-        }
-        largest.sort()?;
+        self.add_largest(&mut largest)?;
         Ok(largest)
     }
 
+    /// Adds the numbers of rows of all paths, and the paths' numbers, in ascending order.
+    fn add_largest(&self, largest: &mut Vec<(u64, usize)>) -> Result<()> {
+        for (number, count) in &self.files {
+            largest.push((*count, *number))?;
+        }
+        largest.sort()
+    }
+
+    /// Prints the last of some files, the last one first.
+    fn print_largest(
+        &mut self,
+        largest: &[(u64, usize)],
+        reading: &Reading<R>,
+        output: &mut Output<'_>,
+    ) -> Result<()> {
+        for (count, number) in largest.iter().rev().take(LARGEST) {
+            self.print_path(*number, *count, reading, output)?;
+        }
+        Ok(())
+    }
+
     /// Prints how many rows the path of a number has.
-    fn print_file(
+    fn print_path(
         &mut self,
         number: usize,
         count: u64,
@@ -182,16 +197,23 @@ impl<R: Reader> Stat<R> {
         output: &mut Output<'_>,
     ) -> Result<()> {
         let path = self.paths.path_of(number, reading)?;
-        let path = Piece::Path(path.as_deref());
+        self.print_file(path.as_deref(), count, output);
+        Ok(())
+    }
+
+    /// Prints how many rows a file has.
+    fn print_file(&self, path: Option<&[u8]>, count: u64, output: &mut Output<'_>) {
+        let path = Piece::Path(path);
         if output.is_json() {
             let fields = [("path", path), ("rows", Piece::Number(count))];
-            print_fields("", &fields, output);
-            return Ok(());
+            return print_fields("", &fields, output);
         }
         let share = Piece::Share(count, self.rows.saturating_sub(self.ends));
-        let pieces = [Piece::WideNumber(count, 9), path, share];
-        print("%  %  %", &pieces, output);
-        Ok(())
+        print(
+            "%  %  %",
+            &[Piece::WideNumber(count, 9), path, share],
+            output,
+        );
     }
 }
 
