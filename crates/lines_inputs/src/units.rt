@@ -6,8 +6,7 @@ ghost use Rattle.std.specs.Prelude.{◌≡◌};
 use crate::input::Input;
 use gimli_core::{DebugLineOffset, Error, Reader, ReaderOffset};
 use gimli_line::{
-    IncompleteLineProgram, LineProgramHeader, LineRow, LineUnit, LineUnits,
-    OneShotLineRows,
+    IncompleteLineProgram, LineProgramHeader, LineRow, LineUnit, LineUnits, OneShotLineRows,
 };
 use lines_words::{Output, UnitChoice};
 use std::alloc::{AllocError, Global};

@@ -4,9 +4,7 @@
 #![tactic(auto)]
 
 use gimli_core::{DebugLineOffset, Error, Format, LittleEndian, Reader, Result};
-use gimli_line::{
-    IncompleteLineProgram, LineProgramHeader, LineRow, LineUnits, OneShotLineRows,
-};
+use gimli_line::{IncompleteLineProgram, LineProgramHeader, LineRow, LineUnits, OneShotLineRows};
 use gimli_write::{
     Address, ConvertError, ConvertResult, DebugLine, EndianVec, FileId, LineProgram, LineString,
     LineStringTable, StringTable, Writer,

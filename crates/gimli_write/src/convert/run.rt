@@ -7,8 +7,7 @@ use crate::convert_error::{ConvertError, ConvertResult};
 use gimli_build::{FileId, LineRow as BuiltRow};
 use gimli_core::Reader;
 use gimli_line::{
-    Executed, FileEntry, IncompleteLineProgram, LineInstruction, LineInstructions,
-    LineRow,
+    Executed, FileEntry, IncompleteLineProgram, LineInstruction, LineInstructions, LineRow,
 };
 use std::marker::Model;
 
