@@ -1,11 +1,13 @@
 //! Checks in code, of what no clause and no row of input and output can say: tables of cases, each
 //! with what is expected of it by hand. A line for each check says whether it passed, or which case
-//! failed first; then come the texts of errors. `checks_files` has those of the files of programs.
+//! failed first; then come the texts of errors.
 //!
 //! They use public names alone.
 #![tactic(auto)]
 
+mod compilations;
 mod converted;
+mod elf_files;
 mod errors;
 mod lookups;
 mod many;
@@ -28,7 +30,7 @@ fn first_false(found: &[bool]) -> Option<usize> {
 }
 
 /// Each check, and what it finds.
-fn checks(alloc: Global) -> [(&'static str, Found); 12] {
+fn checks(alloc: Global) -> [(&'static str, Found); 23] {
     [
         ("readers::skipped", readers::skipped()),
         ("lookups::narrow_unit", lookups::narrow_unit(alloc)),
@@ -45,6 +47,20 @@ fn checks(alloc: Global) -> [(&'static str, Found); 12] {
         ("many::conversions", many::conversions(alloc)),
         ("own_writer::refused", own_writer::refused(alloc)),
         ("errors::turned", errors::turned()),
+        ("compilations::units", compilations::units(alloc)),
+        ("compilations::texts", compilations::texts(alloc)),
+        (
+            "compilations::overlapping",
+            compilations::overlapping(alloc),
+        ),
+        ("compilations::lines", compilations::lines(alloc)),
+        ("elf_files::relocated", elf_files::relocated(alloc)),
+        ("elf_files::sought", elf_files::sought(alloc)),
+        ("elf_files::outlines", elf_files::outlines(alloc)),
+        ("elf_files::cut", elf_files::cut(alloc)),
+        ("elf_files::huge", elf_files::huge(alloc)),
+        ("elf_files::limits", elf_files::limits(alloc)),
+        ("elf_files::checksums", elf_files::checksums(alloc)),
     ]
 }
 

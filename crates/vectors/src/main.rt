@@ -24,10 +24,15 @@
 //! `crates/vectors/ROWS.md` has the files of rows, and the commands of a row.
 #![tactic(auto)]
 
+mod array_section;
+mod builder;
+mod built;
 mod check;
+mod conversion;
 mod entry;
 mod linetool;
 mod run;
+mod script;
 
 use entry::start;
 use std::process::ExitCode;

@@ -1,8 +1,9 @@
 //! What a command of a row gives.
 
+use crate::conversion::convert;
 use crate::linetool::run_linetool;
+use crate::script::{Told, write};
 use rows::{Attempts, Command, Input, Lines, Piece, RowCommand, Stop, print, words_before_parts};
-use rows_built::{Told, convert, write};
 use std::alloc::{AllocError, Global};
 
 /// What a command of a row prints: its output, its lines on standard error after `stderr`, and its

@@ -2,7 +2,7 @@
 use Rattle.std.specs.Prelude.{IsTrue, IfSome}
 use Rattle.gimli_core.specs.Numbers.{is_address_size}
 use Rattle.gimli_build.specs.Advance.{CanEncode}
-use Rattle.rows_built.specs.declared.conversion.Target.{Target}
+use Rattle.vectors.specs.declared.conversion.Target.{Target}
 
 -- a program may have them, where they are handed in
 pub record IsTaken (target : Target) : Type 0 where

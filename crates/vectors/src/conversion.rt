@@ -1,7 +1,7 @@
 //! Conversions: what one reads, and what is built of it.
 
 ghost use Rattle.std.specs.Prelude.{◌≡◌, IsErr, IsTrue};
-ghost use Rattle.rows_built.specs.Taken.{IsTaken};
+ghost use Rattle.vectors.specs.Taken.{IsTaken};
 
 use crate::built::{Tables, print_row, put_refused};
 use crate::script::Script;

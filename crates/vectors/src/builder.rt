@@ -1,8 +1,8 @@
 //! The calls of a script that build a program. Conditions are tested before each call of the
 //! library.
 
-ghost use Rattle.std.specs.Prelude.{◌≡◌, ◌<◌, ◌≤◌, length, false, IsTrue, IfOk, IfSome};
-ghost use Rattle.gimli_write.specs.LineText.{line_text, HasNoZero, IsNotEmpty};
+ghost use Rattle.std.specs.Prelude.{◌<◌, length, IsTrue, IfOk, IfSome};
+ghost use Rattle.gimli_write.specs.LineText.{line_text, HasNoZero};
 
 use crate::script::Script;
 use gimli_core::Encoding;
@@ -194,29 +194,11 @@ fn is_optional_name(text: &Option<LineString>) -> bool
     }
 }
 
-/// Whether a text may be the name of a directory or a file that is added.
-fn can_be_added(program: &LineProgram, text: &LineString) -> bool
-    ensures program { IsTrue result → program.now.is_none ≡ false }
-    ensures ends { IsTrue result → HasNoZero (line_text text.now) }
-    ensures not_empty { IsTrue result →
-        program.now.encoding.version ≤ 4 → IsNotEmpty (line_text text.now) }
-{
-    if program.is_none() {
-        return false;
-    }
-    match text {
-        LineString::String(bytes) => {
-            LineString::accepts(bytes) && (program.version() > 4 || !bytes.is_empty())
-        }
-        _ => true,
-    }
-}
-
 /// Adds a directory.
 fn add_directory(program: &mut LineProgram, text: LineString) -> Result<DirectoryId, Stop>
     ensures { IfOk result (λ id. id < length program.new.directories) }
 {
-    if !can_be_added(program, &text) {
+    if !program.can_add(&text) {
         return Err(Stop::Condition);
     }
     Ok(program.add_directory(text)?)
@@ -250,7 +232,7 @@ fn push_file(
     info: Option<FileInfo>,
 ) -> Result<(), Stop> {
     let directory = directory_id(program, texts, number)?;
-    if !can_be_added(program, &text) {
+    if !program.can_add(&text) {
         return Err(Stop::Condition);
     }
     program.add_file(text, directory, info)?;
@@ -306,7 +288,7 @@ fn file_id(alloc: Global, program: &LineProgram, words: &mut Arguments<'_>) -> O
 fn scratch_file(alloc: Global, program: &mut LineProgram, number: u64) -> Option<FileId> {
     for length in 1..2 * (LAST_FILE as usize) {
         let name = LineString::String(vec![in alloc; b'f'; length].ok()?);
-        if !can_be_added(program, &name) {
+        if !program.can_add(&name) {
             return None;
         }
         let directory = program.default_directory();
