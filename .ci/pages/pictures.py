@@ -208,7 +208,7 @@ def strip():
     parts += [text(385, 86 + 15 * i, f"0x{address}   {number}   {column}", 12) for i, (address, number, column) in enumerate(rows)]
     parts += [box(640, 30, 150, 110, MARKED), text(715, 55, "a place", weight="bold"), text(715, 85, printed[3], 12), text(715, 107, printed[4], 12)]
     parts += arrow(165, 66, 285, "gimli_line", "reads") + arrow(285, 110, 165, "gimli_write", "builds, writes")
-    parts += arrow(485, 66, 635, "gimli_lookup", "keeps rows") + arrow(485, 110, 635, "gimli_index", "is mapped bytes")
+    parts += arrow(485, 66, 635, "gimli_lookup", "searches rows in memory") + arrow(485, 110, 635, "gimli_index", "searches a saved index")
     return picture(800, 155, "From a file to rows to places, and from rows to a file", parts)
 
 
