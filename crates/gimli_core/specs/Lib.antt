@@ -4,6 +4,7 @@ pub mod Layout
 pub mod Values
 pub mod Reading
 pub mod Production
+pub mod Seen
 pub mod FormNumbers
 pub mod Form
 pub mod Equality

@@ -1,3 +1,4 @@
+use Rattle.gimli_core.proofs.Taken.{read_of, order_of}
 use Rattle.std.proofs.Common.{rules, ◌≡◌, arith, to_z, of_z, w64}
 use Rattle.std.proofs.lemmas.Int.{ints}
 use Rattle.std.proofs.lemmas.Result.{err_from_is_err_and}
@@ -9,7 +10,7 @@ use proofs.reader.Reader.read_sleb128.Goals as goal
 pub returns-in_err-byte-clause-read : goal.returns-in_err-byte-clause-read
 returns-in_err-byte-clause-read g c =
     let p = err_from_is_err_and c.from_residual.result c.from_residual.ensures.1 in
-    rw (p.1, p.2) (ends_err _ _ _ c.loop-group.group _ _ c.loop-group.invariant.so_far c.in_err-byte.ensures.read)
+    rw (p.1, p.2) (ends_err _ _ _ c.loop-group.group _ _ c.loop-group.invariant.so_far (read_of c.in_err-byte.ensures.read))
 
 pub sign_extended-requires-clause-low : goal.sign_extended-requires-clause-low
 sign_extended-requires-clause-low g c = rw c.with_group-value.ensures (low_grows _ _ _ c.loop-group.invariant.low)
@@ -19,14 +20,14 @@ returns-then-byte-lt128-clause-read g c =
     let back : to_z w64 (of_z w64 c.sign_extended.result) ≡ c.sign_extended.result = omega (arith, ints) in
     rw (back, c.sign_extended.ensures, c.with_group-value.ensures)
     (ends_ok _ _ _ c.loop-group.group c.in_ok-byte.byte _ c.loop-group.invariant.so_far c.loop-group-test.true
-    c.if-byte-lt128.true c.in_ok-byte.ensures.read)
+    c.if-byte-lt128.true (read_of c.in_ok-byte.ensures.read))
 
 pub loop-group-preserved : goal.loop-group-preserved
 loop-group-preserved g c = record {
   so_far =
       rw c.with_group-value.ensures
       (goes_on _ _ _ c.loop-group.group c.in_ok-byte.byte _ c.loop-group.invariant.so_far c.loop-group-test.true
-      c.if-byte-lt128.false c.in_ok-byte.ensures.read);
+      c.if-byte-lt128.false (read_of c.in_ok-byte.ensures.read));
   order = search rules;
   low = rw c.with_group-value.ensures (low_grows _ _ _ c.loop-group.invariant.low);
 }
@@ -34,10 +35,10 @@ loop-group-preserved g c = record {
 pub returns-in_err-last-clause-read : goal.returns-in_err-last-clause-read
 returns-in_err-last-clause-read g c =
     let p = err_from_is_err_and c.from_residual-in_err-last.result c.from_residual-in_err-last.ensures.1 in
-    rw (p.1, p.2) (ends_err _ _ _ c.loop-group.group _ _ c.loop-group.invariant.so_far c.in_err-last.ensures.read)
+    rw (p.1, p.2) (ends_err _ _ _ c.loop-group.group _ _ c.loop-group.invariant.so_far (read_of c.in_err-last.ensures.read))
 
 pub returns-clause-read : goal.returns-clause-read
 returns-clause-read g c =
     rw c.with_tenth.ensures
     (ends_tenth _ _ _ c.loop-group.group c.in_ok-last.last _ c.loop-group.invariant.so_far c.loop-group-test.false
-    (omega arith) c.in_ok-last.ensures.read)
+    (omega arith) (read_of c.in_ok-last.ensures.read))
