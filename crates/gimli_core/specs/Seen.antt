@@ -18,6 +18,9 @@ on_bytes read s = ((read s.bytes).0, with_left s (read s.bytes).1)
 abbrev pub taken : {A : Type 0} → Production A → Seen → Result A Error × Seen
 taken l s = on_bytes l.read s
 
--- bytes, taken from the front as a reader of their own, in the same order
+-- the same of bytes that are taken as a reader of their own, in the same order
+abbrev pub part_on_bytes : (List ℕ → Read (List ℕ)) → Seen → Result Seen Error × Seen
+part_on_bytes read s = (result_map (with_left s) (on_bytes read s).0, (on_bytes read s).1)
+
 abbrev pub part_taken : Production (List ℕ) → Seen → Result Seen Error × Seen
-part_taken l s = (result_map (with_left s) (taken l s).0, (taken l s).1)
+part_taken l s = part_on_bytes l.read s
