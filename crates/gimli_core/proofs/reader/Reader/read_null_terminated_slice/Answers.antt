@@ -1,4 +1,3 @@
-use Rattle.gimli_core.specs.Reading.{split_at, skip_at}
 use Rattle.gimli_core.proofs.Taken.{read_of, part_read_of}
 use Rattle.gimli_core.proofs.Texts.{found_within, skip_refuses_not}
 use Rattle.gimli_core.proofs.reader.Reader.read_null_terminated_slice.Goals as goal
@@ -7,4 +6,5 @@ pub returns-in_err-skip : goal.returns-in_err-skip
 returns-in_err-skip g c =
     let within = found_within 0 _ _ c.in_ok-len.ensures in
     absurd
-    (skip_refuses_not _ _ _ _ _ _ _ within c.from_u8.ensures (part_read_of (split_at _) c.in_ok-text.ensures) (read_of (skip_at _) c.in_err-skip.ensures))
+    (skip_refuses_not _ _ _ _ _ _ _ within c.from_u8.ensures (part_read_of c.in_ok-text.ensures)
+    (read_of c.in_err-skip.ensures))
