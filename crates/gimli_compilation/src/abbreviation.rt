@@ -1,6 +1,5 @@
 //! Declarations of `.debug_abbrev` (DWARF 5, section 7.5.3).
 
-ghost use Rattle.gimli_core.specs.Seen.{taken, on_bytes};
 ghost use Rattle.std.specs.Prelude.{◌≡◌, ◌≢◌, ℕ, IfOk, IfSome, OnErr, OnOk, Some, option_map};
 ghost use Rattle.std.specs.BTreeMap.{get};
 ghost use Rattle.std.specs.Ordering.{nat_cmp};
@@ -43,8 +42,8 @@ impl Specification {
 
 /// Takes the number that stands in the declaration in one form alone.
 fn pass_constant<R: Reader>(input: &mut R, form: DwForm) -> Result<()>
-    ensures read { (result_map (λ _. tt) result, R.seen input.new)
-            ≡ taken (constant_production form.0) (R.seen input.old) }
+    ensures read { (result_map (λ _. tt) result, (R.seen input.new).bytes)
+        ≡ (constant_production form.0).read (R.seen input.old).bytes }
 {
     if form == constants::DW_FORM_implicit_const {
         input.read_sleb128()?;
@@ -55,8 +54,7 @@ fn pass_constant<R: Reader>(input: &mut R, form: DwForm) -> Result<()>
 /// Takes the specification of an attribute, with the number that stands there in one form.
 #[tactic(auto, unfolding(crate::specs::Abbreviation::specification_production))]
 pub(crate) fn parse_specification<R: Reader>(input: &mut R) -> Result<Specification>
-    ensures read { (result, R.seen input.new)
-            ≡ taken specification_production (R.seen input.old) }
+    ensures read { (result, (R.seen input.new).bytes) ≡ specification_production.read (R.seen input.old).bytes }
 {
     let name = DwAt(input.read_uleb128_u16()?);
     let form = DwForm(input.read_uleb128_u16()?);
@@ -66,8 +64,8 @@ pub(crate) fn parse_specification<R: Reader>(input: &mut R) -> Result<Specificat
 
 /// Takes the specifications of a declaration, up to the pair of zeros that ends them.
 fn pass_specifications<R: Reader>(input: &mut R) -> Result<()>
-    ensures read { (result_map (λ _. tt) result, R.seen input.new)
-            ≡ on_bytes specifications_passed (R.seen input.old) }
+    ensures read { (result_map (λ _. tt) result, (R.seen input.new).bytes)
+        ≡ specifications_passed (R.seen input.old).bytes }
 {
     loop {
         let specification = parse_specification(input)?;
@@ -81,8 +79,8 @@ fn pass_specifications<R: Reader>(input: &mut R) -> Result<()>
 /// specifications.
 #[tactic(auto, unfolding(crate::specs::Abbreviation::declared_production))]
 fn parse_declaration<R: Reader>(input: &mut R) -> Result<R>
-    ensures read { (result_map (λ found. listed (R.seen found).bytes) result, R.seen input.new)
-            ≡ taken declared_production (R.seen input.old) }
+    ensures read { (result_map (λ found. listed (R.seen found).bytes) result, (R.seen input.new).bytes)
+        ≡ declared_production.read (R.seen input.old).bytes }
     ensures listed { IfOk result (λ found. IsListed (R.seen found).bytes) }
 {
     input.read_uleb128()?;
@@ -96,8 +94,8 @@ fn parse_declaration<R: Reader>(input: &mut R) -> Result<R>
 /// table ends.
 #[tactic(auto, unfolding(crate::specs::Abbreviation::declaration_production))]
 fn next_declaration<R: Reader>(input: &mut R) -> Result<Option<(u64, R)>>
-    ensures read { (result_map (declaration_seen R.seen) result, R.seen input.new)
-            ≡ taken declaration_production (R.seen input.old) }
+    ensures read { (result_map (declaration_seen R.seen) result, (R.seen input.new).bytes)
+        ≡ declaration_production.read (R.seen input.old).bytes }
     ensures declared { IfOk result
         (λ found. IfSome found (λ pair. (pair.0 ≢ 0) × IsListed (R.seen pair.1).bytes)) }
 {
@@ -114,9 +112,9 @@ fn next_declaration<R: Reader>(input: &mut R) -> Result<Option<(u64, R)>>
 fn find_abbreviation<R: Reader>(input: &mut R, code: u64) -> Result<Option<R>>
     ensures read { (
       result_map (option_map (λ part. listed (R.seen part).bytes)) result,
-      R.seen input.new,
+      (R.seen input.new).bytes,
     )
-            ≡ taken (abbreviation_production code) (R.seen input.old) }
+        ≡ (abbreviation_production code).read (R.seen input.old).bytes }
     ensures listed { IfOk result (λ found. IfSome found (λ part. IsListed (R.seen part).bytes)) }
 {
     loop {

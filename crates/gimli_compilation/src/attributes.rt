@@ -1,7 +1,6 @@
 //! The attributes of an entry that a user of line programs needs (DWARF 5, sections 2.2, 3.1.1 and
 //! 7.5.4).
 
-ghost use Rattle.gimli_core.specs.Seen.{taken};
 ghost use Rattle.std.specs.Prelude.{◌≡◌, IsTrue};
 ghost use Rattle.gimli_core.specs.Layout.{layout_of};
 ghost use Rattle.gimli_core.specs.Numbers.{is_address_size};
@@ -67,9 +66,9 @@ pub(crate) fn parse_attributes<R: Reader>(
 ) -> Result<Attributes<R>>
     requires size { IsTrue (is_address_size encoding.address_size) }
     requires closed { IsListed (R.seen specifications.old).bytes }
-    ensures read { (result_map (attributes_seen R.seen) result, R.seen input.new)
-            ≡ taken (attributes_production (layout_of (R.seen input.old).is_big R.Offset.limit) encoding
-        no_attributes (listed (R.seen specifications.old).bytes)) (R.seen input.old) }
+    ensures read { (result_map (attributes_seen R.seen) result, (R.seen input.new).bytes)
+        ≡ (attributes_production (layout_of (R.seen input.old).is_big R.Offset.limit) encoding
+        no_attributes (listed (R.seen specifications.old).bytes)).read (R.seen input.old).bytes }
 {
     let mut attributes = Attributes::none();
     loop {
