@@ -13,10 +13,10 @@ returns-clause-order g c =
     let files = c.parse_directory_table.ensures.order ∙ directories in
     record {
       operand_counts = c.in_ok-standard_opcode_lengths.ensures.part ∙ counts;
-      directories = values_mapped g.R.Reader.is_big _ _
-          (values_kept g.R.Reader.is_big _ _ _ directories c.in_ok-directory_entry_format.ensures.parts);
-      files = files_mapped g.R.Reader.is_big _ _
-          (files_kept g.R.Reader.is_big _ _ _ files c.in_ok-file_name_entry_format.ensures.parts);
+      directories = values_mapped g.R.Reader.seen _ _
+          (values_kept g.R.Reader.seen _ _ _ directories c.in_ok-directory_entry_format.ensures.parts);
+      files = files_mapped g.R.Reader.seen _ _
+          (files_kept g.R.Reader.seen _ _ _ files c.in_ok-file_name_entry_format.ensures.parts);
     }
 
 pub returns-in_err-parameters-clause-read : goal.returns-in_err-parameters-clause-read

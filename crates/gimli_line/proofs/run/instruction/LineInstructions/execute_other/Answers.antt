@@ -7,7 +7,7 @@ use proofs.run.instruction.LineInstructions.execute_other.Goals as goal
 
 pub returns-then-is_executed-clause-ok : goal.returns-then-is_executed-clause-ok
 returns-then-is_executed-clause-ok g c =
-    let n = layout_of (g.R.Reader.is_big c.self.inside.input) g.R.Offset.ReaderOffset.limit in
+    let n = layout_of (g.R.Reader.seen c.self.inside.input).is_big g.R.Offset.ReaderOffset.limit in
     let first =
     extended_first n c.args.header.now.meaning _ _ c.in-Ok.opcode c.if-opcode-eq0.true c.in-Ok.ensures.read in
     let is = sym c.is_executed.ensures ∙ c.if-is_executed.true in

@@ -5,7 +5,7 @@ use proofs.run.row.LineRow.exec_extended_opcode.Goals as goal
 
 pub returns-in-DW_LNE_end_sequence-clause-executed : goal.returns-in-DW_LNE_end_sequence-clause-executed
 returns-in-DW_LNE_end_sequence-clause-executed g c =
-    let n = layout_of (g.R.Reader.is_big c.args.input.now) g.R.Offset.ReaderOffset.limit in
+    let n = layout_of (g.R.Reader.seen c.args.input.now).is_big g.R.Offset.ReaderOffset.limit in
     let h = c.args.header.now.meaning in
     let whole = opened n h _ _ _ _ _ c.in-Some.ensures.read c.in-Ok.ensures.read in
     rw (whole, c.set_register.ensures) (λ is.
@@ -13,12 +13,12 @@ returns-in-DW_LNE_end_sequence-clause-executed g c =
 
 pub returns-in-Ok-read_set_address-clause-executed : goal.returns-in-Ok-read_set_address-clause-executed
 returns-in-Ok-read_set_address-clause-executed g c =
-    let n = layout_of (g.R.Reader.is_big c.args.input.now) g.R.Offset.ReaderOffset.limit in
+    let n = layout_of (g.R.Reader.seen c.args.input.now).is_big g.R.Offset.ReaderOffset.limit in
     let h = c.args.header.now.meaning in
     let whole = opened n h _ _ _ _ _ c.in-Some.ensures.read c.in-Ok.ensures.read in
     let same = ap (λ (m : Header). m.parameters) (ap (λ v. v.meaning) c.header.view_is) in
     let order = c.in-Ok-read_u8.ensures.order ∙ c.in-Ok.ensures.part ∙ c.in-Some.ensures.order in
-    let operands = g.R.Reader.bytes c.read_u8.new.self in
+    let operands = (g.R.Reader.seen c.read_u8.new.self).bytes in
     let operand =
     c.in-Ok-read_set_address.ensures.read
     ∙ ap (λ (is_big : Bool). number_at is_big c.header.inside.parameters.encoding.address_size operands) order
@@ -29,7 +29,7 @@ returns-in-Ok-read_set_address-clause-executed g c =
 
 pub returns-in-Some-read_short_uleb128-clause-executed : goal.returns-in-Some-read_short_uleb128-clause-executed
 returns-in-Some-read_short_uleb128-clause-executed g c =
-    let n = layout_of (g.R.Reader.is_big c.args.input.now) g.R.Offset.ReaderOffset.limit in
+    let n = layout_of (g.R.Reader.seen c.args.input.now).is_big g.R.Offset.ReaderOffset.limit in
     let h = c.args.header.now.meaning in
     let whole = opened n h _ _ _ _ _ c.in-Some.ensures.read c.in-Ok.ensures.read in
     rw (whole, c.set_register-in-DW_LNE_set_discriminator.ensures) (λ is.
