@@ -1,6 +1,7 @@
 //! The attributes of an entry that a user of line programs needs (DWARF 5, sections 2.2, 3.1.1 and
 //! 7.5.4).
 
+ghost use Rattle.gimli_core.specs.Seen.{taken};
 ghost use Rattle.std.specs.Prelude.{◌≡◌, IsTrue};
 ghost use Rattle.gimli_core.specs.Layout.{layout_of};
 ghost use Rattle.gimli_core.specs.Numbers.{is_address_size};
@@ -65,10 +66,10 @@ pub(crate) fn parse_attributes<R: Reader>(
     specifications: &mut R,
 ) -> Result<Attributes<R>>
     requires size { IsTrue (is_address_size encoding.address_size) }
-    requires closed { IsListed (R.bytes specifications.old) }
-    ensures read { (result_map (attributes_seen R.bytes) result, R.bytes input.new)
-        ≡ (attributes_production (layout_of (R.is_big input.old) R.Offset.limit) encoding
-        no_attributes (listed (R.bytes specifications.old))).read (R.bytes input.old) }
+    requires closed { IsListed (R.seen specifications.old).bytes }
+    ensures read { (result_map (attributes_seen R.seen) result, R.seen input.new)
+            ≡ taken (attributes_production (layout_of (R.seen input.old).is_big R.Offset.limit) encoding
+        no_attributes (listed (R.seen specifications.old).bytes)) (R.seen input.old) }
 {
     let mut attributes = Attributes::none();
     loop {

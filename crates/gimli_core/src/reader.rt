@@ -53,7 +53,8 @@ pub trait Reader: Copy {
     /// here are an end of those that are left in `base`.
     fn offset_from(&self, base: &Self) -> Self::Offset
         requires { (front : List ℕ) × ((seen base.now).bytes ≡ front ++ (seen self.now).bytes) }
-        ensures { Self.Offset.number result + length (seen self.now).bytes ≡ length (seen base.now).bytes };
+        ensures { Self.Offset.number result + length (seen self.now).bytes
+            ≡ length (seen base.now).bytes };
 
     /// How many bytes stand before the first such byte. Refused by `UnexpectedEof` where there is
     /// none.
@@ -241,7 +242,8 @@ pub trait Reader: Copy {
           result_map (λ read. (Self.Offset.number read.0, read.1)) result,
           seen self.new,
         )
-            ≡ taken (unit_length (layout_of (seen self.old).is_big Self.Offset.limit)) (seen self.old) }
+            ≡ taken (unit_length (layout_of (seen self.old).is_big Self.Offset.limit))
+            (seen self.old) }
     {
         let first = self.read_u32()?;
         if first < 0xffff_fff0 {
@@ -296,7 +298,8 @@ pub trait Reader: Copy {
     #[tactic(auto, unfolding(crate::specs::Production::offset_word))]
     fn read_length(&mut self, format: Format) -> Result<Self::Offset>
         ensures { (result_map Self.Offset.number result, seen self.new)
-            ≡ taken (offset_word (layout_of (seen self.old).is_big Self.Offset.limit) format) (seen self.old) }
+            ≡ taken (offset_word (layout_of (seen self.old).is_big Self.Offset.limit) format)
+            (seen self.old) }
     {
         match format {
             Format::Dwarf32 => {
@@ -314,7 +317,8 @@ pub trait Reader: Copy {
     /// type is too narrow; the word is taken then.
     fn read_offset(&mut self, format: Format) -> Result<Self::Offset>
         ensures { (result_map Self.Offset.number result, seen self.new)
-            ≡ taken (offset_word (layout_of (seen self.old).is_big Self.Offset.limit) format) (seen self.old) }
+            ≡ taken (offset_word (layout_of (seen self.old).is_big Self.Offset.limit) format)
+            (seen self.old) }
     {
         self.read_length(format)
     }

@@ -5,4 +5,4 @@ pub returns-then-is_empty : goal.returns-then-is_empty
 returns-then-is_empty g c =
     let none = c.is_empty.ensures.0 c.if-is_empty.true in
     let read = rw none at c.in_ok-text.ensures.read in
-    rw c.into_u64.ensures (cut_empty (g.R.Reader.bytes c.args.input) _ _ read c.requires)
+    rw c.into_u64.ensures (cut_empty (g.R.Reader.seen c.args.input).bytes _ _ read c.requires)

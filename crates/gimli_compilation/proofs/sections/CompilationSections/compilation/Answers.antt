@@ -5,7 +5,7 @@ use Rattle.gimli_compilation.proofs.sections.CompilationSections.compilation.Goa
 pub returns-in-Err-clause-refusal : goal.returns-in-Err-clause-refusal
 returns-in-Err-clause-refusal g c =
     let read = rw c.info_at-input.ensures.order at c.in-Err.ensures.read in
-    frame_refused (sections_of g.R.Reader.bytes g.R.Reader.is_big g.R.Offset.ReaderOffset.limit c.args.self.now)
+    frame_refused (sections_of g.R.Reader.seen g.R.Offset.ReaderOffset.limit c.args.self.now)
     (g.R.Offset.ReaderOffset.number c.args.offset) _ _ _ c.info_at-input.ensures.bytes read
 
 pub returns-clause-compilation : goal.returns-clause-compilation
