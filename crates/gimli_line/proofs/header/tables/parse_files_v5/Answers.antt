@@ -1,5 +1,5 @@
 use Rattle.gimli_line.proofs
-use proofs.Common.{◌∙◌, map_push, err_from_is_err_and, FileHasOrder, file_of_entry}
+use proofs.Common.{◌∙◌, map_push, err_from_is_err_and, FileHasOrder, file_of_entry, read_of, order_of}
 use proofs.Order.{files_pushed}
 use proofs.Loops.{times_goes_on, times_ends, times_done, entries_start, entry_kept}
 use proofs.Tables.{none_yet}
@@ -7,8 +7,8 @@ use proofs.header.tables.parse_files_v5.Goals as goal
 
 pub loop-init : goal.loop-init
 loop-init g c = record {
-  so_far = rw c.new-files.ensures.items (entries_start _ _ file_of_entry _ _ _ _ c.in_ok-count.ensures.read);
-  order = c.read_uleb128.ensures.order;
+  so_far = rw c.new-files.ensures.items (entries_start _ _ file_of_entry _ _ _ _ (read_of c.in_ok-count.ensures));
+  order = order_of c.read_uleb128.ensures;
   parts = none_yet (FileHasOrder g.R.Reader.seen (g.R.Reader.seen c.args.input.now).is_big) _ c.new-files.ensures.items;
 }
 
