@@ -9,8 +9,8 @@ use gimli_core::{Reader, Result};
 /// most are, in line.
 #[inline(always)]
 pub(crate) fn read_uleb128<R: Reader>(input: &mut R) -> Result<u64>
-    ensures read { (result, R.bytes input.new) ≡ unsigned_at (R.bytes input.old) }
-    ensures order { R.is_big input.new ≡ R.is_big input.old }
+    ensures read { (result, (R.seen input.new).bytes) ≡ unsigned_at (R.seen input.old).bytes }
+    ensures order { (R.seen input.new).is_big ≡ (R.seen input.old).is_big }
 {
     let mut short = *input;
     let Some(number) = read_short_uleb128(&mut short) else {
@@ -26,8 +26,8 @@ pub(crate) fn read_uleb128<R: Reader>(input: &mut R) -> Result<u64>
 #[tactic(auto, unfolding(gimli_core::specs::Reading::uleb_at))]
 pub(crate) fn read_short_uleb128<R: Reader>(input: &mut R) -> Option<u64>
     ensures read { IfSome result (λ n.
-        (Ok n, R.bytes input.new) ≡ unsigned_at (R.bytes input.old)) }
-    ensures order { R.is_big input.new ≡ R.is_big input.old }
+        (Ok n, (R.seen input.new).bytes) ≡ unsigned_at (R.seen input.old).bytes) }
+    ensures order { (R.seen input.new).is_big ≡ (R.seen input.old).is_big }
 {
     let Ok(first) = input.read_u8() else {
         return None;
@@ -49,8 +49,8 @@ pub(crate) fn read_short_uleb128<R: Reader>(input: &mut R) -> Option<u64>
 #[inline(always)]
 #[tactic(auto, unfolding(gimli_core::specs::Reading::sleb_at))]
 pub(crate) fn read_short_sleb128<R: Reader>(input: &mut R) -> Option<i64>
-    ensures read { IfSome result (λ z. (Ok z, R.bytes input.new) ≡ signed_at (R.bytes input.old)) }
-    ensures order { R.is_big input.new ≡ R.is_big input.old }
+    ensures read { IfSome result (λ z. (Ok z, (R.seen input.new).bytes) ≡ signed_at (R.seen input.old).bytes) }
+    ensures order { (R.seen input.new).is_big ≡ (R.seen input.old).is_big }
 {
     let Ok(first) = input.read_u8() else {
         return None;

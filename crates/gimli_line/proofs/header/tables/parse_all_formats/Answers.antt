@@ -8,14 +8,14 @@ returns-in_err-format-clause-read g c =
     let p = err_from_is_err_and c.from_residual.result c.from_residual.ensures.1 in
     rw (p.1, p.2) (λ _.
     times_ends (λ x. x) format_production _ _ c.loop.counter _ _ _ _ c.loop-test.true
-    (c.in_err-format.ensures.read ∙ sym (viewed_same (format_production.read (g.R.Reader.bytes c.loop.input))))
+    (c.in_err-format.ensures.read ∙ sym (viewed_same (format_production.read (g.R.Reader.seen c.loop.input).bytes)))
     c.loop.invariant.so_far)
 
 pub loop-preserved : goal.loop-preserved
 loop-preserved g c = record {
   so_far =
       rw c.in_ok-push.ensures.ok (times_goes_on (λ x. x) format_production _ _ c.loop.counter _ _ _ _ c.loop-test.true
-      (c.in_ok-format.ensures.read ∙ sym (viewed_same (format_production.read (g.R.Reader.bytes c.loop.input))))
+      (c.in_ok-format.ensures.read ∙ sym (viewed_same (format_production.read (g.R.Reader.seen c.loop.input).bytes)))
       c.loop.invariant.so_far);
   order = c.parse_format.ensures.order ∙ c.loop.invariant.order;
 }

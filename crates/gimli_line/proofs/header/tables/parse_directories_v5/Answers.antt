@@ -18,7 +18,7 @@ loop-preserved g c = record {
       (times_goes_on path_of _ _ _ _ _ _ _ _ c.loop-test.true is c.loop.invariant.so_far);
   order = c.parse_directory_v5.ensures.order ∙ c.loop.invariant.order;
   parts =
-      values_pushed g.R.Reader.is_big _ _ _ _ _ c.in_ok-push.ensures.ok c.loop.invariant.order c.loop.invariant.parts
+      values_pushed g.R.Reader.seen _ _ _ _ _ c.in_ok-push.ensures.ok c.loop.invariant.order c.loop.invariant.parts
       c.in_ok-directory.ensures.part;
 }
 

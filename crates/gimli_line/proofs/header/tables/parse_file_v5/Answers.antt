@@ -30,7 +30,7 @@ pub loop-entry_format-init : goal.loop-entry_format-init
 loop-entry_format-init g c = record {
   so_far = rw (c.of_path-file.ensures.file, c.nothing.ensures.bytes) (file_is _ _ _ _);
   order = refl;
-  part = file_kept g.R.Reader.is_big _ _ c.of_path-file.result c.nothing.ensures.order c.of_path-file.ensures.order;
+  part = file_kept g.R.Reader.seen _ _ c.of_path-file.result c.nothing.ensures.order c.of_path-file.ensures.order;
 }
 
 pub loop-entry_format-preserved : goal.loop-entry_format-preserved
@@ -42,7 +42,7 @@ loop-entry_format-preserved g c =
           (rw i.order at c.in_ok-value.ensures.read));
       order = c.parse_attribute.ensures.order ∙ i.order;
       part = c.update.ensures.order _ i.part
-          (subst (λ order. ValueHasOrder g.R.Reader.is_big order c.in_ok-value.value) i.order
+          (subst (λ order. ValueHasOrder g.R.Reader.seen order c.in_ok-value.value) i.order
           c.in_ok-value.ensures.part);
     }
 

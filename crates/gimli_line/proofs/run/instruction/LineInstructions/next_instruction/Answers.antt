@@ -10,7 +10,7 @@ returns-in-Ok-clause-next g c =
 pub returns-in-Err-clause-refusal : goal.returns-in-Err-clause-refusal
 returns-in-Err-clause-refusal g c = rw (← c.self.view_is) (
   λ none. absurd (search rules),
-  c.empty.ensures.left,
+  ap (λ s. s.bytes) c.empty.ensures,
   (reads_instruction _ _).fault _ _
       (sym (ap (λ r. r.0) c.in-Err.ensures.read)),
 )
