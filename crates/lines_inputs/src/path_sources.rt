@@ -34,8 +34,8 @@ impl<R: Reader> PathSources<R> {
     /// Reads the first entry of each unit of `.debug_info` once.
     pub fn new(alloc: Global, input: &Input<R>) -> Result<PathSources<R>, AllocError>
         ensures directories { IfOk result (λ sources.
-            TellsDirectories (sections_of R.bytes R.is_big R.Offset.limit input.now.compilations)
-            (λ line. option_map R.bytes (directory_for sources.paths.1 line))) }
+            TellsDirectories (sections_of R.seen R.Offset.limit input.now.compilations)
+            (λ line. option_map (λ r. (R.seen r).bytes) (directory_for sources.paths.1 line))) }
         ensures strings { IfOk result (λ sources. sources.paths.0 ≡ input.now.strings) }
     {
         let strings = input.strings;
@@ -77,14 +77,14 @@ impl<R: Reader> PathSources<R> {
         header: &LineProgramHeader<R>,
         file: &FileEntry<R>,
     ) -> Result<Vec<u8>, PathError>
-        ensures ok { let paths = unit_paths (texts_seen R.bytes self.now.paths)
+        ensures ok { let paths = unit_paths (texts_seen R.seen self.now.paths)
             (R.Offset.number header.now.offset.0) header.now.meaning in
-            IfOk result (λ path. file_path paths (file_seen R.bytes R.Offset.number file.now)
+            IfOk result (λ path. file_path paths (file_seen R.seen R.Offset.number file.now)
             ≡ Ok path.items) }
-        ensures err { let paths = unit_paths (texts_seen R.bytes self.now.paths)
+        ensures err { let paths = unit_paths (texts_seen R.seen self.now.paths)
             (R.Offset.number header.now.offset.0) header.now.meaning in
             IfErr result (λ e. e ≢ OutOfMemory
-            → file_path paths (file_seen R.bytes R.Offset.number file.now) ≡ Err e) }
+            → file_path paths (file_seen R.seen R.Offset.number file.now) ≡ Err e) }
     {
         self.paths.of_file(alloc, header, file)
     }
@@ -97,10 +97,10 @@ impl<R: Reader> PathSources<R> {
         header: &LineProgramHeader<R>,
         row: &LineRow,
     ) -> Result<Vec<u8>, PathError>
-        ensures ok { let paths = unit_paths (texts_seen R.bytes self.now.paths)
+        ensures ok { let paths = unit_paths (texts_seen R.seen self.now.paths)
             (R.Offset.number header.now.offset.0) header.now.meaning in
             IfOk result (λ path. row_path paths row.now ≡ Ok path.items) }
-        ensures err { let paths = unit_paths (texts_seen R.bytes self.now.paths)
+        ensures err { let paths = unit_paths (texts_seen R.seen self.now.paths)
             (R.Offset.number header.now.offset.0) header.now.meaning in
             IfErr result (λ e. e ≢ OutOfMemory → row_path paths row.now ≡ Err e) }
     {
