@@ -2,7 +2,8 @@
 use Rattle.std.specs.Prelude.{◌≡◌, ◌∷◌, ◌++◌}
 use Rattle.gimli_line.proofs.Common
 use Common.{Bool, List, [], map, sym, subst, Result, Ok, Err, OnOk, OnErr, All, map-append, ValueHasOrder, IsOrder}
-use Common.{Seen, Read, Error, ℕ, ap, arith, value_order, AttributeValue, FileHasOrder, AreFileOrders, file_orders, FileEntry}
+use Common.{Seen, Read, Error, ℕ, ap, arith, value_order, AttributeValue, FileHasOrder, AreFileOrders, file_orders}
+use Common.{FileEntry}
 use Rattle.std.proofs.lemmas.List.Elements.{All-push, All-map}
 use Rattle.gimli_core.specs.Reading.{result_map}
 use Rattle.gimli_core.specs.Seen.{as_reader, part_in_order}
@@ -16,7 +17,6 @@ of_result part is_big (Err x) e = absurd cc
 pub taken_part : {part new : Seen} (read : Read (List ℕ)) (is_big : Bool)
     → ◌≡◌ {A = Result Seen Error × Seen} (Ok part, new) (part_in_order is_big read) → part.is_big ≡ is_big
 taken_part read is_big e = of_result _ is_big read.0 (ap (λ t. t.0) e)
-
 
 -- a list that was made longer, all of whose items have the order that the new one has
 pushed : {X : Type 0} (Has : Bool → X → Type 0) (first now : Bool) (xs longer : List X) (x : X) → longer ≡ xs ++ x ∷ []

@@ -83,7 +83,10 @@ where
     #[inline(always)]
     #[tactic(auto, unfolding(crate::specs::header::HeaderGrammar::file_production))]
     pub(crate) fn parse(input: &mut R, path_name: R) -> Result<Self>
-        ensures read { (result_map (file_seen R.seen Offset.number) result, (R.seen input.new).bytes)
+        ensures read { (
+          result_map (file_seen R.seen Offset.number) result,
+          (R.seen input.new).bytes,
+        )
             ≡ (file_production (R.seen path_name).bytes).read (R.seen input.old).bytes }
         ensures order { (R.seen input.new).is_big ≡ (R.seen input.old).is_big }
         ensures file { IfOk result (FileHasOrder R.seen (R.seen path_name).is_big) }

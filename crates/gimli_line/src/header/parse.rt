@@ -27,7 +27,8 @@ use std::alloc::Global;
 /// Takes a byte that isn't 0. Refused by `error` where it is.
 #[tactic(auto, unfolding(crate::specs::header::Productions::positive))]
 fn parse_positive<R: Reader>(input: &mut R, error: Error) -> Result<u8>
-    ensures read { (result, (R.seen input.new).bytes) ≡ (positive error).read (R.seen input.old).bytes }
+    ensures read { (result, (R.seen input.new).bytes)
+        ≡ (positive error).read (R.seen input.old).bytes }
     ensures order { (R.seen input.new).is_big ≡ (R.seen input.old).is_big }
     ensures positive { IfOk result (λ n. 0 < n) }
 {
@@ -146,12 +147,16 @@ impl<R: Reader> HeaderOpening<R> {
     #[tactic(auto, unfolding(crate::specs::header::HeaderGrammar::opening_production))]
     fn parse(input: &mut R, handed: u8, format: Format) -> Result<Self>
         requires { IsTrue (is_address_size handed) }
-        ensures read { (result_map (opening_seen R.seen R.Offset.number) result, (R.seen input.new).bytes)
+        ensures read { (
+          result_map (opening_seen R.seen R.Offset.number) result,
+          (R.seen input.new).bytes,
+        )
             ≡ (opening_production (layout_of (R.seen input.old).is_big R.Offset.limit) handed
             format).read
             (R.seen input.old).bytes }
         ensures order { (R.seen input.new).is_big ≡ (R.seen input.old).is_big }
-        ensures fields { IfOk result (λ opening. (R.seen opening.fields).is_big ≡ (R.seen input.old).is_big) }
+        ensures fields { IfOk result (λ opening.
+            (R.seen opening.fields).is_big ≡ (R.seen input.old).is_big) }
         ensures size { IfOk result (λ opening.
             IsTrue (is_address_size opening.encoding.address_size)) }
     {
@@ -293,7 +298,8 @@ where
     fn comp_file_of(encoding: Encoding, comp_name: Option<R>) -> Option<FileEntry<R, Offset>>
         ensures file { option_map (file_seen R.seen Offset.number) result
             ≡ handed_value encoding
-            (option_map (λ path. plain_file path 0 0 0) (option_map (λ r. (R.seen r).bytes) comp_name)) }
+            (option_map (λ path. plain_file path 0 0 0)
+            (option_map (λ r. (R.seen r).bytes) comp_name)) }
         ensures path { option_map (λ file. file.path_name) result
             ≡ handed_value encoding (option_map String comp_name) }
     {

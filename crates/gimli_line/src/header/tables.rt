@@ -86,7 +86,8 @@ fn parse_all_formats<R: Reader>(
 /// Takes a format. A content type that is too large becomes the greatest one.
 #[tactic(auto, unfolding(crate::specs::header::HeaderGrammar::format_production))]
 fn parse_format<R: Reader>(input: &mut R) -> Result<FileEntryFormat>
-    ensures read { (result, (R.seen input.new).bytes) ≡ format_production.read (R.seen input.old).bytes }
+    ensures read { (result, (R.seen input.new).bytes)
+        ≡ format_production.read (R.seen input.old).bytes }
     ensures order { (R.seen input.new).is_big ≡ (R.seen input.old).is_big }
 {
     let content_type = input.read_uleb128()?.min(0xffff) as u16;
@@ -171,7 +172,8 @@ fn parse_file_v5<R: Reader>(
     formats: &[FileEntryFormat],
 ) -> Result<FileEntry<R>>
     ensures read { (result_map (file_seen R.seen R.Offset.number) result, (R.seen input.new).bytes)
-        ≡ read_map file_of_entry ((entry_production (layout_of (R.seen input.old).is_big R.Offset.limit)
+        ≡ read_map file_of_entry
+        ((entry_production (layout_of (R.seen input.old).is_big R.Offset.limit)
         format formats.now).read (R.seen input.old).bytes) }
     ensures order { (R.seen input.new).is_big ≡ (R.seen input.old).is_big }
     ensures part { IfOk result (FileHasOrder R.seen (R.seen input.old).is_big) }
@@ -193,7 +195,8 @@ fn parse_directories_v5<R: Reader>(
     formats: &[FileEntryFormat],
 ) -> Result<Vec<AttributeValue<R>>>
     ensures read { IsListOutcome (value_seen R.seen R.Offset.number) result (R.seen input.new).bytes
-        (read_map (map path_of) ((entries_production (layout_of (R.seen input.old).is_big R.Offset.limit)
+        (read_map (map path_of)
+        ((entries_production (layout_of (R.seen input.old).is_big R.Offset.limit)
         format formats.now).read (R.seen input.old).bytes)) }
     ensures order { (R.seen input.new).is_big ≡ (R.seen input.old).is_big }
     ensures parts { IfOk result (λ directories.
@@ -241,7 +244,8 @@ pub(crate) fn parse_directory_table<R: Reader>(
     input: &mut R,
     encoding: Encoding,
 ) -> Result<(Vec<FileEntryFormat>, Vec<AttributeValue<R>>)>
-    ensures read { IsTableOutcome (value_seen R.seen R.Offset.number) result (R.seen input.new).bytes
+    ensures read { IsTableOutcome (value_seen R.seen R.Offset.number) result
+        (R.seen input.new).bytes
         ((directory_table (layout_of (R.seen input.old).is_big R.Offset.limit) encoding).read
         (R.seen input.old).bytes) }
     ensures order { (R.seen input.new).is_big ≡ (R.seen input.old).is_big }

@@ -162,7 +162,8 @@ where
     ) -> Result<Self>
         ensures read { (after : List ℕ)
             → (result_map (ins_seen R.seen Offset.number) result, after)
-            ≡ (extended_operands (layout_of (R.seen operands).is_big Offset.limit) header.now.meaning
+            ≡ (extended_operands (layout_of (R.seen operands).is_big Offset.limit)
+            header.now.meaning
             opcode.0 (R.seen operands).bytes).read after }
         ensures allowed { IfOk result (λ i. IsAllowed header.now.meaning.parameters
             (ins_seen R.seen Offset.number i)) }
@@ -198,7 +199,8 @@ where
     ) -> Result<Self>
         requires { 0 < opcode.0 }
         ensures read { (result_map (ins_seen R.seen Offset.number) result, (R.seen input.new).bytes)
-            ≡ (standard_production (layout_of (R.seen input.old).is_big Offset.limit) header.now.meaning
+            ≡ (standard_production (layout_of (R.seen input.old).is_big Offset.limit)
+            header.now.meaning
             opcode.0).read (R.seen input.old).bytes }
         ensures order { (R.seen input.new).is_big ≡ (R.seen input.old).is_big }
         ensures allowed { IfOk result (λ i. IsAllowed header.now.meaning.parameters
@@ -235,7 +237,8 @@ where
     ) -> Result<Self>
         requires { 0 < opcode.0 }
         ensures read { (result_map (ins_seen R.seen Offset.number) result, (R.seen input.new).bytes)
-            ≡ (unknown_production (layout_of (R.seen input.old).is_big Offset.limit) header.now.meaning
+            ≡ (unknown_production (layout_of (R.seen input.old).is_big Offset.limit)
+            header.now.meaning
             opcode.0 (slice_index header.now.meaning.operand_counts (opcode.0 - 1))).read
             (R.seen input.old).bytes }
         ensures order { (R.seen input.new).is_big ≡ (R.seen input.old).is_big }

@@ -1,7 +1,8 @@
 use Rattle.std.specs.Prelude.{◌≡◌}
 use Rattle.gimli_line.proofs
 use proofs.Common
-use Common.{Bool, List, Seen, Option, Some, None, ℕ, refl, ap, option_map, unsigned_Decides, Value, value_by, AttributeValue}
+use Common.{Bool, List, Seen, Option, Some, None, ℕ, refl, ap, option_map, unsigned_Decides, Value, value_by}
+use Common.{AttributeValue}
 use Common.{File, FileOrders, file_by, FileEntry}
 use proofs.Equality.{both, whole, zipped}
 use proofs.laws.equal_files_look_same.Goals as goal
@@ -79,4 +80,4 @@ returns g c readers offsets x y =
     whole
     (both path (both (unsigned_Decides x.directory_index y.directory_index)
     (both (unsigned_Decides x.timestamp y.timestamp) (both (unsigned_Decides x.size y.size) (both md5 source)))))
-    (joined _ _ _ x y) (parted _ _ _ x y)
+    (joined _ _ x y) (parted _ _ x y)

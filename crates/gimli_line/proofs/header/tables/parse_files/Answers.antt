@@ -20,7 +20,8 @@ returns-in_err-path_name-clause-read g c =
 pub returns-then-is_empty-clause-read : goal.returns-then-is_empty-clause-read
 returns-then-is_empty-clause-read g c =
     closed_done (λ x. x) named_file reads_named_file _ _ _ _
-    (text_closed (g.R.Reader.seen c.loop-files.input).bytes _ _ c.if-is_empty.ensures (part_read_of c.in_ok-path_name.ensures))
+    (text_closed (g.R.Reader.seen c.loop-files.input).bytes _ _ c.if-is_empty.ensures
+    (part_read_of c.in_ok-path_name.ensures))
     c.loop-files.invariant.so_far
 
 pub returns-in_err-file-clause-read : goal.returns-in_err-file-clause-read
@@ -28,22 +29,28 @@ returns-in_err-file-clause-read g c =
     let p = err_from_is_err_and c.from_residual-in_err-file.result c.from_residual-in_err-file.ensures.1 in
     rw (p.1, p.2) (λ _.
     closed_ends (λ x. x) named_file reads_named_file _ _ _ _ _
-    (text_free (g.R.Reader.seen c.loop-files.input).bytes _ _ c.if-is_empty.ensures (part_read_of c.in_ok-path_name.ensures))
-    (named_is (g.R.Reader.seen c.loop-files.input).bytes _ _ _ (part_read_of c.in_ok-path_name.ensures) c.in_err-file.ensures.read)
+    (text_free (g.R.Reader.seen c.loop-files.input).bytes _ _ c.if-is_empty.ensures
+    (part_read_of c.in_ok-path_name.ensures))
+    (named_is (g.R.Reader.seen c.loop-files.input).bytes _ _ _ (part_read_of c.in_ok-path_name.ensures)
+    c.in_err-file.ensures.read)
     c.loop-files.invariant.so_far)
 
 pub loop-files-smaller : goal.loop-files-smaller
 loop-files-smaller g c =
     closed_smaller (λ x. x) named_file reads_named_file _ _ _
-    (text_free (g.R.Reader.seen c.loop-files.input).bytes _ _ c.if-is_empty.ensures (part_read_of c.in_ok-path_name.ensures))
-    (named_is (g.R.Reader.seen c.loop-files.input).bytes _ _ _ (part_read_of c.in_ok-path_name.ensures) c.in_ok-file.ensures.read)
+    (text_free (g.R.Reader.seen c.loop-files.input).bytes _ _ c.if-is_empty.ensures
+    (part_read_of c.in_ok-path_name.ensures))
+    (named_is (g.R.Reader.seen c.loop-files.input).bytes _ _ _ (part_read_of c.in_ok-path_name.ensures)
+    c.in_ok-file.ensures.read)
 
 pub loop-files-preserved : goal.loop-files-preserved
 loop-files-preserved g c = record {
   so_far = rw (c.in_ok-push.ensures.ok, map_push)
       (closed_goes_on (λ x. x) named_file reads_named_file _ _ _ _ _
-      (text_free (g.R.Reader.seen c.loop-files.input).bytes _ _ c.if-is_empty.ensures (part_read_of c.in_ok-path_name.ensures))
-      (named_is (g.R.Reader.seen c.loop-files.input).bytes _ _ _ (part_read_of c.in_ok-path_name.ensures) c.in_ok-file.ensures.read)
+      (text_free (g.R.Reader.seen c.loop-files.input).bytes _ _ c.if-is_empty.ensures
+      (part_read_of c.in_ok-path_name.ensures))
+      (named_is (g.R.Reader.seen c.loop-files.input).bytes _ _ _ (part_read_of c.in_ok-path_name.ensures)
+      c.in_ok-file.ensures.read)
       c.loop-files.invariant.so_far);
   order = c.parse.ensures.order ∙ part_order_of c.read_null_terminated_slice.ensures ∙ c.loop-files.invariant.order;
   parts = files_pushed g.R.Reader.seen _ _ _ _ _ c.in_ok-push.ensures.ok
