@@ -79,4 +79,4 @@ returns g c readers offsets x y =
     whole
     (both path (both (unsigned_Decides x.directory_index y.directory_index)
     (both (unsigned_Decides x.timestamp y.timestamp) (both (unsigned_Decides x.size y.size) (both md5 source)))))
-    (joined _ _ _ x y) (parted _ _ _ x y)
+    (joined _ _ x y) (parted _ _ x y)
