@@ -17,7 +17,6 @@ pub taken_part : {part new : Seen} (read : Read (List ℕ)) (is_big : Bool)
     → ◌≡◌ {A = Result Seen Error × Seen} (Ok part, new) (part_in_order is_big read) → part.is_big ≡ is_big
 taken_part read is_big e = of_result _ is_big read.0 (ap (λ t. t.0) e)
 
-
 -- a list that was made longer, all of whose items have the order that the new one has
 pushed : {X : Type 0} (Has : Bool → X → Type 0) (first now : Bool) (xs longer : List X) (x : X) → longer ≡ xs ++ x ∷ []
     → now ≡ first → All (Has first) xs
