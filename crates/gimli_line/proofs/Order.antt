@@ -2,7 +2,8 @@
 use Rattle.std.specs.Prelude.{◌≡◌, ◌∷◌, ◌++◌}
 use Rattle.gimli_line.proofs.Common
 use Common.{Bool, List, [], map, sym, subst, Result, Ok, Err, OnOk, OnErr, All, map-append, ValueHasOrder, IsOrder}
-use Common.{Seen, Read, Error, ℕ, ap, arith, value_order, AttributeValue, FileHasOrder, AreFileOrders, file_orders, FileEntry}
+use Common.{Seen, Read, Error, ℕ, ap, arith, value_order, AttributeValue, FileHasOrder, AreFileOrders, file_orders}
+use Common.{FileEntry}
 use Rattle.std.proofs.lemmas.List.Elements.{All-push, All-map}
 use Rattle.gimli_core.specs.Reading.{result_map}
 use Rattle.gimli_core.specs.Seen.{as_reader, part_in_order}

@@ -36,7 +36,8 @@ impl<R> Model for DebugLine<R> {
 impl<'i, E: Endianity> DebugLine<EndianSlice<'i, E>> {
     /// The section of these bytes, in this order.
     pub fn new(debug_line_section: &'i [u8], endian: E) -> Self
-        ensures bytes { (⟦<EndianSlice<'i, E> as Reader>⟧.seen result).bytes ≡ debug_line_section.now }
+        ensures bytes { (⟦<EndianSlice<'i, E> as Reader>⟧.seen result).bytes
+            ≡ debug_line_section.now }
         ensures order { (⟦<EndianSlice<'i, E> as Reader>⟧.seen result).is_big ≡ E.is_big endian }
     {
         Self::from(EndianSlice::new(debug_line_section, endian))
@@ -86,7 +87,8 @@ impl<R: Reader> DebugLine<R> {
 
     /// The bytes from an offset on; none where it is past the end.
     pub(crate) fn input_at(&self, offset: R::Offset) -> R
-        ensures bytes { (R.seen result).bytes ≡ drop (R.Offset.number offset) (R.seen self.now).bytes }
+        ensures bytes { (R.seen result).bytes
+            ≡ drop (R.Offset.number offset) (R.seen self.now).bytes }
         ensures order { (R.seen result).is_big ≡ (R.seen self.now).is_big }
     {
         let mut input = self.debug_line_section;

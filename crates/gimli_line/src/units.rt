@@ -16,7 +16,8 @@ use std::marker::Model;
 #[tactic(auto, unfolding(crate::specs::Units::any_unit))]
 fn split_unit<R: Reader>(input: &mut R) -> Result<R>
     ensures { (result_map R.seen result, R.seen input.new)
-        ≡ part_taken (any_unit (layout_of (R.seen input.old).is_big R.Offset.limit)) (R.seen input.old) }
+        ≡ part_taken (any_unit (layout_of (R.seen input.old).is_big R.Offset.limit))
+        (R.seen input.old) }
 {
     let (length, _format) = input.read_initial_length()?;
     input.split(length)
@@ -26,7 +27,8 @@ fn split_unit<R: Reader>(input: &mut R) -> Result<R>
 fn skip_unit<R: Reader>(input: &mut R)
     ensures { (R.seen input.new).bytes
         ≡ after_unit
-        ((any_unit (layout_of (R.seen input.old).is_big R.Offset.limit)).read (R.seen input.old).bytes) }
+        ((any_unit (layout_of (R.seen input.old).is_big R.Offset.limit)).read
+        (R.seen input.old).bytes) }
 {
     if split_unit(input).is_err() {
         input.empty();
@@ -82,7 +84,8 @@ impl<R: Reader> Model for LineUnits<R> {
       section = unread_of R.seen R.Offset.limit a.section;
       entry = unit_entry R.seen a.address_size None None;
       offsets =
-          offsets_at (layout_of (R.seen a.section).is_big R.Offset.limit) (length (R.seen a.section).bytes)
+          offsets_at (layout_of (R.seen a.section).is_big R.Offset.limit)
+          (length (R.seen a.section).bytes)
           (drop (R.Offset.number a.offset.0) (R.seen a.section).bytes);
     } };
 

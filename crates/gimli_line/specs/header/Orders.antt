@@ -1,7 +1,8 @@
 -- The orders of bytes of the readers that a header takes from its section.
 use Rattle.std.specs.Prelude.{◌≡◌}
 use Rattle.gimli_line.specs
-use specs.Prelude.{ℕ, Bool, List, map, Option, option_map, All, OrderAndLimit, Seen, value_order, IsOrder}
+use specs.Prelude.{ℕ, Bool, List, map, Option, option_map, All, OrderAndLimit, Seen, value_order}
+use specs.Prelude.{IsOrder}
 use specs.header.File.{FileOrders, file_orders, AreFileOrders}
 use specs.header.Header.{SeenHeader}
 
@@ -24,7 +25,8 @@ module _ {R Offset Endian : Type 0} (seen : R → Seen) where
     operand_counts = (seen h.standard_opcode_lengths).is_big;
     directories = map (value_order seen) h.include_directories.items;
     files = map (file_orders seen) h.file_names.items;
-    handed = (option_map (λ r. (seen r).is_big) h.comp_dir, option_map (file_orders seen) h.comp_file);
+    handed =
+        (option_map (λ r. (seen r).is_big) h.comp_dir, option_map (file_orders seen) h.comp_file);
   }
 
 -- all that were taken from the section have this order

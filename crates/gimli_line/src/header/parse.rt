@@ -287,7 +287,8 @@ where
     fn comp_file_of(encoding: Encoding, comp_name: Option<R>) -> Option<FileEntry<R, Offset>>
         ensures file { option_map (file_seen R.seen Offset.number) result
             ≡ handed_value encoding
-            (option_map (λ path. plain_file path 0 0 0) (option_map (λ r. (R.seen r).bytes) comp_name)) }
+            (option_map (λ path. plain_file path 0 0 0)
+            (option_map (λ r. (R.seen r).bytes) comp_name)) }
         ensures path { option_map (λ file. file.path_name) result
             ≡ handed_value encoding (option_map String comp_name) }
     {

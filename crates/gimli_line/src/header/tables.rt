@@ -194,7 +194,8 @@ fn parse_directories_v5<R: Reader>(
     formats: &[FileEntryFormat],
 ) -> Result<Vec<AttributeValue<R>>>
     ensures read { IsListOutcome (value_seen R.seen R.Offset.number) result (R.seen input.new).bytes
-        (read_map (map path_of) ((entries_production (layout_of (R.seen input.old).is_big R.Offset.limit)
+        (read_map (map path_of)
+        ((entries_production (layout_of (R.seen input.old).is_big R.Offset.limit)
         format formats.now).read (R.seen input.old).bytes)) }
     ensures order { (R.seen input.new).is_big ≡ (R.seen input.old).is_big }
     ensures parts { IfOk result (λ directories.
@@ -242,7 +243,8 @@ pub(crate) fn parse_directory_table<R: Reader>(
     input: &mut R,
     encoding: Encoding,
 ) -> Result<(Vec<FileEntryFormat>, Vec<AttributeValue<R>>)>
-    ensures read { IsTableOutcome (value_seen R.seen R.Offset.number) result (R.seen input.new).bytes
+    ensures read { IsTableOutcome (value_seen R.seen R.Offset.number) result
+        (R.seen input.new).bytes
         ((directory_table (layout_of (R.seen input.old).is_big R.Offset.limit) encoding).read
         (R.seen input.old).bytes) }
     ensures order { (R.seen input.new).is_big ≡ (R.seen input.old).is_big }

@@ -135,7 +135,8 @@ impl LineRow {
     #[inline(always)]
     fn exec_common_opcode<R: Reader>(&mut self, opcode: DwLns, input: &mut R) -> Executed
         ensures executed { IsTrue (is_executed result) → (n : OrderAndLimit) → (h : Header) →
-            IsExecutedAs h.parameters ((standard_production n h opcode.0).read (R.seen input.old).bytes)
+            IsExecutedAs h.parameters
+            ((standard_production n h opcode.0).read (R.seen input.old).bytes)
             (R.seen input.new).bytes self.old self.new result }
         ensures some { IsTrue (is_executed result) → 0 < opcode.0 }
         ensures none { result ≡ Executed.No → self.new ≡ self.old }

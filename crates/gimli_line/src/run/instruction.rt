@@ -160,7 +160,8 @@ where
     ) -> Result<Self>
         ensures read { (after : List ℕ)
             → (result_map (ins_seen R.seen Offset.number) result, after)
-            ≡ (extended_operands (layout_of (R.seen operands).is_big Offset.limit) header.now.meaning
+            ≡ (extended_operands (layout_of (R.seen operands).is_big Offset.limit)
+            header.now.meaning
             opcode.0 (R.seen operands).bytes).read after }
         ensures allowed { IfOk result (λ i. IsAllowed header.now.meaning.parameters
             (ins_seen R.seen Offset.number i)) }

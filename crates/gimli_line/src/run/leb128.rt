@@ -50,7 +50,8 @@ pub(crate) fn read_short_uleb128<R: Reader>(input: &mut R) -> Option<u64>
 #[inline(always)]
 #[tactic(auto, unfolding(gimli_core::specs::Reading::sleb_at))]
 pub(crate) fn read_short_sleb128<R: Reader>(input: &mut R) -> Option<i64>
-    ensures read { IfSome result (λ z. (Ok z, (R.seen input.new).bytes) ≡ signed_at (R.seen input.old).bytes) }
+    ensures read { IfSome result (λ z.
+        (Ok z, (R.seen input.new).bytes) ≡ signed_at (R.seen input.old).bytes) }
     ensures order { (R.seen input.new).is_big ≡ (R.seen input.old).is_big }
 {
     let Ok(first) = input.read_u8() else {

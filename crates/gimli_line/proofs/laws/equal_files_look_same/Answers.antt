@@ -1,7 +1,8 @@
 use Rattle.std.specs.Prelude.{◌≡◌}
 use Rattle.gimli_line.proofs
 use proofs.Common
-use Common.{Bool, List, Seen, Option, Some, None, ℕ, refl, ap, option_map, unsigned_Decides, Value, value_by, AttributeValue}
+use Common.{Bool, List, Seen, Option, Some, None, ℕ, refl, ap, option_map, unsigned_Decides, Value, value_by}
+use Common.{AttributeValue}
 use Common.{File, FileOrders, file_by, FileEntry}
 use proofs.Equality.{both, whole, zipped}
 use proofs.laws.equal_files_look_same.Goals as goal

@@ -1,6 +1,7 @@
 -- How the header of a unit is spelled, production by production, and which refusal comes where a
 -- production isn't there (DWARF 5, section 6.2.4; DWARF 4, section 6.2.4).
-use Rattle.gimli_line.specs.Prelude.{ℕ, List, Some, None, OrderAndLimit, Value, Format, UnknownForm, Seen}
+use Rattle.gimli_line.specs.Prelude.{ℕ, List, Some, None, OrderAndLimit, Value, Format, UnknownForm}
+use Rattle.gimli_line.specs.Prelude.{Seen}
 use Rattle.gimli_line.specs.Prelude.{IsTrue}
 use Rattle.gimli_line.specs.header.File.{File}
 use Rattle.gimli_line.specs.declared.header.file_entry.FileEntryFormat.{FileEntryFormat}

@@ -20,7 +20,8 @@ returns-in_err-path_name-clause-read g c =
 pub returns-then-is_empty-clause-read : goal.returns-then-is_empty-clause-read
 returns-then-is_empty-clause-read g c =
     closed_done (λ x. x) named_file reads_named_file _ _ _ _
-    (text_closed (g.R.Reader.seen c.loop-files.input).bytes _ _ c.if-is_empty.ensures (part_read_of c.in_ok-path_name.ensures))
+    (text_closed (g.R.Reader.seen c.loop-files.input).bytes _ _ c.if-is_empty.ensures
+    (part_read_of c.in_ok-path_name.ensures))
     c.loop-files.invariant.so_far
 
 pub returns-in_err-file-clause-read : goal.returns-in_err-file-clause-read

@@ -11,7 +11,8 @@ invariant-loop g l =
     let layout = layout_of (g.R.Reader.seen l.fn.input).is_big g.R.Offset.ReaderOffset.limit in
     record {
       so_far : collected (map (file_seen g.R.Reader.seen g.R.Offset.ReaderOffset.number) l.files.items) file_of_entry
-          ((times (l.count - l.counter) (entry_production layout l.format l.formats)).read (g.R.Reader.seen l.input).bytes)
+          ((times (l.count - l.counter) (entry_production layout l.format l.formats)).read
+          (g.R.Reader.seen l.input).bytes)
           ≡ read_map (map file_of_entry)
           ((entries_production layout l.format l.formats).read (g.R.Reader.seen l.fn.input).bytes);
       order : (g.R.Reader.seen l.input).is_big ≡ (g.R.Reader.seen l.fn.input).is_big;

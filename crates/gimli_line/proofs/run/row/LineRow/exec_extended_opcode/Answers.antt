@@ -34,5 +34,6 @@ returns-in-Some-read_short_uleb128-clause-executed g c =
     let h = c.args.header.now.meaning in
     let whole = opened n h _ _ _ _ _ c.in-Some.ensures.read (part_read_of c.in-Ok.ensures) in
     rw (whole, c.set_register-in-DW_LNE_set_discriminator.ensures) (λ is.
-    sets_discriminator n h _ _ _ c.in-Ok-read_u8.opcode (read_of c.in-Ok-read_u8.ensures) c.args.self.now (search rules) _ _
+    sets_discriminator n h _ _ _ c.in-Ok-read_u8.opcode (read_of c.in-Ok-read_u8.ensures) c.args.self.now (search rules)
+    _ _
     c.in-Some-read_short_uleb128.ensures.read)
