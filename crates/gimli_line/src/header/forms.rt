@@ -22,7 +22,8 @@ pub(crate) fn parse_attribute<R: Reader>(
     form: DwForm,
 ) -> Result<AttributeValue<R>>
     ensures read { (result_map (value_seen R.seen R.Offset.number) result, R.seen input.new)
-        ≡ taken (form_production (layout_of (R.seen input.old).is_big R.Offset.limit) format form.0) (R.seen input.old) }
+        ≡ taken (form_production (layout_of (R.seen input.old).is_big R.Offset.limit) format form.0)
+        (R.seen input.old) }
     ensures part { IfOk result (ValueHasOrder R.seen (R.seen input.old).is_big) }
 {
     match form {
@@ -50,7 +51,8 @@ pub(crate) fn parse_attribute<R: Reader>(
 /// Takes a value in a form that isn't a block: a number, or what comes after those.
 fn parse_number<R: Reader>(input: &mut R, format: Format, form: DwForm) -> Result<AttributeValue<R>>
     ensures read { (result_map (value_seen R.seen R.Offset.number) result, R.seen input.new)
-        ≡ taken (form_among (layout_of (R.seen input.old).is_big R.Offset.limit) format (drop 5 shapes)
+        ≡ taken
+        (form_among (layout_of (R.seen input.old).is_big R.Offset.limit) format (drop 5 shapes)
         form.0) (R.seen input.old) }
     ensures part { IfOk result (ValueHasOrder R.seen (R.seen input.old).is_big) }
 {
@@ -73,7 +75,8 @@ fn parse_word_or_text<R: Reader>(
     form: DwForm,
 ) -> Result<AttributeValue<R>>
     ensures read { (result_map (value_seen R.seen R.Offset.number) result, R.seen input.new)
-        ≡ taken (form_among (layout_of (R.seen input.old).is_big R.Offset.limit) format (drop 12 shapes)
+        ≡ taken
+        (form_among (layout_of (R.seen input.old).is_big R.Offset.limit) format (drop 12 shapes)
         form.0) (R.seen input.old) }
     ensures part { IfOk result (ValueHasOrder R.seen (R.seen input.old).is_big) }
 {
@@ -102,7 +105,8 @@ fn parse_word_or_text<R: Reader>(
 /// Takes an index of a text. Refused by `UnknownForm` at a form that has none.
 fn parse_index<R: Reader>(input: &mut R, format: Format, form: DwForm) -> Result<AttributeValue<R>>
     ensures read { (result_map (value_seen R.seen R.Offset.number) result, R.seen input.new)
-        ≡ taken (form_among (layout_of (R.seen input.old).is_big R.Offset.limit) format (drop 18 shapes)
+        ≡ taken
+        (form_among (layout_of (R.seen input.old).is_big R.Offset.limit) format (drop 18 shapes)
         form.0) (R.seen input.old) }
     ensures part { IfOk result (ValueHasOrder R.seen (R.seen input.old).is_big) }
 {
@@ -131,7 +135,8 @@ fn parse_block<R: Reader>(input: &mut R, len: R::Offset) -> Result<AttributeValu
 /// type is too narrow.
 pub(crate) fn parse_offset<R: Reader>(input: &mut R) -> Result<R::Offset>
     ensures { (result_map R.Offset.number result, R.seen input.new)
-        ≡ taken (below_limit (layout_of (R.seen input.old).is_big R.Offset.limit) unsigned) (R.seen input.old) }
+        ≡ taken (below_limit (layout_of (R.seen input.old).is_big R.Offset.limit) unsigned)
+        (R.seen input.old) }
 {
     let number = read_uleb128(input)?;
     R::Offset::from_u64(number)

@@ -145,7 +145,8 @@ impl<R: Reader> HeaderOpening<R> {
         ensures read { (result_map (opening_seen R.seen R.Offset.number) result, R.seen input.new)
             ≡ taken (opening_production (layout_of (R.seen input.old).is_big R.Offset.limit) handed
             format) (R.seen input.old) }
-        ensures fields { IfOk result (λ opening. (R.seen opening.fields).is_big ≡ (R.seen input.old).is_big) }
+        ensures fields { IfOk result (λ opening.
+            (R.seen opening.fields).is_big ≡ (R.seen input.old).is_big) }
         ensures size { IfOk result (λ opening.
             IsTrue (is_address_size opening.encoding.address_size)) }
     {

@@ -87,7 +87,8 @@ fn read_short_offset<R: Reader>(input: &mut R) -> Option<R::Offset>
 /// Takes the operand of a set address.
 fn read_set_address<R: Reader>(operands: &mut R, parameters: &Parameters) -> Result<u64>
     ensures { (result, R.seen operands.new)
-        ≡ taken (number (R.seen operands.old).is_big parameters.now.encoding.address_size) (R.seen operands.old) }
+        ≡ taken (number (R.seen operands.old).is_big parameters.now.encoding.address_size)
+        (R.seen operands.old) }
 {
     operands.read_address(parameters.encoding.address_size)
 }

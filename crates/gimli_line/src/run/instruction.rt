@@ -197,7 +197,8 @@ where
     ) -> Result<Self>
         requires { 0 < opcode.0 }
         ensures read { (result_map (ins_seen R.seen Offset.number) result, R.seen input.new)
-            ≡ taken (standard_production (layout_of (R.seen input.old).is_big Offset.limit) header.now.meaning
+            ≡ taken (standard_production (layout_of (R.seen input.old).is_big Offset.limit)
+            header.now.meaning
             opcode.0) (R.seen input.old) }
         ensures allowed { IfOk result (λ i. IsAllowed header.now.meaning.parameters
             (ins_seen R.seen Offset.number i)) }
@@ -233,8 +234,10 @@ where
     ) -> Result<Self>
         requires { 0 < opcode.0 }
         ensures read { (result_map (ins_seen R.seen Offset.number) result, R.seen input.new)
-            ≡ taken (unknown_production (layout_of (R.seen input.old).is_big Offset.limit) header.now.meaning
-            opcode.0 (slice_index header.now.meaning.operand_counts (opcode.0 - 1))) (R.seen input.old) }
+            ≡ taken (unknown_production (layout_of (R.seen input.old).is_big Offset.limit)
+            header.now.meaning
+            opcode.0 (slice_index header.now.meaning.operand_counts (opcode.0 - 1)))
+            (R.seen input.old) }
         ensures allowed { IfOk result (λ i. IsAllowed header.now.meaning.parameters
             (ins_seen R.seen Offset.number i)) }
         ensures operands { IfOk result (InsHasOrder R.seen (R.seen input.old).is_big) }

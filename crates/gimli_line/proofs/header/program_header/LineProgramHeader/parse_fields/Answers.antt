@@ -1,6 +1,7 @@
 use Rattle.std.specs.Prelude.{◌-◌}
 use Rattle.gimli_line.proofs
-use proofs.Common.{sym, ap, ◌∙◌, err_from_is_err_and, option_map, String, Parameters, read_of, order_of, part_read_of, part_order_of}
+use proofs.Common.{sym, ap, ◌∙◌, err_from_is_err_and, option_map, String, Parameters, read_of, order_of, part_read_of}
+use proofs.Common.{part_order_of}
 use Rattle.gimli_line.specs.header.HeaderGrammar.{handed_value}
 use proofs.Fields.{parameters_end, counts_end, directories_end, files_end, fields_done}
 use proofs.Order.{values_kept, files_kept, values_mapped, files_mapped, taken_part}

@@ -1,5 +1,6 @@
 use Rattle.std.specs.Prelude.{◌≡◌, ◌-◌, ◌<◌}
-use Rattle.gimli_line.proofs.Common.{ℕ, List, ◌∙◌, arith, OrderAndLimit, Header, slice_index, read_of, order_of, taken_of}
+use Rattle.gimli_line.proofs.Common.{ℕ, List, ◌∙◌, arith, OrderAndLimit, Header, slice_index, read_of, order_of}
+use Rattle.gimli_line.proofs.Common.{taken_of}
 use Rattle.gimli_line.specs.run.InstructionGrammar.{standard_production, unknown_production}
 use Rattle.gimli_line.proofs.run.instruction.LineInstruction.parse_standard.Goals as goal
 

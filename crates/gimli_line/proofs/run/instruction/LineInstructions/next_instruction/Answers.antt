@@ -5,7 +5,8 @@ use proofs.run.instruction.LineInstructions.next_instruction.Goals as goal
 
 pub returns-in-Ok-clause-next : goal.returns-in-Ok-clause-next
 returns-in-Ok-clause-next g c =
-    rw (← c.self.view_is) ((reads_instruction _ c.args.header.now.meaning).found _ _ _ (sym (read_of c.in-Ok.ensures.read)))
+    rw (← c.self.view_is)
+    ((reads_instruction _ c.args.header.now.meaning).found _ _ _ (sym (read_of c.in-Ok.ensures.read)))
 
 pub returns-in-Err-clause-refusal : goal.returns-in-Err-clause-refusal
 returns-in-Err-clause-refusal g c = rw (← c.self.view_is) (
