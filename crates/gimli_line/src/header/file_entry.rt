@@ -2,6 +2,7 @@
 
 ghost use Rattle.std.specs.Prelude.{◌≡◌};
 ghost use Rattle.gimli_core.specs.Reading.{result_map};
+ghost use Rattle.gimli_core.specs.Seen.{taken};
 ghost use Rattle.gimli_core.specs.Values.{value_seen};
 ghost use Rattle.gimli_core.specs.declared.attribute_value.AttributeValue.TheVariants.{String};
 ghost use Rattle.gimli_line.specs.header.HeaderGrammar.{digest};
@@ -83,12 +84,8 @@ where
     #[inline(always)]
     #[tactic(auto, unfolding(crate::specs::header::HeaderGrammar::file_production))]
     pub(crate) fn parse(input: &mut R, path_name: R) -> Result<Self>
-        ensures read { (
-          result_map (file_seen R.seen Offset.number) result,
-          (R.seen input.new).bytes,
-        )
-            ≡ (file_production (R.seen path_name).bytes).read (R.seen input.old).bytes }
-        ensures order { (R.seen input.new).is_big ≡ (R.seen input.old).is_big }
+        ensures read { (result_map (file_seen R.seen Offset.number) result, R.seen input.new)
+            ≡ taken (file_production (R.seen path_name).bytes) (R.seen input.old) }
         ensures file { IfOk result (FileHasOrder R.seen (R.seen path_name).is_big) }
     {
         let directory_index = read_uleb128(input)?;

@@ -5,6 +5,7 @@ ghost use Rattle.std.specs.Prelude.{◌≡◌, ◌<◌, IfOk, IsTrue, option_map
 ghost use Rattle.gimli_core.specs.Layout.{layout_of};
 ghost use Rattle.gimli_core.specs.Numbers.{is_address_size};
 ghost use Rattle.gimli_core.specs.Reading.{result_map};
+ghost use Rattle.gimli_core.specs.Seen.{taken};
 ghost use Rattle.gimli_line.specs.header.HeaderGrammar.{
   version_production,
   address_size_production,
@@ -27,9 +28,8 @@ use std::alloc::Global;
 /// Takes a byte that isn't 0. Refused by `error` where it is.
 #[tactic(auto, unfolding(crate::specs::header::Productions::positive))]
 fn parse_positive<R: Reader>(input: &mut R, error: Error) -> Result<u8>
-    ensures read { (result, (R.seen input.new).bytes)
-        ≡ (positive error).read (R.seen input.old).bytes }
-    ensures order { (R.seen input.new).is_big ≡ (R.seen input.old).is_big }
+    ensures read { (result, R.seen input.new)
+        ≡ taken (positive error) (R.seen input.old) }
     ensures positive { IfOk result (λ n. 0 < n) }
 {
     let n = input.read_u8()?;
@@ -43,9 +43,8 @@ fn parse_positive<R: Reader>(input: &mut R, error: Error) -> Result<u8>
 /// appendix F). Refused by `UnknownVersion` at any other.
 #[tactic(auto, unfolding(crate::specs::header::HeaderGrammar::version_production))]
 fn parse_version<R: Reader>(input: &mut R) -> Result<u16>
-    ensures read { (result, (R.seen input.new).bytes)
-        ≡ (version_production (R.seen input.old).is_big).read (R.seen input.old).bytes }
-    ensures order { (R.seen input.new).is_big ≡ (R.seen input.old).is_big }
+    ensures { (result, R.seen input.new)
+        ≡ taken (version_production (R.seen input.old).is_big) (R.seen input.old) }
 {
     let version = input.read_u16()?;
     if version < 2 || version > 5 {
@@ -59,9 +58,8 @@ fn parse_version<R: Reader>(input: &mut R) -> Result<u16>
 #[tactic(auto, unfolding(crate::specs::header::HeaderGrammar::address_size_production))]
 fn parse_address_size<R: Reader>(input: &mut R, version: u16, handed: u8) -> Result<u8>
     requires { IsTrue (is_address_size handed) }
-    ensures read { (result, (R.seen input.new).bytes)
-        ≡ (address_size_production version handed).read (R.seen input.old).bytes }
-    ensures order { (R.seen input.new).is_big ≡ (R.seen input.old).is_big }
+    ensures read { (result, R.seen input.new)
+        ≡ taken (address_size_production version handed) (R.seen input.old) }
     ensures size { IfOk result (λ n. IsTrue (is_address_size n)) }
 {
     if version <= 4 {
@@ -78,9 +76,8 @@ fn parse_address_size<R: Reader>(input: &mut R, version: u16, handed: u8) -> Res
 /// Takes what rows are encoded by. Up to version 3 the maximum of operations isn't there, and is 1.
 #[tactic(auto, unfolding(crate::specs::header::HeaderGrammar::line_encoding_production))]
 fn parse_line_encoding<R: Reader>(input: &mut R, version: u16) -> Result<LineEncoding>
-    ensures read { (result, (R.seen input.new).bytes)
-        ≡ (line_encoding_production version).read (R.seen input.old).bytes }
-    ensures order { (R.seen input.new).is_big ≡ (R.seen input.old).is_big }
+    ensures read { (result, R.seen input.new)
+        ≡ taken (line_encoding_production version) (R.seen input.old) }
     ensures allowed { IfOk result IsLineEncoding }
 {
     let minimum_instruction_length = parse_positive(input, Error::MinimumInstructionLengthZero)?;
@@ -100,9 +97,8 @@ fn parse_line_encoding<R: Reader>(input: &mut R, version: u16) -> Result<LineEnc
 /// The maximum of operations of an instruction: there from version 4 on, for machines whose
 /// instructions are bundles of operations.
 fn parse_operations<R: Reader>(input: &mut R, version: u16) -> Result<u8>
-    ensures read { (result, (R.seen input.new).bytes)
-        ≡ (operations_production version).read (R.seen input.old).bytes }
-    ensures order { (R.seen input.new).is_big ≡ (R.seen input.old).is_big }
+    ensures read { (result, R.seen input.new)
+        ≡ taken (operations_production version) (R.seen input.old) }
     ensures positive { IfOk result (λ n. 0 < n) }
 {
     if version <= 3 {
@@ -115,9 +111,8 @@ fn parse_operations<R: Reader>(input: &mut R, version: u16) -> Result<u8>
 #[tactic(auto, unfolding(crate::specs::header::HeaderGrammar::parameters_production))]
 fn parse_parameters<R: Reader>(input: &mut R, encoding: Encoding) -> Result<Parameters>
     requires { IsTrue (is_address_size encoding.address_size) }
-    ensures read { (result, (R.seen input.new).bytes)
-        ≡ (parameters_production encoding).read (R.seen input.old).bytes }
-    ensures order { (R.seen input.new).is_big ≡ (R.seen input.old).is_big }
+    ensures read { (result, R.seen input.new)
+        ≡ taken (parameters_production encoding) (R.seen input.old) }
     ensures positive { IfOk result (λ parameters. 0 < parameters.opcode_base) }
     ensures encoding { IfOk result (λ parameters. parameters.encoding ≡ encoding) }
 {
@@ -147,14 +142,9 @@ impl<R: Reader> HeaderOpening<R> {
     #[tactic(auto, unfolding(crate::specs::header::HeaderGrammar::opening_production))]
     fn parse(input: &mut R, handed: u8, format: Format) -> Result<Self>
         requires { IsTrue (is_address_size handed) }
-        ensures read { (
-          result_map (opening_seen R.seen R.Offset.number) result,
-          (R.seen input.new).bytes,
-        )
-            ≡ (opening_production (layout_of (R.seen input.old).is_big R.Offset.limit) handed
-            format).read
-            (R.seen input.old).bytes }
-        ensures order { (R.seen input.new).is_big ≡ (R.seen input.old).is_big }
+        ensures read { (result_map (opening_seen R.seen R.Offset.number) result, R.seen input.new)
+            ≡ taken (opening_production (layout_of (R.seen input.old).is_big R.Offset.limit) handed
+            format) (R.seen input.old) }
         ensures fields { IfOk result (λ opening.
             (R.seen opening.fields).is_big ≡ (R.seen input.old).is_big) }
         ensures size { IfOk result (λ opening.

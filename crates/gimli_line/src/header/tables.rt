@@ -3,6 +3,7 @@
 ghost use Rattle.std.specs.Prelude.{◌≡◌, [], ◌∷◌, ◌++◌, map, IfErr, IfOk, OnErr, OnOk};
 ghost use Rattle.gimli_core.specs.Production.{times};
 ghost use Rattle.gimli_core.specs.Reading.{result_map};
+ghost use Rattle.gimli_core.specs.Seen.{in_order, taken};
 ghost use Rattle.std.specs.List.{All};
 ghost use Rattle.gimli_core.specs.Layout.{layout_of};
 ghost use Rattle.gimli_core.specs.Values.{value_seen, ValueHasOrder};
@@ -86,9 +87,8 @@ fn parse_all_formats<R: Reader>(
 /// Takes a format. A content type that is too large becomes the greatest one.
 #[tactic(auto, unfolding(crate::specs::header::HeaderGrammar::format_production))]
 fn parse_format<R: Reader>(input: &mut R) -> Result<FileEntryFormat>
-    ensures read { (result, (R.seen input.new).bytes)
-        ≡ format_production.read (R.seen input.old).bytes }
-    ensures order { (R.seen input.new).is_big ≡ (R.seen input.old).is_big }
+    ensures { (result, R.seen input.new)
+        ≡ taken format_production (R.seen input.old) }
 {
     let content_type = input.read_uleb128()?.min(0xffff) as u16;
     let form = input.read_uleb128_u16()?;
@@ -155,10 +155,10 @@ fn parse_directory_v5<R: Reader>(
     format: Format,
     formats: &[FileEntryFormat],
 ) -> Result<AttributeValue<R>>
-    ensures read { (result_map (value_seen R.seen R.Offset.number) result, (R.seen input.new).bytes)
-        ≡ read_map path_of ((entry_production (layout_of (R.seen input.old).is_big R.Offset.limit)
-        format formats.now).read (R.seen input.old).bytes) }
-    ensures order { (R.seen input.new).is_big ≡ (R.seen input.old).is_big }
+    ensures read { (result_map (value_seen R.seen R.Offset.number) result, R.seen input.new)
+        ≡ in_order (R.seen input.old).is_big (read_map path_of
+        ((entry_production (layout_of (R.seen input.old).is_big R.Offset.limit) format
+        formats.now).read (R.seen input.old).bytes)) }
     ensures part { IfOk result (ValueHasOrder R.seen (R.seen input.old).is_big) }
 {
     let file = parse_file_v5(input, format, formats)?;
@@ -171,11 +171,10 @@ fn parse_file_v5<R: Reader>(
     format: Format,
     formats: &[FileEntryFormat],
 ) -> Result<FileEntry<R>>
-    ensures read { (result_map (file_seen R.seen R.Offset.number) result, (R.seen input.new).bytes)
-        ≡ read_map file_of_entry
-        ((entry_production (layout_of (R.seen input.old).is_big R.Offset.limit)
-        format formats.now).read (R.seen input.old).bytes) }
-    ensures order { (R.seen input.new).is_big ≡ (R.seen input.old).is_big }
+    ensures read { (result_map (file_seen R.seen R.Offset.number) result, R.seen input.new)
+        ≡ in_order (R.seen input.old).is_big (read_map file_of_entry
+        ((entry_production (layout_of (R.seen input.old).is_big R.Offset.limit) format
+        formats.now).read (R.seen input.old).bytes)) }
     ensures part { IfOk result (FileHasOrder R.seen (R.seen input.old).is_big) }
 {
     let mut file = FileEntry::of_path(nothing(input));

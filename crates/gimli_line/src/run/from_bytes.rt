@@ -14,6 +14,7 @@
 
 ghost use Rattle.std.specs.Prelude.{◌≡◌, ◌<◌, IfErr, IfOk, IfSome, IsNone, IsTrue, Ok};
 ghost use Rattle.gimli_core.specs.Layout.{OrderAndLimit, layout_of};
+ghost use Rattle.gimli_core.specs.Seen.{taken};
 ghost use Rattle.gimli_core.specs.Production.{below_limit, number, unsigned};
 ghost use Rattle.gimli_line.specs.declared.run.instruction.LineInstruction.TheVariants.{DefineFile};
 ghost use Rattle.gimli_line.specs.header.File.{file_seen, FileHasOrder};
@@ -85,9 +86,9 @@ fn read_short_offset<R: Reader>(input: &mut R) -> Option<R::Offset>
 
 /// Takes the operand of a set address.
 fn read_set_address<R: Reader>(operands: &mut R, parameters: &Parameters) -> Result<u64>
-    ensures read { (result, (R.seen operands.new).bytes)
-        ≡ (number (R.seen operands.old).is_big parameters.now.encoding.address_size).read
-        (R.seen operands.old).bytes }
+    ensures { (result, R.seen operands.new)
+        ≡ taken (number (R.seen operands.old).is_big parameters.now.encoding.address_size)
+        (R.seen operands.old) }
 {
     operands.read_address(parameters.encoding.address_size)
 }

@@ -4,7 +4,7 @@ ghost use Rattle.std.specs.Prelude.{◌≡◌, ◌-◌, IfOk, IfSome, slice_inde
 ghost use Rattle.gimli_core.specs.Layout.{layout_of};
 ghost use Rattle.gimli_core.specs.Production.{times, unsigned};
 ghost use Rattle.gimli_core.specs.Reading.{result_map};
-ghost use Rattle.gimli_core.specs.Seen.{part_taken};
+ghost use Rattle.gimli_core.specs.Seen.{in_order, part_taken, taken};
 ghost use Rattle.gimli_line.specs.header.Productions.{bytes_of};
 ghost use Rattle.gimli_line.specs.inside.header.Outcome.{without_value};
 
@@ -117,10 +117,9 @@ where
 
     /// Takes an instruction.
     pub(crate) fn parse(header: &LineProgramHeader<R, Offset>, input: &mut R) -> Result<Self>
-        ensures read { (result_map (ins_seen R.seen Offset.number) result, (R.seen input.new).bytes)
-            ≡ (instruction_production (layout_of (R.seen input.old).is_big Offset.limit)
-            header.now.meaning).read (R.seen input.old).bytes }
-        ensures order { (R.seen input.new).is_big ≡ (R.seen input.old).is_big }
+        ensures read { (result_map (ins_seen R.seen Offset.number) result, R.seen input.new)
+            ≡ taken (instruction_production (layout_of (R.seen input.old).is_big Offset.limit)
+            header.now.meaning) (R.seen input.old) }
         ensures allowed { IfOk result (λ i. IsAllowed header.now.meaning.parameters
             (ins_seen R.seen Offset.number i)) }
         ensures operands { IfOk result (InsHasOrder R.seen (R.seen input.old).is_big) }
@@ -139,10 +138,9 @@ where
     /// length, the opcode, and its operands. Surplus bytes within its length are skipped.
     #[tactic(auto, unfolding(crate::specs::run::InstructionGrammar::extended_production))]
     fn parse_extended(header: &LineProgramHeader<R, Offset>, input: &mut R) -> Result<Self>
-        ensures read { (result_map (ins_seen R.seen Offset.number) result, (R.seen input.new).bytes)
-            ≡ (extended_production (layout_of (R.seen input.old).is_big Offset.limit)
-            header.now.meaning).read (R.seen input.old).bytes }
-        ensures order { (R.seen input.new).is_big ≡ (R.seen input.old).is_big }
+        ensures read { (result_map (ins_seen R.seen Offset.number) result, R.seen input.new)
+            ≡ taken (extended_production (layout_of (R.seen input.old).is_big Offset.limit)
+            header.now.meaning) (R.seen input.old) }
         ensures allowed { IfOk result (λ i. IsAllowed header.now.meaning.parameters
             (ins_seen R.seen Offset.number i)) }
         ensures operands { IfOk result (InsHasOrder R.seen (R.seen input.old).is_big) }
@@ -198,11 +196,10 @@ where
         input: &mut R,
     ) -> Result<Self>
         requires { 0 < opcode.0 }
-        ensures read { (result_map (ins_seen R.seen Offset.number) result, (R.seen input.new).bytes)
-            ≡ (standard_production (layout_of (R.seen input.old).is_big Offset.limit)
+        ensures read { (result_map (ins_seen R.seen Offset.number) result, R.seen input.new)
+            ≡ taken (standard_production (layout_of (R.seen input.old).is_big Offset.limit)
             header.now.meaning
-            opcode.0).read (R.seen input.old).bytes }
-        ensures order { (R.seen input.new).is_big ≡ (R.seen input.old).is_big }
+            opcode.0) (R.seen input.old) }
         ensures allowed { IfOk result (λ i. IsAllowed header.now.meaning.parameters
             (ins_seen R.seen Offset.number i)) }
         ensures operands { IfOk result (InsHasOrder R.seen (R.seen input.old).is_big) }
@@ -236,12 +233,11 @@ where
         input: &mut R,
     ) -> Result<Self>
         requires { 0 < opcode.0 }
-        ensures read { (result_map (ins_seen R.seen Offset.number) result, (R.seen input.new).bytes)
-            ≡ (unknown_production (layout_of (R.seen input.old).is_big Offset.limit)
+        ensures read { (result_map (ins_seen R.seen Offset.number) result, R.seen input.new)
+            ≡ taken (unknown_production (layout_of (R.seen input.old).is_big Offset.limit)
             header.now.meaning
-            opcode.0 (slice_index header.now.meaning.operand_counts (opcode.0 - 1))).read
-            (R.seen input.old).bytes }
-        ensures order { (R.seen input.new).is_big ≡ (R.seen input.old).is_big }
+            opcode.0 (slice_index header.now.meaning.operand_counts (opcode.0 - 1)))
+            (R.seen input.old) }
         ensures allowed { IfOk result (λ i. IsAllowed header.now.meaning.parameters
             (ins_seen R.seen Offset.number i)) }
         ensures operands { IfOk result (InsHasOrder R.seen (R.seen input.old).is_big) }
@@ -271,9 +267,9 @@ fn parse_operands<R: Reader>(input: &mut R, count: u8) -> Result<R>
 
 /// Takes so many LEB128 numbers.
 fn skip_operands<R: Reader>(input: &mut R, count: u8) -> Result<()>
-    ensures read { (result, (R.seen input.new).bytes)
-        ≡ without_value ((times count unsigned).read (R.seen input.old).bytes) }
-    ensures order { (R.seen input.new).is_big ≡ (R.seen input.old).is_big }
+    ensures { (result, R.seen input.new)
+        ≡ in_order (R.seen input.old).is_big
+        (without_value ((times count unsigned).read (R.seen input.old).bytes)) }
 {
     for _ in 0..count {
         input.read_uleb128()?;

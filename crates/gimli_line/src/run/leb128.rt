@@ -2,6 +2,7 @@
 
 ghost use Rattle.std.specs.Prelude.{◌≡◌, ◌<◌, ◌-ℤ◌, pos, nat_le, if◌then◌else◌, IfSome, Ok};
 ghost use Rattle.gimli_core.specs.Reading.{signed_at, unsigned_at};
+ghost use Rattle.gimli_core.specs.Seen.{on_bytes};
 
 use gimli_core::{Reader, Result};
 
@@ -9,8 +10,8 @@ use gimli_core::{Reader, Result};
 /// most are, in line.
 #[inline(always)]
 pub(crate) fn read_uleb128<R: Reader>(input: &mut R) -> Result<u64>
-    ensures read { (result, (R.seen input.new).bytes) ≡ unsigned_at (R.seen input.old).bytes }
-    ensures order { (R.seen input.new).is_big ≡ (R.seen input.old).is_big }
+    ensures { (result, R.seen input.new)
+        ≡ on_bytes unsigned_at (R.seen input.old) }
 {
     let mut short = *input;
     let Some(number) = read_short_uleb128(&mut short) else {

@@ -1,6 +1,7 @@
 use Rattle.std.proofs.lemmas.List.{map-id}
 use Rattle.gimli_line.proofs
-use proofs.Common.{refl, ◌∙◌, map_push, err_from_is_err_and, FileHasOrder, named_file, part_read_of, part_order_of}
+use proofs.Common.{refl, ◌∙◌, map_push, err_from_is_err_and, FileHasOrder, named_file, read_of, order_of, part_read_of}
+use proofs.Common.{part_order_of}
 use proofs.Order.{files_pushed, taken_part}
 use proofs.HeaderLaws.{reads_named_file}
 use proofs.Loops.{closed_goes_on, closed_ends, closed_done, closed_smaller, text_closed, text_free, text_refused}
@@ -32,7 +33,7 @@ returns-in_err-file-clause-read g c =
     (text_free (g.R.Reader.seen c.loop-files.input).bytes _ _ c.if-is_empty.ensures
     (part_read_of c.in_ok-path_name.ensures))
     (named_is (g.R.Reader.seen c.loop-files.input).bytes _ _ _ (part_read_of c.in_ok-path_name.ensures)
-    c.in_err-file.ensures.read)
+    (read_of c.in_err-file.ensures.read))
     c.loop-files.invariant.so_far)
 
 pub loop-files-smaller : goal.loop-files-smaller
@@ -41,7 +42,7 @@ loop-files-smaller g c =
     (text_free (g.R.Reader.seen c.loop-files.input).bytes _ _ c.if-is_empty.ensures
     (part_read_of c.in_ok-path_name.ensures))
     (named_is (g.R.Reader.seen c.loop-files.input).bytes _ _ _ (part_read_of c.in_ok-path_name.ensures)
-    c.in_ok-file.ensures.read)
+    (read_of c.in_ok-file.ensures.read))
 
 pub loop-files-preserved : goal.loop-files-preserved
 loop-files-preserved g c = record {
@@ -50,9 +51,10 @@ loop-files-preserved g c = record {
       (text_free (g.R.Reader.seen c.loop-files.input).bytes _ _ c.if-is_empty.ensures
       (part_read_of c.in_ok-path_name.ensures))
       (named_is (g.R.Reader.seen c.loop-files.input).bytes _ _ _ (part_read_of c.in_ok-path_name.ensures)
-      c.in_ok-file.ensures.read)
+      (read_of c.in_ok-file.ensures.read))
       c.loop-files.invariant.so_far);
-  order = c.parse.ensures.order ∙ part_order_of c.read_null_terminated_slice.ensures ∙ c.loop-files.invariant.order;
+  order =
+      order_of c.parse.ensures.read ∙ part_order_of c.read_null_terminated_slice.ensures ∙ c.loop-files.invariant.order;
   parts = files_pushed g.R.Reader.seen _ _ _ _ _ c.in_ok-push.ensures.ok
       (taken_part _ _ c.in_ok-path_name.ensures ∙ c.loop-files.invariant.order) c.loop-files.invariant.parts
       c.in_ok-file.ensures.file;
@@ -65,11 +67,11 @@ returns-in_err-push-clause-read g c =
 
 pub returns-in_err-push-clause-order : goal.returns-in_err-push-clause-order
 returns-in_err-push-clause-order g c =
-    c.parse.ensures.order ∙ part_order_of c.read_null_terminated_slice.ensures ∙ c.loop-files.invariant.order
+    order_of c.parse.ensures.read ∙ part_order_of c.read_null_terminated_slice.ensures ∙ c.loop-files.invariant.order
 
 pub returns-in_err-file-clause-order : goal.returns-in_err-file-clause-order
 returns-in_err-file-clause-order g c =
-    c.parse.ensures.order ∙ part_order_of c.read_null_terminated_slice.ensures ∙ c.loop-files.invariant.order
+    order_of c.parse.ensures.read ∙ part_order_of c.read_null_terminated_slice.ensures ∙ c.loop-files.invariant.order
 
 pub loop-files-init : goal.loop-files-init
 loop-files-init g c = record {

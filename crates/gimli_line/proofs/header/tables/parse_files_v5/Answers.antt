@@ -15,17 +15,17 @@ loop-init g c = record {
 pub returns-in_err-file-clause-read : goal.returns-in_err-file-clause-read
 returns-in_err-file-clause-read g c =
     let p = err_from_is_err_and c.from_residual-in_err-file.result c.from_residual-in_err-file.ensures.1 in
-    let is = entry_kept _ file_of_entry _ _ _ _ _ _ c.loop.invariant.order c.in_err-file.ensures.read in
+    let is = entry_kept _ file_of_entry _ _ _ _ _ _ c.loop.invariant.order (read_of c.in_err-file.ensures.read) in
     rw (p.1, p.2) (λ _.
     times_ends file_of_entry _ _ _ _ _ _ _ _ c.loop-test.true is c.loop.invariant.so_far)
 
 pub loop-preserved : goal.loop-preserved
 loop-preserved g c = record {
   so_far =
-      let is = entry_kept _ file_of_entry _ _ _ _ _ _ c.loop.invariant.order c.in_ok-file.ensures.read in
+      let is = entry_kept _ file_of_entry _ _ _ _ _ _ c.loop.invariant.order (read_of c.in_ok-file.ensures.read) in
       rw (c.in_ok-push.ensures.ok, map_push)
       (times_goes_on file_of_entry _ _ _ _ _ _ _ _ c.loop-test.true is c.loop.invariant.so_far);
-  order = c.parse_file_v5.ensures.order ∙ c.loop.invariant.order;
+  order = order_of c.parse_file_v5.ensures.read ∙ c.loop.invariant.order;
   parts = files_pushed g.R.Reader.seen _ _ _ _ _ c.in_ok-push.ensures.ok c.loop.invariant.order c.loop.invariant.parts
       c.in_ok-file.ensures.part;
 }

@@ -12,4 +12,4 @@ returns-in-Ok-parse-clause-read g c =
     let old = ap (λ (k : Parameters). nat_le k.encoding.version 4) (sym same) ∙ search rules in
     whole ∙ defines n h _ _ _ c.in-Ok-read_u8.opcode (read_of c.in-Ok-read_u8.ensures) (search rules) old _ _
     (part_read_of c.in-Ok-read_null_terminated_slice.ensures) _ _
-    c.in-Ok-parse.ensures.read
+    (read_of c.in-Ok-parse.ensures.read)

@@ -9,5 +9,5 @@ returns-clause-read g c =
     let order = taken_part _ _ c.in_ok-program_buf.ensures ∙ order_of c.read_initial_length.ensures in
     header_answers _ _ _ _ _ _ _ _ _ _ _ _ _ _ _ (read_of c.in_ok-unit_length.ensures)
     (part_read_of c.in_ok-program_buf.ensures) order
-    c.in_ok-opening.ensures.read
-    (c.parse.ensures.order ∙ order) c.parse_fields.ensures.read
+    (read_of c.in_ok-opening.ensures.read)
+    (order_of c.parse.ensures.read ∙ order) c.parse_fields.ensures.read

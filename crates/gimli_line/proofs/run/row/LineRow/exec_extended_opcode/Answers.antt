@@ -21,7 +21,7 @@ returns-in-Ok-read_set_address-clause-executed g c =
     let order = order_of c.in-Ok-read_u8.ensures ∙ taken_part _ _ c.in-Ok.ensures ∙ c.in-Some.ensures.order in
     let operands = (g.R.Reader.seen c.read_u8.new.self).bytes in
     let operand =
-    c.in-Ok-read_set_address.ensures.read
+    read_of c.in-Ok-read_set_address.ensures
     ∙ ap (λ (is_big : Bool). number_at is_big c.header.inside.parameters.encoding.address_size operands) order
     ∙ ap (λ (k : Parameters). number_at n.is_big k.encoding.address_size operands) same in
     rw whole (λ is.
