@@ -1,5 +1,5 @@
 -- What is handed over, as it is built.
-use Rattle.std.proofs.Common.{◌≡◌, ℕ, ◌≤◌, Bool, true, false, List, [], ◌∷◌, ◌++◌, length, map, refl, sym, ap, subst, ◌∙◌}
+use Rattle.std.proofs.Common.{◌≡◌, ℕ, ◌≤◌, Bool, true, false, ◌&&◌, ◌⊎◌, inl, inr, nat_eq, List, [], ◌∷◌, ◌++◌, length, map, refl, sym, ap, subst, ◌∙◌}
 use Rattle.std.proofs.Common.{arith, None}
 use Rattle.std.specs.Prelude.{Result, Ok, Err, bytes_eq, if◌then◌else◌}
 use Rattle.std.specs.List.{list_any}
@@ -11,6 +11,8 @@ use Rattle.gimli_build.specs.Built.{Built}
 use Rattle.gimli_build.specs.Conditions.{CanWrite}
 use Rattle.gimli_build.specs.LineText.{LineText}
 use Rattle.gimli_build.specs.ReadsBack.{ReadsBackAs}
+use Rattle.gimli_build.specs.Version5Tables.{first_form, needs_empty, sources, texts_after}
+use Rattle.gimli_core.specs.FormNumbers.{DW_FORM_line_strp}
 use Rattle.gimli_core.specs.declared.common.Encoding.{Encoding}
 use Rattle.gimli_core.specs.declared.common.LineEncoding.{LineEncoding}
 use Rattle.gimli_build.specs.declared.built.items.BuiltItem.{BuiltItem}
@@ -32,6 +34,20 @@ same_table table text new is few = by (list_any (bytes_eq text) table) is
     by false more =
         let longer = ap (λ (xs : List (List ℕ)). length xs) more ∙ length-append table (text ∷ []) in
         absurd (omega (arith, few, longer))
+
+-- what is written adds at most the empty text to a table
+pub kept_table : (p : Built) (strings table new : List (List ℕ))
+    → (new ≡ table) ⊎ (new ≡ (texts_after p (texts_in strings table)).line_strings) → length new ≤ length table
+    → new ≡ table
+kept_table p strings table new is few =
+    elim is [
+      | inl same ↦ same
+      | inr more ↦ by (needs_empty p && nat_eq (first_form (sources p.files)) DW_FORM_line_strp) more
+    ]
+  where
+    by : (b : Bool) → new ≡ (if b then with_text table [] else table) → new ≡ table
+    by true more = same_table table [] new more few
+    by false same = same
 
 pub no_text : (table : List (List ℕ)) → length table ≤ 0 → table ≡ []
 no_text [] few = refl

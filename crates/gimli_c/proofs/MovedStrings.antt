@@ -98,22 +98,17 @@ moved_at (t ∷ table) (f ∷ firsts) (suc i) d within same =
 
 -- ---- relocations, moved
 
--- one whose addend doesn't change
-pub same_place : (table : List (List ℕ)) (firsts : List ℕ) (r : Relocation) (target : RelocationTarget)
-    → r.target ≡ target → addend_moved table firsts target r.addend ≡ r.addend → r ≡ relocation_moved table firsts r
-same_place table firsts r target is same =
-    ap (λ (a : ℤ). let q : Relocation = record r { addend = a } in q)
-    (sym (ap (λ (x : RelocationTarget). addend_moved table firsts x r.addend) is ∙ same))
-
-pub string_place : (table : List (List ℕ)) (firsts : List ℕ) (r : Relocation) (offset index first d : ℕ)
+-- that of a string
+pub string_place : (table : List (List ℕ)) (firsts : List ℕ) (r : Relocation) (offset index d : ℕ) (addend : ℤ)
     → r.target ≡ OfSection DebugLineStr → r.addend ≡ pos offset → index < length table
-    → length table ≡ length firsts → offset_of table index ≡ offset → first ≡ get_or firsts index d
-    → record r { addend = pos first } ≡ relocation_moved table firsts r
-string_place table firsts r offset index first d target is within same at found =
-    let to : moved table firsts offset ≡ first =
-    ap (moved table firsts) (sym at) ∙ moved_at table firsts index d within same ∙ sym found in
+    → length table ≡ length firsts → offset_of table index ≡ offset → addend ≡ pos (get_or firsts index d)
+    → record r { addend = addend } ≡ relocation_moved table firsts r
+string_place table firsts r offset index d addend target is within same at found =
+    let to : moved table firsts offset ≡ get_or firsts index d =
+    ap (moved table firsts) (sym at) ∙ moved_at table firsts index d within same in
     ap (λ (a : ℤ). let q : Relocation = record r { addend = a } in q)
-    (sym (ap (λ (x : RelocationTarget). addend_moved table firsts x r.addend) target
+    (found
+    ∙ sym (ap (λ (x : RelocationTarget). addend_moved table firsts x r.addend) target
     ∙ ap (addend_moved table firsts (OfSection DebugLineStr)) is
     ∙ ap (λ (n : ℕ). pos n) to))
 

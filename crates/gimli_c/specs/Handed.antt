@@ -76,7 +76,7 @@ names_of version details line_strings texts = record {
 }
 
 -- a name as a text of the program: by itself, or by its index among the texts of a table
-abbrev pub text_of : Names → List (List ℕ) → GimliName → LineText
+unfoldable pub text_of : Names → List (List ℕ) → GimliName → LineText
 text_of names table name =
     if names.shared then InLineStrings (index_of_text table (text_handed names.texts name))
     else Inline (text_handed names.texts name)

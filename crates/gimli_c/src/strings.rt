@@ -1,6 +1,7 @@
 //! The strings of a unit that stand in a section `.debug_line_str` of the caller.
 
-ghost use Rattle.std.specs.Prelude.{◌≡◌, ◌<◌, [], false, true, IfOk, IfSome, length, map};
+ghost use Rattle.std.specs.Prelude.{◌≡◌, ◌<◌, ◌∷◌, ◌++◌, [], false, true, IfOk, IfSome};
+ghost use Rattle.std.specs.Prelude.{length, map};
 ghost use Rattle.gimli_bytes.specs.Texts.{offset_of};
 ghost use Rattle.gimli_bytes.specs.declared.relocation.RelocationTarget.TheVariants.{OfSection};
 ghost use Rattle.gimli_core.specs.declared.common.SectionId.TheVariants.{DebugLineStr};
@@ -85,17 +86,30 @@ fn add_name(
     ensures { IfSome result (λ _.
         StandAt (names_seen names.now).texts table.new firsts.new.items) }
 {
-    if text_fault(names, name).is_some() {
-        return None;
+    match text_fault(names, name) {
+        Some(_) => return None,
+        None => {}
     }
     let count = table.count();
-    if table.add(names.get(name)).is_err() {
-        return None;
+    match table.add(names.get(name)) {
+        Ok(_) => {}
+        Err(_) => return None,
     }
-    if table.count() > count && firsts.push(name.first).is_err() {
-        return None;
+    if table.count() > count {
+        add_first(firsts, name.first)?;
+        return Some(());
     }
     Some(())
+}
+
+/// Adds where a string stands; none where memory lacks.
+fn add_first(firsts: &mut Vec<u64>, first: u64) -> Option<()>
+    ensures { IfSome result (λ _. firsts.new.items ≡ firsts.old.items ++ first ∷ []) }
+{
+    match firsts.push(first) {
+        Ok(()) => Some(()),
+        Err(_) => None,
+    }
 }
 
 /// The relocations of a unit, each offset of a string moved to where it stands in the section.

@@ -94,6 +94,7 @@ pub(crate) fn text_fault(names: &Names<'_>, name: GimliName) -> Option<u32>
 
 /// A text of a program; none where memory lacks, or the name is refused. One of `.debug_line_str`
 /// is in the table.
+#[tactic(auto, unfolding(crate::specs::Handed::text_of))]
 pub(crate) fn text_of(
     alloc: Global,
     names: &Names<'_>,

@@ -10,7 +10,7 @@ pub returns-clause-reads_back : goal.returns-clause-reads_back
 returns-clause-reads_back c =
     let p = c.args.program.now in
     let empty = c.from-section.ensures ∙ c.new.ensures in
-    let few = c.if-line_strings-strings.false in
+    let few = c.if-count-gt0.false in
     read_back (is_big_endian c.from-section.result.0.endian) c.args.is_big p c.write.new.strings
     c.write.new.line_strings c.from-section.result.0.bytes c.write.new.w.0.bytes
     (ap (λ s. is_big_endian s.endian) empty ∙ c.order.ensures) (ap (λ s. s.bytes) empty)
