@@ -2,8 +2,8 @@
 //! and of `.debug_str`, few programs do.
 
 use gimli_core::{DW_FORM_strp, EndianSlice, Reader, RunTimeEndian};
-use gimli_line::{DebugLine, FileEntryFormat, IncompleteLineProgram, LineUnits};
-use gimli_lookup::{StringSections, some_need_directory};
+use gimli_line::{DebugLine, FileEntryFormat, LineProgramHeader, LineUnits};
+use gimli_lookup::{Paths, StringSections, some_need_directory};
 use std::alloc::Global;
 
 /// The order of bytes, by whether the most significant one comes first.
@@ -20,32 +20,49 @@ fn name_strings(formats: &[FileEntryFormat]) -> bool {
     formats.iter().any(|format| format.form == DW_FORM_strp)
 }
 
-/// Whether the tables of a unit name texts of `.debug_str`. One that can't be read names none.
-fn is_named<R: Reader>(program: gimli_core::Result<IncompleteLineProgram<R>>) -> bool {
-    match program {
-        Ok(program) => {
-            let header = program.header();
-            name_strings(header.directory_entry_format())
-                || name_strings(header.file_name_entry_format())
-        }
-        Err(_) => false,
-    }
+/// Whether the tables of a header name texts of `.debug_str`.
+fn is_named<R: Reader>(header: &LineProgramHeader<R>) -> bool {
+    name_strings(header.directory_entry_format()) || name_strings(header.file_name_entry_format())
 }
 
-/// Whether the tables of some of these units name texts of `.debug_str`, or memory is missing.
-fn some_is_named<R: Reader>(mut units: LineUnits<R>) -> bool {
+/// Which sections whole paths need, besides those of the line programs.
+#[derive(Clone, Copy)]
+pub struct Needs {
+    /// A header names texts of `.debug_str`. Only with these is it known whether `.debug_info` is
+    /// needed.
+    pub strings: bool,
+    /// Some header has no directory of its compilation, as `Paths::needs_directory` says, so that
+    /// the units of `.debug_info` are needed.
+    pub units: bool,
+}
+
+/// What some units need: both sections if memory is missing. One that can't be read needs none.
+fn needs_of<R: Reader>(mut units: LineUnits<R>, sections: &StringSections<R>) -> Needs {
+    let both = Needs {
+        strings: true,
+        units: true,
+    };
+    let mut has_none = false;
     for _ in 0..u64::MAX {
-        match units.next() {
-            Ok(Some(unit)) => {
-                if is_named(unit.program) {
-                    return true;
-                }
-            }
-            Ok(None) => return false,
-            Err(_) => return true,
+        let program = match units.next() {
+            Ok(Some(unit)) => unit.program,
+            Ok(None) => break,
+            Err(_) => return both,
+        };
+        let Ok(program) = program else {
+            continue;
+        };
+        if is_named(program.header()) {
+            return both;
+        }
+        if !has_none {
+            has_none = Paths::new(program.header(), *sections, None).needs_directory();
         }
     }
-    true
+    Needs {
+        strings: false,
+        units: has_none,
+    }
 }
 
 /// Line programs, and what they are read with.
@@ -64,20 +81,27 @@ pub struct LinePrograms<'a> {
 }
 
 impl<'a> LinePrograms<'a> {
-    /// Whether paths need `.debug_str`: a header names texts there. It says so too if memory is
-    /// missing.
-    pub fn need_strings(self) -> bool {
-        some_is_named(self.units())
+    /// What paths need, found by one walk over the headers.
+    pub fn needs(self) -> Needs {
+        needs_of(self.units(), &self.sections(&[]))
     }
 
     /// Whether paths need the units of `.debug_info`: some header has no directory of its
-    /// compilation, as `Paths::needs_directory` says. It says so too if memory is missing.
-    pub fn need_units(self, strings: &'a [u8]) -> bool {
-        let sections = StringSections {
+    /// compilation, as `Paths::needs_directory` says. It says so too if memory is missing. `needs`
+    /// is what paths need without `strings`, the section `.debug_str`.
+    pub fn need_units(self, needs: Needs, strings: &'a [u8]) -> bool {
+        if !needs.strings {
+            return needs.units;
+        }
+        some_need_directory(self.units(), &self.sections(strings)).unwrap_or(true)
+    }
+
+    /// The sections of strings.
+    fn sections(self, strings: &'a [u8]) -> StringSections<EndianSlice<'a, RunTimeEndian>> {
+        StringSections {
             debug_line_str: EndianSlice::new(self.line_str, order(self.is_big_endian)),
             debug_str: EndianSlice::new(strings, order(self.is_big_endian)),
-        };
-        some_need_directory(self.units(), &sections).unwrap_or(true)
+        }
     }
 
     /// The units.

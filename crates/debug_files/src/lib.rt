@@ -16,7 +16,7 @@ mod refusal;
 mod source;
 
 pub use debug_paths::{DEBUG_DIRECTORY, debug_file_paths};
-pub use directories::LinePrograms;
+pub use directories::{LinePrograms, Needs};
 pub use find::source_of;
 pub use missing::Missing;
 pub use outline::{Outline, checksum};

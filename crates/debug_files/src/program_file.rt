@@ -115,14 +115,14 @@ impl<F: Read + Seek> ProgramFile<F> {
             is_64_bit: sections.address_size() == 8,
         };
         let mut strings = Vec::new(alloc);
-        let has_strings = programs.need_strings();
-        if has_strings {
+        let needs = programs.needs();
+        if needs.strings {
             strings = self.texts(alloc, b".debug_str")?;
         }
-        if wanted == Wanted::Names || !programs.need_units(&strings) {
+        if wanted == Wanted::Names || !programs.need_units(needs, &strings) {
             return Ok(PathSections::of_texts(alloc, line_str, strings));
         }
-        if !has_strings {
+        if !needs.strings {
             strings = self.texts(alloc, b".debug_str")?;
         }
         Ok(PathSections {

@@ -156,11 +156,12 @@ impl<'i> PathInputs<'i> {
             is_64_bit: source.elf.address_size() == 8,
         };
         let mut strings = SectionBytes::Lent(source.files.strings);
-        if programs.need_strings() {
+        let needs = programs.needs();
+        if needs.strings {
             strings = source.texts(b".debug_str", source.files.strings)?;
         }
         let mut units = UnitSections::lent(UnitFiles::default());
-        if programs.need_units(strings.as_slice()) {
+        if programs.need_units(needs, strings.as_slice()) {
             strings = source.texts(b".debug_str", source.files.strings)?;
             units = UnitSections::of_elf(source)?;
         }
