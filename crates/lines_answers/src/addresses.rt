@@ -75,21 +75,19 @@ impl<'s, R: Reader> Addresses<'s, R> {
             functions,
             request,
         };
-        match place {
-            SourcePlace::Line { path, line } => reading.find_line(path, line, output),
-            SourcePlace::Function(name) => reading.find_functions(name, output),
-        }
+        reading.find(place, output)
     }
 
-    /// Finds the addresses of the line in the files whose path ends so. False where no file has
-    /// such a path, and where more bytes of paths were read than may be, which is reported.
-    fn find(&mut self, path: &str, output: &mut Output<'_>) -> Result<bool> {
+    /// Finds the addresses of a line in the files whose path ends so. False where no file has such
+    /// a path, and where more bytes of paths were read than may be, which is reported.
+    fn find_line(&mut self, path: &str, line: u64, output: &mut Output<'_>) -> Result<bool> {
+        self.line = line;
         self.search.add_files(path, output)?;
         if !self.search.has_files(path, output) {
             output.refuse();
             return Ok(false);
         }
-        self.search.find_rows(&mut self.rows, self.line, output)?;
+        self.search.find_rows(&mut self.rows, line, output)?;
         let addresses = self.asked_addresses(output)?;
         self.search.cover(addresses)?;
         Ok(true)
@@ -126,25 +124,19 @@ impl<'s, R: Reader> Addresses<'s, R> {
         Ok(true)
     }
 
-    /// The addresses of which it is asked which rows cover them.
+    /// The addresses of which it is asked which rows cover them: none where that is known of any
+    /// address.
     fn asked_addresses(&self, output: &Output<'_>) -> Result<Vec<u64>> {
-        let mut addresses = Vec::new(self.search.reading.alloc);
-        self.add_addresses(&mut addresses, output)?;
-        Ok(addresses)
-    }
-
-    /// Adds the addresses of which it is asked which rows cover them: none where that is known of
-    /// any address.
-    fn add_addresses(&self, addresses: &mut Vec<u64>, output: &Output<'_>) -> Result<()> {
-        let request = self.search.reading.request;
+        let Reading { alloc, request, .. } = self.search.reading;
+        let mut addresses = Vec::new(alloc);
         if request.is_after_prologue {
-            return Ok(());
+            return Ok(addresses);
         }
-        self.rows.others.add_addresses(addresses)?;
+        self.rows.others.add_addresses(&mut addresses)?;
         if request.has_range || output.is_json() {
-            self.rows.addresses.add_addresses(addresses)?;
+            self.rows.addresses.add_addresses(&mut addresses)?;
         }
-        Ok(())
+        Ok(addresses)
     }
 
     /// Prints addresses until the output is full, and returns whether more may follow. Where there
@@ -315,28 +307,18 @@ impl<'s, R: Reader> Reading<'s, R> {
         note_hints(self.alloc, self.functions, name, output)
     }
 
-    /// Finds the addresses of a line in the files whose path ends so. None where there is none,
-    /// which is reported.
-    fn find_line(
+    /// Finds the addresses of a place, as `Addresses::new` does.
+    fn find(
         &self,
-        path: &str,
-        line: u64,
+        place: SourcePlace<'_>,
         output: &mut Output<'_>,
     ) -> Result<Option<Addresses<'s, R>>> {
-        let mut addresses = self.search(output)?.begin(line);
-        let is_found = addresses.find(path, output)?;
-        Ok(is_found.then_some(addresses))
-    }
-
-    /// Finds where the functions of a name begin. None where there is none, which is reported.
-    fn find_functions(
-        &self,
-        name: &str,
-        output: &mut Output<'_>,
-    ) -> Result<Option<Addresses<'s, R>>> {
-        let mut addresses = self.search(output)?.begin(0);
-        let is_found = addresses.find_functions(name, output)?;
-        Ok(is_found.then_some(addresses))
+        let mut addresses = self.search(output)?.begin();
+        let is_found = match place {
+            SourcePlace::Line { path, line } => addresses.find_line(path, line, output),
+            SourcePlace::Function(name) => addresses.find_functions(name, output),
+        };
+        Ok(is_found?.then_some(addresses))
     }
 
     /// Where the code of the functions of a name begins.
@@ -359,13 +341,13 @@ struct Search<'s, R: Reader> {
 }
 
 impl<'s, R: Reader> Search<'s, R> {
-    /// The addresses of a line, of which none is found.
-    fn begin(self, line: u64) -> Addresses<'s, R> {
+    /// No address is found.
+    fn begin(self) -> Addresses<'s, R> {
         let alloc = self.reading.alloc;
         Addresses {
             search: self,
             rows: LineRows::new(alloc),
-            line,
+            line: 0,
             number: 0,
             stage: Stage::Path,
             seen: 0,
@@ -380,12 +362,7 @@ impl<'s, R: Reader> Search<'s, R> {
     /// Counts the rows of all units, and adds the files whose path ends so.
     fn add_files(&mut self, path: &str, output: &mut Output<'_>) -> Result<()> {
         let end = bytes_of_word(self.reading.alloc, path)?;
-        self.add_files_of(&end, output)
-    }
-
-    /// Counts the rows of all units, and adds the files whose path ends with these bytes.
-    fn add_files_of(&mut self, end: &[u8], output: &mut Output<'_>) -> Result<()> {
-        let components = components_of(self.reading.alloc, end)?;
+        let components = components_of(self.reading.alloc, &end)?;
         self.count_rows(Some(&components), output)
     }
 
@@ -413,28 +390,17 @@ impl<'s, R: Reader> Search<'s, R> {
 
     /// Finds the rows of a line in the files that are meant.
     fn find_rows(&self, rows: &mut LineRows, line: u64, output: &Output<'_>) -> Result<()> {
-        let Reading {
-            alloc,
-            input,
-            request,
-            ..
-        } = self.reading;
-        let has_column = request.has_column || output.is_json();
+        let Reading { alloc, input, .. } = self.reading;
+        let has_column = self.reading.request.has_column || output.is_json();
         rows.find(alloc, input, &self.files, &self.counts, line, has_column)
     }
 
     /// Finds which rows cover addresses: any where those after prologues are asked for.
     fn cover(&mut self, addresses: Vec<u64>) -> Result<()> {
-        let Reading {
-            alloc,
-            input,
-            request,
-            ..
-        } = self.reading;
-        let covering = if request.is_after_prologue {
-            Covering::of_any(alloc, input)
-        } else {
-            Covering::of_some(alloc, input, &self.counts.all, addresses)
+        let Reading { alloc, input, .. } = self.reading;
+        let covering = match self.reading.request.is_after_prologue {
+            true => Covering::of_any(alloc, input),
+            false => Covering::of_some(alloc, input, &self.counts.all, addresses),
         };
         self.covering = covering?;
         Ok(())
@@ -571,11 +537,7 @@ impl<'s, R: Reader> Search<'s, R> {
             return None;
         }
         let (_, path) = self.files.find(unit, row.file_index())?;
-        if path == number {
-            Some(column_of(&row))
-        } else {
-            None
-        }
+        (path == number).then_some(column_of(&row))
     }
 
     /// Prints an address of a line.

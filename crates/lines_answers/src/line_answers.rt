@@ -144,28 +144,23 @@ impl<'n> LineAnswers<'n> {
 
     /// Prints the place of what a line asks. That there is no function of a name is reported.
     pub fn answer(&mut self, name: &str, asked: CodeAddress<'_>, output: &mut Output<'_>) {
-        match (self.kept.get(name), asked) {
-            (Some(kept), CodeAddress::Linked(address)) => {
-                answer_by(&self.printer, kept, address, output);
+        let kept = self.kept.get(name);
+        let (address, function) = match (asked, kept) {
+            (CodeAddress::Linked(address), _) => (Some(address), None),
+            (CodeAddress::InSection { section, offset }, Some(kept)) => {
+                let own = kept.starts.address_in(section, offset);
+                let bias = self.printer.request.bias;
+                (own.map(|own| own.saturating_add(bias)), Some(section))
             }
-            (Some(kept), CodeAddress::InSection { section, offset }) => {
-                match kept.starts.address_in(section, offset) {
-                    Some(own) => {
-                        let address = own.saturating_add(self.printer.request.bias);
-                        answer_by(&self.printer, kept, address, output);
-                    }
-                    None => {
-                        self.printer.print(None, None, None, output);
-                        let section = ShortName(section);
-                        let text = format_args!("no function has the name {section}");
-                        output.tell_of(name, text);
-                    }
-                }
-            }
-            (None, CodeAddress::Linked(address)) => {
-                self.printer.print(Some(address), None, None, output);
-            }
-            (None, _) => self.printer.print(None, None, None, output),
+            _ => (None, None),
+        };
+        match (kept, address) {
+            (Some(kept), Some(address)) => answer_by(&self.printer, kept, address, output),
+            _ => self.printer.print(address, None, None, output),
+        }
+        if let (None, Some(function)) = (address, function) {
+            let function = ShortName(function);
+            output.tell_of(name, format_args!("no function has the name {function}"));
         }
     }
 }

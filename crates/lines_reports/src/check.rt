@@ -47,21 +47,11 @@ impl<R: Reader> Check<R> {
         reading: &mut Reading<R>,
         output: &mut Output<'_>,
     ) -> Result<bool> {
-        if self.unit.is_some() {
-            self.look_at_some(reading, output)
-        } else if self.overlaps.is_none() {
-            self.begin_unit(reading, output)
-        } else {
-            Ok(self.finish(reading.input.is_linked, output))
-        }
-    }
-
-    /// Looks at some instructions or files of the unit.
-    fn look_at_some(&mut self, reading: &mut Reading<R>, output: &mut Output<'_>) -> Result<bool> {
-        if self.files.is_some() {
-            self.look_at_files(reading, output)
-        } else {
-            self.run_some(reading.alloc, output)
+        match (&self.unit, &self.files, &self.overlaps) {
+            (Some(_), Some(_), _) => self.look_at_files(reading, output),
+            (Some(_), None, _) => self.run_some(reading.alloc, output),
+            (None, _, None) => self.begin_unit(reading, output),
+            _ => Ok(self.finish(reading.input.is_linked, output)),
         }
     }
 
@@ -91,19 +81,13 @@ impl<R: Reader> Check<R> {
     /// Prints what is known after the last unit. False after the last line.
     fn finish(&mut self, is_linked: bool, output: &mut Output<'_>) -> bool {
         // In an object file each section stands at 0, and so do its sequences.
-        if is_linked && self.print_overlaps(output) {
-            return true;
+        if let (true, Some(overlaps)) = (is_linked, &mut self.overlaps) {
+            if overlaps.print_some(&self.sequences, &mut self.findings, output) {
+                return true;
+            }
         }
         self.findings.print_counts(self.units, output);
         false
-    }
-
-    /// Prints sequences that overlap until the output is full. False after the last one.
-    fn print_overlaps(&mut self, output: &mut Output<'_>) -> bool {
-        match &mut self.overlaps {
-            Some(overlaps) => overlaps.print_some(&self.sequences, &mut self.findings, output),
-            None => false,
-        }
     }
 
     /// Goes on to the next unit, and after the last one puts the sequences in order.

@@ -4,8 +4,8 @@ use crate::report::Reading;
 use gimli_core::{AttributeValue, Reader, ReaderOffset};
 use gimli_line::{FileEntry, LineProgramHeader};
 use gimli_lookup::PathError;
-use lines_inputs::{PathFault, Piece, Result, UnitRows, add, path_or_fault};
-use lines_words::{Json, Output, PathText};
+use lines_inputs::{PathFault, Piece, Result, UnitRows, add, path_or_fault, tell_of_unit};
+use lines_words::{Json, Output};
 
 /// How far the directories and files of a unit are printed.
 #[derive(Clone, Copy)]
@@ -98,8 +98,14 @@ impl<R: Reader> Reading<R> {
             self.budget.count(self.sources.text_length(directory));
         }
         let (path, fault) = path_or_fault(&self.sources, path)?;
-        begin_entry(unit.offset, "directory", index, path.as_deref(), output);
-        tell_fault(unit.offset, "directory", index, fault, output);
+        begin_entry(
+            unit.offset,
+            "directory",
+            index,
+            path.as_deref(),
+            fault,
+            output,
+        );
         end_entry(output);
         Ok(())
     }
@@ -115,8 +121,7 @@ impl<R: Reader> Reading<R> {
             return Ok(());
         };
         let (path, fault) = self.path_of(unit.header(), index, true)?;
-        begin_entry(unit.offset, "file", index, path.as_deref(), output);
-        tell_fault(unit.offset, "file", index, fault, output);
+        begin_entry(unit.offset, "file", index, path.as_deref(), fault, output);
         self.add_details(unit.header(), file, output);
         end_entry(output);
         Ok(())
@@ -179,8 +184,17 @@ fn add_number(text: &str, number: u64, output: &mut Output<'_>) {
     }
 }
 
-/// Prints what stands first in the line of a directory or a file of the unit at an offset.
-fn begin_entry(unit: u64, kind: &str, index: u64, path: Option<&[u8]>, output: &mut Output<'_>) {
+/// Prints what stands first in the line of a directory or a file of the unit at an offset. Why it
+/// has no path is reported.
+fn begin_entry(
+    unit: u64,
+    kind: &str,
+    index: u64,
+    path: Option<&[u8]>,
+    fault: Option<PathFault>,
+    output: &mut Output<'_>,
+) {
+    let (word, number) = (Piece::Word(kind), Piece::Number(index));
     if output.is_json() {
         let fields = [
             ("unit", Json::Offset(Some(unit))),
@@ -189,21 +203,10 @@ fn begin_entry(unit: u64, kind: &str, index: u64, path: Option<&[u8]>, output: &
         ];
         output.add_fields("{", &fields);
     } else {
-        let path = PathText(path.unwrap_or(b"??"));
-        output.add(format_args!("{kind} {index}  {path}"));
+        add("% %  %", &[word, number, Piece::Path(path)], output);
     }
-}
-
-/// Reports why a directory or a file of the unit at an offset has no path.
-fn tell_fault(
-    unit: u64,
-    kind: &str,
-    index: u64,
-    fault: Option<PathFault>,
-    output: &mut Output<'_>,
-) {
     if let Some(fault) = fault {
-        output.tell_of_unit(unit, format_args!("{kind} {index}: {fault}"));
+        tell_of_unit(unit, "% %: %", &[word, number, Piece::Fault(fault)], output);
     }
 }
 

@@ -157,39 +157,24 @@ impl<R: Reader> Stat<R> {
     fn print_files(&mut self, reading: &Reading<R>, output: &mut Output<'_>) -> Result<()> {
         output.print_heading("most rows");
         let largest = self.largest_files(reading.alloc)?;
-        self.print_largest(&largest, reading, output)
+        for (count, number) in largest.iter().rev().take(LARGEST) {
+            self.print_file(*number, *count, reading, output)?;
+        }
+        Ok(())
     }
 
     /// The numbers of rows of all paths, and the paths' numbers, in ascending order.
     fn largest_files(&self, alloc: Global) -> Result<Vec<(u64, usize)>> {
         let mut largest = Vec::new(alloc);
-        self.add_largest(&mut largest)?;
-        Ok(largest)
-    }
-
-    /// Adds the numbers of rows of all paths, and the paths' numbers, in ascending order.
-    fn add_largest(&self, largest: &mut Vec<(u64, usize)>) -> Result<()> {
         for (number, count) in &self.files {
             largest.push((*count, *number))?;
         }
-        largest.sort()
-    }
-
-    /// Prints the last of some files, the last one first.
-    fn print_largest(
-        &mut self,
-        largest: &[(u64, usize)],
-        reading: &Reading<R>,
-        output: &mut Output<'_>,
-    ) -> Result<()> {
-        for (count, number) in largest.iter().rev().take(LARGEST) {
-            self.print_path(*number, *count, reading, output)?;
-        }
-        Ok(())
+        largest.sort()?;
+        Ok(largest)
     }
 
     /// Prints how many rows the path of a number has.
-    fn print_path(
+    fn print_file(
         &mut self,
         number: usize,
         count: u64,
@@ -197,23 +182,16 @@ impl<R: Reader> Stat<R> {
         output: &mut Output<'_>,
     ) -> Result<()> {
         let path = self.paths.path_of(number, reading)?;
-        self.print_file(path.as_deref(), count, output);
-        Ok(())
-    }
-
-    /// Prints how many rows a file has.
-    fn print_file(&self, path: Option<&[u8]>, count: u64, output: &mut Output<'_>) {
-        let path = Piece::Path(path);
+        let path = Piece::Path(path.as_deref());
         if output.is_json() {
             let fields = [("path", path), ("rows", Piece::Number(count))];
-            return print_fields("", &fields, output);
+            print_fields("", &fields, output);
+            return Ok(());
         }
         let share = Piece::Share(count, self.rows.saturating_sub(self.ends));
-        print(
-            "%  %  %",
-            &[Piece::WideNumber(count, 9), path, share],
-            output,
-        );
+        let pieces = [Piece::WideNumber(count, 9), path, share];
+        print("%  %  %", &pieces, output);
+        Ok(())
     }
 }
 
