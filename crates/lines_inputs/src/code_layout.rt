@@ -1,6 +1,10 @@
 //! The sections of code of an object file, one after the other: so each byte of code has an address
 //! of its own, which it has not before the object is linked.
 
+ghost use Rattle.std.specs.Prelude.{◌≡◌, [], IfSome, drop, slice_get, take, unwrap_or};
+ghost use Rattle.gimli_core.specs.Numbers.{value_of};
+ghost use Rattle.gimli_core.specs.Order.{is_big_endian};
+
 use elf_sections::{ElfError, FileHeader, FileRange, SymbolTable};
 use gimli_core::{Endianity, RunTimeEndian};
 use std::alloc::{AllocError, Global};
@@ -33,7 +37,10 @@ pub(crate) struct CodeLayout {
 
 impl CodeLayout {
     /// No section is placed.
-    pub(crate) fn none(alloc: Global) -> CodeLayout {
+    pub(crate) fn none(alloc: Global) -> CodeLayout
+        ensures starts { result.starts.items ≡ [] }
+        ensures placed { result.placed.items ≡ [] }
+    {
         CodeLayout {
             starts: Vec::new(alloc),
             placed: Vec::new(alloc),
@@ -42,7 +49,9 @@ impl CodeLayout {
     }
 
     /// An address below which no section is placed.
-    pub(crate) fn lowest(&self) -> u64 {
+    pub(crate) fn lowest(&self) -> u64
+        ensures { result ≡ 16777216 }
+    {
         FIRST
     }
 
@@ -70,7 +79,9 @@ impl CodeLayout {
     }
 
     /// Where the section of an index starts; 0 where it isn't placed.
-    pub(crate) fn start_of(&self, index: u16) -> u64 {
+    pub(crate) fn start_of(&self, index: u16) -> u64
+        ensures { result ≡ unwrap_or (slice_get self.now.starts.items index) 0 }
+    {
         *self.starts.get(usize::from(index)).unwrap_or(&0)
     }
 
@@ -132,7 +143,10 @@ fn bytes_in(file: &[u8], range: FileRange) -> &[u8] {
 }
 
 /// The number of four bytes.
-pub(crate) fn word_at(order: RunTimeEndian, bytes: &[u8], at: usize) -> Option<u32> {
+pub(crate) fn word_at(order: RunTimeEndian, bytes: &[u8], at: usize) -> Option<u32>
+    ensures { IfSome result (λ word.
+        word ≡ value_of (is_big_endian order) (take 4 (drop at bytes.now))) }
+{
     let word = bytes.get(at..)?;
     if word.len() < 4 {
         return None;

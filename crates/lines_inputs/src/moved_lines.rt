@@ -1,6 +1,9 @@
 //! The addresses in the line programs of an object file, moved to where its sections are placed.
 
-ghost use Rattle.std.specs.Prelude.{◌≤◌};
+ghost use Rattle.std.specs.Prelude.{◌≡◌, ◌≤◌, if◌then◌else◌};
+ghost use Rattle.elf_sections.specs.Relocation.{relocation_size};
+ghost use Rattle.elf_sections.specs.declared.layout.Class.TheVariants.{Elf32, Elf64};
+ghost use Rattle.elf_sections.specs.declared.relocation.Form.TheVariants.{Rel, Rela};
 
 use crate::code_layout::{CodeLayout, word_at};
 use elf_sections::SymbolTable;
@@ -37,7 +40,9 @@ impl Relocations<'_> {
 
     /// How many bytes a relocation has (`Elf32_Rel`, `Elf32_Rela`, `Elf64_Rel`, `Elf64_Rela`).
     fn entry_size(&self, has_addend: bool) -> usize
-        ensures { 8 ≤ result }
+        ensures least { 8 ≤ result }
+        ensures size { result ≡ relocation_size (if self.now.is_64_bit then Elf64 else Elf32)
+            (if has_addend then Rela else Rel) }
     {
         match (self.is_64_bit, has_addend) {
             (false, false) => 8,

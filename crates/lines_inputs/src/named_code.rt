@@ -1,5 +1,7 @@
 //! Functions by their names, for who has no program at hand, or not the whole name.
 
+ghost use Rattle.std.specs.Prelude.{◌≡◌, []};
+
 use crate::functions::{CodeRange, Functions, key_of};
 use elf_sections::SymbolTable;
 use lines_words::bytes_of_word;
@@ -27,7 +29,9 @@ pub struct FunctionStarts {
 
 impl FunctionStarts {
     /// No function is known.
-    pub fn none(alloc: Global) -> FunctionStarts {
+    pub fn none(alloc: Global) -> FunctionStarts
+        ensures { result.starts.items ≡ [] }
+    {
         FunctionStarts {
             starts: Vec::new(alloc),
             names: Vec::new(alloc),
