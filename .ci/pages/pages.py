@@ -220,7 +220,7 @@ def other_versions():
     """The versions of CHANGELOG.md that aren't those of the header for C and of `lines`."""
     page = open(os.path.join(TOP, "CHANGELOG.md"), encoding="utf8").read()
     header = open(os.path.join(TOP, "crates/gimli_c/include/gimli_line.h"), encoding="utf8").read()
-    sources = [open(os.path.join(TOP, it), encoding="utf8").read() for it in found(["crates/lines_words/src/*.rt"])]
+    sources = [open(os.path.join(TOP, it), encoding="utf8").read() for it in found(["crates/lines_inputs/src/*.rt"])]
     library = ".".join(re.findall(r"#define GIMLI_LINE_VERSION_(?:MAJOR|MINOR|PATCH) (\d+)", header))
     program = re.search(r'const VERSION: &str = "(.*)"', "\n".join(sources))[1]
     if re.search(r"^## ([\d.]+)", page, re.M)[1] != library:

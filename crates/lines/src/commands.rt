@@ -9,13 +9,11 @@ use elf_sections::ElfError;
 use gimli_core::Reader;
 use lines_answers::{Addresses, SourceRows};
 use lines_inputs::{
-    Answered, Asked, Functions, Input, InputError, InputSections, PlacePrinter, Places, SourceLine,
+    Answered, Asked, CodeAddress, Command, Files, Functions, Input, InputError, InputKind,
+    InputSections, PathMap, PlacePrinter, Places, Request, ShortWord, SourceLine, SourcePlace,
     SourceRow, print_below, print_lines, tell_refusal,
 };
 use lines_reports::{Diff, Report};
-use lines_words::{
-    CodeAddress, Command, Files, InputKind, PathMap, Request, ShortWord, SourcePlace,
-};
 use std::io::ErrorKind;
 use std::{fs, io, str};
 

@@ -11,8 +11,10 @@ use gimli_index::LineIndex;
 use lines_answers::{
     IndexPlaces, LineAnswers, MadeIndex, index_of_program, open_index, program_identity,
 };
-use lines_inputs::{FunctionStarts, InputSections, PlacePrinter, build_id_in, write_file};
-use lines_words::{Command, InputKind, LineNames};
+use lines_inputs::{
+    Command, FunctionStarts, InputKind, InputSections, LineNames, PlacePrinter, build_id_in,
+    write_file,
+};
 use std::io::{self, Write};
 
 /// The index of a program by its name. It is named by the build id where there is one, or else by

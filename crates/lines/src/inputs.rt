@@ -5,8 +5,9 @@ ghost use Rattle.std.specs.Prelude.{◌≤◌, IfOk};
 use crate::session::{REFUSED, Run, Session};
 use debug_files::{DEBUG_DIRECTORY, Found, Missing, Wanted};
 use elf_sections::usual_limit;
-use lines_inputs::{InputError, InputSections, tell_refusal};
-use lines_words::{Files, InputKind, NameText, Notation, UnitFiles};
+use lines_inputs::{
+    Files, InputError, InputKind, InputSections, NameText, Notation, UnitFiles, tell_refusal,
+};
 use std::io::{Read, Write};
 use std::{fmt, fs, io};
 
@@ -158,7 +159,7 @@ pub(crate) fn report(rt: &HostRuntime, name: &str, reason: impl fmt::Display + D
 
 /// Whether a name can be opened: the files of the kit take text alone. One that can't is reported.
 pub(crate) fn can_be_opened(rt: &HostRuntime, name: &str) -> io::Result<bool> {
-    let bytes = lines_words::bytes_of_word(rt.alloc(), name)?;
+    let bytes = lines_inputs::bytes_of_word(rt.alloc(), name)?;
     if bytes.as_slice() == name.as_bytes() {
         return Ok(true);
     }

@@ -11,7 +11,7 @@ use crate::inputs::{compare, inputs_of};
 use crate::session::{REFUSED, Run};
 use clap::Error;
 use clap::error::ErrorKind as WordsError;
-use lines_words::{Command, Request};
+use lines_inputs::{Command, Request};
 use std::env::{Env, FillError};
 use std::io::{self, ErrorKind, Write};
 use std::process::ExitCode;
@@ -39,7 +39,7 @@ fn main(rt: HostRuntime) -> ExitCode {
 /// Runs on the words of the program, and returns its status.
 fn start(rt: &HostRuntime) -> io::Result<u8> {
     let words = words_of_program(rt)?;
-    match lines_words::parse(rt.alloc(), &words) {
+    match lines_inputs::parse(rt.alloc(), &words) {
         Ok(request) => perform(rt, &request),
         Err(error) => explain(rt, &error),
     }
@@ -56,7 +56,7 @@ fn words_of_program(rt: &HostRuntime) -> io::Result<Vec<String>> {
             Err(FillError::TooLong) => return Err(io::Error::from(io::ErrorKind::InvalidInput)),
             Err(FillError::NotPresent) => break,
         };
-        words.push(lines_words::text_of_word(alloc, &room[..length])?)?;
+        words.push(lines_inputs::text_of_word(alloc, &room[..length])?)?;
     }
     Ok(words)
 }
@@ -66,7 +66,7 @@ fn explain(rt: &HostRuntime, error: &Error) -> io::Result<u8> {
     if error.kind() == WordsError::OutOfMemory {
         return Err(io::Error::from(ErrorKind::OutOfMemory));
     }
-    let message = lines_words::message_of(rt.alloc(), error)?;
+    let message = lines_inputs::message_of(rt.alloc(), error)?;
     if error.use_stderr() {
         // Where standard error can't be written to, the status still says it.
         let _ = write!(rt.stderr(), "{message}");

@@ -2,8 +2,7 @@
 
 ghost use Rattle.std.specs.Prelude.{◌≡◌, ◌≤◌, ◌↔◌, IfOk, true};
 
-use lines_inputs::{Asked, asked_by, show_reading};
-use lines_words::{CodeAddress, Output, Request, Screen};
+use lines_inputs::{Asked, CodeAddress, Output, Request, Screen, asked_by, show_reading};
 use std::alloc::AllocError;
 use std::io::{BufRead, BufReader, IsTerminal};
 use std::rt::Stdin;

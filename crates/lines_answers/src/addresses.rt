@@ -10,8 +10,10 @@ use crate::path_rows::column_at;
 use crate::written_path::WrittenPaths;
 use gimli_core::Reader;
 use gimli_line::LineRow;
-use lines_inputs::{Functions, Input, PathBudget, Piece, Result, add, column_of, line_of, note};
-use lines_words::{Json, Output, Request, SourcePlace, bytes_of_word};
+use lines_inputs::{
+    Functions, Input, Json, Output, PathBudget, Piece, Request, Result, SourcePlace, add,
+    bytes_of_word, column_of, line_of, note,
+};
 use std::alloc::Global;
 use std::collections::BTreeSet;
 

@@ -3,8 +3,7 @@
 
 use gimli_core::{Error, Reader};
 use gimli_line::{IncompleteLineProgram, LineRow, LineUnit, LineUnits, OneShotLineRows};
-use lines_inputs::{Input, Result};
-use lines_words::Output;
+use lines_inputs::{Input, Output, Result};
 use std::alloc::{AllocError, Global};
 
 /// The units of a section of line programs.

@@ -1,7 +1,6 @@
 //! What is said of names that may be meant by one that no function has.
 
-use lines_inputs::{Functions, Piece, Result, note};
-use lines_words::Output;
+use lines_inputs::{Functions, Output, Piece, Result, note};
 use std::alloc::Global;
 
 /// What is said of none, of one, and of up to five.

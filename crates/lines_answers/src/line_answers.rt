@@ -3,10 +3,9 @@
 use crate::made_index::MadeIndex;
 use crate::opened_index::{open_index, print_place};
 use gimli_index::LineIndex;
-use lines_inputs::{FunctionStarts, Piece, PlacePrinter, Result, tell};
-use lines_words::{
-    CodeAddress, LineNames, Output, Request, ShortName, build_id_of, map_path, parse_code_question,
-    parse_line_question,
+use lines_inputs::{
+    CodeAddress, FunctionStarts, LineNames, Output, Piece, PlacePrinter, Request, Result,
+    ShortName, build_id_of, map_path, parse_code_question, parse_line_question, tell,
 };
 use lru::LruCache;
 use std::alloc::Global;

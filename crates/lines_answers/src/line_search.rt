@@ -5,8 +5,7 @@ use crate::meant_files::MeantFiles;
 use crate::path_rows::{PathRow, PathRows};
 use gimli_core::{Error, Reader, ReaderOffset};
 use gimli_line::{LineUnit, LineUnits};
-use lines_inputs::{Input, Result, column_of, line_of};
-use lines_words::Output;
+use lines_inputs::{Input, Output, Result, column_of, line_of};
 use std::alloc::{AllocError, Global};
 
 /// How many rows count in each unit.

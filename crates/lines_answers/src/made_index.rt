@@ -7,8 +7,9 @@ use crate::opened_index::identity_of;
 use elf_sections::{Elf, ElfError, usual_limit};
 use gimli_core::Reader;
 use gimli_index::{MakeError, write_index};
-use lines_inputs::{FunctionStarts, Input, InputError, InputSections, Result, program_of};
-use lines_words::{Files, InputKind, Output};
+use lines_inputs::{
+    Files, FunctionStarts, Input, InputError, InputKind, InputSections, Output, Result, program_of,
+};
 use std::alloc::{AllocError, Global};
 
 /// An index, and what came of making it.

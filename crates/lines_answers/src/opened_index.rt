@@ -9,8 +9,9 @@ ghost use Rattle.gimli_index.specs.Views.{index_of, place_of};
 ghost use Rattle.lines_answers.specs.Indexes.{identity, IsAsked, IsRefused, IsStale};
 
 use gimli_index::{IndexError, LineIndex, NoPath, Place};
-use lines_inputs::{Asked, FoundPlace, Piece, PlacePrinter, Result, tell_of_unit};
-use lines_words::{CodeAddress, Output};
+use lines_inputs::{
+    Asked, CodeAddress, FoundPlace, Output, Piece, PlacePrinter, Result, tell_of_unit,
+};
 use sha2::{Digest, Sha256};
 use std::alloc::Global;
 use std::fmt;

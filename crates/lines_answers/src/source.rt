@@ -7,10 +7,9 @@ use crate::written_path::{WrittenPath, WrittenPaths};
 use gimli_core::{Reader, ReaderOffset};
 use gimli_line::{FileEntry, LineProgramHeader, LineRow};
 use lines_inputs::{
-    Functions, Input, PathBudget, Piece, Printing, Result, SourceRow, UnitRows, Walk, line_of,
-    note, tell,
+    Functions, Input, Output, PathBudget, Piece, Printing, Result, SourcePlace, SourceRow,
+    UnitChoice, UnitRows, Walk, bytes_of_word, line_of, note, tell,
 };
-use lines_words::{Output, SourcePlace, UnitChoice, bytes_of_word};
 use std::alloc::{AllocError, Global};
 use std::collections::BTreeMap;
 

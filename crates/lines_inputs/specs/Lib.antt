@@ -1,2 +1,5 @@
+pub mod Findings
+pub mod LineQuestions
 pub mod Lines
 pub mod Lookups
+pub mod Words

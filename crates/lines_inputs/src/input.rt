@@ -12,6 +12,8 @@ ghost use Rattle.lines_inputs.specs.Lines.{HasLines, lines_name};
 use crate::code_layout::{CodeLayout, SectionNames};
 use crate::functions::Functions;
 use crate::moved_lines::Relocations;
+use crate::output::Output;
+use crate::request::{Files, InputKind, Notation, UnitFiles};
 use debug_files::{LinePrograms, is_archive};
 use elf_sections::{Elf, ElfError, SectionBytes, SectionPlace, SymbolTable};
 use gimli_compilation::CompilationSections;
@@ -19,7 +21,6 @@ use gimli_core::{EndianSlice, Endianity, Reader, ReaderOffset, Section};
 use gimli_line::DebugLine;
 use gimli_lookup::StringSections;
 use line_text::Slice;
-use lines_words::{Files, InputKind, Notation, Output, UnitFiles};
 use std::alloc::{AllocError, Global};
 use std::fmt;
 

@@ -4,13 +4,14 @@ use crate::Result;
 use crate::functions::Functions;
 use crate::input::Input;
 use crate::lookup::{Covering, look_up_any, look_up_each};
+use crate::output::{Json, Output};
 use crate::path_sources::{PathSources, path_or_fault};
 use crate::piece::Piece;
 use crate::place_printer::{Asked, FoundPlace, PlacePrinter};
+use crate::request::{CodeAddress, Request};
 use crate::sentence::{tell, tell_of_unit};
 use crate::units::{column_of, flags_of, line_of};
 use gimli_core::{Reader, ReaderOffset};
-use lines_words::{CodeAddress, Json, Output, Request};
 use std::alloc::Global;
 
 /// How many addresses are named at most without the functions being sorted by their names.

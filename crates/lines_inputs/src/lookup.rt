@@ -6,10 +6,10 @@ ghost use Rattle.gimli_compilation.specs.Sections.{sections_of};
 ghost use Rattle.lines_inputs.specs.Lookups.{AreUnitsIn, IsReadFrom, Knows};
 
 use crate::input::Input;
+use crate::output::Output;
 use gimli_compilation::Compilations;
 use gimli_core::{Reader, ReaderOffset};
 use gimli_lookup::{CoveringRows, FoundRows, Program, SectionLookup, UnitLookup, find_in_section};
-use lines_words::Output;
 use std::alloc::{AllocError, Global};
 
 /// Up to how many addresses are found in one run over the section, which keeps no other rows. With

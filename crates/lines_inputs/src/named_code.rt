@@ -3,8 +3,8 @@
 ghost use Rattle.std.specs.Prelude.{◌≡◌, []};
 
 use crate::functions::{CodeRange, Functions, key_of};
+use crate::names::bytes_of_word;
 use elf_sections::SymbolTable;
-use lines_words::bytes_of_word;
 use std::alloc::{AllocError, Global};
 use std::collections::BTreeSet;
 

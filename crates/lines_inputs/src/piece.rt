@@ -1,10 +1,11 @@
 //! The values of lines, as they are printed.
 
+use crate::output::Json;
 use crate::path_sources::PathFault;
+use crate::path_text::{PathText, ShortName, ShortWord, SourceText};
 use crate::units::RowCount;
 use gimli_core::Error;
 use line_text::Digits;
-use lines_words::{Json, PathText, ShortName, ShortWord, SourceText};
 use std::fmt::{self, Display};
 
 /// A value in a line.

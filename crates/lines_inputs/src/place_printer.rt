@@ -3,11 +3,13 @@
 ghost use Rattle.std.specs.Prelude.{◌≡◌, ◌↔◌, [], IsNone};
 
 use crate::Result;
+use crate::names::bytes_of_word;
+use crate::numbers::parse_code_address;
+use crate::output::{Json, Output};
+use crate::path_text::shown_path;
 use crate::piece::Piece;
+use crate::request::{CodeAddress, PathForm, Request};
 use crate::sentence::{add, print, tell};
-use lines_words::{
-    CodeAddress, Json, Output, PathForm, Request, bytes_of_word, parse_code_address, shown_path,
-};
 use std::alloc::Global;
 
 /// What is asked.

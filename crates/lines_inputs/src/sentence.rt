@@ -1,7 +1,7 @@
 //! Lines that are printed, with pieces in them.
 
+use crate::output::Output;
 use crate::piece::Piece;
-use lines_words::Output;
 use std::fmt;
 
 /// A text, with a piece in the place of each `%`.

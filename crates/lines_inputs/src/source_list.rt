@@ -3,9 +3,11 @@
 use crate::Result;
 use crate::functions::Functions;
 use crate::locate::SourceLine;
+use crate::output::{Json, Output, Style};
+use crate::path_text::{ColumnMark, PathText};
 use crate::piece::Piece;
+use crate::request::SourcePlace;
 use crate::sentence::{add, note, print};
-use lines_words::{ColumnMark, Json, Output, PathText, SourcePlace, Style};
 use std::alloc::Global;
 
 /// Blanks as wide as the greatest address is.

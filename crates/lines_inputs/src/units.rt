@@ -4,12 +4,13 @@
 ghost use Rattle.std.specs.Prelude.{◌≡◌};
 
 use crate::input::Input;
+use crate::output::Output;
+use crate::request::UnitChoice;
 use gimli_core::{DebugLineOffset, Error, Reader, ReaderOffset};
 use gimli_line::{
     ColumnType, IncompleteLineProgram, LineProgramHeader, LineRow, LineUnit, LineUnits,
     OneShotLineRows,
 };
-use lines_words::{Output, UnitChoice};
 use std::alloc::{AllocError, Global};
 use std::fmt;
 

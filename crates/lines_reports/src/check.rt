@@ -8,8 +8,7 @@ use crate::row_check::{RowCheck, Sequence};
 use crate::unit_check::UnitCheck;
 use gimli_core::{Reader, ReaderOffset};
 use gimli_line::LineUnit;
-use lines_inputs::{Piece, Result};
-use lines_words::{FindingKind, Output};
+use lines_inputs::{FindingKind, Output, Piece, Result};
 use std::alloc::Global;
 
 /// A check of the units of a section, one after the other.

@@ -5,8 +5,10 @@ use crate::path_numbers::PathNumbers;
 use crate::report::Reading;
 use gimli_core::Reader;
 use gimli_line::{LineProgramHeader, LineRow};
-use lines_inputs::{Input, Piece, Printing, Result, UnitRows, add, line_of, print, print_fields};
-use lines_words::{Json, Output, PathMap, UnitChoice};
+use lines_inputs::{
+    Input, Json, Output, PathMap, Piece, Printing, Result, UnitChoice, UnitRows, add, line_of,
+    print, print_fields,
+};
 use std::alloc::Global;
 use std::collections::BTreeMap;
 

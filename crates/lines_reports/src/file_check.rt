@@ -4,8 +4,7 @@ use crate::findings::Findings;
 use crate::report::Reading;
 use gimli_core::Reader;
 use gimli_line::LineProgramHeader;
-use lines_inputs::{Piece, Result};
-use lines_words::{FindingKind, Output};
+use lines_inputs::{FindingKind, Output, Piece, Result};
 use sha2::{Digest, Sha256};
 use std::alloc::Global;
 

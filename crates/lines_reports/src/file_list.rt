@@ -4,8 +4,9 @@ use crate::report::Reading;
 use gimli_core::{AttributeValue, Reader, ReaderOffset};
 use gimli_line::{FileEntry, LineProgramHeader};
 use gimli_lookup::PathError;
-use lines_inputs::{PathFault, Piece, Result, UnitRows, add, path_or_fault, tell_of_unit};
-use lines_words::{Json, Output};
+use lines_inputs::{
+    Json, Output, PathFault, Piece, Result, UnitRows, add, path_or_fault, tell_of_unit,
+};
 
 /// How far the directories and files of a unit are printed.
 #[derive(Clone, Copy)]

@@ -1,7 +1,6 @@
 //! What a check has found, and what of it is told.
 
-use lines_inputs::{Piece, add, print, print_fields};
-use lines_words::{FindingKind, Json, Output, Style};
+use lines_inputs::{FindingKind, Json, Output, Piece, Style, add, print, print_fields};
 
 /// What was found so far.
 #[derive(Clone, Copy)]

@@ -2,8 +2,7 @@
 
 use crate::findings::Findings;
 use crate::row_check::Sequence;
-use lines_inputs::Piece;
-use lines_words::{FindingKind, Output};
+use lines_inputs::{FindingKind, Output, Piece};
 
 /// How far sequences were looked at, in the order of their addresses.
 #[derive(Clone, Copy)]

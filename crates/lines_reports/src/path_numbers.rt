@@ -3,8 +3,7 @@
 use crate::report::Reading;
 use gimli_core::{Reader, ReaderOffset};
 use gimli_line::LineProgramHeader;
-use lines_inputs::{Result, UnitRows};
-use lines_words::PathMap;
+use lines_inputs::{PathMap, Result, UnitRows};
 use sha2::{Digest, Sha256};
 use std::alloc::Global;
 use std::collections::BTreeMap;

@@ -8,9 +8,9 @@ use crate::unit_list::{print_heading, print_unit};
 use gimli_core::Reader;
 use gimli_line::LineProgramHeader;
 use lines_inputs::{
-    Input, PathBudget, PathFault, PathSources, Printing, Result, UnitRows, Walk, path_or_fault,
+    Command, Input, Output, PathBudget, PathFault, PathSources, Printing, Request, Result,
+    UnitChoice, UnitRows, Walk, path_or_fault,
 };
-use lines_words::{Command, Output, Request, UnitChoice};
 use std::alloc::Global;
 
 /// The chosen units of a section, one after the other, and what whole paths are made of.

@@ -4,8 +4,7 @@ use crate::findings::Findings;
 use crate::report::Reading;
 use gimli_core::{Error, Reader};
 use gimli_line::LineRow;
-use lines_inputs::Piece;
-use lines_words::{FindingKind, Notation, Output};
+use lines_inputs::{FindingKind, Notation, Output, Piece};
 
 /// The addresses of a sequence, by its rows that are not left out.
 #[derive(Clone, Copy, PartialEq, Eq, PartialOrd, Ord)]

@@ -4,9 +4,9 @@ use crate::report::Reading;
 use gimli_core::Reader;
 use gimli_line::LineRow;
 use lines_inputs::{
-    FlagLetters, Piece, Result, UnitRows, column_of, flags_of, line_of, tell_of_unit,
+    FlagLetters, Form, Json, JsonBytes, Output, PathText, Piece, Result, UnitRows, column_of,
+    flags_of, last_part, line_of, tell_of_unit,
 };
-use lines_words::{Form, Json, JsonBytes, Output, PathText, last_part};
 use std::alloc::Global;
 use std::collections::BTreeMap;
 

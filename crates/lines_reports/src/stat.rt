@@ -7,8 +7,7 @@ use crate::tally::{Share, Tally};
 use crate::unit_list::unit_bytes;
 use gimli_core::Reader;
 use gimli_line::{LineProgramHeader, LineRow};
-use lines_inputs::{Piece, Result, UnitRows, print, print_fields};
-use lines_words::Output;
+use lines_inputs::{Output, Piece, Result, UnitRows, print, print_fields};
 use std::alloc::Global;
 use std::collections::BTreeMap;
 

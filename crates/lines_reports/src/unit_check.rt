@@ -5,8 +5,7 @@ use gimli_core::{Error, Reader, ReaderOffset};
 use gimli_line::{
     IncompleteLineProgram, LineInstruction, LineInstructions, LineProgramHeader, LineRow,
 };
-use lines_inputs::Result;
-use lines_words::Output;
+use lines_inputs::{Output, Result};
 use std::alloc::AllocError;
 
 /// How many instructions are looked at before findings are handed on.

@@ -2,8 +2,7 @@
 
 use gimli_core::{Format, Reader, ReaderOffset};
 use gimli_line::LineProgramHeader;
-use lines_inputs::{Piece, Result, UnitRows, print_fields};
-use lines_words::Output;
+use lines_inputs::{Output, Piece, Result, UnitRows, print_fields};
 
 /// Prints what stands above the lines of units.
 pub(crate) fn print_heading(output: &mut Output<'_>) {

@@ -1,6 +1,6 @@
 use Rattle.std.proofs.Common.{sym, subst, ⊎_elim}
 use Rattle.line_text.specs.Digits.{NamesNumber}
-use Rattle.lines_words.proofs.numbers.parse_address.Goals as goal
+use Rattle.lines_inputs.proofs.numbers.parse_address.Goals as goal
 
 pub returns-in-None-clause-only : goal.returns-in-None-clause-only
 returns-in-None-clause-only c = λ address h. ⊎_elim

@@ -2,7 +2,7 @@
 use Rattle.std.specs.Prelude.{◌≡◌, ◌≢◌, ◌++◌, ◌∷◌, ◌⊎◌, ◌<◌, ◌*◌, ℕ, List, [], length, codes}
 use Rattle.std.specs.List.{AllPass, slice_get}
 use Rattle.hex.specs.Hex.{encode_lower}
-use Rattle.lines_words.specs.Words.{NamesAddress}
+use Rattle.lines_inputs.specs.Words.{NamesAddress}
 
 -- a byte stands nowhere
 abbrev pub IsWithout : ℕ → List ℕ → Type 0

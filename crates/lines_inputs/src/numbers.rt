@@ -3,9 +3,9 @@
 ghost use Rattle.std.specs.Prelude.{◌≡◌, ℕ, List, false, is_ok, IfOk, IfSome, MatchOption, Ok};
 ghost use Rattle.std.specs.Prelude.{Some, string_bytes};
 ghost use Rattle.hex.specs.Hex.{decode_of};
-ghost use Rattle.lines_words.specs.LineQuestions.{AsksFor, Parts, map_path};
-ghost use Rattle.lines_words.specs.Words.{HasPrefix, NamesAddress, NamesOffset};
-ghost use Rattle.lines_words.specs.Words.{NamesPlace, NamesTarget};
+ghost use Rattle.lines_inputs.specs.LineQuestions.{AsksFor, Parts, map_path};
+ghost use Rattle.lines_inputs.specs.Words.{HasPrefix, NamesAddress, NamesOffset};
+ghost use Rattle.lines_inputs.specs.Words.{NamesPlace, NamesTarget};
 
 use crate::request::CodeAddress;
 use hex::FromHexError;

@@ -1,7 +1,7 @@
 //! Where a command prints, and what came of it.
 
 ghost use Rattle.std.specs.Prelude.{◌≡◌, ◌≤◌, ◌↔◌, IfOk, true, false};
-ghost use Rattle.lines_words.specs.Findings.{is_denied};
+ghost use Rattle.lines_inputs.specs.Findings.{is_denied};
 
 use crate::kinds::{CheckChoice, FindingKind};
 use crate::path_text::{JsonBytes, JsonText, NameText};

@@ -1,7 +1,7 @@
 //! The kinds of what a check finds, how grave each is, and which of them a caller denies or allows.
 
 ghost use Rattle.std.specs.Prelude.{◌≡◌, ◌<◌};
-ghost use Rattle.lines_words.specs.Findings.{is_denied, is_grave, is_in, number, severity};
+ghost use Rattle.lines_inputs.specs.Findings.{is_denied, is_grave, is_in, number, severity};
 
 /// How grave a finding is.
 #[derive(Clone, Copy)]

@@ -2,9 +2,9 @@ use Rattle.std.proofs.Common.{rules, arith, ◌≡◌, ◌++◌, ℕ, List, Some
 use mathlib.Core.Bool.{true≢false}
 use Rattle.std.specs.Str.Parse.{digits_value}
 use Rattle.line_text.specs.Digits.{NamesNumber}
-use Rattle.lines_words.specs.Words.{NamesTarget}
-use Rattle.lines_words.proofs.Separators.{HasNo, last_parts, digits_no, has_one, same_parts}
-use Rattle.lines_words.proofs.numbers.parse_target.Goals as goal
+use Rattle.lines_inputs.specs.Words.{NamesTarget}
+use Rattle.lines_inputs.proofs.Separators.{HasNo, last_parts, digits_no, has_one, same_parts}
+use Rattle.lines_inputs.proofs.numbers.parse_target.Goals as goal
 
 none_some : {A : Type 0} (x : A) → None ≡ Some x → ⊥
 none_some x e = true≢false (subst IsNone e refl)

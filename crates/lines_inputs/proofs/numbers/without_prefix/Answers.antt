@@ -2,8 +2,8 @@ use Rattle.std.proofs.Common.{rules, arith, ◌≡◌, ◌≢◌, ℕ, List, Som
 use Rattle.std.proofs.Common.{Bor, sym, ap, ◌∙◌, ⊎_elim, inr}
 use mathlib.Core.Bool.{true≢false}
 use Rattle.std.proofs.lemmas.Str.Pattern.{strip_prefix_char}
-use Rattle.lines_words.specs.Words.{HasPrefix}
-use Rattle.lines_words.proofs.numbers.without_prefix.Goals as goal
+use Rattle.lines_inputs.specs.Words.{HasPrefix}
+use Rattle.lines_inputs.proofs.numbers.without_prefix.Goals as goal
 
 -- a word after its first byte
 after_first : (word rest digits : List ℕ) (r : Option (Bor (List ℕ))) → word ≡ 48 ∷ rest

@@ -1,9 +1,9 @@
 use Rattle.std.proofs.Common.{rules, arith, ◌≡◌, ◌++◌, ℕ, List, Option, Some, None, IsNone, [], ◌∷◌, refl, sym, ap, ◌∙◌}
 use Rattle.std.proofs.Common.{subst, ⊎_elim}
 use mathlib.Core.Bool.{true≢false}
-use Rattle.lines_words.specs.Words.{NamesAddress, NamesPlace}
-use Rattle.lines_words.proofs.Separators.{HasNo, last_parts, cons_no, digits_no, has_one, same_parts}
-use Rattle.lines_words.proofs.numbers.parse_place.Goals as goal
+use Rattle.lines_inputs.specs.Words.{NamesAddress, NamesPlace}
+use Rattle.lines_inputs.proofs.Separators.{HasNo, last_parts, cons_no, digits_no, has_one, same_parts}
+use Rattle.lines_inputs.proofs.numbers.parse_place.Goals as goal
 
 none_some : {A : Type 0} (x : A) → None ≡ Some x → ⊥
 none_some x e = true≢false (subst IsNone e refl)

@@ -1,13 +1,13 @@
 -- How grave the findings of a check are, and which of them make its status 1.
 use Rattle.std.specs.Prelude.{ℕ, Bool, true, false, List, not, slice_index_or, ◌&&◌, ◌||◌}
-use Rattle.lines_words.specs.declared.kinds.FindingKind.{FindingKind}
-use Rattle.lines_words.specs.declared.kinds.FindingKind.TheVariants.{Header, Program, NoPath}
-use Rattle.lines_words.specs.declared.kinds.FindingKind.TheVariants.{NoFile, GoesDown, BelowCode}
-use Rattle.lines_words.specs.declared.kinds.FindingKind.TheVariants.{PastCode, NoEnd, SamePath}
-use Rattle.lines_words.specs.declared.kinds.FindingKind.TheVariants.{Overlap, FileZero, Merged}
-use Rattle.lines_words.specs.declared.kinds.FindingKind.TheVariants.{Dropped}
-use Rattle.lines_words.specs.declared.kinds.Severity.{Severity}
-use Rattle.lines_words.specs.declared.kinds.Severity.TheVariants.{Fault, Lost, Odd, Usual}
+use Rattle.lines_inputs.specs.declared.kinds.FindingKind.{FindingKind}
+use Rattle.lines_inputs.specs.declared.kinds.FindingKind.TheVariants.{Header, Program, NoPath}
+use Rattle.lines_inputs.specs.declared.kinds.FindingKind.TheVariants.{NoFile, GoesDown, BelowCode}
+use Rattle.lines_inputs.specs.declared.kinds.FindingKind.TheVariants.{PastCode, NoEnd, SamePath}
+use Rattle.lines_inputs.specs.declared.kinds.FindingKind.TheVariants.{Overlap, FileZero, Merged}
+use Rattle.lines_inputs.specs.declared.kinds.FindingKind.TheVariants.{Dropped}
+use Rattle.lines_inputs.specs.declared.kinds.Severity.{Severity}
+use Rattle.lines_inputs.specs.declared.kinds.Severity.TheVariants.{Fault, Lost, Odd, Usual}
 
 -- how grave a kind is: a rule of DWARF is broken; no address finds the rows; allowed and unusual;
 -- what compilers and linkers do

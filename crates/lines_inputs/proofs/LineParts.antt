@@ -1,8 +1,8 @@
 -- A line has at most one name and one word.
 use Rattle.std.proofs.Common.{arith, ◌≡◌, ◌<◌, ℕ, zero, suc, List, [], ◌∷◌, ◌++◌, length, get_or}
 use Rattle.std.proofs.Common.{refl, sym, ap, ◌∙◌, subst, ⊎_elim}
-use Rattle.lines_words.specs.LineQuestions.{IsWithout, Parts}
-use Rattle.lines_words.proofs.Separators.{HasNo, has_one, same_parts}
+use Rattle.lines_inputs.specs.LineQuestions.{IsWithout, Parts}
+use Rattle.lines_inputs.proofs.Separators.{HasNo, has_one, same_parts}
 
 -- a byte that is at no index stands nowhere
 pub stands_nowhere : (byte : ℕ) (bytes : List ℕ) → HasNo byte bytes → IsWithout byte bytes

@@ -1,7 +1,7 @@
 use Rattle.std.proofs.Common.{arith, ◌≡◌, ◌++◌, ◌∷◌, Some, None, inl, inr, refl, subst, ⊎_elim}
-use Rattle.lines_words.proofs.LineParts.{stands_nowhere}
-use Rattle.lines_words.proofs.Separators.{last_parts}
-use Rattle.lines_words.proofs.numbers.parts.Goals as goal
+use Rattle.lines_inputs.proofs.LineParts.{stands_nowhere}
+use Rattle.lines_inputs.proofs.Separators.{last_parts}
+use Rattle.lines_inputs.proofs.numbers.parts.Goals as goal
 
 pub returns-in-Some : goal.returns-in-Some
 returns-in-Some c =

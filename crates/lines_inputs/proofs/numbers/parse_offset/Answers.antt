@@ -1,5 +1,5 @@
 use Rattle.std.proofs.Common.{⊎_elim}
-use Rattle.lines_words.proofs.numbers.parse_offset.Goals as goal
+use Rattle.lines_inputs.proofs.numbers.parse_offset.Goals as goal
 
 pub returns-in-None-clause-only : goal.returns-in-None-clause-only
 returns-in-None-clause-only c = λ offset h. ⊎_elim

@@ -1,9 +1,9 @@
 use Rattle.std.proofs.Common.{rules, ◌≡◌, ℕ, Option, Some, None, IsNone, length, refl, sym, ap, ◌∙◌, subst}
 use Rattle.std.proofs.lemmas.List.{nil_from_length}
 use mathlib.Core.Bool.{true≢false}
-use Rattle.lines_words.specs.Words.{NamesAddress}
-use Rattle.lines_words.proofs.LineParts.{parts_same}
-use Rattle.lines_words.proofs.numbers.parse_line_question.Goals as goal
+use Rattle.lines_inputs.specs.Words.{NamesAddress}
+use Rattle.lines_inputs.proofs.LineParts.{parts_same}
+use Rattle.lines_inputs.proofs.numbers.parse_line_question.Goals as goal
 
 none_some : {A : Type 0} (x : A) → None ≡ Some x → ⊥
 none_some x e = true≢false (subst IsNone e refl)

@@ -1,3 +1,0 @@
-pub mod Findings
-pub mod LineQuestions
-pub mod Words
