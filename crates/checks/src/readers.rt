@@ -46,7 +46,7 @@ impl ReaderOffset for Narrow {
 #[derive(Clone, Copy)]
 pub struct NarrowReader<'i> {
     left: EndianSlice<'i, LittleEndian>,
-    ghost short: { length (⟦<EndianSlice<'static, LittleEndian> as Reader>⟧.bytes left) < 2 ^ 32 },
+    ghost short: { length (⟦<EndianSlice<'static, LittleEndian> as Reader>⟧.seen left).bytes < 2 ^ 32 },
 }
 
 impl<'i> NarrowReader<'i> {
@@ -62,9 +62,9 @@ impl<'i> Reader for NarrowReader<'i> {
 
     type Offset = Narrow;
 
-    ghost bytes = { λ r. ⟦<EndianSlice<'static, LittleEndian> as Reader>⟧.bytes r.left };
+    ghost bytes = { λ r. (⟦<EndianSlice<'static, LittleEndian> as Reader>⟧.seen r.left).bytes };
 
-    ghost is_big = { λ r. ⟦<EndianSlice<'static, LittleEndian> as Reader>⟧.is_big r.left };
+    ghost is_big = { λ r. (⟦<EndianSlice<'static, LittleEndian> as Reader>⟧.seen r.left).is_big };
 
     fn endian(&self) -> LittleEndian {
         self.left.endian()

@@ -126,7 +126,7 @@ fn file_told<R: Reader>(
     number: u64,
 ) -> Option<(GimliFile, Option<R>, Option<R>)>
     ensures some { IfSome result (λ told. TellsFile header.now.meaning number told.0
-        (option_map R.bytes told.1) (option_map R.bytes told.2)) }
+        (option_map (λ r. (R.seen r).bytes) told.1) (option_map (λ r. (R.seen r).bytes) told.2)) }
     ensures none { IfNone result (file_of header.now.meaning number ≡ None) }
 {
     let entry = header.file(number)?;
@@ -141,7 +141,7 @@ impl GimliFile {
     /// What is said of a file of a header.
     pub(crate) fn new<R: Reader>(header: &LineProgramHeader<R>, file: &FileEntry<R>) -> Self
         ensures { result
-            ≡ file_seen_by_c header.now.meaning (file_seen R.bytes R.Offset.number file.now) }
+            ≡ file_seen_by_c header.now.meaning (file_seen R.seen R.Offset.number file.now) }
     {
         GimliFile {
             path: GimliText::new(Some(file.path_name())),
@@ -160,7 +160,7 @@ impl GimliText {
     /// Where the text of a value stands.
     pub(crate) fn new<R: Reader>(value: Option<AttributeValue<R>>) -> Self
         ensures { result
-            ≡ optional_text_seen (option_map (value_seen R.bytes R.Offset.number) value) }
+            ≡ optional_text_seen (option_map (value_seen R.seen R.Offset.number) value) }
     {
         let (kind, first, size) = match value {
             Some(AttributeValue::String(text)) => (TEXT_HERE, 0, text.len().into_u64()),
@@ -194,8 +194,8 @@ fn details<R: Reader>(header: &LineProgramHeader<R>) -> u64
 
 /// The text of a value, where it stands in the section itself.
 pub(crate) fn text_here<R: Reader>(value: Option<AttributeValue<R>>) -> Option<R>
-    ensures { option_map R.bytes result
-        ≡ text_here (option_map (value_seen R.bytes R.Offset.number) value) }
+    ensures { option_map (λ r. (R.seen r).bytes) result
+        ≡ text_here (option_map (value_seen R.seen R.Offset.number) value) }
 {
     match value {
         Some(AttributeValue::String(text)) => Some(text),

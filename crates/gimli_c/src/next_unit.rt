@@ -19,7 +19,7 @@ pub(crate) fn next_unit(section: &[u8], is_big: bool, offset: usize) -> usize
 
 /// The same, of any reader over the section.
 fn next_offset<R: Reader>(section: R, offset: R::Offset) -> R::Offset
-    ensures { IsNext (layout_of (R.is_big section) R.Offset.limit) (R.bytes section)
+    ensures { IsNext (layout_of (R.seen section).is_big R.Offset.limit) (R.seen section).bytes
         (R.Offset.number offset) (R.Offset.number result) }
 {
     let mut rest = bytes_from(section, offset);
@@ -29,8 +29,8 @@ fn next_offset<R: Reader>(section: R, offset: R::Offset) -> R::Offset
 
 /// The bytes from an offset on; none where it is past the end.
 fn bytes_from<R: Reader>(section: R, offset: R::Offset) -> R
-    ensures bytes { R.bytes result ≡ drop (R.Offset.number offset) (R.bytes section) }
-    ensures order { R.is_big result ≡ R.is_big section }
+    ensures bytes { (R.seen result).bytes ≡ drop (R.Offset.number offset) (R.seen section).bytes }
+    ensures order { (R.seen result).is_big ≡ (R.seen section).is_big }
 {
     let mut rest = section;
     if rest.skip(offset).is_err() {
@@ -41,9 +41,9 @@ fn bytes_from<R: Reader>(section: R, offset: R::Offset) -> R
 
 /// Lets the unit in front go, whatever its content is; all bytes where they begin with none.
 fn skip_unit<R: Reader>(input: &mut R)
-    ensures { R.bytes input.new
+    ensures { (R.seen input.new).bytes
         ≡ after_unit
-        ((any_unit (layout_of (R.is_big input.old) R.Offset.limit)).read (R.bytes input.old)) }
+        ((any_unit (layout_of (R.seen input.old).is_big R.Offset.limit)).read (R.seen input.old).bytes) }
 {
     if split_unit(input).is_err() {
         input.empty();
@@ -53,8 +53,8 @@ fn skip_unit<R: Reader>(input: &mut R)
 /// Takes a unit, whatever its content is, by its length. Returns as many bytes as that says.
 #[tactic(auto, unfolding(gimli_line::specs::Units::any_unit))]
 fn split_unit<R: Reader>(input: &mut R) -> Result<R>
-    ensures { (result_map R.bytes result, R.bytes input.new)
-        ≡ (any_unit (layout_of (R.is_big input.old) R.Offset.limit)).read (R.bytes input.old) }
+    ensures { (result_map (λ r. (R.seen r).bytes) result, (R.seen input.new).bytes)
+        ≡ (any_unit (layout_of (R.seen input.old).is_big R.Offset.limit)).read (R.seen input.old).bytes }
 {
     let (length, _format) = input.read_initial_length()?;
     input.split(length)

@@ -34,7 +34,7 @@ fn copy_place<R: Reader>(
     path: &mut [u8],
     size: &mut usize,
 ) -> u32
-    ensures place { CopiesPlaceOf (texts_seen R.bytes program.now.paths) program.now.lookup address
+    ensures place { CopiesPlaceOf (texts_seen R.seen program.now.paths) program.now.lookup address
         row.new result path.old path.new size.old size.new }
     ensures no_row { result ≢ OK → result ≢ NO_ROOM → result ≢ UNKNOWN_PATH
         → row.new ≡ row.old }

@@ -15,15 +15,16 @@ use Rattle.gimli_compilation.specs.Value.{attributes_with}
 use Rattle.gimli_compilation.specs.inside.Value.{value_seen, attributes_seen}
 use Rattle.gimli_compilation.specs.inside.AbbreviationReading.{listed, IsListed}
 use Rattle.gimli_compilation.proofs.Specifications.{listed_more, listed_last}
+use Rattle.gimli_core.specs.Layout.{Seen}
 
 -- a value that is seen before or after it is kept
-seen_if : {R : Type 0} (view : R → List ℕ) (test : Bool) (value before : Value R)
+seen_if : {R : Type 0} (view : R → Seen) (test : Bool) (value before : Value R)
     → value_seen view (if test then value else before)
     ≡ (if test then value_seen view value else value_seen view before)
 seen_if view true value before = refl
 seen_if view false value before = refl
 
-pub seen_with : {R : Type 0} (view : R → List ℕ) (before : Attributes R) (name : ℕ) (value : Value R)
+pub seen_with : {R : Type 0} (view : R → Seen) (before : Attributes R) (name : ℕ) (value : Value R)
     → attributes_seen view (attributes_with before name value)
     ≡ attributes_with (attributes_seen view before) name (value_seen view value)
 seen_with view before name value =

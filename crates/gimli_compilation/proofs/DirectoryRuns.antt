@@ -11,6 +11,7 @@ use Rattle.gimli_compilation.specs.Directories.{TellsDirectories}
 use Rattle.gimli_compilation.specs.inside.Unit.{given_by}
 use Rattle.gimli_compilation.specs.Sections.{Sections, compilation_seen}
 use Rattle.gimli_compilation.specs.Unit.{HasCompilationAt, HasRefusalAt, IsNextOffset}
+use Rattle.gimli_core.specs.Layout.{Seen}
 
 -- ---- one more directory
 
@@ -20,46 +21,46 @@ first_none None = refl
 
 -- ---- seen by bytes
 
-module _ {R : Type 0} (bytes : R → List ℕ) where
+module _ {R : Type 0} (seen : R → Seen) where
   abbrev pub pair_seen : ℕ × R → ℕ × List ℕ
-  pair_seen p = (p.0, bytes p.1)
+  pair_seen p = (p.0, (seen p.1).bytes)
 
   paired_seen : (line : Option ℕ) (directory : Option R)
-      → option_map pair_seen (paired line directory) ≡ paired line (option_map bytes directory)
+      → option_map pair_seen (paired line directory) ≡ paired line (option_map (λ r. (seen r).bytes) directory)
   paired_seen (Some line) (Some directory) = refl
   paired_seen (Some line) None = refl
   paired_seen None (Some directory) = refl
   paired_seen None None = refl
 
   in_seen : (line : ℕ) (given : Option (ℕ × R))
-      → option_map bytes (directory_in line given) ≡ directory_in line (option_map pair_seen given)
+      → option_map (λ r. (seen r).bytes) (directory_in line given) ≡ directory_in line (option_map pair_seen given)
   in_seen line None = refl
   in_seen line (Some given) = at_test (nat_eq given.0 line)
     where
       at_test : (test : Bool)
-          → option_map bytes (if test then Some given.1 else None) ≡ (if test then Some (bytes given.1) else None)
+          → option_map (λ r. (seen r).bytes) (if test then Some given.1 else None) ≡ (if test then Some (seen given.1).bytes else None)
       at_test true = refl
       at_test false = refl
 
   first_seen : (o other : Option R)
-      → option_map bytes (first_of o other) ≡ first_of (option_map bytes o) (option_map bytes other)
+      → option_map (λ r. (seen r).bytes) (first_of o other) ≡ first_of (option_map (λ r. (seen r).bytes) o) (option_map (λ r. (seen r).bytes) other)
   first_seen (Some d) other = refl
   first_seen None other = refl
 
   pub told : (line : ℕ) (given : Option (ℕ × R)) (old new : Option R) → new ≡ first_of old (directory_in line given)
-      → option_map bytes new ≡ first_of (option_map bytes old) (directory_in line (option_map pair_seen given))
+      → option_map (λ r. (seen r).bytes) new ≡ first_of (option_map (λ r. (seen r).bytes) old) (directory_in line (option_map pair_seen given))
   told line given old new is =
-      ap (option_map bytes) is ∙ first_seen old (directory_in line given)
-      ∙ ap (first_of (option_map bytes old)) (in_seen line given)
+      ap (option_map (λ r. (seen r).bytes)) is ∙ first_seen old (directory_in line given)
+      ∙ ap (first_of (option_map (λ r. (seen r).bytes) old)) (in_seen line given)
 
   module _ (sections : Sections) (offset : ℕ) where
     -- a unit gives what its compilation says
     pub gives_of : (unit : Result (Compilation R) Refusal)
-        → IfOk unit (λ compilation. HasCompilationAt sections offset (compilation_seen bytes compilation))
+        → IfOk unit (λ compilation. HasCompilationAt sections offset (compilation_seen seen compilation))
         → IfErr unit (HasRefusalAt sections offset)
         → Gives sections offset (option_map pair_seen (given_by unit))
     gives_of (Ok compilation) says refused =
-        inl (compilation_seen bytes compilation, says, paired_seen compilation.stmt_list compilation.comp_dir)
+        inl (compilation_seen seen compilation, says, paired_seen compilation.stmt_list compilation.comp_dir)
     gives_of (Err refusal) says refused = inr (refusal, refused, refl)
 
 -- ---- the walk

@@ -40,6 +40,7 @@ use Rattle.gimli_compilation.proofs.FormLaws.{reads_form}
 use Rattle.gimli_compilation.proofs.AbbreviationLaws.{reads_abbreviation}
 use Rattle.gimli_compilation.proofs.HeaderLaws.{reads_frame, reads_header}
 use Rattle.gimli_compilation.proofs.Until.{TakesBytes, takes_both}
+use Rattle.gimli_core.specs.Layout.{Seen}
 
 -- ---- attributes
 
@@ -94,7 +95,7 @@ unfolding table_production
 reads_table offset code = search (readers, reads_abbreviation)
 
 -- what a value says, seen by its bytes
-pub section_offset_seen : {R : Type 0} (view : R → List ℕ) (value : Value R)
+pub section_offset_seen : {R : Type 0} (view : R → Seen) (value : Value R)
     → section_offset (value_seen view value) ≡ section_offset value
 section_offset_seen view (Number SectionOffset n) = refl
 section_offset_seen view (Number StringOffset n) = refl

@@ -1,6 +1,6 @@
 -- The sections from which compilations are read.
-use Rattle.std.specs.Prelude.{ℕ, List, Bool, option_map}
-use Rattle.gimli_core.specs.Layout.{OrderAndLimit, layout_of}
+use Rattle.std.specs.Prelude.{ℕ, List, option_map}
+use Rattle.gimli_core.specs.Layout.{Seen, OrderAndLimit, layout_of}
 use Rattle.gimli_compilation.specs.declared.sections.Compilation.{Compilation}
 use Rattle.gimli_compilation.specs.declared.sections.CompilationSections.{CompilationSections}
 
@@ -19,23 +19,22 @@ pub record Sections : Type 0 where
   pub offsets_layout : OrderAndLimit
 
 -- the sections of readers, by their bytes, their orders and the limit of their offsets
-abbrev pub sections_of : {R : Type 0} → (R → List ℕ) → (R → Bool) → ℕ → CompilationSections R
-    → Sections
-sections_of bytes is_big limit sections = record {
-  info = bytes sections.debug_info;
-  abbreviations = bytes sections.debug_abbrev;
-  strings = bytes sections.debug_str;
-  line_strings = bytes sections.debug_line_str;
-  string_offsets = bytes sections.debug_str_offsets;
-  layout = layout_of (is_big sections.debug_info) limit;
-  offsets_layout = layout_of (is_big sections.debug_str_offsets) limit;
+abbrev pub sections_of : {R : Type 0} → (R → Seen) → ℕ → CompilationSections R → Sections
+sections_of seen limit sections = record {
+  info = (seen sections.debug_info).bytes;
+  abbreviations = (seen sections.debug_abbrev).bytes;
+  strings = (seen sections.debug_str).bytes;
+  line_strings = (seen sections.debug_line_str).bytes;
+  string_offsets = (seen sections.debug_str_offsets).bytes;
+  layout = layout_of (seen sections.debug_info).is_big limit;
+  offsets_layout = layout_of (seen sections.debug_str_offsets).is_big limit;
 }
 
 -- a compilation, its texts seen by bytes
-abbrev pub compilation_seen : {R : Type 0} → (R → List ℕ) → Compilation R → Compilation (List ℕ)
-compilation_seen bytes compilation = record {
+abbrev pub compilation_seen : {R : Type 0} → (R → Seen) → Compilation R → Compilation (List ℕ)
+compilation_seen seen compilation = record {
   version = compilation.version;
   stmt_list = compilation.stmt_list;
-  comp_dir = option_map bytes compilation.comp_dir;
-  name = option_map bytes compilation.name;
+  comp_dir = option_map (λ r. (seen r).bytes) compilation.comp_dir;
+  name = option_map (λ r. (seen r).bytes) compilation.name;
 }

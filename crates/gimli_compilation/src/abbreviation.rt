@@ -42,8 +42,8 @@ impl Specification {
 
 /// Takes the number that stands in the declaration in one form alone.
 fn pass_constant<R: Reader>(input: &mut R, form: DwForm) -> Result<()>
-    ensures read { (result_map (λ _. tt) result, R.bytes input.new)
-        ≡ (constant_production form.0).read (R.bytes input.old) }
+    ensures read { (result_map (λ _. tt) result, (R.seen input.new).bytes)
+        ≡ (constant_production form.0).read (R.seen input.old).bytes }
 {
     if form == constants::DW_FORM_implicit_const {
         input.read_sleb128()?;
@@ -54,7 +54,7 @@ fn pass_constant<R: Reader>(input: &mut R, form: DwForm) -> Result<()>
 /// Takes the specification of an attribute, with the number that stands there in one form.
 #[tactic(auto, unfolding(crate::specs::Abbreviation::specification_production))]
 pub(crate) fn parse_specification<R: Reader>(input: &mut R) -> Result<Specification>
-    ensures read { (result, R.bytes input.new) ≡ specification_production.read (R.bytes input.old) }
+    ensures read { (result, (R.seen input.new).bytes) ≡ specification_production.read (R.seen input.old).bytes }
 {
     let name = DwAt(input.read_uleb128_u16()?);
     let form = DwForm(input.read_uleb128_u16()?);
@@ -64,8 +64,8 @@ pub(crate) fn parse_specification<R: Reader>(input: &mut R) -> Result<Specificat
 
 /// Takes the specifications of a declaration, up to the pair of zeros that ends them.
 fn pass_specifications<R: Reader>(input: &mut R) -> Result<()>
-    ensures read { (result_map (λ _. tt) result, R.bytes input.new)
-        ≡ specifications_passed (R.bytes input.old) }
+    ensures read { (result_map (λ _. tt) result, (R.seen input.new).bytes)
+        ≡ specifications_passed (R.seen input.old).bytes }
 {
     loop {
         let specification = parse_specification(input)?;
@@ -79,9 +79,9 @@ fn pass_specifications<R: Reader>(input: &mut R) -> Result<()>
 /// specifications.
 #[tactic(auto, unfolding(crate::specs::Abbreviation::declared_production))]
 fn parse_declaration<R: Reader>(input: &mut R) -> Result<R>
-    ensures read { (result_map (λ found. listed (R.bytes found)) result, R.bytes input.new)
-        ≡ declared_production.read (R.bytes input.old) }
-    ensures listed { IfOk result (λ found. IsListed (R.bytes found)) }
+    ensures read { (result_map (λ found. listed (R.seen found).bytes) result, (R.seen input.new).bytes)
+        ≡ declared_production.read (R.seen input.old).bytes }
+    ensures listed { IfOk result (λ found. IsListed (R.seen found).bytes) }
 {
     input.read_uleb128()?;
     input.read_u8()?;
@@ -94,10 +94,10 @@ fn parse_declaration<R: Reader>(input: &mut R) -> Result<R>
 /// table ends.
 #[tactic(auto, unfolding(crate::specs::Abbreviation::declaration_production))]
 fn next_declaration<R: Reader>(input: &mut R) -> Result<Option<(u64, R)>>
-    ensures read { (result_map (declaration_seen R.bytes) result, R.bytes input.new)
-        ≡ declaration_production.read (R.bytes input.old) }
+    ensures read { (result_map (declaration_seen R.seen) result, (R.seen input.new).bytes)
+        ≡ declaration_production.read (R.seen input.old).bytes }
     ensures declared { IfOk result
-        (λ found. IfSome found (λ pair. (pair.0 ≢ 0) × IsListed (R.bytes pair.1))) }
+        (λ found. IfSome found (λ pair. (pair.0 ≢ 0) × IsListed (R.seen pair.1).bytes)) }
 {
     let code = input.read_uleb128()?;
     if code == 0 {
@@ -111,11 +111,11 @@ fn next_declaration<R: Reader>(input: &mut R) -> Result<Option<(u64, R)>>
 /// or None where the table has no such declaration.
 fn find_abbreviation<R: Reader>(input: &mut R, code: u64) -> Result<Option<R>>
     ensures read { (
-      result_map (option_map (λ part. listed (R.bytes part))) result,
-      R.bytes input.new,
+      result_map (option_map (λ part. listed (R.seen part).bytes)) result,
+      (R.seen input.new).bytes,
     )
-        ≡ (abbreviation_production code).read (R.bytes input.old) }
-    ensures listed { IfOk result (λ found. IfSome found (λ part. IsListed (R.bytes part))) }
+        ≡ (abbreviation_production code).read (R.seen input.old).bytes }
+    ensures listed { IfOk result (λ found. IfSome found (λ part. IsListed (R.seen part).bytes)) }
 {
     loop {
         match next_declaration(input)? {
@@ -185,7 +185,7 @@ impl<R: Reader> Abbreviations<R> {
 
     /// The table at an offset of a section, of which nothing was read.
     fn new(alloc: Global, section: &R, offset: R::Offset) -> Self
-        ensures table { IsTable R.bytes (R.bytes section.now) result }
+        ensures table { IsTable R.seen (R.seen section.now).bytes result }
         ensures offset { result.offset ≡ R.Offset.number offset }
     {
         let mut input = *section;
@@ -203,11 +203,11 @@ impl<R: Reader> Abbreviations<R> {
     /// Reads one more declaration, which begins where reading goes on. Returns its bytes.
     fn read_on(&mut self, mut input: R) -> MemoryResult<u64>
         requires { self.old.next ≡ Ok (Some input) }
-        ensures table { (section : List ℕ) → IsTable R.bytes section self.old
-            → IsTable R.bytes section self.new }
+        ensures table { (section : List ℕ) → IsTable R.seen section self.old
+            → IsTable R.seen section self.new }
         ensures offset { self.new.offset ≡ self.old.offset }
         ensures smaller { OnOk result
-            (size_left R.bytes self.new.next < size_left R.bytes self.old.next) }
+            (size_left R.seen self.new.next < size_left R.seen self.old.next) }
     {
         let before = input.len().into_u64();
         self.next = match next_declaration(&mut input) {
@@ -224,8 +224,8 @@ impl<R: Reader> Abbreviations<R> {
     /// Reads on up to the declaration of a code, or to the end of the table. Fails where no memory
     /// is left, or where more bytes would be read than may be.
     fn read_up_to(&mut self, code: u64, room: &mut u64) -> MemoryResult<()>
-        ensures table { (section : List ℕ) → IsTable R.bytes section self.old
-            → IsTable R.bytes section self.new }
+        ensures table { (section : List ℕ) → IsTable R.seen section self.old
+            → IsTable R.seen section self.new }
         ensures offset { self.new.offset ≡ self.old.offset }
     {
         while let Ok(Some(input)) = self.next {
@@ -241,10 +241,10 @@ impl<R: Reader> Abbreviations<R> {
     /// Finds the declaration of a code: what is kept of it, else what comes where reading goes on.
     /// Returns too how many bytes were read for it.
     fn answer(&self, code: u64) -> (Result<Option<R>>, u64)
-        ensures found { result_map (option_map (λ part. listed (R.bytes part))) result.0
-            ≡ answer_to R.bytes code (get nat_cmp self.now.specifications code) self.now.next }
-        ensures listed { (section : List ℕ) → IsTable R.bytes section self.now
-            → IfOk result.0 (λ found. IfSome found (λ part. IsListed (R.bytes part))) }
+        ensures found { result_map (option_map (λ part. listed (R.seen part).bytes)) result.0
+            ≡ answer_to R.seen code (get nat_cmp self.now.specifications code) self.now.next }
+        ensures listed { (section : List ℕ) → IsTable R.seen section self.now
+            → IfOk result.0 (λ found. IfSome found (λ part. IsListed (R.seen part).bytes)) }
     {
         if let Some(specifications) = self.specifications.get(&code) {
             return (Ok(Some(*specifications)), 0);
@@ -261,16 +261,16 @@ impl<R: Reader> Abbreviations<R> {
 
     /// Finds the declaration of a code. What was read for it is kept from the second call on.
     fn find(&mut self, code: u64, room: &mut u64) -> MemoryResult<Result<Option<R>>>
-        ensures table { (section : List ℕ) → IsTable R.bytes section self.old
-            → IsTable R.bytes section self.new }
+        ensures table { (section : List ℕ) → IsTable R.seen section self.old
+            → IsTable R.seen section self.new }
         ensures offset { self.new.offset ≡ self.old.offset }
         ensures found { IfOk result (λ found. (section : List ℕ)
-            → IsTable R.bytes section self.old
-            → result_map (option_map (λ part. listed (R.bytes part))) found
+            → IsTable R.seen section self.old
+            → result_map (option_map (λ part. listed (R.seen part).bytes)) found
             ≡ ((table_production self.old.offset code).read section).0) }
         ensures listed { IfOk result (λ found. (section : List ℕ)
-            → IsTable R.bytes section self.old
-            → IfOk found (λ found. IfSome found (λ part. IsListed (R.bytes part)))) }
+            → IsTable R.seen section self.old
+            → IfOk found (λ found. IfSome found (λ part. IsListed (R.seen part).bytes))) }
     {
         if self.is_asked {
             self.read_up_to(code, room)?;
@@ -308,7 +308,7 @@ impl<R: Reader> Tables<R> {
 
     /// The tables of a section, of which nothing was read.
     pub(crate) fn new(alloc: Global, section: &R) -> Self
-        ensures { AreTables R.bytes (R.bytes section.now) result }
+        ensures { AreTables R.seen (R.seen section.now).bytes result }
     {
         Tables {
             alloc,
@@ -320,8 +320,8 @@ impl<R: Reader> Tables<R> {
 
     /// Makes the table at an offset the one that is asked.
     fn turn_to(&mut self, section: &R, offset: R::Offset) -> MemoryResult<()>
-        requires { AreTables R.bytes (R.bytes section.now) self.old }
-        ensures tables { AreTables R.bytes (R.bytes section.now) self.new }
+        requires { AreTables R.seen (R.seen section.now).bytes self.old }
+        ensures tables { AreTables R.seen (R.seen section.now).bytes self.new }
         ensures offset { OnOk result (self.new.last.offset ≡ R.Offset.number offset) }
     {
         let place = offset.into_u64();
@@ -346,13 +346,13 @@ impl<R: Reader> Tables<R> {
         offset: R::Offset,
         code: u64,
     ) -> MemoryResult<Result<Option<R>>>
-        requires { AreTables R.bytes (R.bytes section.now) self.old }
-        ensures tables { AreTables R.bytes (R.bytes section.now) self.new }
+        requires { AreTables R.seen (R.seen section.now).bytes self.old }
+        ensures tables { AreTables R.seen (R.seen section.now).bytes self.new }
         ensures found { IfOk result
-            (λ found. result_map (option_map (λ part. listed (R.bytes part))) found
-            ≡ ((table_production (R.Offset.number offset) code).read (R.bytes section.now)).0) }
+            (λ found. result_map (option_map (λ part. listed (R.seen part).bytes)) found
+            ≡ ((table_production (R.Offset.number offset) code).read (R.seen section.now).bytes).0) }
         ensures listed { IfOk result (λ found. IfOk found
-            (λ found. IfSome found (λ part. IsListed (R.bytes part)))) }
+            (λ found. IfSome found (λ part. IsListed (R.seen part).bytes))) }
     {
         self.turn_to(section, offset)?;
         self.last.find(code, &mut self.room)

@@ -65,10 +65,10 @@ pub(crate) fn parse_attributes<R: Reader>(
     specifications: &mut R,
 ) -> Result<Attributes<R>>
     requires size { IsTrue (is_address_size encoding.address_size) }
-    requires closed { IsListed (R.bytes specifications.old) }
-    ensures read { (result_map (attributes_seen R.bytes) result, R.bytes input.new)
-        ≡ (attributes_production (layout_of (R.is_big input.old) R.Offset.limit) encoding
-        no_attributes (listed (R.bytes specifications.old))).read (R.bytes input.old) }
+    requires closed { IsListed (R.seen specifications.old).bytes }
+    ensures read { (result_map (attributes_seen R.seen) result, (R.seen input.new).bytes)
+        ≡ (attributes_production (layout_of (R.seen input.old).is_big R.Offset.limit) encoding
+        no_attributes (listed (R.seen specifications.old).bytes)).read (R.seen input.old).bytes }
 {
     let mut attributes = Attributes::none();
     loop {

@@ -70,8 +70,8 @@ impl<R: Reader> Compilations<R> {
     /// with `OutOfMemory`, as `CompilationUnits::next` does.
     pub fn new(alloc: Global, sections: &CompilationSections<R>) -> Result<Self>
         ensures ok { IfOk result (λ compilations.
-            TellsDirectories (sections_of R.bytes R.is_big R.Offset.limit sections.now)
-            (λ line. option_map R.bytes (directory_for compilations line))) }
+            TellsDirectories (sections_of R.seen R.Offset.limit sections.now)
+            (λ line. option_map (λ r. (R.seen r).bytes) (directory_for compilations line))) }
         ensures err { IsOkUnless result Error.OutOfMemory }
     {
         let mut directories = BTreeMap::new(alloc);

@@ -1,5 +1,6 @@
 //! Values of attributes, by their forms (DWARF 5, sections 7.5.5 and 7.5.6).
 
+ghost use Rattle.gimli_core.specs.Seen.{taken};
 ghost use Rattle.std.specs.Map.{lookup};
 ghost use Rattle.std.specs.Prelude.{◌≡◌, ◌++◌, nat_eq, IsTrue};
 ghost use Rattle.gimli_core.specs.Layout.{layout_of};
@@ -170,10 +171,8 @@ fn block_shape(form: DwForm) -> Option<Shape>
 
 /// Lets so many bytes go. Refused by `UnsupportedOffset` where the offset type is too narrow.
 fn pass_bytes<R: Reader>(input: &mut R, count: u64) -> Result<Value<R>>
-    ensures read { (result_map (value_seen R.bytes) result, R.bytes input.new)
-        ≡ (passed_production (layout_of (R.is_big input.old) R.Offset.limit) count).read
-        (R.bytes input.old) }
-    ensures order { R.is_big input.new ≡ R.is_big input.old }
+    ensures read { (result_map (value_seen R.seen) result, R.seen input.new)
+            ≡ taken (passed_production (layout_of (R.seen input.old).is_big R.Offset.limit) count) (R.seen input.old) }
 {
     let count = R::Offset::from_u64(count)?;
     input.split(count)?;
@@ -183,10 +182,8 @@ fn pass_bytes<R: Reader>(input: &mut R, count: u64) -> Result<Value<R>>
 /// Takes a value that lies in such a way.
 fn parse_shape<R: Reader>(input: &mut R, shape: Shape) -> Result<Value<R>>
     requires { IsReadable shape }
-    ensures read { (result_map (value_seen R.bytes) result, R.bytes input.new)
-        ≡ (shape_production (layout_of (R.is_big input.old) R.Offset.limit) shape).read
-        (R.bytes input.old) }
-    ensures order { R.is_big input.new ≡ R.is_big input.old }
+    ensures read { (result_map (value_seen R.seen) result, R.seen input.new)
+            ≡ taken (shape_production (layout_of (R.seen input.old).is_big R.Offset.limit) shape) (R.seen input.old) }
 {
     match shape {
         Shape::Fixed(size, kind) => {
@@ -222,11 +219,9 @@ fn parse_shape<R: Reader>(input: &mut R, shape: Shape) -> Result<Value<R>>
 #[tactic(auto, unfolding(crate::specs::Form::known_form_production))]
 fn parse_known_form<R: Reader>(input: &mut R, encoding: Encoding, form: DwForm) -> Result<Value<R>>
     requires { IsTrue (is_address_size encoding.address_size) }
-    ensures read { (result_map (value_seen R.bytes) result, R.bytes input.new)
-        ≡ (known_form_production (layout_of (R.is_big input.old) R.Offset.limit) encoding
-        form.0).read
-        (R.bytes input.old) }
-    ensures order { R.is_big input.new ≡ R.is_big input.old }
+    ensures read { (result_map (value_seen R.seen) result, R.seen input.new)
+            ≡ taken (known_form_production (layout_of (R.seen input.old).is_big R.Offset.limit) encoding
+        form.0) (R.seen input.old) }
 {
     match shape_of(form, encoding) {
         Some(shape) => parse_shape(input, shape),
@@ -244,10 +239,8 @@ pub(crate) fn parse_form<R: Reader>(
     form: DwForm,
 ) -> Result<Value<R>>
     requires { IsTrue (is_address_size encoding.address_size) }
-    ensures read { (result_map (value_seen R.bytes) result, R.bytes input.new)
-        ≡ (form_production (layout_of (R.is_big input.old) R.Offset.limit) encoding form.0).read
-        (R.bytes input.old) }
-    ensures order { R.is_big input.new ≡ R.is_big input.old }
+    ensures read { (result_map (value_seen R.seen) result, R.seen input.new)
+            ≡ taken (form_production (layout_of (R.seen input.old).is_big R.Offset.limit) encoding form.0) (R.seen input.old) }
 {
     match form {
         constants::DW_FORM_implicit_const => Ok(Value::Passed),

@@ -1,5 +1,6 @@
 //! The header of a unit (DWARF 5, section 7.5.1; DWARF 2 to 4, section 7.5.1.1).
 
+ghost use Rattle.gimli_core.specs.Seen.{taken};
 ghost use Rattle.std.specs.Prelude.{◌≡◌, IfOk, IsTrue};
 ghost use Rattle.gimli_core.specs.Layout.{layout_of};
 ghost use Rattle.gimli_core.specs.Numbers.{is_address_size};
@@ -14,11 +15,9 @@ use gimli_core::{Encoding, Error, Format, Reader, ReaderOffset, Result};
 /// the format.
 #[tactic(auto, unfolding(crate::specs::Header::frame_production))]
 pub(crate) fn split_unit<R: Reader>(input: &mut R) -> Result<(R, Format)>
-    ensures read { (result_map (frame_seen R.bytes) result, R.bytes input.new)
-        ≡ (frame_production (layout_of (R.is_big input.old) R.Offset.limit)).read
-        (R.bytes input.old) }
-    ensures order { R.is_big input.new ≡ R.is_big input.old }
-    ensures part { IfOk result (λ unit. R.is_big unit.0 ≡ R.is_big input.old) }
+    ensures read { (result_map (frame_seen R.seen) result, R.seen input.new)
+            ≡ taken (frame_production (layout_of (R.seen input.old).is_big R.Offset.limit)) (R.seen input.old) }
+    ensures part { IfOk result (λ unit. (R.seen unit.0).is_big ≡ (R.seen input.old).is_big) }
 {
     let (length, format) = input.read_initial_length()?;
     let unit = input.split(length)?;
@@ -28,9 +27,8 @@ pub(crate) fn split_unit<R: Reader>(input: &mut R) -> Result<(R, Format)>
 /// Takes a version, from 2 to 5. Refused by `UnknownVersion` at any other.
 #[tactic(auto, unfolding(crate::specs::Header::version_production))]
 fn parse_version<R: Reader>(input: &mut R) -> Result<u16>
-    ensures read { (result, R.bytes input.new)
-        ≡ (version_production (R.is_big input.old)).read (R.bytes input.old) }
-    ensures order { R.is_big input.new ≡ R.is_big input.old }
+    ensures read { (result, R.seen input.new)
+            ≡ taken (version_production (R.seen input.old).is_big) (R.seen input.old) }
 {
     let version = input.read_u16()?;
     if version < 2 || version > 5 {
@@ -74,6 +72,7 @@ pub(crate) struct UnitHeader<R: Reader> {
 }
 
 impl<R: Reader> UnitHeader<R> {
+    ghost use Rattle.gimli_core.specs.Seen.{taken};
     ghost use Rattle.gimli_compilation.specs.Header.{header_production, new_fields_production};
     ghost use Rattle.gimli_compilation.specs.Header.{old_fields_production};
     ghost use Rattle.gimli_compilation.specs.inside.Seen.{header_seen};
@@ -81,10 +80,8 @@ impl<R: Reader> UnitHeader<R> {
     /// Takes the fields after the length of a unit.
     #[tactic(auto, unfolding(crate::specs::Header::header_production))]
     pub(crate) fn parse(input: &mut R, format: Format) -> Result<Self>
-        ensures read { (result_map (header_seen R.Offset.number) result, R.bytes input.new)
-            ≡ (header_production (layout_of (R.is_big input.old) R.Offset.limit) format).read
-            (R.bytes input.old) }
-        ensures order { R.is_big input.new ≡ R.is_big input.old }
+        ensures read { (result_map (header_seen R.Offset.number) result, R.seen input.new)
+            ≡ taken (header_production (layout_of (R.seen input.old).is_big R.Offset.limit) format) (R.seen input.old) }
         ensures size { IfOk result
             (λ header. IsTrue (is_address_size header.encoding.address_size)) }
     {
@@ -99,11 +96,9 @@ impl<R: Reader> UnitHeader<R> {
     /// The fields after the version, up to version 4.
     #[tactic(auto, unfolding(crate::specs::Header::old_fields_production))]
     fn parse_old(input: &mut R, format: Format, version: u16) -> Result<Self>
-        ensures read { (result_map (header_seen R.Offset.number) result, R.bytes input.new)
-            ≡ (old_fields_production (layout_of (R.is_big input.old) R.Offset.limit) format
-            version).read
-            (R.bytes input.old) }
-        ensures order { R.is_big input.new ≡ R.is_big input.old }
+        ensures read { (result_map (header_seen R.Offset.number) result, R.seen input.new)
+            ≡ taken (old_fields_production (layout_of (R.seen input.old).is_big R.Offset.limit) format
+            version) (R.seen input.old) }
         ensures size { IfOk result
             (λ header. IsTrue (is_address_size header.encoding.address_size)) }
     {
@@ -123,11 +118,9 @@ impl<R: Reader> UnitHeader<R> {
     /// The fields after the version, in version 5.
     #[tactic(auto, unfolding(crate::specs::Header::new_fields_production))]
     fn parse_new(input: &mut R, format: Format, version: u16) -> Result<Self>
-        ensures read { (result_map (header_seen R.Offset.number) result, R.bytes input.new)
-            ≡ (new_fields_production (layout_of (R.is_big input.old) R.Offset.limit) format
-            version).read
-            (R.bytes input.old) }
-        ensures order { R.is_big input.new ≡ R.is_big input.old }
+        ensures read { (result_map (header_seen R.Offset.number) result, R.seen input.new)
+            ≡ taken (new_fields_production (layout_of (R.seen input.old).is_big R.Offset.limit) format
+            version) (R.seen input.old) }
         ensures size { IfOk result
             (λ header. IsTrue (is_address_size header.encoding.address_size)) }
     {

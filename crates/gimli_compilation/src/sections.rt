@@ -113,7 +113,7 @@ impl<R> Outcome<R> {
 fn some_text<R: Reader>(texts: &mut Texts<R>, offset: u64) -> MemoryResult<Result<Option<R>>>
     ensures same { texts.new ≡ texts.old }
     ensures read { IfOk result (λ text. (bytes : List ℕ)
-        → (result_map (option_map R.bytes) text, bytes)
+        → (result_map (option_map (λ r. (R.seen r).bytes)) text, bytes)
         ≡ (text_from R.Offset.limit texts.old offset).read bytes) }
 {
     match texts.text(offset)? {
@@ -139,8 +139,8 @@ fn place_of(base: u64, index: u64, size: u8) -> Result<u64>
 /// The string offset of an index.
 #[tactic(auto, unfolding(crate::specs::Unit::string_offset_production))]
 fn string_offset<R: Reader>(section: &R, format: Format, base: u64, index: u64) -> Result<u64>
-    ensures { result ≡ ((string_offset_production (layout_of (R.is_big section.now) R.Offset.limit)
-        format base index).read (R.bytes section.now)).0 }
+    ensures { result ≡ ((string_offset_production (layout_of (R.seen section.now).is_big R.Offset.limit)
+        format base index).read (R.seen section.now).bytes).0 }
 {
     let size = format.word_size();
     let place = R::Offset::from_u64(place_of(base, index, size)?)?;
@@ -160,9 +160,9 @@ impl<R: Reader> CompilationSections<R> {
 
     /// What is kept of no unit.
     pub(crate) fn nothing_kept(&self, alloc: Global) -> Kept<R>
-        ensures tables { AreTables R.bytes (R.bytes self.now.debug_abbrev) result.tables }
-        ensures strings { result.strings ≡ R.bytes self.now.debug_str }
-        ensures line_strings { result.line_strings ≡ R.bytes self.now.debug_line_str }
+        ensures tables { AreTables R.seen (R.seen self.now.debug_abbrev).bytes result.tables }
+        ensures strings { result.strings ≡ (R.seen self.now.debug_str).bytes }
+        ensures line_strings { result.line_strings ≡ (R.seen self.now.debug_line_str).bytes }
     {
         Kept {
             tables: Tables::new(alloc, &self.debug_abbrev),
@@ -185,17 +185,17 @@ impl<R: Reader> CompilationSections<R> {
         offset: R::Offset,
         kept: &mut Kept<R>,
     ) -> MemoryResult<std::result::Result<Compilation<R>, Refusal>>
-        requires tables { AreTables R.bytes (R.bytes self.now.debug_abbrev) kept.old.tables }
-        requires strings { kept.old.strings ≡ R.bytes self.now.debug_str }
-        requires line_strings { kept.old.line_strings ≡ R.bytes self.now.debug_line_str }
-        ensures tables { AreTables R.bytes (R.bytes self.now.debug_abbrev) kept.new.tables }
+        requires tables { AreTables R.seen (R.seen self.now.debug_abbrev).bytes kept.old.tables }
+        requires strings { kept.old.strings ≡ (R.seen self.now.debug_str).bytes }
+        requires line_strings { kept.old.line_strings ≡ (R.seen self.now.debug_line_str).bytes }
+        ensures tables { AreTables R.seen (R.seen self.now.debug_abbrev).bytes kept.new.tables }
         ensures strings { kept.new.strings ≡ kept.old.strings }
         ensures line_strings { kept.new.line_strings ≡ kept.old.line_strings }
         ensures compilation { IfOk result (λ answer. IfOk answer (λ compilation.
-            HasCompilationAt (sections_of R.bytes R.is_big R.Offset.limit self.now)
-            (R.Offset.number offset) (compilation_seen R.bytes compilation))) }
+            HasCompilationAt (sections_of R.seen R.Offset.limit self.now)
+            (R.Offset.number offset) (compilation_seen R.seen compilation))) }
         ensures refusal { IfOk result (λ answer. IfErr answer
-            (HasRefusalAt (sections_of R.bytes R.is_big R.Offset.limit self.now)
+            (HasRefusalAt (sections_of R.seen R.Offset.limit self.now)
             (R.Offset.number offset))) }
     {
         let mut input = self.info_at(offset);
@@ -209,9 +209,9 @@ impl<R: Reader> CompilationSections<R> {
 
     /// The bytes of `.debug_info` from an offset on; none where it is past the end.
     pub(crate) fn info_at(&self, offset: R::Offset) -> R
-        ensures bytes { R.bytes result
-            ≡ drop (R.Offset.number offset) (R.bytes self.now.debug_info) }
-        ensures order { R.is_big result ≡ R.is_big self.now.debug_info }
+        ensures bytes { (R.seen result).bytes
+            ≡ drop (R.Offset.number offset) (R.seen self.now.debug_info).bytes }
+        ensures order { (R.seen result).is_big ≡ (R.seen self.now.debug_info).is_big }
     {
         let mut input = self.debug_info;
         if input.skip(offset).is_err() {
@@ -228,17 +228,17 @@ impl<R: Reader> CompilationSections<R> {
         format: Format,
         kept: &mut Kept<R>,
     ) -> MemoryResult<Result<Outcome<R>>>
-        requires order { R.is_big unit.old ≡ R.is_big self.now.debug_info }
-        requires tables { AreTables R.bytes (R.bytes self.now.debug_abbrev) kept.old.tables }
-        requires strings { kept.old.strings ≡ R.bytes self.now.debug_str }
-        requires line_strings { kept.old.line_strings ≡ R.bytes self.now.debug_line_str }
-        ensures tables { AreTables R.bytes (R.bytes self.now.debug_abbrev) kept.new.tables }
+        requires order { (R.seen unit.old).is_big ≡ (R.seen self.now.debug_info).is_big }
+        requires tables { AreTables R.seen (R.seen self.now.debug_abbrev).bytes kept.old.tables }
+        requires strings { kept.old.strings ≡ (R.seen self.now.debug_str).bytes }
+        requires line_strings { kept.old.line_strings ≡ (R.seen self.now.debug_line_str).bytes }
+        ensures tables { AreTables R.seen (R.seen self.now.debug_abbrev).bytes kept.new.tables }
         ensures strings { kept.new.strings ≡ kept.old.strings }
         ensures line_strings { kept.new.line_strings ≡ kept.old.line_strings }
         ensures read { IfOk result (λ outcome.
-            (result_map (outcome_seen (compilation_seen R.bytes)) outcome, R.bytes unit.new)
-            ≡ (content_production (sections_of R.bytes R.is_big R.Offset.limit self.now)
-            format).read (R.bytes unit.old)) }
+            (result_map (outcome_seen (compilation_seen R.seen)) outcome, (R.seen unit.new).bytes)
+            ≡ (content_production (sections_of R.seen R.Offset.limit self.now)
+            format).read (R.seen unit.old).bytes) }
     {
         let header = match UnitHeader::parse(unit, format) {
             Ok(header) => header,
@@ -258,18 +258,18 @@ impl<R: Reader> CompilationSections<R> {
         header: UnitHeader<R>,
         kept: &mut Kept<R>,
     ) -> MemoryResult<Result<Outcome<R>>>
-        requires order { R.is_big unit.old ≡ R.is_big self.now.debug_info }
+        requires order { (R.seen unit.old).is_big ≡ (R.seen self.now.debug_info).is_big }
         requires size { IsTrue (is_address_size header.encoding.address_size) }
-        requires tables { AreTables R.bytes (R.bytes self.now.debug_abbrev) kept.old.tables }
-        requires strings { kept.old.strings ≡ R.bytes self.now.debug_str }
-        requires line_strings { kept.old.line_strings ≡ R.bytes self.now.debug_line_str }
-        ensures tables { AreTables R.bytes (R.bytes self.now.debug_abbrev) kept.new.tables }
+        requires tables { AreTables R.seen (R.seen self.now.debug_abbrev).bytes kept.old.tables }
+        requires strings { kept.old.strings ≡ (R.seen self.now.debug_str).bytes }
+        requires line_strings { kept.old.line_strings ≡ (R.seen self.now.debug_line_str).bytes }
+        ensures tables { AreTables R.seen (R.seen self.now.debug_abbrev).bytes kept.new.tables }
         ensures strings { kept.new.strings ≡ kept.old.strings }
         ensures line_strings { kept.new.line_strings ≡ kept.old.line_strings }
         ensures read { IfOk result (λ outcome.
-            (result_map (outcome_seen (compilation_seen R.bytes)) outcome, R.bytes unit.new)
-            ≡ (entry_production (sections_of R.bytes R.is_big R.Offset.limit self.now)
-            (header_seen R.Offset.number header)).read (R.bytes unit.old)) }
+            (result_map (outcome_seen (compilation_seen R.seen)) outcome, (R.seen unit.new).bytes)
+            ≡ (entry_production (sections_of R.seen R.Offset.limit self.now)
+            (header_seen R.Offset.number header)).read (R.seen unit.old).bytes) }
     {
         let code = match unit.read_uleb128() {
             Ok(code) => code,
@@ -293,18 +293,18 @@ impl<R: Reader> CompilationSections<R> {
         mut specifications: R,
         kept: &mut Kept<R>,
     ) -> MemoryResult<Result<Outcome<R>>>
-        requires order { R.is_big unit.old ≡ R.is_big self.now.debug_info }
+        requires order { (R.seen unit.old).is_big ≡ (R.seen self.now.debug_info).is_big }
         requires size { IsTrue (is_address_size encoding.address_size) }
-        requires closed { IsListed (R.bytes specifications) }
-        requires strings { kept.old.strings ≡ R.bytes self.now.debug_str }
-        requires line_strings { kept.old.line_strings ≡ R.bytes self.now.debug_line_str }
+        requires closed { IsListed (R.seen specifications).bytes }
+        requires strings { kept.old.strings ≡ (R.seen self.now.debug_str).bytes }
+        requires line_strings { kept.old.line_strings ≡ (R.seen self.now.debug_line_str).bytes }
         ensures tables { kept.new.tables ≡ kept.old.tables }
         ensures strings { kept.new.strings ≡ kept.old.strings }
         ensures line_strings { kept.new.line_strings ≡ kept.old.line_strings }
         ensures read { IfOk result (λ outcome.
-            (result_map (outcome_seen (compilation_seen R.bytes)) outcome, R.bytes unit.new)
-            ≡ (found_entry (sections_of R.bytes R.is_big R.Offset.limit self.now) encoding
-            (listed (R.bytes specifications))).read (R.bytes unit.old)) }
+            (result_map (outcome_seen (compilation_seen R.seen)) outcome, (R.seen unit.new).bytes)
+            ≡ (found_entry (sections_of R.seen R.Offset.limit self.now) encoding
+            (listed (R.seen specifications).bytes)).read (R.seen unit.old).bytes) }
     {
         let before = specifications.len().into_u64();
         let parsed = parse_attributes(unit, encoding, &mut specifications);
@@ -329,13 +329,13 @@ impl<R: Reader> CompilationSections<R> {
         attributes: &Attributes<R>,
         kept: &mut Kept<R>,
     ) -> MemoryResult<Result<Compilation<R>>>
-        requires strings { kept.old.strings ≡ R.bytes self.now.debug_str }
-        requires line_strings { kept.old.line_strings ≡ R.bytes self.now.debug_line_str }
+        requires strings { kept.old.strings ≡ (R.seen self.now.debug_str).bytes }
+        requires line_strings { kept.old.line_strings ≡ (R.seen self.now.debug_line_str).bytes }
         ensures kept { kept.new ≡ kept.old }
         ensures read { IfOk result (λ compilation.
-            (bytes : List ℕ) → (result_map (compilation_seen R.bytes) compilation, bytes)
-            ≡ (compilation_production (sections_of R.bytes R.is_big R.Offset.limit self.now)
-            encoding (attributes_seen R.bytes attributes.now)).read bytes) }
+            (bytes : List ℕ) → (result_map (compilation_seen R.seen) compilation, bytes)
+            ≡ (compilation_production (sections_of R.seen R.Offset.limit self.now)
+            encoding (attributes_seen R.seen attributes.now)).read bytes) }
     {
         let base = attributes.str_offsets_base.section_offset();
         let comp_dir = match self.text_of(encoding.format, base, &attributes.comp_dir, kept)? {
@@ -362,13 +362,13 @@ impl<R: Reader> CompilationSections<R> {
         value: &Value<R>,
         kept: &mut Kept<R>,
     ) -> MemoryResult<Result<Option<R>>>
-        requires strings { kept.old.strings ≡ R.bytes self.now.debug_str }
-        requires line_strings { kept.old.line_strings ≡ R.bytes self.now.debug_line_str }
+        requires strings { kept.old.strings ≡ (R.seen self.now.debug_str).bytes }
+        requires line_strings { kept.old.line_strings ≡ (R.seen self.now.debug_line_str).bytes }
         ensures kept { kept.new ≡ kept.old }
         ensures read { IfOk result (λ text.
-            (bytes : List ℕ) → (result_map (option_map R.bytes) text, bytes)
-            ≡ (text_of (sections_of R.bytes R.is_big R.Offset.limit self.now) format base
-            (value_seen R.bytes value.now)).read bytes) }
+            (bytes : List ℕ) → (result_map (option_map (λ r. (R.seen r).bytes)) text, bytes)
+            ≡ (text_of (sections_of R.seen R.Offset.limit self.now) format base
+            (value_seen R.seen value.now)).read bytes) }
     {
         match *value {
             Value::Text(text) => Ok(Ok(Some(text))),
@@ -387,12 +387,12 @@ impl<R: Reader> CompilationSections<R> {
         number: u64,
         kept: &mut Kept<R>,
     ) -> MemoryResult<Result<Option<R>>>
-        requires strings { kept.old.strings ≡ R.bytes self.now.debug_str }
-        requires line_strings { kept.old.line_strings ≡ R.bytes self.now.debug_line_str }
+        requires strings { kept.old.strings ≡ (R.seen self.now.debug_str).bytes }
+        requires line_strings { kept.old.line_strings ≡ (R.seen self.now.debug_line_str).bytes }
         ensures kept { kept.new ≡ kept.old }
         ensures read { IfOk result (λ text.
-            (bytes : List ℕ) → (result_map (option_map R.bytes) text, bytes)
-            ≡ (text_by (sections_of R.bytes R.is_big R.Offset.limit self.now) format base kind
+            (bytes : List ℕ) → (result_map (option_map (λ r. (R.seen r).bytes)) text, bytes)
+            ≡ (text_by (sections_of R.seen R.Offset.limit self.now) format base kind
             number).read bytes) }
     {
         match kind {

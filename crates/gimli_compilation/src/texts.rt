@@ -20,11 +20,11 @@ use std::marker::Model;
 /// narrow.
 #[tactic(auto, unfolding(crate::specs::Unit::text_production))]
 fn text_start<R: Reader>(section: &R, offset: u64) -> Result<R>
-    ensures ok { IfOk result (λ input. (text_at (R.bytes input)).0
-        ≡ ((text_production R.Offset.limit offset).read (R.bytes section.now)).0) }
-    ensures rest { IfOk result (λ input. R.bytes input ≡ drop offset (R.bytes section.now)) }
+    ensures ok { IfOk result (λ input. (text_at (R.seen input).bytes).0
+        ≡ ((text_production R.Offset.limit offset).read (R.seen section.now).bytes).0) }
+    ensures rest { IfOk result (λ input. (R.seen input).bytes ≡ drop offset (R.seen section.now).bytes) }
     ensures err { IfErr result (λ e. Err e
-        ≡ ((text_production R.Offset.limit offset).read (R.bytes section.now)).0) }
+        ≡ ((text_production R.Offset.limit offset).read (R.seen section.now).bytes).0) }
 {
     let mut input = *section;
     let offset = R::Offset::from_u64(offset)?;
@@ -34,7 +34,7 @@ fn text_start<R: Reader>(section: &R, offset: u64) -> Result<R>
 
 /// How many bytes stand before the first zero byte.
 fn searched_size<R: Reader>(input: &R) -> R::Offset
-    ensures { R.Offset.number result ≡ text_size (R.bytes input.now) }
+    ensures { R.Offset.number result ≡ text_size (R.seen input.now).bytes }
 {
     match input.find(0) {
         Ok(size) => size,
@@ -44,8 +44,8 @@ fn searched_size<R: Reader>(input: &R) -> R::Offset
 
 /// A number of bytes that is known to stand before the first zero byte.
 fn known_size<R: Reader>(input: &R, size: u64) -> R::Offset
-    requires { size ≡ text_size (R.bytes input.now) }
-    ensures { R.Offset.number result ≡ text_size (R.bytes input.now) }
+    requires { size ≡ text_size (R.seen input.now).bytes }
+    ensures { R.Offset.number result ≡ text_size (R.seen input.now).bytes }
 {
     match R::Offset::from_u64(size) {
         Ok(size) => size,
@@ -55,8 +55,8 @@ fn known_size<R: Reader>(input: &R, size: u64) -> R::Offset
 
 /// The first bytes, so many.
 fn front_of<R: Reader>(input: &R, count: u64) -> Result<R>
-    ensures bytes { IfOk result (λ front. R.bytes front ≡ take count (R.bytes input.now)) }
-    ensures within { IfOk result (λ _. count ≤ length (R.bytes input.now)) }
+    ensures bytes { IfOk result (λ front. (R.seen front).bytes ≡ take count (R.seen input.now).bytes) }
+    ensures within { IfOk result (λ _. count ≤ length (R.seen input.now).bytes) }
 {
     let count = R::Offset::from_u64(count)?;
     let mut front = *input;
@@ -67,8 +67,8 @@ fn front_of<R: Reader>(input: &R, count: u64) -> Result<R>
 /// How many bytes stand before the first zero byte: so many, unless one is among the first ones up
 /// to a place from which on it is known.
 fn size_before<R: Reader>(input: &R, gap: u64, size: u64) -> R::Offset
-    requires { size ≡ gap + text_size (drop gap (R.bytes input.now)) }
-    ensures { R.Offset.number result ≡ text_size (R.bytes input.now) }
+    requires { size ≡ gap + text_size (drop gap (R.seen input.now).bytes) }
+    ensures { R.Offset.number result ≡ text_size (R.seen input.now).bytes }
 {
     match front_of(input, gap) {
         Ok(front) => match front.find(0) {
@@ -82,8 +82,8 @@ fn size_before<R: Reader>(input: &R, gap: u64, size: u64) -> R::Offset
 /// The text that ends after so many bytes. Refused by `UnexpectedEof` where no zero byte stands
 /// there.
 fn cut<R: Reader>(input: R, size: R::Offset) -> Result<R>
-    requires { R.Offset.number size ≡ text_size (R.bytes input) }
-    ensures { result_map R.bytes result ≡ (text_at (R.bytes input)).0 }
+    requires { R.Offset.number size ≡ text_size (R.seen input).bytes }
+    ensures { result_map (λ r. (R.seen r).bytes) result ≡ (text_at (R.seen input).bytes).0 }
 {
     let mut rest = input;
     let text = rest.split(size)?;
@@ -128,11 +128,11 @@ impl<R: Reader> Model for Texts<R> {
 
     ghost Value = { List ℕ };
 
-    ghost view = { λ a. R.bytes a.section };
+    ghost view = { λ a. (R.seen a.section).bytes };
 
     ghost use Rattle.gimli_compilation.specs.inside.TextEnds.{AreEnds};
 
-    ghost invariant = { λ a. AreEnds (R.bytes a.section) a.ends };
+    ghost invariant = { λ a. AreEnds (R.seen a.section).bytes a.ends };
 }
 
 impl<R: Reader> Texts<R> {
@@ -143,7 +143,7 @@ impl<R: Reader> Texts<R> {
 
     /// The texts of a section, of which none was read.
     pub(crate) fn new(alloc: Global, section: &R) -> Self
-        ensures { result ≡ R.bytes section.now }
+        ensures { result ≡ (R.seen section.now).bytes }
     {
         Texts {
             section: *section,
@@ -156,7 +156,7 @@ impl<R: Reader> Texts<R> {
     /// `UnsupportedOffset` where the offset type is too narrow.
     pub(crate) fn text(&mut self, offset: u64) -> MemoryResult<Result<R>>
         ensures same { self.new ≡ self.old }
-        ensures read { IfOk result (λ text. result_map R.bytes text
+        ensures read { IfOk result (λ text. result_map (λ r. (R.seen r).bytes) text
             ≡ ((text_production R.Offset.limit offset).read self.old).0) }
     {
         let input = match text_start(&self.section, offset) {
@@ -169,10 +169,10 @@ impl<R: Reader> Texts<R> {
 
     /// How many bytes stand before the first zero byte at an offset or after it.
     fn size_at(&mut self, offset: u64, input: &R) -> MemoryResult<R::Offset>
-        requires { R.bytes input.now ≡ drop offset self.old }
+        requires { (R.seen input.now).bytes ≡ drop offset self.old }
         ensures same { self.new ≡ self.old }
         ensures size { IfOk result
-            (λ size. R.Offset.number size ≡ text_size (R.bytes input.now)) }
+            (λ size. R.Offset.number size ≡ text_size (R.seen input.now).bytes) }
     {
         let size = match next_end(&self.ends, offset) {
             Some((end, start)) => {

@@ -14,9 +14,9 @@ use std::marker::Model;
 
 /// Lets the unit in front go; all bytes where they begin with no unit.
 fn skip_unit<R: Reader>(input: &mut R)
-    ensures { R.bytes input.new
-        ≡ after_frame ((frame_production (layout_of (R.is_big input.old) R.Offset.limit)).read
-        (R.bytes input.old)) }
+    ensures { (R.seen input.new).bytes
+        ≡ after_frame ((frame_production (layout_of (R.seen input.old).is_big R.Offset.limit)).read
+        (R.seen input.old).bytes) }
 {
     if split_unit(input).is_err() {
         input.empty();
@@ -49,15 +49,15 @@ impl<R: Reader> Model for CompilationUnits<R> {
     ghost Value = { Walk };
 
     ghost view = { λ a. record {
-      sections = sections_of R.bytes R.is_big R.Offset.limit a.sections;
+      sections = sections_of R.seen R.Offset.limit a.sections;
       offset = R.Offset.number a.offset;
     } };
 
     ghost use Rattle.gimli_compilation.specs.inside.AbbreviationTable.{AreTables};
 
-    ghost invariant = { λ a. AreTables R.bytes (R.bytes a.sections.debug_abbrev) a.kept.tables
-        × (a.kept.strings ≡ R.bytes a.sections.debug_str)
-        × (a.kept.line_strings ≡ R.bytes a.sections.debug_line_str) };
+    ghost invariant = { λ a. AreTables R.seen (R.seen a.sections.debug_abbrev).bytes a.kept.tables
+        × (a.kept.strings ≡ (R.seen a.sections.debug_str).bytes)
+        × (a.kept.line_strings ≡ (R.seen a.sections.debug_line_str).bytes) };
 }
 
 impl<R: Reader> CompilationSections<R> {
@@ -66,7 +66,7 @@ impl<R: Reader> CompilationSections<R> {
 
     /// The units of `.debug_info`, from its start on.
     pub fn units(&self, alloc: Global) -> CompilationUnits<R>
-        ensures sections { result.sections ≡ sections_of R.bytes R.is_big R.Offset.limit self.now }
+        ensures sections { result.sections ≡ sections_of R.seen R.Offset.limit self.now }
         ensures offset { result.offset ≡ 0 }
     {
         CompilationUnits {
@@ -104,7 +104,7 @@ impl<R: Reader> CompilationUnits<R> {
             (λ next. IfSome next (λ unit. self.new.offset ≤ length self.old.sections.info)) }
         ensures compilation { IfOk result (λ next. IfSome next (λ unit.
             IfOk unit.compilation (λ compilation. HasCompilationAt self.old.sections unit.offset
-            (compilation_seen R.bytes compilation)))) }
+            (compilation_seen R.seen compilation)))) }
         ensures refusal { IfOk result (λ next. IfSome next (λ unit.
             IfErr unit.compilation (HasRefusalAt self.old.sections unit.offset))) }
         ensures err { IfErr result (λ e. (e ≡ Error.OutOfMemory) × (self.new ≡ self.old)) }

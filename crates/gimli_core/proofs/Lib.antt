@@ -1,5 +1,6 @@
 pub mod Leb
 pub mod SignedLeb
+pub mod Taken
 pub mod Texts
 pub mod Padded
 pub mod Productions

@@ -5,6 +5,7 @@ pub mod Values
 pub mod Results
 pub mod Reading
 pub mod Production
+pub mod Seen
 pub mod FormNumbers
 pub mod Form
 pub mod Equality

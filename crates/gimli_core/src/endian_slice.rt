@@ -19,15 +19,15 @@ pub struct EndianSlice<'i, E: Endianity> {
 impl<'i, E: Endianity> EndianSlice<'i, E> {
     /// A reader of these bytes, in this order.
     pub fn new(slice: &'i [u8], endian: E) -> Self
-        ensures bytes { ⟦<EndianSlice<'i, E> as Reader>⟧.bytes result ≡ slice.now }
-        ensures order { ⟦<EndianSlice<'i, E> as Reader>⟧.is_big result ≡ E.is_big endian }
+        ensures bytes { (⟦<EndianSlice<'i, E> as Reader>⟧.seen result).bytes ≡ slice.now }
+        ensures order { (⟦<EndianSlice<'i, E> as Reader>⟧.seen result).is_big ≡ E.is_big endian }
     {
         EndianSlice { slice, endian }
     }
 
     /// The bytes left.
     pub fn slice(&self) -> &'i [u8]
-        ensures { result.now ≡ ⟦<EndianSlice<'i, E> as Reader>⟧.bytes self.now }
+        ensures { result.now ≡ (⟦<EndianSlice<'i, E> as Reader>⟧.seen self.now).bytes }
     {
         self.slice
     }
@@ -52,9 +52,7 @@ impl<'i, E: Endianity> Reader for EndianSlice<'i, E> {
 
     type Offset = usize;
 
-    ghost bytes = { λ s. s.slice.now };
-
-    ghost is_big = { λ s. E.is_big s.endian };
+    ghost seen = { λ s. record { bytes = s.slice.now; is_big = E.is_big s.endian } };
 
     fn endian(&self) -> E {
         self.endian

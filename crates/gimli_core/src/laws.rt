@@ -97,8 +97,8 @@ pub fn equal_values_are_same<R: Reader + PartialEq>()
 /// `==` of values holds exactly where they are of one form and agree in what they hold, readers in
 /// their bytes and order and offsets in their numbers, if this is so of readers and of offsets.
 pub fn equal_values_look_same<R: Reader + PartialEq>()
-    ensures { ComparesBy (both R.bytes R.is_big) R.eq → ComparesBy R.Offset.number R.Offset.eq →
-        ComparesBy (value_by R.bytes R.is_big R.Offset.number)
+    ensures { ComparesBy R.seen R.eq → ComparesBy R.Offset.number R.Offset.eq →
+        ComparesBy (value_by R.seen R.Offset.number)
         ⟦<AttributeValue<R> as PartialEq>⟧.eq }
 {}
 
@@ -160,19 +160,19 @@ pub fn equal_orders_are_same()
 /// `==` of readers over slices holds exactly where the two have the same bytes left and the same
 /// order, if `==` of orders is so.
 pub fn equal_slices_are_same<'i, E: Endianity>()
-    ensures { ComparesBy E.is_big E.eq → ComparesBy (both ⟦<EndianSlice<'i, E> as Reader>⟧.bytes
-        ⟦<EndianSlice<'i, E> as Reader>⟧.is_big) ⟦<EndianSlice<'i, E> as PartialEq>⟧.eq }
+    ensures { ComparesBy E.is_big E.eq → ComparesBy ⟦<EndianSlice<'i, E> as Reader>⟧.seen
+        ⟦<EndianSlice<'i, E> as PartialEq>⟧.eq }
 {}
 
 /// A reader over a slice has no byte left by default, and the order of bytes that its type of
 /// orders has by default.
 pub fn default_slices_are_empty<'i, E: Endianity + Default>()
     ensures bytes { (reader : _) → ⟦<EndianSlice<'i, E> as Default>⟧.is_default reader
-        → ⟦<EndianSlice<'i, E> as Reader>⟧.bytes reader ≡ [] }
+        → (⟦<EndianSlice<'i, E> as Reader>⟧.seen reader).bytes ≡ [] }
     ensures order { (reader : _) (is_big : Bool)
         → ((endian : E) → E.is_default endian → E.is_big endian ≡ is_big)
         → ⟦<EndianSlice<'i, E> as Default>⟧.is_default reader
-        → ⟦<EndianSlice<'i, E> as Reader>⟧.is_big reader ≡ is_big }
+        → (⟦<EndianSlice<'i, E> as Reader>⟧.seen reader).is_big ≡ is_big }
 {}
 
 /// `clone` of errors, sections, formats, encodings and orders of bytes is never refused, and gives

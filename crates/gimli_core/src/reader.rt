@@ -4,7 +4,8 @@ ghost use Rattle.std.specs.Prelude.{◌≡◌, ℕ, ◌+◌, ◌-◌, ◌≤◌,
 ghost use Rattle.std.specs.Prelude.{IsTrue, IfOk, IsOkUnless, OnErr};
 ghost use Rattle.std.specs.Cow.{cow_slice_items};
 ghost use Rattle.gimli_core.specs.Numbers.{is_address_size};
-ghost use Rattle.gimli_core.specs.Layout.{layout_of};
+ghost use Rattle.gimli_core.specs.Layout.{Seen, layout_of};
+ghost use Rattle.gimli_core.specs.Seen.{taken, part_taken, on_bytes};
 ghost use Rattle.gimli_core.specs.Reading.{result_map, skip_at, truncate_at, find_at};
 ghost use Rattle.gimli_core.specs.Production.{Production, some_bytes, text, byte, signed_byte};
 ghost use Rattle.gimli_core.specs.Production.{number, unsigned, unsigned_16, signed, offset_word};
@@ -28,80 +29,71 @@ pub trait Reader: Copy {
     /// A number of bytes of this reader.
     type Offset: ReaderOffset;
 
-    /// The bytes left.
-    ghost bytes: { Self → List ℕ };
-
-    /// Whether the most significant byte of a number comes first.
-    ghost is_big: { Self → Bool };
+    /// The bytes left, and the order of bytes of the numbers among them.
+    ghost seen: { Self → Seen };
 
     /// The order of bytes.
     fn endian(&self) -> Self::Endian
-        ensures { Self.Endian.is_big result ≡ is_big self.now };
+        ensures { Self.Endian.is_big result ≡ (seen self.now).is_big };
 
     /// How many bytes are left.
     fn len(&self) -> Self::Offset
-        ensures { Self.Offset.number result ≡ length (bytes self.now) };
+        ensures { Self.Offset.number result ≡ length (seen self.now).bytes };
 
     /// Lets all bytes go.
     fn empty(&mut self)
-        ensures left { bytes self.new ≡ [] }
-        ensures order { is_big self.new ≡ is_big self.old };
+        ensures { seen self.new ≡ record { bytes = []; is_big = (seen self.old).is_big } };
 
     /// Lets all bytes go but the first `len`.
     fn truncate(&mut self, len: Self::Offset) -> Result<()>
-        ensures read { (result_map (λ _. tt) result, bytes self.new)
-            ≡ truncate_at (Self.Offset.number len) (bytes self.old) }
-        ensures order { is_big self.new ≡ is_big self.old };
+        ensures { (result_map (λ _. tt) result, seen self.new)
+            ≡ on_bytes (truncate_at (Self.Offset.number len)) (seen self.old) };
 
     /// How many bytes stand in `base` before those that are left here. Requires that those left
     /// here are an end of those that are left in `base`.
     fn offset_from(&self, base: &Self) -> Self::Offset
-        requires { (front : List ℕ) × (bytes base.now ≡ front ++ bytes self.now) }
-        ensures { Self.Offset.number result + length (bytes self.now) ≡ length (bytes base.now) };
+        requires { (front : List ℕ) × ((seen base.now).bytes ≡ front ++ (seen self.now).bytes) }
+        ensures { Self.Offset.number result + length (seen self.now).bytes
+            ≡ length (seen base.now).bytes };
 
     /// How many bytes stand before the first such byte. Refused by `UnexpectedEof` where there is
     /// none.
     fn find(&self, byte: u8) -> Result<Self::Offset>
-        ensures { result_map Self.Offset.number result ≡ find_at byte (bytes self.now) };
+        ensures { result_map Self.Offset.number result ≡ find_at byte (seen self.now).bytes };
 
     /// Lets the first `len` bytes go.
     fn skip(&mut self, len: Self::Offset) -> Result<()>
-        ensures read { (result_map (λ _. tt) result, bytes self.new)
-            ≡ skip_at (Self.Offset.number len) (bytes self.old) }
-        ensures order { is_big self.new ≡ is_big self.old };
+        ensures { (result_map (λ _. tt) result, seen self.new)
+            ≡ on_bytes (skip_at (Self.Offset.number len)) (seen self.old) };
 
     /// Takes the first `len` bytes, as a reader of their own.
     fn split(&mut self, len: Self::Offset) -> Result<Self>
-        ensures read { (result_map bytes result, bytes self.new)
-            ≡ (some_bytes (Self.Offset.number len)).read (bytes self.old) }
-        ensures order { is_big self.new ≡ is_big self.old }
-        ensures part { IfOk result (λ part. is_big part ≡ is_big self.old) };
+        ensures { (result_map seen result, seen self.new)
+            ≡ part_taken (some_bytes (Self.Offset.number len)) (seen self.old) };
 
     /// The bytes left, lent where they lie in one piece, else copied. Refused only by
     /// `OutOfMemory`, where the copy found no memory.
     fn to_slice(&self) -> Result<CowSlice<'_, u8>>
-        ensures ok { IfOk result (λ slice. cow_slice_items slice ≡ bytes self.now) }
+        ensures ok { IfOk result (λ slice. cow_slice_items slice ≡ (seen self.now).bytes) }
         ensures err { IsOkUnless result Error.OutOfMemory };
 
     /// Takes as many bytes as the buffer has, into the buffer. Where they are missing, the buffer
     /// stays as it was too.
     fn read_slice(&mut self, buf: &mut [u8]) -> Result<()>
-        ensures read { (result_map (λ _. buf.new) result, bytes self.new)
-            ≡ (some_bytes (length buf.old)).read (bytes self.old) }
-        ensures order { is_big self.new ≡ is_big self.old }
+        ensures read { (result_map (λ _. buf.new) result, seen self.new)
+            ≡ taken (some_bytes (length buf.old)) (seen self.old) }
         ensures refused { OnErr result (buf.new ≡ buf.old) };
 
     /// Whether no bytes are left.
     fn is_empty(&self) -> bool
-        ensures { IsTrue result ↔ (bytes self.now ≡ []) }
+        ensures { IsTrue result ↔ ((seen self.now).bytes ≡ []) }
     {
         self.len().into_u64() == 0
     }
 
     /// Takes sixteen bytes.
     fn read_u8_array_16(&mut self) -> Result<[u8; 16]>
-        ensures read { (result, bytes self.new) ≡ (some_bytes 16).read (bytes self.old) }
-        ensures order { is_big self.new ≡ is_big self.old }
+        ensures { (result, seen self.new) ≡ taken (some_bytes 16) (seen self.old) }
     {
         let mut buf = [0; 16];
         self.read_slice(&mut buf)?;
@@ -110,8 +102,7 @@ pub trait Reader: Copy {
 
     /// Takes an unsigned number of one byte.
     fn read_u8(&mut self) -> Result<u8>
-        ensures read { (result, bytes self.new) ≡ byte.read (bytes self.old) }
-        ensures order { is_big self.new ≡ is_big self.old }
+        ensures { (result, seen self.new) ≡ taken byte (seen self.old) }
     {
         let mut buf = [0; 1];
         self.read_slice(&mut buf)?;
@@ -120,8 +111,7 @@ pub trait Reader: Copy {
 
     /// Takes a signed number of one byte.
     fn read_i8(&mut self) -> Result<i8>
-        ensures read { (result, bytes self.new) ≡ signed_byte.read (bytes self.old) }
-        ensures order { is_big self.new ≡ is_big self.old }
+        ensures { (result, seen self.new) ≡ taken signed_byte (seen self.old) }
     {
         let byte = self.read_u8()?;
         Ok(byte.cast_signed())
@@ -129,9 +119,8 @@ pub trait Reader: Copy {
 
     /// Takes an unsigned number of two bytes.
     fn read_u16(&mut self) -> Result<u16>
-        ensures read { (result, bytes self.new)
-            ≡ (number (is_big self.old) 2).read (bytes self.old) }
-        ensures order { is_big self.new ≡ is_big self.old }
+        ensures { (result, seen self.new)
+            ≡ taken (number (seen self.old).is_big 2) (seen self.old) }
     {
         let mut buf = [0; 2];
         self.read_slice(&mut buf)?;
@@ -140,9 +129,8 @@ pub trait Reader: Copy {
 
     /// Takes an unsigned number of four bytes.
     fn read_u32(&mut self) -> Result<u32>
-        ensures read { (result, bytes self.new)
-            ≡ (number (is_big self.old) 4).read (bytes self.old) }
-        ensures order { is_big self.new ≡ is_big self.old }
+        ensures { (result, seen self.new)
+            ≡ taken (number (seen self.old).is_big 4) (seen self.old) }
     {
         let mut buf = [0; 4];
         self.read_slice(&mut buf)?;
@@ -151,9 +139,8 @@ pub trait Reader: Copy {
 
     /// Takes an unsigned number of eight bytes.
     fn read_u64(&mut self) -> Result<u64>
-        ensures read { (result, bytes self.new)
-            ≡ (number (is_big self.old) 8).read (bytes self.old) }
-        ensures order { is_big self.new ≡ is_big self.old }
+        ensures { (result, seen self.new)
+            ≡ taken (number (seen self.old).is_big 8) (seen self.old) }
     {
         let mut buf = [0; 8];
         self.read_slice(&mut buf)?;
@@ -163,9 +150,8 @@ pub trait Reader: Copy {
     /// Takes an unsigned number of `n` bytes. Requires that `n` is 8 at most.
     fn read_uint(&mut self, n: usize) -> Result<u64>
         requires { n ≤ 8 }
-        ensures read { (result, bytes self.new)
-            ≡ (number (is_big self.old) n).read (bytes self.old) }
-        ensures order { is_big self.new ≡ is_big self.old }
+        ensures { (result, seen self.new)
+            ≡ taken (number (seen self.old).is_big n) (seen self.old) }
     {
         let mut buf = [0; 8];
         if self.endian().is_big_endian() {
@@ -179,9 +165,7 @@ pub trait Reader: Copy {
     /// Takes the bytes before the first zero byte, as a reader of their own, and discards the zero
     /// byte. Refused by `UnexpectedEof` where there is none.
     fn read_null_terminated_slice(&mut self) -> Result<Self>
-        ensures read { (result_map bytes result, bytes self.new) ≡ text.read (bytes self.old) }
-        ensures order { is_big self.new ≡ is_big self.old }
-        ensures part { IfOk result (λ part. is_big part ≡ is_big self.old) }
+        ensures { (result_map seen result, seen self.new) ≡ part_taken text (seen self.old) }
     {
         let len = self.find(0)?;
         let text = self.split(len)?;
@@ -192,8 +176,7 @@ pub trait Reader: Copy {
     /// Takes an unsigned LEB128 number. Refused by `BadUnsignedLeb128` where it doesn't fit 64 bits
     /// or has more than ten bytes. A refused call has taken the bytes that it looked at.
     fn read_uleb128(&mut self) -> Result<u64>
-        ensures read { (result, bytes self.new) ≡ unsigned.read (bytes self.old) }
-        ensures order { is_big self.new ≡ is_big self.old }
+        ensures { (result, seen self.new) ≡ taken unsigned (seen self.old) }
     {
         let mut value = 0;
         for group in 0..9u32 {
@@ -214,8 +197,7 @@ pub trait Reader: Copy {
     /// fit them or has more than three bytes. A refused call has taken the bytes that it looked at.
     #[tactic(auto, unfolding(crate::specs::Reading::uleb_at))]
     fn read_uleb128_u16(&mut self) -> Result<u16>
-        ensures read { (result, bytes self.new) ≡ unsigned_16.read (bytes self.old) }
-        ensures order { is_big self.new ≡ is_big self.old }
+        ensures { (result, seen self.new) ≡ taken unsigned_16 (seen self.old) }
     {
         let first = self.read_u8()?;
         if first < 128 {
@@ -236,8 +218,7 @@ pub trait Reader: Copy {
     /// Takes a signed LEB128 number. Refused by `BadSignedLeb128` where it doesn't fit 64 bits or
     /// has more than ten bytes. A refused call has taken the bytes that it looked at.
     fn read_sleb128(&mut self) -> Result<i64>
-        ensures read { (result, bytes self.new) ≡ signed.read (bytes self.old) }
-        ensures order { is_big self.new ≡ is_big self.old }
+        ensures { (result, seen self.new) ≡ taken signed (seen self.old) }
     {
         let mut value = 0;
         for group in 0..9u32 {
@@ -257,12 +238,12 @@ pub trait Reader: Copy {
     /// too large.
     #[tactic(auto, unfolding(crate::specs::Production::unit_length))]
     fn read_initial_length(&mut self) -> Result<(Self::Offset, Format)>
-        ensures read { (
+        ensures { (
           result_map (λ read. (Self.Offset.number read.0, read.1)) result,
-          bytes self.new,
+          seen self.new,
         )
-            ≡ (unit_length (layout_of (is_big self.old) Self.Offset.limit)).read (bytes self.old) }
-        ensures order { is_big self.new ≡ is_big self.old }
+            ≡ taken (unit_length (layout_of (seen self.old).is_big Self.Offset.limit))
+            (seen self.old) }
     {
         let first = self.read_u32()?;
         if first < 0xffff_fff0 {
@@ -279,8 +260,7 @@ pub trait Reader: Copy {
     /// 8; the byte is taken then too.
     #[tactic(auto, unfolding(crate::specs::Production::address_size))]
     fn read_address_size(&mut self) -> Result<u8>
-        ensures read { (result, bytes self.new) ≡ address_size.read (bytes self.old) }
-        ensures order { is_big self.new ≡ is_big self.old }
+        ensures { (result, seen self.new) ≡ taken address_size (seen self.old) }
     {
         let size = self.read_u8()?;
         match size {
@@ -293,9 +273,8 @@ pub trait Reader: Copy {
     /// `read_address_size` gives it.
     fn read_address(&mut self, size: u8) -> Result<u64>
         requires { IsTrue (is_address_size size) }
-        ensures read { (result, bytes self.new)
-            ≡ (number (is_big self.old) size).read (bytes self.old) }
-        ensures order { is_big self.new ≡ is_big self.old }
+        ensures { (result, seen self.new)
+            ≡ taken (number (seen self.old).is_big size) (seen self.old) }
     {
         match size {
             1 => {
@@ -318,10 +297,9 @@ pub trait Reader: Copy {
     /// type is too narrow; the word is taken then.
     #[tactic(auto, unfolding(crate::specs::Production::offset_word))]
     fn read_length(&mut self, format: Format) -> Result<Self::Offset>
-        ensures read { (result_map Self.Offset.number result, bytes self.new)
-            ≡ (offset_word (layout_of (is_big self.old) Self.Offset.limit) format).read
-            (bytes self.old) }
-        ensures order { is_big self.new ≡ is_big self.old }
+        ensures { (result_map Self.Offset.number result, seen self.new)
+            ≡ taken (offset_word (layout_of (seen self.old).is_big Self.Offset.limit) format)
+            (seen self.old) }
     {
         match format {
             Format::Dwarf32 => {
@@ -338,10 +316,9 @@ pub trait Reader: Copy {
     /// Takes an offset of one word of the format. Refused by `UnsupportedOffset` where the offset
     /// type is too narrow; the word is taken then.
     fn read_offset(&mut self, format: Format) -> Result<Self::Offset>
-        ensures read { (result_map Self.Offset.number result, bytes self.new)
-            ≡ (offset_word (layout_of (is_big self.old) Self.Offset.limit) format).read
-            (bytes self.old) }
-        ensures order { is_big self.new ≡ is_big self.old }
+        ensures { (result_map Self.Offset.number result, seen self.new)
+            ≡ taken (offset_word (layout_of (seen self.old).is_big Self.Offset.limit) format)
+            (seen self.old) }
     {
         self.read_length(format)
     }

@@ -88,13 +88,13 @@ fn take_ranges<R: Reader>(
 ) -> Result<(), MakeError>
     requires units { ranges.old.units ≡ origin.now.lookup.now }
     requires entered { Entered
-        (texts_seen R.bytes origin.now.paths.now)
+        (texts_seen R.seen origin.now.paths.now)
         origin.now.lookup.now origin.now.limit table.old entries.old.items ranges.old.from }
     ensures entered { OnOk result (Entered
-        (texts_seen R.bytes origin.now.paths.now)
+        (texts_seen R.seen origin.now.paths.now)
         origin.now.lookup.now origin.now.limit table.new entries.new.items None) }
     ensures err { IfErr result (IsTableFault
-        (texts_seen R.bytes origin.now.paths.now)
+        (texts_seen R.seen origin.now.paths.now)
         origin.now.lookup.now origin.now.limit) }
 {
     'ranges: while let Some(range) = ranges.next_range() {
@@ -132,23 +132,23 @@ fn take_rows<R: Reader>(
 ) -> Result<(), MakeError>
     requires turn { IsTurn origin.now.lookup.now turn }
     requires are { AreSources
-        (texts_seen R.bytes origin.now.paths.now)
+        (texts_seen R.seen origin.now.paths.now)
         origin.now.lookup.now origin.now.limit table.old }
     ensures are { OnOk result (AreSources
-        (texts_seen R.bytes origin.now.paths.now)
+        (texts_seen R.seen origin.now.paths.now)
         origin.now.lookup.now origin.now.limit table.new) }
     ensures walked { OnOk result ((d : KeptUnit) (said : List Start) (end : ℕ) → Walked
-        (texts_seen R.bytes origin.now.paths.now)
+        (texts_seen R.seen origin.now.paths.now)
         origin.now.lookup.now origin.now.limit table.old entries.old.items said end
         → never_go_below end (rows_of turn.entry.rows) ≡ true → Walked
-        (texts_seen R.bytes origin.now.paths.now)
+        (texts_seen R.seen origin.now.paths.now)
         origin.now.lookup.now origin.now.limit table.new entries.new.items
         (said
-        ++ map (row_start (texts_seen R.bytes origin.now.paths.now)
+        ++ map (row_start (texts_seen R.seen origin.now.paths.now)
         (turn_rows origin.now.lookup.now d turn.entry).unit) (code_of (rows_of turn.entry.rows)))
         (end_after end (code_of (rows_of turn.entry.rows)))) }
     ensures err { IfErr result (IsTableFault
-        (texts_seen R.bytes origin.now.paths.now)
+        (texts_seen R.seen origin.now.paths.now)
         origin.now.lookup.now origin.now.limit) }
 {
     for index in 0..count_of_code(turn.rows) {
@@ -177,23 +177,23 @@ fn take_turn<R: Reader>(
 ) -> Result<(), MakeError>
     requires turn { IsTurn origin.now.lookup.now turn }
     requires are { AreSources
-        (texts_seen R.bytes origin.now.paths.now)
+        (texts_seen R.seen origin.now.paths.now)
         origin.now.lookup.now origin.now.limit table.old }
     ensures are { OnOk result (AreSources
-        (texts_seen R.bytes origin.now.paths.now)
+        (texts_seen R.seen origin.now.paths.now)
         origin.now.lookup.now origin.now.limit table.new) }
     ensures walked { OnOk result ((d : KeptUnit) (said : List Start) (end : ℕ) → Walked
-        (texts_seen R.bytes origin.now.paths.now)
+        (texts_seen R.seen origin.now.paths.now)
         origin.now.lookup.now origin.now.limit table.old entries.old.items said end
         → never_go_below end (rows_of turn.entry.rows) ≡ true → Walked
-        (texts_seen R.bytes origin.now.paths.now)
+        (texts_seen R.seen origin.now.paths.now)
         origin.now.lookup.now origin.now.limit table.new entries.new.items
         (said
-        ++ starts_of_turn (texts_seen R.bytes origin.now.paths.now)
+        ++ starts_of_turn (texts_seen R.seen origin.now.paths.now)
         (turn_rows origin.now.lookup.now d turn.entry))
         (end_after end (rows_of turn.entry.rows))) }
     ensures err { IfErr result (IsTableFault
-        (texts_seen R.bytes origin.now.paths.now)
+        (texts_seen R.seen origin.now.paths.now)
         origin.now.lookup.now origin.now.limit) }
 {
     let Some((_, last)) = turn.rows.range() else {
@@ -216,20 +216,20 @@ fn take_turns<R: Reader>(
 ) -> Result<(), MakeError>
     requires turns { All (IsTurn origin.now.lookup.now) turns.now }
     requires are { AreSources
-        (texts_seen R.bytes origin.now.paths.now)
+        (texts_seen R.seen origin.now.paths.now)
         origin.now.lookup.now origin.now.limit table.old }
     ensures walked { OnOk result ((d : KeptUnit) → Walked
-        (texts_seen R.bytes origin.now.paths.now)
+        (texts_seen R.seen origin.now.paths.now)
         origin.now.lookup.now origin.now.limit table.old entries.old.items [] 0
         → never_go_down (rows_of_turns turns.now) ≡ true → Walked
-        (texts_seen R.bytes origin.now.paths.now)
+        (texts_seen R.seen origin.now.paths.now)
         origin.now.lookup.now origin.now.limit table.new entries.new.items
         (flat_map
-        (starts_of_turn (texts_seen R.bytes origin.now.paths.now))
+        (starts_of_turn (texts_seen R.seen origin.now.paths.now))
         (map (turn_rows origin.now.lookup.now d) turns.now))
         (end_after 0 (rows_of_turns turns.now))) }
     ensures err { IfErr result (IsTableFault
-        (texts_seen R.bytes origin.now.paths.now)
+        (texts_seen R.seen origin.now.paths.now)
         origin.now.lookup.now origin.now.limit) }
 {
     for turn in turns {
@@ -254,13 +254,13 @@ fn entries_of<R: Reader>(
     origin: &Origin<'_, R>,
     table: &mut SourceTable,
 ) -> Result<Vec<Entry>, MakeError>
-    requires { AreSources (texts_seen R.bytes origin.now.paths.now)
+    requires { AreSources (texts_seen R.seen origin.now.paths.now)
         origin.now.lookup.now origin.now.limit table.old }
     ensures entered { IfOk result (λ entries. Entered
-        (texts_seen R.bytes origin.now.paths.now)
+        (texts_seen R.seen origin.now.paths.now)
         origin.now.lookup.now origin.now.limit table.new entries.items None) }
     ensures err { IfErr result (IsTableFault
-        (texts_seen R.bytes origin.now.paths.now)
+        (texts_seen R.seen origin.now.paths.now)
         origin.now.lookup.now origin.now.limit) }
 {
     let turns = turns_of(origin.alloc, origin.lookup)?;
@@ -284,13 +284,13 @@ fn write_entries<R: Reader>(
 ) -> Result<(), MakeError>
     requires size { IsTrue (is_address_size address_size) }
     requires sources { AreSources
-        (texts_seen R.bytes origin.now.paths.now)
+        (texts_seen R.seen origin.now.paths.now)
         origin.now.lookup.now origin.now.limit table.old }
     ensures bytes { OnOk result
-        (IsAppended (given_by (texts_seen R.bytes origin.now.paths.now) origin.now.lookup.now
+        (IsAppended (given_by (texts_seen R.seen origin.now.paths.now) origin.now.lookup.now
         address_size identity.now) origin.now.limit out.old.items out.new.items) }
     ensures err { IfErr result
-        (IsIndexFault (given_by (texts_seen R.bytes origin.now.paths.now) origin.now.lookup.now
+        (IsIndexFault (given_by (texts_seen R.seen origin.now.paths.now) origin.now.lookup.now
         address_size identity.now) origin.now.limit) }
     ensures kept { IfErr result (λ e. e ≢ OutOfMemory → out.new.items ≡ out.old.items) }
 {
@@ -333,11 +333,11 @@ pub fn write_index<R: Reader>(
     out: &mut Vec<u8>,
 ) -> Result<(), MakeError>
     requires { IsTrue (is_address_size address_size) }
-    ensures bytes { OnOk result (IsAppended (given_by (texts_seen R.bytes program.now.paths)
+    ensures bytes { OnOk result (IsAppended (given_by (texts_seen R.seen program.now.paths)
         program.now.lookup address_size identity.now) limit out.old.items out.new.items) }
-    ensures index { OnOk result (IsIndexAppended (given_by (texts_seen R.bytes program.now.paths)
+    ensures index { OnOk result (IsIndexAppended (given_by (texts_seen R.seen program.now.paths)
         program.now.lookup address_size identity.now) out.old.items out.new.items) }
-    ensures err { IfErr result (IsIndexFault (given_by (texts_seen R.bytes program.now.paths)
+    ensures err { IfErr result (IsIndexFault (given_by (texts_seen R.seen program.now.paths)
         program.now.lookup address_size identity.now) limit) }
     ensures kept { IfErr result (λ e. e ≢ OutOfMemory → out.new.items ≡ out.old.items) }
 {

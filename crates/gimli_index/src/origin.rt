@@ -52,7 +52,7 @@ impl<R: Reader> Origin<'_, R> {
         row: &LineRow,
     ) -> Result<Result<Vec<u8>, u32>, MakeError>
         ensures path { IfOk result (λ path. made_path path ≡ unit_path
-            (texts_seen R.bytes self.now.paths.now) unit.now row.now) }
+            (texts_seen R.seen self.now.paths.now) unit.now row.now) }
         ensures reason { IfOk result (λ path. IfErr path (λ reason. reason ≢ 0)) }
         ensures err { IfErr result (λ e. e ≡ MakeError.OutOfMemory) }
     {

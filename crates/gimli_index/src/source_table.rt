@@ -154,16 +154,16 @@ impl SourceTable {
         requires found { AreFound origin.now.lookup.now rows }
         requires absent { All (λ k. k ≢ key_of rows) self.old.keys }
         requires are { AreSources
-            (texts_seen R.bytes origin.now.paths.now)
+            (texts_seen R.seen origin.now.paths.now)
             origin.now.lookup.now origin.now.limit self.old }
         ensures are { OnOk result (AreSources
-            (texts_seen R.bytes origin.now.paths.now)
+            (texts_seen R.seen origin.now.paths.now)
             origin.now.lookup.now origin.now.limit self.new) }
         ensures keeps { OnOk result (Keeps self.old self.new) }
         ensures number { IfOk result
             (λ number. slice_get self.new.keys number ≡ Some (key_of rows)) }
         ensures err { IfErr result (IsTableFault
-            (texts_seen R.bytes origin.now.paths.now)
+            (texts_seen R.seen origin.now.paths.now)
             origin.now.lookup.now origin.now.limit) }
     {
         let number = self.sources.len();
@@ -192,16 +192,16 @@ impl SourceTable {
         requires unit { rows.now.unit < length origin.now.lookup.now }
         requires found { AreFound origin.now.lookup.now rows.now }
         requires are { AreSources
-            (texts_seen R.bytes origin.now.paths.now)
+            (texts_seen R.seen origin.now.paths.now)
             origin.now.lookup.now origin.now.limit self.old }
         ensures are { OnOk result (AreSources
-            (texts_seen R.bytes origin.now.paths.now)
+            (texts_seen R.seen origin.now.paths.now)
             origin.now.lookup.now origin.now.limit self.new) }
         ensures keeps { OnOk result (Keeps self.old self.new) }
         ensures number { IfOk result
             (λ number. slice_get self.new.keys number ≡ Some (key_of rows.now)) }
         ensures err { IfErr result (IsTableFault
-            (texts_seen R.bytes origin.now.paths.now)
+            (texts_seen R.seen origin.now.paths.now)
             origin.now.lookup.now origin.now.limit) }
     {
         match self.number_of(key_of(rows)) {
@@ -220,19 +220,19 @@ impl SourceTable {
         requires unit { IfSome found (λ f. f.unit < length origin.now.lookup.now) }
         requires found { IfSome found (AreFound origin.now.lookup.now) }
         requires are { AreSources
-            (texts_seen R.bytes origin.now.paths.now)
+            (texts_seen R.seen origin.now.paths.now)
             origin.now.lookup.now origin.now.limit self.old }
         ensures are { OnOk result (AreSources
-            (texts_seen R.bytes origin.now.paths.now)
+            (texts_seen R.seen origin.now.paths.now)
             origin.now.lookup.now origin.now.limit self.new) }
         ensures keeps { OnOk result (Keeps self.old self.new) }
         ensures inside { IfOk result (IsInside self.new) }
         ensures place { IfOk result (λ place. place_in self.new place ≡ found_place
-            (texts_seen R.bytes origin.now.paths.now)
+            (texts_seen R.seen origin.now.paths.now)
             origin.now.lookup.now found) }
         ensures column { IfOk result HasColumn }
         ensures err { IfErr result (IsTableFault
-            (texts_seen R.bytes origin.now.paths.now)
+            (texts_seen R.seen origin.now.paths.now)
             origin.now.lookup.now origin.now.limit) }
     {
         let Some(rows) = found else {

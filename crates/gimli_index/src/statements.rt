@@ -86,21 +86,21 @@ fn take_row<R: Reader>(
     requires given { IsGiven table.old given }
     requires inside { AreInside table.old statements.old.items }
     requires are { AreSources
-        (texts_seen R.bytes origin.now.paths.now)
+        (texts_seen R.seen origin.now.paths.now)
         origin.now.lookup.now origin.now.limit table.old }
     ensures are { OnOk result (AreSources
-        (texts_seen R.bytes origin.now.paths.now)
+        (texts_seen R.seen origin.now.paths.now)
         origin.now.lookup.now origin.now.limit table.new) }
     ensures keeps { OnOk result (Keeps table.old table.new) }
     ensures given { IfOk result (IsGiven table.new) }
     ensures inside { OnOk result (AreInside table.new statements.new.items) }
     ensures said { IfOk result (λ next. (u : KeptUnit)
         → slice_get origin.now.lookup.now rows.now.unit ≡ Some u → (rest : List LineRow) → GoesOnTo
-        (texts_seen R.bytes origin.now.paths.now) u.unit
+        (texts_seen R.seen origin.now.paths.now) u.unit
         table.old statements.old.items given (rows.now.row ∷ rest)
         table.new statements.new.items next rest) }
     ensures err { IfErr result (IsTableFault
-        (texts_seen R.bytes origin.now.paths.now)
+        (texts_seen R.seen origin.now.paths.now)
         origin.now.lookup.now origin.now.limit) }
 {
     let row = &rows.row;
@@ -140,20 +140,20 @@ fn take_rows<R: Reader>(
         ≡ Some (rows_of rows)) }
     requires inside { AreInside table.old statements.old.items }
     requires are { AreSources
-        (texts_seen R.bytes origin.now.paths.now)
+        (texts_seen R.seen origin.now.paths.now)
         origin.now.lookup.now origin.now.limit table.old }
     ensures are { OnOk result (AreSources
-        (texts_seen R.bytes origin.now.paths.now)
+        (texts_seen R.seen origin.now.paths.now)
         origin.now.lookup.now origin.now.limit table.new) }
     ensures keeps { OnOk result (Keeps table.old table.new) }
     ensures inside { OnOk result (AreInside table.new statements.new.items) }
     ensures said { OnOk result ((u : KeptUnit) → slice_get origin.now.lookup.now unit ≡ Some u
         → statements_in table.new statements.new.items
         ≡ statements_in table.old statements.old.items
-        ++ begun (texts_seen R.bytes origin.now.paths.now) u.unit None
+        ++ begun (texts_seen R.seen origin.now.paths.now) u.unit None
         (rows_of rows.entry)) }
     ensures err { IfErr result (IsTableFault
-        (texts_seen R.bytes origin.now.paths.now)
+        (texts_seen R.seen origin.now.paths.now)
         origin.now.lookup.now origin.now.limit) }
 {
     let mut given = None;
@@ -179,19 +179,19 @@ fn take_unit<R: Reader>(
     requires unit { unit < length origin.now.lookup.now }
     requires inside { AreInside table.old statements.old.items }
     requires are { AreSources
-        (texts_seen R.bytes origin.now.paths.now)
+        (texts_seen R.seen origin.now.paths.now)
         origin.now.lookup.now origin.now.limit table.old }
     ensures are { OnOk result (AreSources
-        (texts_seen R.bytes origin.now.paths.now)
+        (texts_seen R.seen origin.now.paths.now)
         origin.now.lookup.now origin.now.limit table.new) }
     ensures keeps { OnOk result (Keeps table.old table.new) }
     ensures inside { OnOk result (AreInside table.new statements.new.items) }
     ensures said { OnOk result ((u : KeptUnit) → slice_get origin.now.lookup.now unit ≡ Some u
         → statements_in table.new statements.new.items
         ≡ statements_in table.old statements.old.items ++ begun_in_unit
-        (texts_seen R.bytes origin.now.paths.now) u) }
+        (texts_seen R.seen origin.now.paths.now) u) }
     ensures err { IfErr result (IsTableFault
-        (texts_seen R.bytes origin.now.paths.now)
+        (texts_seen R.seen origin.now.paths.now)
         origin.now.lookup.now origin.now.limit) }
 {
     for index in 0..origin.lookup.sequence_count(unit) {
@@ -207,18 +207,18 @@ pub(crate) fn statements_of<R: Reader>(
     origin: &Origin<'_, R>,
     table: &mut SourceTable,
 ) -> Result<Vec<Statement>, MakeError>
-    requires { AreSources (texts_seen R.bytes origin.now.paths.now)
+    requires { AreSources (texts_seen R.seen origin.now.paths.now)
         origin.now.lookup.now origin.now.limit table.old }
     ensures are { OnOk result (AreSources
-        (texts_seen R.bytes origin.now.paths.now)
+        (texts_seen R.seen origin.now.paths.now)
         origin.now.lookup.now origin.now.limit table.new) }
     ensures keeps { OnOk result (Keeps table.old table.new) }
     ensures inside { IfOk result (λ statements. AreInside table.new statements.items) }
     ensures said { IfOk result (λ statements. statements_in table.new statements.items
-        ≡ begun_in_units (texts_seen R.bytes origin.now.paths.now)
+        ≡ begun_in_units (texts_seen R.seen origin.now.paths.now)
         origin.now.lookup.now) }
     ensures err { IfErr result (IsTableFault
-        (texts_seen R.bytes origin.now.paths.now)
+        (texts_seen R.seen origin.now.paths.now)
         origin.now.lookup.now origin.now.limit) }
 {
     let mut statements = Vec::new(origin.alloc);

@@ -20,8 +20,9 @@ pub use Rattle.gimli_core.proofs.Productions.{
   reads_within,
 }
 pub use Rattle.gimli_core.proofs.SignedLaws.{reads_signed}
+pub use Rattle.gimli_core.proofs.Taken.{order_of, part_order_of, part_read_of, read_of, taken_of}
 pub use Rattle.gimli_core.proofs.UnsignedLeb.{reads_unsigned}
-pub use Rattle.gimli_core.specs.Layout.{OrderAndLimit, layout_of}
+pub use Rattle.gimli_core.specs.Layout.{OrderAndLimit, Seen, layout_of}
 pub use Rattle.gimli_core.specs.Numbers.{
   IsLeb128,
   SpellsUleb128,

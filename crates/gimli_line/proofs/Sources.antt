@@ -2,7 +2,7 @@
 use Rattle.std.specs.Prelude.{◌≡◌}
 use Rattle.gimli_line.proofs.Common
 use Common.{Bool, refl, sym, ap, subst, ◌∙◌, SeenHeader, HeaderSource, KeepsSource, RunState, AddsInOrder}
-use Common.{IsOfOneOrder, KeepsRun, SeesHeader}
+use Common.{IsOfOneOrder, KeepsRun, SeesHeader, Seen}
 
 pub source_kept : (Fits : Bool → Type 0) (source : HeaderSource) → KeepsSource Fits source source
 source_kept Fits source = record { layout = refl; offset = refl; handed = refl; order = λ order fits are. are }
@@ -47,11 +47,11 @@ keeps_both x y z p q = record {
 }
 
 -- a run goes on, and the header is seen then
-pub sees_after : {R Offset Endian : Type 0} (is_big : R → Bool) (number : Offset → _) (x y : RunState)
+pub sees_after : {R Offset Endian : Type 0} (seen : R → Seen) (number : Offset → _) (x y : RunState)
     (h : SeenHeader R Offset Endian)
     → KeepsRun x y
-    → SeesHeader is_big number y h → SeesHeader is_big number x h
-sees_after is_big number x y h p q = record {
+    → SeesHeader seen number y h → SeesHeader seen number x h
+sees_after seen number x y h p q = record {
   fixed = q.fixed ∙ p.fixed;
   source = source_both _ _ _ _ p.source
       (fits_less _ _ _ _ (still_adds x y p) q.source);

@@ -1,5 +1,5 @@
 -- What these definitions name of other crates.
-pub use Rattle.gimli_core.specs.Layout.{OrderAndLimit, layout_of}
+pub use Rattle.gimli_core.specs.Layout.{OrderAndLimit, Seen, layout_of}
 pub use Rattle.gimli_core.specs.Reading.{
   Read,
   byte_at,

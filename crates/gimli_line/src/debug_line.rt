@@ -36,8 +36,9 @@ impl<R> Model for DebugLine<R> {
 impl<'i, E: Endianity> DebugLine<EndianSlice<'i, E>> {
     /// The section of these bytes, in this order.
     pub fn new(debug_line_section: &'i [u8], endian: E) -> Self
-        ensures bytes { ⟦<EndianSlice<'i, E> as Reader>⟧.bytes result ≡ debug_line_section.now }
-        ensures order { ⟦<EndianSlice<'i, E> as Reader>⟧.is_big result ≡ E.is_big endian }
+        ensures bytes { (⟦<EndianSlice<'i, E> as Reader>⟧.seen result).bytes
+            ≡ debug_line_section.now }
+        ensures order { (⟦<EndianSlice<'i, E> as Reader>⟧.seen result).is_big ≡ E.is_big endian }
     {
         Self::from(EndianSlice::new(debug_line_section, endian))
     }
@@ -58,15 +59,15 @@ impl<R: Reader> DebugLine<R> {
     ) -> Result<IncompleteLineProgram<R>>
         requires { IsTrue (is_address_size address_size) }
         ensures unit { IfOk result
-            (SpellsUnitAt (unread_of R.bytes R.is_big R.Offset.limit self.now)
-            (R.Offset.number offset.0) (unit_entry R.bytes address_size comp_dir comp_name)) }
+            (SpellsUnitAt (unread_of R.seen R.Offset.limit self.now)
+            (R.Offset.number offset.0) (unit_entry R.seen address_size comp_dir comp_name)) }
         ensures refusal { IfErr result (λ e. e ≢ OutOfMemory
-            → HasUnitFaultAt (unread_of R.bytes R.is_big R.Offset.limit self.now)
-            (R.Offset.number offset.0) (unit_entry R.bytes address_size comp_dir comp_name) e) }
+            → HasUnitFaultAt (unread_of R.seen R.Offset.limit self.now)
+            (R.Offset.number offset.0) (unit_entry R.seen address_size comp_dir comp_name) e) }
         ensures layout { IfOk result
-            (λ program. program.layout ≡ layout_of (R.is_big self.now) R.Offset.limit) }
+            (λ program. program.layout ≡ layout_of (R.seen self.now).is_big R.Offset.limit) }
         ensures offset { IfOk result (λ program. program.offset ≡ offset) }
-        ensures order { IfOk result (HasOneOrder R.is_big) }
+        ensures order { IfOk result (HasOneOrder R.seen) }
         ensures directory { IfOk result (λ program. program.comp_dir
             ≡ handed_value program.meaning.parameters.encoding comp_dir) }
         ensures name { IfOk result (λ program. option_map (λ file. file.path_name) program.comp_file
@@ -86,8 +87,9 @@ impl<R: Reader> DebugLine<R> {
 
     /// The bytes from an offset on; none where it is past the end.
     pub(crate) fn input_at(&self, offset: R::Offset) -> R
-        ensures bytes { R.bytes result ≡ drop (R.Offset.number offset) (R.bytes self.now) }
-        ensures order { R.is_big result ≡ R.is_big self.now }
+        ensures bytes { (R.seen result).bytes
+            ≡ drop (R.Offset.number offset) (R.seen self.now).bytes }
+        ensures order { (R.seen result).is_big ≡ (R.seen self.now).is_big }
     {
         let mut input = self.debug_line_section;
         if input.skip(offset).is_err() {

@@ -5,7 +5,7 @@ ghost use Rattle.std.specs.Prelude.{◌≡◌, ◌≢◌, ◌≤◌, ◌<◌, �
 ghost use Rattle.std.specs.Prelude.{◌∷◌, Option, Some, None, length, nat_eq, option_map};
 ghost use Rattle.std.specs.Ordering.{nat_cmp};
 ghost use Rattle.gimli_core.specs.Equality.{AreAlwaysCloned, ClonesGiveSame, ComparesBy, IsExact};
-ghost use Rattle.gimli_core.specs.Equality.{IsSameClone, both};
+ghost use Rattle.gimli_core.specs.Equality.{IsSameClone};
 ghost use Rattle.gimli_core.specs.Layout.{OrderAndLimit};
 ghost use Rattle.gimli_core.specs.Values.{value_by};
 ghost use Rattle.gimli_core.specs.declared.common.Format.{Format};
@@ -206,8 +206,8 @@ fn equal_digests_are_same()
 /// offsets in their numbers, if this is so of readers and of offsets. It is so of readers over
 /// slices (gimli_core's `equal_slices_are_same`).
 pub fn equal_files_look_same<R: Reader + PartialEq>()
-    ensures { ComparesBy (both R.bytes R.is_big) R.eq → ComparesBy R.Offset.number R.Offset.eq →
-        ComparesBy (file_by R.bytes R.is_big R.Offset.number) ⟦<FileEntry<R> as PartialEq>⟧.eq }
+    ensures { ComparesBy R.seen R.eq → ComparesBy R.Offset.number R.Offset.eq →
+        ComparesBy (file_by R.seen R.Offset.number) ⟦<FileEntry<R> as PartialEq>⟧.eq }
 {
     equal_values_look_same::<R>();
     equal_sources_look_same::<R>();
@@ -216,8 +216,8 @@ pub fn equal_files_look_same<R: Reader + PartialEq>()
 
 /// The same of the source texts of files.
 fn equal_sources_look_same<R: Reader + PartialEq>()
-    ensures { ComparesBy (both R.bytes R.is_big) R.eq → ComparesBy R.Offset.number R.Offset.eq →
-        ComparesBy (option_map (value_by R.bytes R.is_big R.Offset.number))
+    ensures { ComparesBy R.seen R.eq → ComparesBy R.Offset.number R.Offset.eq →
+        ComparesBy (option_map (value_by R.seen R.Offset.number))
         ⟦<Option<AttributeValue<R>> as PartialEq>⟧.eq }
 {
     equal_values_look_same::<R>();
@@ -236,8 +236,8 @@ pub fn equal_instructions_are_same<R: Reader + PartialEq>()
 /// readers in their bytes and order and offsets in their numbers, if this is so of readers and of
 /// offsets, as it is of readers over slices.
 pub fn equal_instructions_look_same<R: Reader + PartialEq>()
-    ensures { ComparesBy (both R.bytes R.is_big) R.eq → ComparesBy R.Offset.number R.Offset.eq →
-        ComparesBy (ins_by R.bytes R.is_big R.Offset.number)
+    ensures { ComparesBy R.seen R.eq → ComparesBy R.Offset.number R.Offset.eq →
+        ComparesBy (ins_by R.seen R.Offset.number)
         ⟦<LineInstruction<R> as PartialEq>⟧.eq }
 {
     equal_files_look_same::<R>();
@@ -259,8 +259,8 @@ pub fn equal_headers_are_same<R: Reader + PartialEq>()
 /// offsets in their numbers, if this is so of readers and of offsets, as it is of readers over
 /// slices.
 pub fn equal_headers_look_same<R: Reader + PartialEq>()
-    ensures { ComparesBy (both R.bytes R.is_big) R.eq → ComparesBy R.Offset.number R.Offset.eq →
-        ComparesSeen R.bytes R.is_big R.Offset.number ⟦<LineProgramHeader<R> as PartialEq>⟧.eq }
+    ensures { ComparesBy R.seen R.eq → ComparesBy R.Offset.number R.Offset.eq →
+        ComparesSeen R.seen R.Offset.number ⟦<LineProgramHeader<R> as PartialEq>⟧.eq }
 {
     equal_values_look_same::<R>();
     equal_files_look_same::<R>();
@@ -293,12 +293,12 @@ pub fn equal_programs_are_same<R: Reader + PartialEq>()
 /// and order and offsets in their numbers, if this is so of readers and of offsets, as it is of
 /// readers over slices.
 pub fn equal_programs_look_same<R: Reader + PartialEq>()
-    ensures parsed { ComparesBy (both R.bytes R.is_big) R.eq
+    ensures parsed { ComparesBy R.seen R.eq
         → ComparesBy R.Offset.number R.Offset.eq →
-        ComparesSeen R.bytes R.is_big R.Offset.number ⟦<IncompleteLineProgram<R> as PartialEq>⟧.eq }
-    ensures whole { ComparesBy (both R.bytes R.is_big) R.eq → ComparesBy R.Offset.number R.Offset.eq
+        ComparesSeen R.seen R.Offset.number ⟦<IncompleteLineProgram<R> as PartialEq>⟧.eq }
+    ensures whole { ComparesBy R.seen R.eq → ComparesBy R.Offset.number R.Offset.eq
         →
-        ComparesSeen R.bytes R.is_big R.Offset.number ⟦<CompleteLineProgram<R> as PartialEq>⟧.eq }
+        ComparesSeen R.seen R.Offset.number ⟦<CompleteLineProgram<R> as PartialEq>⟧.eq }
 {
     equal_headers_look_same::<R>();
 }

@@ -3,6 +3,7 @@
 ghost use Rattle.std.specs.Prelude.{◌≡◌, ◌↔◌, Err, IsTrue};
 ghost use Rattle.gimli_core.specs.Layout.{layout_of};
 ghost use Rattle.gimli_core.specs.Reading.{result_map};
+ghost use Rattle.gimli_core.specs.Seen.{part_taken};
 ghost use Rattle.gimli_line.specs.Units.{after_unit, any_unit};
 
 use crate::debug_line::DebugLine;
@@ -14,8 +15,9 @@ use std::marker::Model;
 /// Takes a unit: its length, and as many bytes as that says. Returns the latter.
 #[tactic(auto, unfolding(crate::specs::Units::any_unit))]
 fn split_unit<R: Reader>(input: &mut R) -> Result<R>
-    ensures { (result_map R.bytes result, R.bytes input.new)
-        ≡ (any_unit (layout_of (R.is_big input.old) R.Offset.limit)).read (R.bytes input.old) }
+    ensures { (result_map R.seen result, R.seen input.new)
+        ≡ part_taken (any_unit (layout_of (R.seen input.old).is_big R.Offset.limit))
+        (R.seen input.old) }
 {
     let (length, _format) = input.read_initial_length()?;
     input.split(length)
@@ -23,9 +25,10 @@ fn split_unit<R: Reader>(input: &mut R) -> Result<R>
 
 /// Lets the unit in front go; all bytes where they begin with no unit.
 fn skip_unit<R: Reader>(input: &mut R)
-    ensures { R.bytes input.new
+    ensures { (R.seen input.new).bytes
         ≡ after_unit
-        ((any_unit (layout_of (R.is_big input.old) R.Offset.limit)).read (R.bytes input.old)) }
+        ((any_unit (layout_of (R.seen input.old).is_big R.Offset.limit)).read
+        (R.seen input.old).bytes) }
 {
     if split_unit(input).is_err() {
         input.empty();
@@ -78,11 +81,12 @@ impl<R: Reader> Model for LineUnits<R> {
     ghost Value = { UnitWalk };
 
     ghost view = { λ a. record {
-      section = unread_of R.bytes R.is_big R.Offset.limit a.section;
-      entry = unit_entry R.bytes a.address_size None None;
+      section = unread_of R.seen R.Offset.limit a.section;
+      entry = unit_entry R.seen a.address_size None None;
       offsets =
-          offsets_at (layout_of (R.is_big a.section) R.Offset.limit) (length (R.bytes a.section))
-          (drop (R.Offset.number a.offset.0) (R.bytes a.section));
+          offsets_at (layout_of (R.seen a.section).is_big R.Offset.limit)
+          (length (R.seen a.section).bytes)
+          (drop (R.Offset.number a.offset.0) (R.seen a.section).bytes);
     } };
 
     ghost invariant = { λ a. IsTrue (is_address_size a.address_size) };
@@ -101,10 +105,10 @@ impl<R: Reader> DebugLine<R> {
     /// 1, 2, 4 or 8.
     pub fn units(&self, alloc: Global, address_size: u8) -> LineUnits<R>
         requires { IsTrue (is_address_size address_size) }
-        ensures section { result.section ≡ unread_of R.bytes R.is_big R.Offset.limit self.now }
-        ensures entry { result.entry ≡ unit_entry R.bytes address_size None None }
-        ensures offsets { AreUnits (layout_of (R.is_big self.now) R.Offset.limit) 0
-            (R.bytes self.now) result.offsets }
+        ensures section { result.section ≡ unread_of R.seen R.Offset.limit self.now }
+        ensures entry { result.entry ≡ unit_entry R.seen address_size None None }
+        ensures offsets { AreUnits (layout_of (R.seen self.now).is_big R.Offset.limit) 0
+            (R.seen self.now).bytes result.offsets }
     {
         LineUnits {
             section: DebugLine::from(*self.reader()),
@@ -139,7 +143,7 @@ impl<R: Reader> LineUnits<R> {
         ensures offset { IfOk result (λ next. IfSome next (λ unit. IfOk unit.program
             (λ program. program.offset ≡ unit.offset))) }
         ensures order { IfOk result (λ next. IfSome next (λ unit. IfOk unit.program
-            (HasOneOrder R.is_big))) }
+            (HasOneOrder R.seen))) }
         ensures err { IfErr result (λ e. (e ≡ Error.OutOfMemory) × (self.new ≡ self.old)) }
     {
         let offset = self.offset;

@@ -26,6 +26,7 @@ use Rattle.gimli_lookup.specs.Strings.{Strings, front_string, string_at, string_
 use Rattle.gimli_lookup.specs.declared.path_error.PathError.{PathError}
 use Rattle.gimli_lookup.specs.declared.path_error.PathError.TheVariants.{StringOffsetOutOfBounds, UnterminatedString}
 use Rattle.gimli_lookup.specs.inside.Paths.{paths_in, AreEnded, IsEnded}
+use Rattle.gimli_core.specs.Layout.{Seen}
 
 -- ---- strings of a section
 
@@ -266,10 +267,10 @@ pub fault_from : (base : Said) (path : List ℕ) (e : PathError) → is_absolute
 fault_from base path e relative is = fault_if (is_absolute path) path base e relative is
 
 -- a string of a value is known by what was read
-pub told : {R E : Type 0} (bytes : R → List ℕ) (read : Result R E) (answer : Result (List ℕ) E)
-    → is_err read ≡ false → result_map bytes read ≡ answer → (string : List ℕ) × (answer ≡ Ok string)
-told bytes (Ok x) answer is same = (bytes x, sym same)
-told bytes (Err e) answer is same = absurd cc
+pub told : {R E : Type 0} (seen : R → Seen) (read : Result R E) (answer : Result (List ℕ) E)
+    → is_err read ≡ false → result_map (λ r. (seen r).bytes) read ≡ answer → (string : List ℕ) × (answer ≡ Ok string)
+told seen (Ok x) answer is same = ((seen x).bytes, sym same)
+told seen (Err e) answer is same = absurd cc
 
 -- of a directory whose string can be told, directory 0 is why its path can't be
 directory_by : (b : Bool) (p : Paths) (named : Said) (string : List ℕ) (e : PathError) → named ≡ Ok string

@@ -10,6 +10,7 @@ use Rattle.gimli_lookup.specs.declared.path_error.PathError.{PathError}
 use Rattle.gimli_lookup.specs.declared.path_error.PathError.TheVariants.{InvalidFileIndex}
 use Rattle.gimli_lookup.specs.declared.section_lookup.CoveringRows.{CoveringRows}
 use Rattle.gimli_lookup.specs.declared.string_sections.StringSections.{StringSections}
+use Rattle.gimli_core.specs.Layout.{Seen}
 
 -- what the whole paths of a section are made of, beside the headers of its units
 pub record Texts : Type 0 where
@@ -19,10 +20,10 @@ pub record Texts : Type 0 where
 
 -- those of the paths of a program: of the sections of strings, and of the directories of
 -- compilations
-abbrev pub texts_seen : {R : Type 0} → (R → List ℕ) → StringSections R × List (ℕ × R) → Texts
-texts_seen bytes paths = record {
-  strings = strings bytes paths.0;
-  directory = λ offset. option_map bytes (directory_for paths.1 offset);
+abbrev pub texts_seen : {R : Type 0} → (R → Seen) → StringSections R × List (ℕ × R) → Texts
+texts_seen seen paths = record {
+  strings = strings seen paths.0;
+  directory = λ offset. option_map (λ r. (seen r).bytes) (directory_for paths.1 offset);
 }
 
 -- the paths of the header of the unit at an offset

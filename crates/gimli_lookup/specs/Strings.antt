@@ -22,16 +22,17 @@ use Rattle.gimli_lookup.specs.declared.path_error.PathError.TheVariants.{
   ExpectedStringAttributeValue,
 }
 use Rattle.gimli_lookup.specs.declared.string_sections.StringSections.{StringSections}
+use Rattle.gimli_core.specs.Layout.{Seen}
 
 -- the bytes of the sections of strings
 abbrev pub Strings : Type 0
 Strings = StringSections (List ℕ)
 
 -- the bytes of sections that are readers
-abbrev pub strings : {R : Type 0} → (R → List ℕ) → StringSections R → Strings
-strings bytes sections = record {
-  debug_line_str = bytes sections.debug_line_str;
-  debug_str = bytes sections.debug_str;
+abbrev pub strings : {R : Type 0} → (R → Seen) → StringSections R → Strings
+strings seen sections = record {
+  debug_line_str = (seen sections.debug_line_str).bytes;
+  debug_str = (seen sections.debug_str).bytes;
 }
 
 -- the string at the front of bytes, which are what a section has from an offset on: those before

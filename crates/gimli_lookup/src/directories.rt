@@ -17,7 +17,7 @@ fn needs_directory<R: Reader>(
     sections: &StringSections<R>,
 ) -> bool
     ensures read { IfOk program (λ p. result
-        ≡ needs_directory (paths_of (strings R.bytes sections.now) p.meaning)) }
+        ≡ needs_directory (paths_of (strings R.seen sections.now) p.meaning)) }
     ensures refused { IfErr program (λ e. result ≡ false) }
 {
     match program {
@@ -33,7 +33,7 @@ pub fn some_need_directory<R: Reader>(
     sections: &StringSections<R>,
 ) -> Result<bool>
     ensures ok { IfOk result (IsNeedOfSome units.section units.entry
-        (strings R.bytes sections.now) units.offsets) }
+        (strings R.seen sections.now) units.offsets) }
     ensures err { IfErr result (λ e. e ≡ Error.OutOfMemory) }
 {
     'units: while let Some(unit) = units.next()? {

@@ -50,8 +50,8 @@ impl<R: Reader> Model for EndedStrings<R> {
 
     ghost view = { λ a. a.sections.whole };
 
-    ghost invariant = { λ a. AreEnded (strings R.bytes a.sections.whole)
-        (strings R.bytes a.sections.ended) };
+    ghost invariant = { λ a. AreEnded (strings R.seen a.sections.whole)
+        (strings R.seen a.sections.ended) };
 }
 
 /// A string that ends before the bytes that are left out is the same in the whole section, and one
@@ -85,7 +85,7 @@ fn ended_length(bytes: &[u8]) -> usize
 
 /// A section without the bytes after its last zero byte.
 fn ended<R: Reader>(section: R) -> Result<R, AllocError>
-    ensures ended { IfOk result (λ ended. IsEnded (R.bytes section) (R.bytes ended)) }
+    ensures ended { IfOk result (λ ended. IsEnded (R.seen section).bytes (R.seen ended).bytes) }
 {
     let Ok(bytes) = section.to_slice() else {
         return Err(AllocError);
@@ -99,9 +99,9 @@ fn ended<R: Reader>(section: R) -> Result<R, AllocError>
 
 /// Why no string stands at an offset of a section, where none ends.
 fn fault_at<R: Reader>(section: R, offset: R::Offset) -> PathError
-    ensures out { length (R.bytes section) ≤ R.Offset.number offset
+    ensures out { length (R.seen section).bytes ≤ R.Offset.number offset
         → result ≡ StringOffsetOutOfBounds }
-    ensures within { R.Offset.number offset < length (R.bytes section)
+    ensures within { R.Offset.number offset < length (R.seen section).bytes
         → result ≡ UnterminatedString }
 {
     if offset.into_u64() < section.len().into_u64() {
@@ -124,12 +124,12 @@ fn paths_end_alike()
 impl<R: Reader> Sections<R> {
     /// Why there is no string for a value, where the ended sections have this reason.
     fn value_fault(&self, value: AttributeValue<R>, fault: PathError) -> PathError
-        requires ended { AreEnded (strings R.bytes self.now.whole)
-            (strings R.bytes self.now.ended) }
-        requires fault { string_of (strings R.bytes self.now.ended)
-            (value_seen R.bytes R.Offset.number value) ≡ Err fault }
-        ensures { string_of (strings R.bytes self.now.whole)
-            (value_seen R.bytes R.Offset.number value) ≡ Err result }
+        requires ended { AreEnded (strings R.seen self.now.whole)
+            (strings R.seen self.now.ended) }
+        requires fault { string_of (strings R.seen self.now.ended)
+            (value_seen R.seen R.Offset.number value) ≡ Err fault }
+        ensures { string_of (strings R.seen self.now.whole)
+            (value_seen R.seen R.Offset.number value) ≡ Err result }
     {
         strings_end_alike();
         match value {
@@ -148,13 +148,13 @@ impl<R: Reader> Sections<R> {
         index: u64,
         fault: PathError,
     ) -> PathError
-        requires ended { AreEnded (strings R.bytes self.now.whole)
-            (strings R.bytes self.now.ended) }
+        requires ended { AreEnded (strings R.seen self.now.whole)
+            (strings R.seen self.now.ended) }
         requires fault { directory_string
-            (paths_in (strings R.bytes self.now.ended) header.now.meaning None) index
+            (paths_in (strings R.seen self.now.ended) header.now.meaning None) index
             ≡ Err fault }
         ensures { directory_string
-            (paths_in (strings R.bytes self.now.whole) header.now.meaning None) index
+            (paths_in (strings R.seen self.now.whole) header.now.meaning None) index
             ≡ Err result }
     {
         match header.directory(index) {
@@ -165,13 +165,13 @@ impl<R: Reader> Sections<R> {
 
     /// Why a directory has no whole path.
     fn path_fault(&self, header: &LineProgramHeader<R>, index: u64, fault: PathError) -> PathError
-        requires ended { AreEnded (strings R.bytes self.now.whole)
-            (strings R.bytes self.now.ended) }
+        requires ended { AreEnded (strings R.seen self.now.whole)
+            (strings R.seen self.now.ended) }
         requires fault { (known : Option (List ℕ)) × (directory_path
-            (paths_in (strings R.bytes self.now.ended) header.now.meaning known) index
+            (paths_in (strings R.seen self.now.ended) header.now.meaning known) index
             ≡ Err fault) }
         ensures { (known : Option (List ℕ)) → directory_path
-            (paths_in (strings R.bytes self.now.whole) header.now.meaning known) index
+            (paths_in (strings R.seen self.now.whole) header.now.meaning known) index
             ≡ Err result }
     {
         strings_end_alike();
@@ -191,14 +191,14 @@ impl<R: Reader> Sections<R> {
         file: &FileEntry<R>,
         fault: PathError,
     ) -> PathError
-        requires ended { AreEnded (strings R.bytes self.now.whole)
-            (strings R.bytes self.now.ended) }
+        requires ended { AreEnded (strings R.seen self.now.whole)
+            (strings R.seen self.now.ended) }
         requires fault { (known : Option (List ℕ)) × (file_path
-            (paths_in (strings R.bytes self.now.ended) header.now.meaning known)
-            (file_seen R.bytes R.Offset.number file.now) ≡ Err fault) }
+            (paths_in (strings R.seen self.now.ended) header.now.meaning known)
+            (file_seen R.seen R.Offset.number file.now) ≡ Err fault) }
         ensures { (known : Option (List ℕ)) → file_path
-            (paths_in (strings R.bytes self.now.whole) header.now.meaning known)
-            (file_seen R.bytes R.Offset.number file.now) ≡ Err result }
+            (paths_in (strings R.seen self.now.whole) header.now.meaning known)
+            (file_seen R.seen R.Offset.number file.now) ≡ Err result }
     {
         strings_end_alike();
         let name = file.path_name();
@@ -227,7 +227,7 @@ impl<R: Reader> EndedStrings<R> {
     /// `Paths::needs_directory` says.
     pub(crate) fn need_directory(&self, header: &LineProgramHeader<R>) -> bool
         ensures { result ≡ needs_directory
-            (paths_in (strings R.bytes self.now) header.now.meaning None) }
+            (paths_in (strings R.seen self.now) header.now.meaning None) }
     {
         Paths::new(header, self.sections.whole, None).needs_directory()
     }
@@ -241,14 +241,14 @@ impl<R: Reader> EndedStrings<R> {
         known: Option<&[u8]>,
         file: &FileEntry<R>,
     ) -> Result<Vec<u8>, PathError>
-        ensures ok { let paths = paths_in (strings R.bytes self.now) header.now.meaning
+        ensures ok { let paths = paths_in (strings R.seen self.now) header.now.meaning
             (option_copied known.entry) in
-            IfOk result (λ path. file_path paths (file_seen R.bytes R.Offset.number file.now)
+            IfOk result (λ path. file_path paths (file_seen R.seen R.Offset.number file.now)
             ≡ Ok path.items) }
-        ensures err { let paths = paths_in (strings R.bytes self.now) header.now.meaning
+        ensures err { let paths = paths_in (strings R.seen self.now) header.now.meaning
             (option_copied known.entry) in
             IfErr result (λ e. e ≢ OutOfMemory
-            → file_path paths (file_seen R.bytes R.Offset.number file.now) ≡ Err e) }
+            → file_path paths (file_seen R.seen R.Offset.number file.now) ≡ Err e) }
     {
         paths_end_alike();
         let sections = &self.sections;

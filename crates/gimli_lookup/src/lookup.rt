@@ -62,7 +62,7 @@ impl<R: Reader> Model for Lookup<R> {
 
     ghost view = { λ a. record {
       header = a.program.meaning;
-      source = source_of R.is_big R.Offset.number a.program;
+      source = source_of R.seen R.Offset.number a.program;
       parts = map sequence_of a.sequences.items;
       rows = a.rows.items;
     } };
@@ -84,7 +84,7 @@ impl<R: Reader> Lookup<R> {
         ensures cut { IfOk result (λ lookup.
             AreRowsOfSequences program.layout program.meaning lookup.rows) }
         ensures source { IfOk result (λ lookup. KeepsSource (λ order. program.layout.is_big ≡ order)
-            (source_of R.is_big R.Offset.number program) lookup.source) }
+            (source_of R.seen R.Offset.number program) lookup.source) }
         ensures err { IfErr result (λ e. e ≢ Error.OutOfMemory
             → HasFirstFault program.layout program.meaning e) }
     {
@@ -102,7 +102,7 @@ impl<R: Reader> Lookup<R> {
     /// The header of the program, with all files.
     pub fn header(&self) -> &LineProgramHeader<R>
         ensures header { result.now.meaning ≡ self.now.header }
-        ensures source { source_of R.is_big R.Offset.number result.now ≡ self.now.source }
+        ensures source { source_of R.seen R.Offset.number result.now ≡ self.now.source }
     {
         self.program.header()
     }

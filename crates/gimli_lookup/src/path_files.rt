@@ -22,7 +22,7 @@ fn has_path<R: Reader>(
     paths: &ProgramPaths<R>,
     path: &[u8],
 ) -> Result<bool>
-    ensures ok { IfOk result (λ has. has ≡ has_path (unit_paths (texts_seen R.bytes paths.now)
+    ensures ok { IfOk result (λ has. has ≡ has_path (unit_paths (texts_seen R.seen paths.now)
         (R.Offset.number header.now.offset.0) header.now.meaning) path.now file) }
     ensures err { IfErr result (λ e. e ≡ Error.OutOfMemory) }
 {
@@ -47,7 +47,7 @@ fn append_with_path<R: Reader>(
     path: &[u8],
     files: &mut Vec<u64>,
 ) -> Result<()>
-    ensures ok { let paths = unit_paths (texts_seen R.bytes paths.now)
+    ensures ok { let paths = unit_paths (texts_seen R.seen paths.now)
         (R.Offset.number header.now.offset.0) header.now.meaning in
         OnOk result (files.new.items
         ≡ files.old.items ++ (if has_path paths path.now file then file ∷ [] else [])) }
@@ -67,7 +67,7 @@ fn files_below<R: Reader>(
     paths: &ProgramPaths<R>,
     path: &[u8],
 ) -> Result<Vec<u64>>
-    ensures ok { IfOk result (λ files. AreBelow (has_path (unit_paths (texts_seen R.bytes paths.now)
+    ensures ok { IfOk result (λ files. AreBelow (has_path (unit_paths (texts_seen R.seen paths.now)
         (R.Offset.number header.now.offset.0) header.now.meaning) path.now) end files.items) }
     ensures err { IfErr result (λ e. e ≡ Error.OutOfMemory) }
 {
@@ -95,7 +95,7 @@ pub(crate) fn files_with_path<R: Reader>(
     path: &[u8],
 ) -> Result<Vec<u64>>
     ensures ok { IfOk result (λ files. (i : ℕ) → is_among files.items i
-        ≡ has_path (unit_paths (texts_seen R.bytes paths.now)
+        ≡ has_path (unit_paths (texts_seen R.seen paths.now)
         (R.Offset.number header.now.offset.0) header.now.meaning) path.now i) }
     ensures err { IfErr result (λ e. e ≡ Error.OutOfMemory) }
 {

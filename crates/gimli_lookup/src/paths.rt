@@ -79,10 +79,10 @@ fn string_bytes<R: Reader>(
     value: AttributeValue<R>,
     sections: &StringSections<R>,
 ) -> Result<Vec<u8>, PathError>
-    ensures ok { IfOk result (λ string. string_of (strings R.bytes sections.now)
-        (value_seen R.bytes R.Offset.number value) ≡ Ok string.items) }
-    ensures err { IfErr result (λ e. e ≢ OutOfMemory → string_of (strings R.bytes sections.now)
-        (value_seen R.bytes R.Offset.number value) ≡ Err e) }
+    ensures ok { IfOk result (λ string. string_of (strings R.seen sections.now)
+        (value_seen R.seen R.Offset.number value) ≡ Ok string.items) }
+    ensures err { IfErr result (λ e. e ≢ OutOfMemory → string_of (strings R.seen sections.now)
+        (value_seen R.seen R.Offset.number value) ≡ Err e) }
 {
     let string = sections.attr_line_string(value)?;
     let Ok(bytes) = string.to_slice() else {
@@ -117,7 +117,7 @@ impl<'a, R: Reader> Model for Paths<'a, R> {
     ghost Value = { Paths };
 
     ghost view = { λ a. record {
-      sections = strings R.bytes a.sections;
+      sections = strings R.seen a.sections;
       header = a.header.now.meaning;
       comp_dir = option_copied a.comp_dir;
     } };
@@ -137,7 +137,7 @@ impl<'a, R: Reader> Paths<'a, R> {
         comp_dir: Option<&'a [u8]>,
     ) -> Self
         ensures { result ≡ record {
-          sections = strings R.bytes sections;
+          sections = strings R.seen sections;
           header = header.now.meaning;
           comp_dir = option_copied comp_dir.entry;
         } }
@@ -166,9 +166,9 @@ impl<'a, R: Reader> Paths<'a, R> {
     /// that the path doesn't go on from isn't read, and so refuses nothing.
     pub fn of_file(&self, alloc: Global, file: &FileEntry<R>) -> Result<Vec<u8>, PathError>
         ensures ok { IfOk result (λ path.
-            file_path self.now (file_seen R.bytes R.Offset.number file.now) ≡ Ok path.items) }
+            file_path self.now (file_seen R.seen R.Offset.number file.now) ≡ Ok path.items) }
         ensures err { IfErr result (λ e. e ≢ OutOfMemory
-            → file_path self.now (file_seen R.bytes R.Offset.number file.now) ≡ Err e) }
+            → file_path self.now (file_seen R.seen R.Offset.number file.now) ≡ Err e) }
     {
         let path = string_bytes(alloc, file.path_name(), &self.sections)?;
         if is_absolute(&path) {

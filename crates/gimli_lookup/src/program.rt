@@ -53,10 +53,10 @@ impl<R: Reader> Place<'_, R> {
     /// `ProgramPaths::of_found` is.
     pub fn path(&self, alloc: Global) -> Result<Vec<u8>, PathError>
         ensures ok { let program = self.now.program.now in IfOk result (λ path. found_path
-            (texts_seen R.bytes program.paths) (listed program.lookup) self.now.rows
+            (texts_seen R.seen program.paths) (listed program.lookup) self.now.rows
             ≡ Ok path.items) }
         ensures err { let program = self.now.program.now in IfErr result (λ e. e ≢ OutOfMemory
-            → found_path (texts_seen R.bytes program.paths) (listed program.lookup) self.now.rows
+            → found_path (texts_seen R.seen program.paths) (listed program.lookup) self.now.rows
             ≡ Err e) }
     {
         let Program { lookup, paths } = self.program;
@@ -66,7 +66,7 @@ impl<R: Reader> Place<'_, R> {
 
 /// Whether the paths of a unit need the directory of its compilation. A refused unit has no paths.
 fn unit_needs<R: Reader>(paths: &ProgramPaths<R>, unit: &UnitLookup<R>) -> bool
-    ensures { result ≡ unit_needs (strings R.bytes paths.now.0) unit.now }
+    ensures { result ≡ unit_needs (strings R.seen paths.now.0) unit.now }
 {
     match unit.header() {
         Some(header) => paths.need_directory(header),
@@ -108,8 +108,8 @@ impl<R: Reader> Program<R> {
     ) -> Result<Program<R>, Error>
         requires { IsTrue (is_address_size address_size) }
         ensures units { IfOk result (λ program.
-            AreUnitsOf (unread_of R.bytes R.is_big R.Offset.limit section.now)
-            (unit_entry R.bytes address_size None None) lowest program.lookup) }
+            AreUnitsOf (unread_of R.seen R.Offset.limit section.now)
+            (unit_entry R.seen address_size None None) lowest program.lookup) }
         ensures paths { IfOk result (λ program. program.paths ≡ (strings, [])) }
         ensures err { IfErr result (λ e. e ≡ Error.OutOfMemory) }
     {
@@ -124,7 +124,7 @@ impl<R: Reader> Program<R> {
     /// has no directory of its compilation, or an empty one. If not, every path is the same
     /// whatever compilations are handed in. Takes no memory.
     pub fn needs_compilations(&self) -> bool
-        ensures { result ≡ some_need (strings R.bytes self.now.paths.0) self.now.lookup }
+        ensures { result ≡ some_need (strings R.seen self.now.paths.0) self.now.lookup }
     {
         self.lookup
             .units()
@@ -157,7 +157,7 @@ impl<R: Reader> Program<R> {
     /// `SectionLookup::addresses_of` gives them. Fails only with `OutOfMemory`.
     pub fn addresses_of(&self, path: &[u8], line: u64) -> Result<Option<Addresses>, Error>
         ensures ok { IfOk result (AreAddressesFrom (addresses_of_path
-            (texts_seen R.bytes self.now.paths) path.now self.now.lookup) line) }
+            (texts_seen R.seen self.now.paths) path.now self.now.lookup) line) }
         ensures err { IfErr result (λ e. e ≡ Error.OutOfMemory) }
     {
         self.lookup.addresses_of(&self.paths, path, line)

@@ -81,7 +81,7 @@ impl<R: Reader> ProgramPaths<R> {
     /// `Paths::needs_directory` says.
     pub(crate) fn need_directory(&self, header: &LineProgramHeader<R>) -> bool
         ensures { result ≡ needs_directory
-            (paths_of (strings R.bytes self.now.0) header.now.meaning) }
+            (paths_of (strings R.seen self.now.0) header.now.meaning) }
     {
         self.strings.need_directory(header)
     }
@@ -93,14 +93,14 @@ impl<R: Reader> ProgramPaths<R> {
         header: &LineProgramHeader<R>,
         file: &FileEntry<R>,
     ) -> Result<Vec<u8>, PathError>
-        ensures ok { let paths = unit_paths (texts_seen R.bytes self.now)
+        ensures ok { let paths = unit_paths (texts_seen R.seen self.now)
             (R.Offset.number header.now.offset.0) header.now.meaning in
-            IfOk result (λ path. file_path paths (file_seen R.bytes R.Offset.number file.now)
+            IfOk result (λ path. file_path paths (file_seen R.seen R.Offset.number file.now)
             ≡ Ok path.items) }
-        ensures err { let paths = unit_paths (texts_seen R.bytes self.now)
+        ensures err { let paths = unit_paths (texts_seen R.seen self.now)
             (R.Offset.number header.now.offset.0) header.now.meaning in
             IfErr result (λ e. e ≢ OutOfMemory
-            → file_path paths (file_seen R.bytes R.Offset.number file.now) ≡ Err e) }
+            → file_path paths (file_seen R.seen R.Offset.number file.now) ≡ Err e) }
     {
         let offset = header.offset().0.into_u64();
         let Some(directory) = self.directory_of(offset) else {
@@ -119,10 +119,10 @@ impl<R: Reader> ProgramPaths<R> {
         header: &LineProgramHeader<R>,
         row: &LineRow,
     ) -> Result<Vec<u8>, PathError>
-        ensures ok { let paths = unit_paths (texts_seen R.bytes self.now)
+        ensures ok { let paths = unit_paths (texts_seen R.seen self.now)
             (R.Offset.number header.now.offset.0) header.now.meaning in IfOk result (λ path.
             row_path paths row.now ≡ Ok path.items) }
-        ensures err { let paths = unit_paths (texts_seen R.bytes self.now)
+        ensures err { let paths = unit_paths (texts_seen R.seen self.now)
             (R.Offset.number header.now.offset.0) header.now.meaning in
             IfErr result (λ e. e ≢ OutOfMemory → row_path paths row.now ≡ Err e) }
     {
@@ -142,9 +142,9 @@ impl<R: Reader> ProgramPaths<R> {
         found: &CoveringRows,
     ) -> Result<Vec<u8>, PathError>
         ensures ok { IfOk result (λ path.
-            found_path (texts_seen R.bytes self.now) units.now found.now ≡ Ok path.items) }
+            found_path (texts_seen R.seen self.now) units.now found.now ≡ Ok path.items) }
         ensures err { IfErr result (λ e. e ≢ OutOfMemory
-            → found_path (texts_seen R.bytes self.now) units.now found.now ≡ Err e) }
+            → found_path (texts_seen R.seen self.now) units.now found.now ≡ Err e) }
     {
         let Some(unit) = units.get(found.unit) else {
             return Err(PathError::InvalidFileIndex(found.row.file_index()));

@@ -28,7 +28,7 @@ fn unit_files<R: Reader>(
     path: &[u8],
 ) -> Result<Vec<u64>>
     ensures ok { IfOk result (λ files. (i : ℕ) → is_among files.items i
-        ≡ unit_has_path (texts_seen R.bytes paths.now) path.now unit.now i) }
+        ≡ unit_has_path (texts_seen R.seen paths.now) path.now unit.now i) }
     ensures err { IfErr result (λ e. e ≡ Error.OutOfMemory) }
 {
     match unit.header() {
@@ -81,7 +81,7 @@ impl<R: Reader> SectionLookup<R> {
         line: u64,
     ) -> Result<Option<Addresses>>
         ensures ok { IfOk result (AreAddressesFrom
-            (addresses_of_path (texts_seen R.bytes paths.now) path.now self.now) line) }
+            (addresses_of_path (texts_seen R.seen paths.now) path.now self.now) line) }
         ensures err { IfErr result (λ e. e ≡ Error.OutOfMemory) }
     {
         let mut found = None;
@@ -109,7 +109,7 @@ impl<R: Reader> SectionLookup<R> {
     ) -> Result<Option<Addresses>>
         requires { unit < length self.now }
         ensures ok { (d : KeptUnit) → IfOk result (AreCollectedFrom (unit_addresses
-            (texts_seen R.bytes paths.now) path.now (slice_index_or self.now unit d)) line) }
+            (texts_seen R.seen paths.now) path.now (slice_index_or self.now unit d)) line) }
         ensures err { IfErr result (λ e. e ≡ Error.OutOfMemory) }
     {
         let files = unit_files(self.allocator(), self.unit_at(unit), paths, path)?;

@@ -171,11 +171,11 @@ impl<R: Reader> SectionLookup<R> {
     ) -> Result<SectionLookup<R>>
         requires { IsTrue (is_address_size address_size) }
         ensures offsets { IfOk result (λ units.
-            AreUnits (layout_of (R.is_big section.now) R.Offset.limit) 0
-            (R.bytes section.now) (map (λ u. u.unit.offset) units)) }
+            AreUnits (layout_of (R.seen section.now).is_big R.Offset.limit) 0
+            (R.seen section.now).bytes (map (λ u. u.unit.offset) units)) }
         ensures units { IfOk result
-            (All (IsUnitOf (unread_of R.bytes R.is_big R.Offset.limit section.now)
-            (unit_entry R.bytes address_size None None) lowest)) }
+            (All (IsUnitOf (unread_of R.seen R.Offset.limit section.now)
+            (unit_entry R.seen address_size None None) lowest)) }
         ensures err { IfErr result (λ e. e ≡ Error.OutOfMemory) }
     {
         let mut units = Vec::new(alloc);

@@ -37,8 +37,8 @@ pub fn find_in_section<R: Reader>(
 ) -> Result<FoundRows<R>>
     requires { IsTrue (is_address_size address_size) }
     ensures ok { IfOk result (λ found. AreFoundInSection
-        (unread_of R.bytes R.is_big R.Offset.limit section.now)
-        (unit_entry R.bytes address_size None None) lowest addresses.now
+        (unread_of R.seen R.Offset.limit section.now)
+        (unit_entry R.seen address_size None None) lowest addresses.now
         found.units.items found.rows.items) }
     ensures err { IfErr result (λ e. e ≡ Error.OutOfMemory) }
 {

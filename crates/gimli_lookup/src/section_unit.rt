@@ -62,7 +62,7 @@ impl<R: Reader> UnitLookup<R> {
         lowest: u64,
         sequences: &mut Vec<KeptRows>,
     ) -> Result<Self>
-        requires order { IfOk program (HasOneOrder R.is_big) }
+        requires order { IfOk program (HasOneOrder R.seen) }
         requires offset { IfOk program (λ program. program.offset ≡ offset) }
         ensures kept { IfOk result (λ unit.
             IsAdded lowest program unit sequences.old.items sequences.new.items) }
@@ -104,7 +104,7 @@ impl<R: Reader> UnitLookup<R> {
         addresses: &[u64],
         pairs: &mut Vec<CoveringRows>,
     ) -> Result<Self>
-        requires order { IfOk program (HasOneOrder R.is_big) }
+        requires order { IfOk program (HasOneOrder R.seen) }
         requires offset { IfOk program (λ program. program.offset ≡ offset) }
         ensures searched { IfOk result (λ listed. IsSearched lowest index addresses.now
             program listed pairs.old.items pairs.new.items) }
@@ -156,7 +156,7 @@ impl<R: Reader> UnitLookup<R> {
             ≡ Some (record { meaning = header.now.meaning; layout = header.now.layout })) }
         ensures offset { IfSome result (λ header.
             R.Offset.number header.now.offset.0 ≡ self.now.offset) }
-        ensures order { IfSome result (λ header. HasOneOrder R.is_big header.now) }
+        ensures order { IfSome result (λ header. HasOneOrder R.seen header.now) }
     {
         match &self.run {
             Some(run) => Some(run.header()),

@@ -30,8 +30,8 @@ impl<R: Reader> StringSections<R> {
     /// The string that a value stands for, without its zero byte (DWARF 5, section 7.5.5). One that
     /// stands in the value needs no section. Refused as `PathError` says. Takes no memory.
     pub fn attr_line_string(&self, value: AttributeValue<R>) -> Result<R, PathError>
-        ensures { result_map R.bytes result
-            ≡ string_of (strings R.bytes self.now) (value_seen R.bytes R.Offset.number value) }
+        ensures { result_map (λ r. (R.seen r).bytes) result
+            ≡ string_of (strings R.seen self.now) (value_seen R.seen R.Offset.number value) }
     {
         match value {
             AttributeValue::String(string) => Ok(string),
@@ -46,8 +46,8 @@ impl<R: Reader> StringSections<R> {
     /// Whether the string that a value stands for has no bytes. One that can't be read has some.
     /// However long a string is, no more than its first byte is looked at.
     pub(crate) fn is_empty_string(&self, value: AttributeValue<R>) -> bool
-        ensures { result ≡ has_no_bytes (string_of (strings R.bytes self.now)
-            (value_seen R.bytes R.Offset.number value)) }
+        ensures { result ≡ has_no_bytes (string_of (strings R.seen self.now)
+            (value_seen R.seen R.Offset.number value)) }
     {
         match value {
             AttributeValue::String(string) => string.is_empty(),
@@ -60,7 +60,7 @@ impl<R: Reader> StringSections<R> {
 
 /// Whether the string of a section at an offset has no bytes: its zero byte is the first one there.
 fn is_empty_at<R: Reader>(section: R, offset: R::Offset) -> bool
-    ensures { result ≡ has_no_bytes (string_at (R.bytes section) (R.Offset.number offset)) }
+    ensures { result ≡ has_no_bytes (string_at (R.seen section).bytes (R.Offset.number offset)) }
 {
     let mut bytes = section;
     if bytes.skip(offset).is_err() {
@@ -74,7 +74,7 @@ fn is_empty_at<R: Reader>(section: R, offset: R::Offset) -> bool
 
 /// The string of a section at an offset, up to its zero byte.
 fn string_at<R: Reader>(section: R, offset: R::Offset) -> Result<R, PathError>
-    ensures { result_map R.bytes result ≡ string_at (R.bytes section) (R.Offset.number offset) }
+    ensures { result_map (λ r. (R.seen r).bytes) result ≡ string_at (R.seen section).bytes (R.Offset.number offset) }
 {
     let mut bytes = section;
     if bytes.skip(offset).is_err() || bytes.is_empty() {

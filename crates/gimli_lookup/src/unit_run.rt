@@ -63,7 +63,7 @@ pub(crate) fn run_unit<R: Reader>(
     ensures kept { IfOk result (λ unit. IsKept program.layout lowest program.meaning
         (header_of unit.run) unit.fault unit.parts.items) }
     ensures run { IfOk result (λ unit. KeepsRun
-        (whole_run program.meaning (source_of R.is_big R.Offset.number program)) unit.run) }
+        (whole_run program.meaning (source_of R.seen R.Offset.number program)) unit.run) }
     ensures err { IfErr result (λ e. e ≡ Error.OutOfMemory) }
 {
     let mut run = program.rows();

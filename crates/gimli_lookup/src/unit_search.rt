@@ -233,7 +233,7 @@ pub(crate) fn search_unit<R: Reader>(
         × IsKept program.layout lowest program.meaning (header_of found.run) found.fault parts
         × All (λ a. IsFoundOf unit parts a (first_covering a found.pairs.items)) addresses.now) }
     ensures run { IfOk result (λ found. KeepsRun
-        (whole_run program.meaning (source_of R.is_big R.Offset.number program)) found.run) }
+        (whole_run program.meaning (source_of R.seen R.Offset.number program)) found.run) }
     ensures err { IfErr result (λ e. e ≡ Error.OutOfMemory) }
 {
     let mut run = program.rows();

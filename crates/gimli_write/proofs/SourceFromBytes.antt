@@ -30,6 +30,7 @@ use proofs.SourceSteps.{
   with_unread,
 }
 use proofs.TablesAtEnd.{executed_last, executed_stop}
+use Rattle.gimli_core.specs.Layout.{Seen}
 
 -- nothing is added to the files
 files_kept : {h : Header} (i : Ins) → defines_file i ≡ false → h ≡ record h { files = files_after true i h.files }
@@ -41,7 +42,7 @@ no_address (SetAddress a) is other = absurd (other a is)
 no_address i is other = refl
 
 -- an instruction that was taken and executed, or refused
-module _ {R Offset Endian : Type 0} (bytes : R → List ℕ) (number : Offset → ℕ) (s new : SourceRun) (u : Unread)
+module _ {R Offset Endian : Type 0} (seen : R → Seen) (number : Offset → ℕ) (s new : SourceRun) (u : Unread)
     (layout : u.layout ≡ s.unread.layout)
     (i : Ins) (taken : TakesNext s.header s.unread u (Some i))
     (answer : Result (SourceStep R Endian Offset) ConvertError) (header : new.header ≡ s.header)
@@ -49,16 +50,16 @@ module _ {R Offset Endian : Type 0} (bytes : R → List ℕ) (number : Offset �
   pub steps_source : defines_file i ≡ false → OnOk answer (is_refused s.header.parameters i s.row ≡ false)
       → OnOk answer (new ≡ state_after i (with_unread s u)) → IfOk answer (λ step. step ≡ step_made (with_unread s u) i)
       → IfErr answer (λ e. (e ≡ Read AddressOverflow) × (is_refused s.header.parameters i s.row ≡ true))
-      → StepsSource bytes number s new answer
+      → StepsSource seen number s new answer
   steps_source file fits step made over =
       let shorter : length new.unread.bytes < length s.unread.bytes =
       subst (λ v. length v.bytes < length s.unread.bytes) (sym unread)
       (is_shorter s.unread.layout s.header s.unread.bytes i _ _ taken.1 taken.2) in
       record {
-        reading = executed_reading Endian bytes number s u layout i taken.0 taken.1 taken.2 _ _ file fits step made;
-        refusal = executed_refusal Endian bytes number s u layout i taken.0 taken.1 taken.2 _ over;
-        tables = executed_last Endian bytes number s u layout i taken.0 taken.1 taken.2 _ _ file fits step made;
-        stopped = executed_stop Endian bytes number s u layout i taken.0 taken.1 taken.2 _ over;
+        reading = executed_reading Endian seen number s u layout i taken.0 taken.1 taken.2 _ _ file fits step made;
+        refusal = executed_refusal Endian seen number s u layout i taken.0 taken.1 taken.2 _ over;
+        tables = executed_last Endian seen number s u layout i taken.0 taken.1 taken.2 _ _ file fits step made;
+        stopped = executed_stop Endian seen number s u layout i taken.0 taken.1 taken.2 _ over;
         shorter = executed_shortens (with_unread s u) s new i _ made shorter;
         header = header;
         layout = cc;
@@ -92,29 +93,29 @@ module _ (s : SourceRun) (k : Header) (lent : k ≡ s.header) (r2 : LineRow) (u 
       let x = refused.1 in
       ready_at_refusal x.instruction s.row r2 ready s.header.parameters (fits true x) (steps true x)
 
-module _ {R Offset Endian : Type 0} (bytes : R → List ℕ) (number : Offset → ℕ) (s : SourceRun) (k : Header)
+module _ {R Offset Endian : Type 0} (seen : R → Seen) (number : Offset → ℕ) (s : SourceRun) (k : Header)
     (lent : k ≡ s.header) (r2 : LineRow) (u : Unread)
     (layout : u.layout ≡ s.unread.layout) where
   module _
       (x : IsExecuted k.parameters ((instruction_production s.unread.layout k).read s.unread.bytes) u.bytes s.row r2
       false) where
     pub quiet_steps : Quiet ≡ told_of x.instruction
-        → StepsSource {Endian = Endian} bytes number s (state s.header r2 s.base s.pending u) (Ok More)
+        → StepsSource {Endian = Endian} seen number s (state s.header r2 s.base s.pending u) (Ok More)
     quiet_steps told =
         let i = x.instruction in
         let address = no_address i told (λ a is. absurd cc) in
-        steps_source bytes number s (state s.header r2 s.base s.pending u) u layout i (taken s k lent r2 u false x)
+        steps_source seen number s (state s.header r2 s.base s.pending u) u layout i (taken s k lent r2 u false x)
         (Ok More) refl refl x.defines (fits s k lent r2 u false x)
         (quiet_state i s.header s.header s.row r2 s.base s.pending u address x.defines (fits s k lent r2 u false x)
         (files_kept i x.defines) (steps s k lent r2 u false x) (told_quiet i told)) (rw (told_quiet i told) refl) tt
 
     pub address_steps : (a : ℕ) → Address a ≡ told_of x.instruction
-        → StepsSource {Endian = Endian} bytes number s (state s.header r2 a (Some a) u) (Ok More)
+        → StepsSource {Endian = Endian} seen number s (state s.header r2 a (Some a) u) (Ok More)
     address_steps a told =
         let taken_is =
         subst (λ (i : Ins). TakesNext s.header s.unread u (Some i)) (told_address x.instruction a told)
         (taken s k lent r2 u false x) in
-        steps_source bytes number s (state s.header r2 a (Some a) u) u layout (SetAddress a) taken_is (Ok More) refl
+        steps_source seen number s (state s.header r2 a (Some a) u) u layout (SetAddress a) taken_is (Ok More) refl
         refl refl refl
         (address_state a s.header s.header s.row s.base s.pending u refl (address_step s k lent r2 u x a told)) refl tt
 
@@ -122,13 +123,13 @@ module _ {R Offset Endian : Type 0} (bytes : R → List ℕ) (number : Offset �
     pub row_steps : IsReady s.row → Row ≡ told_of x.instruction → (j : Header) → j ≡ s.header → {r3 : LineRow}
         → r3 ≡ reset_row j.parameters r2 → (t : SourceRun) (given : SourceStep R Endian Offset)
         → given ≡ (if r2.tombstone then More else Made (source_row (state s.header r3 s.base s.pending u) r2))
-        → t ≡ state s.header r3 (if r2.end_sequence then 0 else s.base) None u → StepsSource bytes number s t (Ok given)
+        → t ≡ state s.header r3 (if r2.end_sequence then 0 else s.base) None u → StepsSource seen number s t (Ok given)
     row_steps ready told j same reset t given is t_is =
         let i = x.instruction in
         let loud = told_row i told in
         let address = no_address i told (λ a is. absurd cc) in
         let kept = files_kept i x.defines in
-        steps_source bytes number s t u layout i (taken s k lent r2 u false x) (Ok given) (ap (λ q. q.header) t_is)
+        steps_source seen number s t u layout i (taken s k lent r2 u false x) (Ok given) (ap (λ q. q.header) t_is)
         (ap (λ q. q.unread) t_is) x.defines (fits s k lent r2 u false x) (t_is
         ∙ row_state i s.header s.header s.row r2 s.base s.pending u address x.defines (fits s k lent r2 u false x) kept
         (steps s k lent r2 u false x) loud ready same reset refl refl)
@@ -136,10 +137,10 @@ module _ {R Offset Endian : Type 0} (bytes : R → List ℕ) (number : Offset �
         (steps s k lent r2 u false x) is loud refl) tt
 
   pub refused_steps : (e : Error) → RefusesNext k s.unread u s.row r2 e
-      → StepsSource {R = R} {Offset = Offset} {Endian = Endian} bytes number s (state s.header r2 s.base s.pending u)
+      → StepsSource {R = R} {Offset = Offset} {Endian = Endian} seen number s (state s.header r2 s.base s.pending u)
       (Err (Read e))
   refused_steps e refused =
       let x = refused.1 in
-      steps_source bytes number s (state s.header r2 s.base s.pending u) u layout x.instruction
+      steps_source seen number s (state s.header r2 s.base s.pending u) u layout x.instruction
       (taken s k lent r2 u true x) (Err (Read e)) refl refl x.defines tt tt tt
       (ap Read refused.0, fits s k lent r2 u true x)

@@ -14,6 +14,7 @@ use Rattle.gimli_line.specs.run.Execution.{IsExecution}
 use Rattle.gimli_line.specs.declared.run.row.LineRow.{LineRow}
 use Rattle.gimli_line.specs.declared.run.instruction.LineInstruction.{LineInstruction}
 use Rattle.gimli_line.specs.declared.header.file_entry.FileEntry.{FileEntry}
+use Rattle.gimli_core.specs.Layout.{Seen}
 
 -- ---- what a program is decoded into, by its front
 
@@ -250,33 +251,33 @@ module _ {R Endian Offset : Type 0} (s old new : SourceRun) (i : Ins) where
   executed_shortens (Ok step) made lt = grind arith
   executed_shortens (Err e) made lt = tt
 
-module _ {R Offset : Type 0} (Endian : Type 0) (bytes : R → List ℕ) (number : Offset → ℕ) (s : SourceRun) (u : Unread)
+module _ {R Offset : Type 0} (Endian : Type 0) (seen : R → Seen) (number : Offset → ℕ) (s : SourceRun) (u : Unread)
     (layout : u.layout ≡ s.unread.layout)
     (i : Ins) (front : List ℕ) (parts : s.unread.bytes ≡ front ++ u.bytes)
     (spelled : SpellsInstruction s.unread.layout s.header front i) where
   made_reading : is_refused s.header.parameters i s.row ≡ false → defines_file i ≡ false
       → (sections : Sections) (tables : TablesAndTexts) → reading_left sections s tables
-      ≡ step_reading {Endian = Endian} bytes number sections tables (step_made (with_unread s u) i)
+      ≡ step_reading {Endian = Endian} seen number sections tables (step_made (with_unread s u) i)
       (state_after i (with_unread s u))
   made_reading fits file sections tables = by _ refl
     where
       by : (b : Bool) → (makes_row i && not s.row.tombstone) ≡ b → reading_left sections s tables
-          ≡ step_reading {Endian = Endian} bytes number sections tables (step_made (with_unread s u) i)
+          ≡ step_reading {Endian = Endian} seen number sections tables (step_made (with_unread s u) i)
           (state_after i (with_unread s u))
       by true e =
           after_row sections tables s u layout i front parts spelled fits file e ∙ ap
-          (λ c. step_reading {Endian = Endian} bytes number sections tables
+          (λ c. step_reading {Endian = Endian} seen number sections tables
           (if c then Made (row_made (with_unread s u) i) else More) (state_after i (with_unread s u))) (sym e)
       by false e =
           after_quiet sections tables s u layout i front parts spelled fits file e ∙ ap
-          (λ c. step_reading {Endian = Endian} bytes number sections tables
+          (λ c. step_reading {Endian = Endian} seen number sections tables
           (if c then Made (row_made (with_unread s u) i) else More) (state_after i (with_unread s u))) (sym e)
 
   pub executed_reading : (t : SourceRun) (r : Result (SourceStep R Endian Offset) ConvertError) → defines_file i ≡ false
       → OnOk r (is_refused s.header.parameters i s.row ≡ false)
       → OnOk r (t ≡ state_after i (with_unread s u)) → IfOk r (λ step. step ≡ step_made (with_unread s u) i)
       → IfOk r (λ step. (sections : Sections) (tables : TablesAndTexts)
-      → reading_left sections s tables ≡ step_reading bytes number sections tables step t)
+      → reading_left sections s tables ≡ step_reading seen number sections tables step t)
   executed_reading t (Ok step) file fits next made = grind (arith, made_reading)
   executed_reading t (Err e) file fits next made = tt
 
@@ -288,8 +289,8 @@ module _ {R Offset : Type 0} (Endian : Type 0) (bytes : R → List ℕ) (number 
       λ sections tables. after_refusal sections tables s u layout i front parts spelled over.1 ∙ ap stops cc
 
 -- an instruction that isn't a definition defines no file
-pub other_kind : {R Offset Endian : Type 0} (bytes : R → List ℕ) (number : Offset → ℕ)
+pub other_kind : {R Offset Endian : Type 0} (seen : R → Seen) (number : Offset → ℕ)
     (x : LineInstruction R Offset Endian)
-    → ((f : FileEntry R Offset Endian) → x ≢ DefineFile f) → defines_file (ins_seen bytes number x) ≡ false
-other_kind bytes number (DefineFile f) other = absurd (other f refl)
-other_kind bytes number x other = refl
+    → ((f : FileEntry R Offset Endian) → x ≢ DefineFile f) → defines_file (ins_seen seen number x) ≡ false
+other_kind seen number (DefineFile f) other = absurd (other f refl)
+other_kind seen number x other = refl

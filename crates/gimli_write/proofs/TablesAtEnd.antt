@@ -16,6 +16,7 @@ use specs.convert.TablesAtEnd.{
 }
 use specs.inside.convert.SourceRun.{step_tables}
 use Rattle.gimli_write.proofs.SourceSteps.{decoded_none, decoded_some, decoded_fault, no_file, with_unread}
+use Rattle.gimli_core.specs.Layout.{Seen}
 
 -- bytes that are unread count by their instructions alone
 same_lists : (sections : Sections) (u v : Unread) (s : SourceRun) (tables : TablesAndTexts) (list : List Ins)
@@ -122,33 +123,33 @@ module _ (sections : Sections) (tables : TablesAndTexts) (s : SourceRun) where
 
 -- ---- what is done of an instruction that sets no address and defines no file
 
-module _ {R Offset : Type 0} (Endian : Type 0) (bytes : R → List ℕ) (number : Offset → ℕ) (s : SourceRun) (u : Unread)
+module _ {R Offset : Type 0} (Endian : Type 0) (seen : R → Seen) (number : Offset → ℕ) (s : SourceRun) (u : Unread)
     (layout : u.layout ≡ s.unread.layout)
     (i : Ins) (front : List ℕ) (parts : s.unread.bytes ≡ front ++ u.bytes)
     (spelled : SpellsInstruction s.unread.layout s.header front i) where
   made_last : is_refused s.header.parameters i s.row ≡ false → defines_file i ≡ false
       → (sections : Sections) (tables : TablesAndTexts) → tables_at_end sections s tables
-      ≡ step_tables {Endian = Endian} bytes number sections tables (step_made (with_unread s u) i)
+      ≡ step_tables {Endian = Endian} seen number sections tables (step_made (with_unread s u) i)
       (state_after i (with_unread s u))
   made_last fits file sections tables = by (makes_row i && not s.row.tombstone) refl
     where
       by : (b : Bool) → (makes_row i && not s.row.tombstone) ≡ b → tables_at_end sections s tables
-          ≡ step_tables {Endian = Endian} bytes number sections tables (step_made (with_unread s u) i)
+          ≡ step_tables {Endian = Endian} seen number sections tables (step_made (with_unread s u) i)
           (state_after i (with_unread s u))
       by true e =
           row_last sections tables s u layout i front parts spelled fits file e ∙ ap
-          (λ c. step_tables {Endian = Endian} bytes number sections tables
+          (λ c. step_tables {Endian = Endian} seen number sections tables
           (if c then Made (row_made (with_unread s u) i) else More) (state_after i (with_unread s u))) (sym e)
       by false e =
           quiet_last sections tables s u layout i front parts spelled fits file e ∙ ap
-          (λ c. step_tables {Endian = Endian} bytes number sections tables
+          (λ c. step_tables {Endian = Endian} seen number sections tables
           (if c then Made (row_made (with_unread s u) i) else More) (state_after i (with_unread s u))) (sym e)
 
   pub executed_last : (t : SourceRun) (r : Result (SourceStep R Endian Offset) ConvertError) → defines_file i ≡ false
       → OnOk r (is_refused s.header.parameters i s.row ≡ false)
       → OnOk r (t ≡ state_after i (with_unread s u)) → IfOk r (λ step. step ≡ step_made (with_unread s u) i)
       → IfOk r (λ step. (sections : Sections) (tables : TablesAndTexts)
-      → tables_at_end sections s tables ≡ step_tables bytes number sections tables step t)
+      → tables_at_end sections s tables ≡ step_tables seen number sections tables step t)
   executed_last t (Ok step) file fits next made = λ sections tables. rw (made, next) (made_last fits file _ _)
   executed_last t (Err e) file fits next made = tt
 

@@ -90,7 +90,7 @@ fn directory_values<R: Reader>(
     alloc: Global,
     header: &LineProgramHeader<R>,
 ) -> ConvertResult<Vec<AttributeValue<R>>>
-    ensures ok { IfOk result (λ values. map (value_seen R.bytes R.Offset.number) values.items
+    ensures ok { IfOk result (λ values. map (value_seen R.seen R.Offset.number) values.items
         ≡ directories_from_zero header.now.meaning) }
     ensures err { IsOkUnless result ConvertError.OutOfMemory }
 {
@@ -111,9 +111,9 @@ fn text_there<R: Reader>(
     value: AttributeValue<R>,
     sections: &TextSections<R>,
 ) -> ConvertResult<Vec<u8>>
-    requires { HasText sections.now (value_seen R.bytes R.Offset.number value) }
+    requires { HasText sections.now (value_seen R.seen R.Offset.number value) }
     ensures ok { IfOk result (λ text.
-        IsText sections.now (value_seen R.bytes R.Offset.number value) text.items) }
+        IsText sections.now (value_seen R.seen R.Offset.number value) text.items) }
     ensures err { IsOkUnless result ConvertError.OutOfMemory }
 {
     text(alloc, value, sections)
@@ -126,9 +126,9 @@ fn texts<R: Reader>(
     values: &[AttributeValue<R>],
     sections: &TextSections<R>,
 ) -> ConvertResult<Vec<Vec<u8>>>
-    requires { All (HasText sections.now) (map (value_seen R.bytes R.Offset.number) values.now) }
+    requires { All (HasText sections.now) (map (value_seen R.seen R.Offset.number) values.now) }
     ensures ok { IfOk result (λ texts. OneByOne (IsText sections.now)
-        (map (value_seen R.bytes R.Offset.number) values.now)
+        (map (value_seen R.seen R.Offset.number) values.now)
         (map (λ text. text.items) texts.items)) }
     ensures err { IsOkUnless result ConvertError.OutOfMemory }
 {
@@ -147,9 +147,9 @@ fn source_text<R: Reader>(
     sections: &TextSections<R>,
 ) -> ConvertResult<Option<Vec<u8>>>
     requires { HasOptionalText sections.now
-        (option_map (value_seen R.bytes R.Offset.number) source) }
+        (option_map (value_seen R.seen R.Offset.number) source) }
     ensures ok { IfOk result (λ text. IsOptionalText sections.now
-        (option_map (value_seen R.bytes R.Offset.number) source)
+        (option_map (value_seen R.seen R.Offset.number) source)
         (option_map (λ text. text.items) text)) }
     ensures err { IsOkUnless result ConvertError.OutOfMemory }
 {
@@ -165,9 +165,9 @@ fn read_file<R: Reader>(
     file: &FileEntry<R>,
     sections: &TextSections<R>,
 ) -> ConvertResult<RoundTripFile>
-    requires { HasFileTexts sections.now (file_seen R.bytes R.Offset.number file.now) }
+    requires { HasFileTexts sections.now (file_seen R.seen R.Offset.number file.now) }
     ensures ok { IfOk result (λ answer. IsFileAnswer sections.now
-        (file_seen R.bytes R.Offset.number file.now) (file_answer answer)) }
+        (file_seen R.seen R.Offset.number file.now) (file_answer answer)) }
     ensures err { IsOkUnless result ConvertError.OutOfMemory }
 {
     let path = text_there(alloc, file.path_name(), sections)?;
@@ -188,9 +188,9 @@ fn read_files<R: Reader>(
     files: &[FileEntry<R>],
     sections: &TextSections<R>,
 ) -> ConvertResult<Vec<RoundTripFile>>
-    requires { All (HasFileTexts sections.now) (map (file_seen R.bytes R.Offset.number) files.now) }
+    requires { All (HasFileTexts sections.now) (map (file_seen R.seen R.Offset.number) files.now) }
     ensures ok { IfOk result (λ answers. OneByOne (IsFileAnswer sections.now)
-        (map (file_seen R.bytes R.Offset.number) files.now) (map file_answer answers.items)) }
+        (map (file_seen R.seen R.Offset.number) files.now) (map file_answer answers.items)) }
     ensures err { IsOkUnless result ConvertError.OutOfMemory }
 {
     let mut answers = Vec::new(alloc);

@@ -25,7 +25,7 @@ impl<R: Reader> Model for TextSections<R> {
     ghost Value = { Sections };
 
     ghost view = { λ a.
-        record { strings = R.bytes a.strings; line_strings = R.bytes a.line_strings } };
+        record { strings = (R.seen a.strings).bytes; line_strings = (R.seen a.line_strings).bytes } };
 }
 
 /// The bytes of the text that a value stands for. Refused by `OutOfMemory`, by `UnexpectedEof`
@@ -37,10 +37,10 @@ pub(crate) fn text<R: Reader>(
     sections: &TextSections<R>,
 ) -> ConvertResult<Vec<u8>>
     ensures ok { IfOk result (λ text.
-        text_of sections.now (value_seen R.bytes R.Offset.number value) ≡ Ok text.items) }
+        text_of sections.now (value_seen R.seen R.Offset.number value) ≡ Ok text.items) }
     ensures err { IfErr result (λ e. (e ≡ ConvertError.OutOfMemory) ⊎ ((fault : ReadError)
         × (e ≡ ConvertError.Read fault)
-        × (text_of sections.now (value_seen R.bytes R.Offset.number value) ≡ Err fault))) }
+        × (text_of sections.now (value_seen R.seen R.Offset.number value) ≡ Err fault))) }
 {
     match find_text(value, sections) {
         Ok(text) => copy_of(alloc, text),
@@ -53,8 +53,8 @@ fn find_text<R: Reader>(
     value: AttributeValue<R>,
     sections: &TextSections<R>,
 ) -> gimli_core::Result<R>
-    ensures { result_map R.bytes result
-        ≡ text_of sections.now (value_seen R.bytes R.Offset.number value) }
+    ensures { result_map (λ r. (R.seen r).bytes) result
+        ≡ text_of sections.now (value_seen R.seen R.Offset.number value) }
 {
     match value {
         AttributeValue::String(text) => Ok(text),
@@ -66,7 +66,7 @@ fn find_text<R: Reader>(
 
 /// The text of a section from an offset on, up to a zero byte.
 fn text_from<R: Reader>(section: R, offset: R::Offset) -> gimli_core::Result<R>
-    ensures { result_map R.bytes result ≡ text_from (R.bytes section) (R.Offset.number offset) }
+    ensures { result_map (λ r. (R.seen r).bytes) result ≡ text_from (R.seen section).bytes (R.Offset.number offset) }
 {
     let mut section = section;
     section.skip(offset)?;
@@ -75,7 +75,7 @@ fn text_from<R: Reader>(section: R, offset: R::Offset) -> gimli_core::Result<R>
 
 /// The bytes of a text. Refused by `OutOfMemory` alone.
 pub(crate) fn copy_of<R: Reader>(alloc: Global, text: R) -> ConvertResult<Vec<u8>>
-    ensures ok { IfOk result (λ copy. copy.items ≡ R.bytes text) }
+    ensures ok { IfOk result (λ copy. copy.items ≡ (R.seen text).bytes) }
     ensures err { IsOkUnless result ConvertError.OutOfMemory }
 {
     let Ok(bytes) = text.to_slice() else {

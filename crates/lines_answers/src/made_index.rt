@@ -94,7 +94,7 @@ fn index_of_input<R: Reader>(
     output: &mut Output<'_>,
 ) -> Result<Option<Vec<u8>>>
     ensures { IfOk result (λ made. IfSome made (λ made.
-        IsMade R.bytes R.is_big R.Offset.limit input.now identity.now made.items)) }
+        IsMade R.seen R.Offset.limit input.now identity.now made.items)) }
 {
     let program = program_of(alloc, input, output)?;
     let mut bytes = Vec::new(alloc);

@@ -9,22 +9,23 @@ use Rattle.lines_inputs.specs.declared.input.Input.{Input}
 use Rattle.lines_inputs.specs.declared.lookup.Covering.{Covering}
 use Rattle.lines_inputs.specs.declared.lookup.Covering.TheVariants.{Kept, Found}
 use Rattle.line_text.specs.OrderAndSize.{size_number}
+use Rattle.gimli_core.specs.Layout.{Seen}
 
 -- these are the units of the line programs that are read, and what is kept of each
-abbrev pub AreUnitsIn : {R : Type 0} → (R → List ℕ) → (R → Bool) → ℕ → Input R → List KeptUnit
+abbrev pub AreUnitsIn : {R : Type 0} → (R → Seen) → ℕ → Input R → List KeptUnit
     → Type 0
-AreUnitsIn bytes is_big limit input units =
-    AreUnitsOf (unread_of bytes is_big limit input.lines)
-    (unit_entry bytes (size_number input.notation.address_size) None None)
+AreUnitsIn seen limit input units =
+    AreUnitsOf (unread_of seen limit input.lines)
+    (unit_entry seen (size_number input.notation.address_size) None None)
     input.notation.lowest units
 
 -- what was read for a command: all units, or what is found in them at some addresses
-abbrev pub IsReadFrom : {R E O : Type 0} → (R → List ℕ) → (R → Bool) → ℕ → Input R
+abbrev pub IsReadFrom : {R E O : Type 0} → (R → Seen) → ℕ → Input R
     → Covering R E O → Type 0
-IsReadFrom bytes is_big limit input (Kept units) = AreUnitsIn bytes is_big limit input units
-IsReadFrom bytes is_big limit input (Found addresses found) =
-    AreFoundInSection (unread_of bytes is_big limit input.lines)
-    (unit_entry bytes (size_number input.notation.address_size) None None)
+IsReadFrom seen limit input (Kept units) = AreUnitsIn seen limit input units
+IsReadFrom seen limit input (Found addresses found) =
+    AreFoundInSection (unread_of seen limit input.lines)
+    (unit_entry seen (size_number input.notation.address_size) None None)
     input.notation.lowest addresses.items found.units.items found.rows.items
 
 -- what was read tells of an address

@@ -57,7 +57,7 @@ pub fn look_up_any<R: Reader>(
     input: &Input<R>,
     output: &mut Output<'_>,
 ) -> Result<Covering<R>, AllocError>
-    ensures read { IfOk result (IsReadFrom R.bytes R.is_big R.Offset.limit input.now) }
+    ensures read { IfOk result (IsReadFrom R.seen R.Offset.limit input.now) }
     ensures any { IfOk result (λ covering. (a : ℕ) → Knows covering a) }
 {
     let lookup = look_up(alloc, input, output)?;
@@ -72,7 +72,7 @@ pub fn look_up_each<R: Reader>(
     addresses: Vec<u64>,
     output: &mut Output<'_>,
 ) -> Result<Covering<R>, AllocError>
-    ensures read { IfOk result (IsReadFrom R.bytes R.is_big R.Offset.limit input.now) }
+    ensures read { IfOk result (IsReadFrom R.seen R.Offset.limit input.now) }
     ensures each { IfOk result (λ covering. All (Knows covering) addresses.items) }
 {
     if addresses.len() > FEW {
@@ -95,7 +95,7 @@ fn look_up<R: Reader>(
     input: &Input<R>,
     output: &mut Output<'_>,
 ) -> Result<SectionLookup<R>, AllocError>
-    ensures { IfOk result (AreUnitsIn R.bytes R.is_big R.Offset.limit input.now) }
+    ensures { IfOk result (AreUnitsIn R.seen R.Offset.limit input.now) }
 {
     let (size, lowest) = (input.notation.address_size.bytes(), input.notation.lowest);
     match SectionLookup::new(&input.lines, alloc, size, lowest) {
@@ -115,11 +115,11 @@ pub fn program_of<R: Reader>(
     output: &mut Output<'_>,
 ) -> Result<Program<R>, AllocError>
     ensures units { IfOk result (λ program.
-        AreUnitsIn R.bytes R.is_big R.Offset.limit input.now program.lookup) }
+        AreUnitsIn R.seen R.Offset.limit input.now program.lookup) }
     ensures strings { IfOk result (λ program. program.paths.0 ≡ input.now.strings) }
     ensures directories { IfOk result (λ program.
-        TellsDirectories (sections_of R.bytes R.is_big R.Offset.limit input.now.compilations)
-        (λ line. option_map R.bytes (directory_for program.paths.1 line))) }
+        TellsDirectories (sections_of R.seen R.Offset.limit input.now.compilations)
+        (λ line. option_map (λ r. (R.seen r).bytes) (directory_for program.paths.1 line))) }
 {
     let (size, lowest) = (input.notation.address_size.bytes(), input.notation.lowest);
     let Ok(mut program) = Program::new(alloc, &input.lines, input.strings, size, lowest) else {

@@ -30,8 +30,8 @@ impl<R: Reader> PathSources<R> {
     /// Reads the first entry of each unit of `.debug_info` once.
     pub fn new(alloc: Global, input: &Input<R>) -> Result<PathSources<R>, AllocError>
         ensures directories { IfOk result (λ sources.
-            TellsDirectories (sections_of R.bytes R.is_big R.Offset.limit input.now.compilations)
-            (λ line. option_map R.bytes (directory_for sources.paths.1 line))) }
+            TellsDirectories (sections_of R.seen R.Offset.limit input.now.compilations)
+            (λ line. option_map (λ r. (R.seen r).bytes) (directory_for sources.paths.1 line))) }
         ensures strings { IfOk result (λ sources. sources.paths.0 ≡ input.now.strings) }
     {
         let strings = input.strings;

@@ -24,24 +24,24 @@ pub(crate) struct InstructionBytes {
 /// only where other bytes stand there.
 pub(crate) fn instruction_bytes<R: Reader>(rest: &mut R, left: u64) -> Result<InstructionBytes>
     ensures sizes { (layout : OrderAndLimit) (h : Header) (i : Ins) (front after : List ℕ)
-        → R.bytes rest.old ≡ front ++ after → left ≡ length after
+        → (R.seen rest.old).bytes ≡ front ++ after → left ≡ length after
         → SpellsInstruction layout h front i
         → result ≡ Ok (record {
           opcode = opcode_size front;
           operands = length front - opcode_size front;
         }) }
     ensures left { (layout : OrderAndLimit) (h : Header) (i : Ins) (front after : List ℕ)
-        → R.bytes rest.old ≡ front ++ after → left ≡ length after
-        → SpellsInstruction layout h front i → R.bytes rest.new ≡ after }
-    ensures order { R.is_big rest.new ≡ R.is_big rest.old }
+        → (R.seen rest.old).bytes ≡ front ++ after → left ≡ length after
+        → SpellsInstruction layout h front i → (R.seen rest.new).bytes ≡ after }
+    ensures order { (R.seen rest.new).is_big ≡ (R.seen rest.old).is_big }
 {
     count_bytes(rest, left)
 }
 
 /// Takes all but so many bytes away, and counts them.
 fn count_bytes<R: Reader>(rest: &mut R, left: u64) -> Result<InstructionBytes>
-    ensures read { (result, R.bytes rest.new) ≡ size_at left (R.bytes rest.old) }
-    ensures order { R.is_big rest.new ≡ R.is_big rest.old }
+    ensures read { (result, (R.seen rest.new).bytes) ≡ size_at left (R.seen rest.old).bytes }
+    ensures order { (R.seen rest.new).is_big ≡ (R.seen rest.old).is_big }
 {
     let whole = rest.len().into_u64();
     skip_opcode(rest)?;
@@ -56,8 +56,8 @@ fn count_bytes<R: Reader>(rest: &mut R, left: u64) -> Result<InstructionBytes>
 
 /// Takes away the bytes that say which instruction it is.
 fn skip_opcode<R: Reader>(rest: &mut R) -> Result<()>
-    ensures read { (result, R.bytes rest.new) ≡ opcode_at (R.bytes rest.old) }
-    ensures order { R.is_big rest.new ≡ R.is_big rest.old }
+    ensures read { (result, (R.seen rest.new).bytes) ≡ opcode_at (R.seen rest.old).bytes }
+    ensures order { (R.seen rest.new).is_big ≡ (R.seen rest.old).is_big }
 {
     if rest.read_u8()? == 0 {
         rest.read_uleb128()?;
@@ -68,8 +68,8 @@ fn skip_opcode<R: Reader>(rest: &mut R) -> Result<()>
 
 /// Takes so many bytes away.
 fn skip_bytes<R: Reader>(count: u64, rest: &mut R) -> Result<()>
-    ensures read { (result, R.bytes rest.new) ≡ bytes_after count (R.bytes rest.old) }
-    ensures order { R.is_big rest.new ≡ R.is_big rest.old }
+    ensures read { (result, (R.seen rest.new).bytes) ≡ bytes_after count (R.seen rest.old).bytes }
+    ensures order { (R.seen rest.new).is_big ≡ (R.seen rest.old).is_big }
 {
     for _ in 0..count {
         rest.read_u8()?;

@@ -74,7 +74,7 @@ impl Spent {
 
     /// The opcode of an instruction.
     pub fn on<R: Reader>(instruction: &LineInstruction<R>) -> Spent
-        ensures { result ≡ spent_on (ins_seen R.bytes R.Offset.number instruction.now) }
+        ensures { result ≡ spent_on (ins_seen R.seen R.Offset.number instruction.now) }
     {
         match instruction {
             LineInstruction::Special(_) => Spent::Special,

@@ -109,7 +109,7 @@ impl Tally {
 
     /// Counts the instructions of a program up to its end or its first fault, which is returned.
     fn add_program<R: Reader>(&mut self, header: &LineProgramHeader<R>, program: R) -> Option<Error>
-        requires { R.bytes program ≡ header.now.meaning.program }
+        requires { (R.seen program).bytes ≡ header.now.meaning.program }
         ensures { (pieces : List Piece)
             × ArePieces header.now.layout header.now.meaning header.now.meaning.program pieces
             × Counts self.old pieces self.new }
@@ -127,13 +127,13 @@ impl Tally {
         header: &LineProgramHeader<R>,
         rest: &mut R,
     ) -> Result<()>
-        requires bytes { R.bytes rest.old ≡ header.now.meaning.program }
+        requires bytes { (R.seen rest.old).bytes ≡ header.now.meaning.program }
         ensures counted { AreCounted header.now.layout header.now.meaning
-            header.now.meaning.program self.old (R.bytes rest.new) self.new }
-        ensures end { OnOk result (R.bytes rest.new ≡ []) }
+            header.now.meaning.program self.old (R.seen rest.new).bytes self.new }
+        ensures end { OnOk result ((R.seen rest.new).bytes ≡ []) }
         ensures fault { IfErr result ((instruction_production header.now.layout
-            header.now.meaning).Fault (R.bytes rest.new)) }
-        ensures some { OnErr result (R.bytes rest.new ≢ []) }
+            header.now.meaning).Fault (R.seen rest.new).bytes) }
+        ensures some { OnErr result ((R.seen rest.new).bytes ≢ []) }
     {
         let mut instructions = header.instructions();
         'instructions: while let Some(instruction) = instructions.next_instruction(header)? {

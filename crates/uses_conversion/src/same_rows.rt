@@ -23,7 +23,7 @@ pub fn same_rows<R: Reader, E: Endianity>(
     strings: &mut StringTable,
 ) -> ConvertResult<(RoundTrip, Vec<FileId>)>
     ensures faithful { IfOk result (λ answer. AreSourceRows
-        (to_convert R.bytes debug_str debug_line_str source None None None)
+        (to_convert R.seen debug_str debug_line_str source None None None)
         answer.1.items answer.0.rows.items) }
 {
     if !no_sequence_ends_under_tombstone(&source) {

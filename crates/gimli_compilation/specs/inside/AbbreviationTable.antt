@@ -10,13 +10,14 @@ use Rattle.gimli_compilation.specs.declared.abbreviation.Tables.{Tables}
 use Rattle.gimli_compilation.specs.Abbreviation.{abbreviation_production}
 use Rattle.gimli_compilation.specs.Unit.{table_production}
 use Rattle.gimli_compilation.specs.inside.AbbreviationReading.{IsListed, listed}
+use Rattle.gimli_core.specs.Layout.{Seen}
 
-module _ {R : Type 0} (bytes : R → List ℕ) where
+module _ {R : Type 0} (seen : R → Seen) where
   -- the answer to a code: what is kept of it, else what comes where reading goes on
   abbrev pub answer_to : ℕ → Option R → Result (Option R) Error
       → Result (Option (List Specification)) Error
-  answer_to code (Some part) next = Ok (Some (listed (bytes part)))
-  answer_to code None (Ok (Some rest)) = ((abbreviation_production code).read (bytes rest)).0
+  answer_to code (Some part) next = Ok (Some (listed (seen part).bytes))
+  answer_to code None (Ok (Some rest)) = ((abbreviation_production code).read (seen rest).bytes).0
   answer_to code None (Ok None) = Ok None
   answer_to code None (Err e) = Err e
 
@@ -26,7 +27,7 @@ module _ {R : Type 0} (bytes : R → List ℕ) where
         → answer_to code (get nat_cmp table.specifications code) table.next
         ≡ ((table_production table.offset code).read section).0
     pub whole : (code : ℕ)
-        → IfSome (get nat_cmp table.specifications code) (λ part. IsListed (bytes part))
+        → IfSome (get nat_cmp table.specifications code) (λ part. IsListed (seen part).bytes)
 
   -- the tables at their offsets
   pub record AreTables (section : List ℕ) (tables : Tables R) : Type 0 where
@@ -37,6 +38,6 @@ module _ {R : Type 0} (bytes : R → List ℕ) where
 
   -- how much may still be read
   abbrev pub size_left : Result (Option R) Error → ℕ
-  size_left (Ok (Some rest)) = suc (length (bytes rest))
+  size_left (Ok (Some rest)) = suc (length (seen rest).bytes)
   size_left (Ok None) = 0
   size_left (Err e) = 0

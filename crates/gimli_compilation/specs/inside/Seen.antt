@@ -5,10 +5,11 @@ use Rattle.gimli_compilation.specs.Abbreviation.{Declaration}
 use Rattle.gimli_compilation.specs.Header.{Header}
 use Rattle.gimli_compilation.specs.declared.header.UnitHeader.{UnitHeader}
 use Rattle.gimli_compilation.specs.inside.AbbreviationReading.{listed}
+use Rattle.gimli_core.specs.Layout.{Seen}
 
 -- the content of a unit, and its format
-abbrev pub frame_seen : {R : Type 0} → (R → List ℕ) → R × Format → List ℕ × Format
-frame_seen bytes unit = (bytes unit.0, unit.1)
+abbrev pub frame_seen : {R : Type 0} → (R → Seen) → R × Format → List ℕ × Format
+frame_seen seen unit = ((seen unit.0).bytes, unit.1)
 
 -- the header of a unit
 abbrev pub header_seen : {R Endian Offset : Type 0} → (Offset → ℕ) → UnitHeader R Endian Offset
@@ -20,6 +21,6 @@ header_seen number header = record {
 }
 
 -- a declaration; the end of a table is one with the code 0
-abbrev pub declaration_seen : {R : Type 0} → (R → List ℕ) → Option (ℕ × R) → Declaration
-declaration_seen bytes (Some found) = (found.0, listed (bytes found.1))
-declaration_seen bytes None = (0, [])
+abbrev pub declaration_seen : {R : Type 0} → (R → Seen) → Option (ℕ × R) → Declaration
+declaration_seen seen (Some found) = (found.0, listed (seen found.1).bytes)
+declaration_seen seen None = (0, [])

@@ -5,20 +5,21 @@ use Rattle.gimli_compilation.specs.declared.form.Value.TheVariants.{Number, Text
 use Rattle.gimli_compilation.specs.declared.form.Shape.{Shape}
 use Rattle.gimli_compilation.specs.declared.form.Shape.TheVariants.{Fixed, Counted}
 use Rattle.gimli_compilation.specs.declared.attributes.Attributes.{Attributes}
+use Rattle.gimli_core.specs.Layout.{Seen}
 
 -- a value, its text seen by bytes
-abbrev pub value_seen : {R : Type 0} → (R → List ℕ) → Value R → Value (List ℕ)
-value_seen bytes (Number kind n) = Number kind n
-value_seen bytes (Text text) = Text (bytes text)
-value_seen bytes Passed = Passed
+abbrev pub value_seen : {R : Type 0} → (R → Seen) → Value R → Value (List ℕ)
+value_seen seen (Number kind n) = Number kind n
+value_seen seen (Text text) = Text (seen text).bytes
+value_seen seen Passed = Passed
 
 -- the attributes, their texts seen by bytes
-abbrev pub attributes_seen : {R : Type 0} → (R → List ℕ) → Attributes R → Attributes (List ℕ)
-attributes_seen bytes attributes = record {
-  stmt_list = value_seen bytes attributes.stmt_list;
-  comp_dir = value_seen bytes attributes.comp_dir;
-  name = value_seen bytes attributes.name;
-  str_offsets_base = value_seen bytes attributes.str_offsets_base;
+abbrev pub attributes_seen : {R : Type 0} → (R → Seen) → Attributes R → Attributes (List ℕ)
+attributes_seen seen attributes = record {
+  stmt_list = value_seen seen attributes.stmt_list;
+  comp_dir = value_seen seen attributes.comp_dir;
+  name = value_seen seen attributes.name;
+  str_offsets_base = value_seen seen attributes.str_offsets_base;
 }
 
 -- a number of this shape is one that `read_uint` takes

@@ -4,7 +4,7 @@ use Rattle.gimli_line.specs
 use specs.Prelude
 use Prelude.{ℕ, zero, suc, Bool, List, [], Option, None, option_map, replicate, nat_le, nat_eq}
 use Prelude.{slice_get, list_any, Vec, Global, Value, AttributeValue, String, DebugLineOffset}
-use Prelude.{OrderAndLimit}
+use Prelude.{OrderAndLimit, Seen}
 use specs.header.Parameters.{Parameters}
 use specs.header.File.{File}
 use specs.declared.header.file_entry.FileEntry.{FileEntry}
@@ -33,11 +33,11 @@ pub record UnitEntry : Type 0 where
   pub name : Option (List ℕ)
 
 -- what stands in the readers that a caller hands in
-abbrev pub unit_entry : {R : Type 0} → (R → List ℕ) → ℕ → Option R → Option R → UnitEntry
-unit_entry bytes address_size directory name = record {
+abbrev pub unit_entry : {R : Type 0} → (R → Seen) → ℕ → Option R → Option R → UnitEntry
+unit_entry seen address_size directory name = record {
   address_size = address_size;
-  directory = option_map bytes directory;
-  name = option_map bytes name;
+  directory = option_map (λ r. (seen r).bytes) directory;
+  name = option_map (λ r. (seen r).bytes) name;
 }
 
 -- a file of which the tables up to version 4 say nothing more

@@ -3,8 +3,8 @@ use Rattle.std.specs.Prelude.{◌≡◌, ◌+◌}
 use Rattle.gimli_line.specs
 use specs.Prelude
 use Prelude.{ℕ, Bool, List, length, map, Option, option_map, Decides, Value, value_by}
-use Prelude.{AttributeValue, DebugLineOffset}
-use Rattle.gimli_core.specs.Equality.{ComparesBy, both}
+use Prelude.{AttributeValue, DebugLineOffset, Seen}
+use Rattle.gimli_core.specs.Equality.{ComparesBy}
 use specs.header.File.{File, FileOrders, file_by}
 use specs.header.Header.{Header, SeenHeader}
 use specs.header.Parameters.{Parameters}
@@ -51,24 +51,23 @@ module _ {R Offset Endian : Type 0} where
       → Type 0
   ComparesParts eq = (x y : SeenHeader R Offset Endian) → Decides (eq x y) (parts_of x ≡ parts_of y)
 
-module _ {R Offset Endian : Type 0} (bytes : R → List ℕ) (is_big : R → Bool)
-    (number : Offset → ℕ) where
+module _ {R Offset Endian : Type 0} (seen : R → Seen) (number : Offset → ℕ) where
   -- the parts as they are seen: readers by bytes and order, offsets by number
   abbrev pub header_by : SeenHeader R Offset Endian
-      → HeaderParts (List ℕ × Bool) ℕ (Value × Option Bool) (File × FileOrders)
+      → HeaderParts Seen ℕ (Value × Option Bool) (File × FileOrders)
   header_by h = record {
     parameters = h.parameters;
     offset = record { 0 = number h.offset.0 };
     unit_length = number h.unit_length;
     header_length = number h.header_length;
-    operand_counts = both bytes is_big h.standard_opcode_lengths;
+    operand_counts = seen h.standard_opcode_lengths;
     directory_formats = h.directory_entry_format.items;
-    directories = map (value_by bytes is_big number) h.include_directories.items;
+    directories = map (value_by seen number) h.include_directories.items;
     file_formats = h.file_name_entry_format.items;
-    files = map (file_by bytes is_big number) h.file_names.items;
-    program = both bytes is_big h.program_buf;
-    comp_dir = option_map (both bytes is_big) h.comp_dir;
-    comp_file = option_map (file_by bytes is_big number) h.comp_file;
+    files = map (file_by seen number) h.file_names.items;
+    program = seen h.program_buf;
+    comp_dir = option_map seen h.comp_dir;
+    comp_file = option_map (file_by seen number) h.comp_file;
   }
 
   -- an equality of headers holds exactly where the two agree in all their parts as they are seen

@@ -1,7 +1,8 @@
 -- The orders of bytes of the readers that a header takes from its section.
 use Rattle.std.specs.Prelude.{◌≡◌}
 use Rattle.gimli_line.specs
-use specs.Prelude.{ℕ, Bool, List, map, Option, option_map, All, OrderAndLimit, value_order, IsOrder}
+use specs.Prelude.{ℕ, Bool, List, map, Option, option_map, All, OrderAndLimit, Seen, value_order}
+use specs.Prelude.{IsOrder}
 use specs.header.File.{FileOrders, file_orders, AreFileOrders}
 use specs.header.Header.{SeenHeader}
 
@@ -18,13 +19,14 @@ pub record HeaderOrders : Type 0 where
   pub files : List FileOrders
   pub handed : HandedOrders
 
-module _ {R Offset Endian : Type 0} (is_big : R → Bool) where
+module _ {R Offset Endian : Type 0} (seen : R → Seen) where
   abbrev pub header_orders : SeenHeader R Offset Endian → HeaderOrders
   header_orders h = record {
-    operand_counts = is_big h.standard_opcode_lengths;
-    directories = map (value_order is_big) h.include_directories.items;
-    files = map (file_orders is_big) h.file_names.items;
-    handed = (option_map is_big h.comp_dir, option_map (file_orders is_big) h.comp_file);
+    operand_counts = (seen h.standard_opcode_lengths).is_big;
+    directories = map (value_order seen) h.include_directories.items;
+    files = map (file_orders seen) h.file_names.items;
+    handed =
+        (option_map (λ r. (seen r).is_big) h.comp_dir, option_map (file_orders seen) h.comp_file);
   }
 
 -- all that were taken from the section have this order
@@ -41,18 +43,18 @@ pub record HeaderSource : Type 0 where
   pub offset : ℕ
   pub orders : HeaderOrders
 
-module _ {R Offset Endian : Type 0} (is_big : R → Bool) where
+module _ {R Offset Endian : Type 0} (seen : R → Seen) where
   abbrev pub source_of : (Offset → ℕ) → SeenHeader R Offset Endian → HeaderSource
   source_of number h = record {
     layout = h.layout;
     offset = number h.offset.0;
-    orders = header_orders is_big h;
+    orders = header_orders seen h;
   }
 
   -- the readers that were taken from the section, in the operand counts and both tables, have the
   -- order of the program
   abbrev pub HasOneOrder : SeenHeader R Offset Endian → Type 0
-  HasOneOrder h = AreOneOrder h.layout.is_big (header_orders is_big h)
+  HasOneOrder h = AreOneOrder h.layout.is_big (header_orders seen h)
 
 -- it is still the same source: readers that were handed in keep their order, and those that were
 -- taken from the section have one order as before, if what is added fits it

@@ -1,7 +1,7 @@
 -- Instructions, with lists of bytes in place of readers and numbers in place of offsets.
 use Rattle.std.specs.Prelude.{◌≡◌}
 use Rattle.gimli_line.specs
-use specs.Prelude.{ℕ, List, Bool, true, false, Some, None}
+use specs.Prelude.{ℕ, List, Bool, true, false, Some, None, Seen}
 use specs.header.File.{File, file_seen, FileHasOrder, FileOrders, file_orders}
 use specs.header.Header.{Header, files_with}
 use specs.declared.run.instruction.LineInstruction.{LineInstruction}
@@ -35,7 +35,7 @@ Ins = LineInstruction (List ℕ) ℕ (Unit {0})
 
 -- ---- instructions of readers
 
-module _ {R Offset Endian : Type 0} (bytes : R → List ℕ) (number : Offset → ℕ) where
+module _ {R Offset Endian : Type 0} (seen : R → Seen) (number : Offset → ℕ) where
   -- an instruction, its readers seen by bytes and its offsets by number
   abbrev pub ins_seen : LineInstruction R Offset Endian → Ins
   ins_seen (Special o) = Special o
@@ -53,35 +53,34 @@ module _ {R Offset Endian : Type 0} (bytes : R → List ℕ) (number : Offset �
   ins_seen (SetIsa n) = SetIsa n
   ins_seen (UnknownStandard0 o) = UnknownStandard0 o
   ins_seen (UnknownStandard1 o n) = UnknownStandard1 o n
-  ins_seen (UnknownStandardN o r) = UnknownStandardN o (bytes r)
+  ins_seen (UnknownStandardN o r) = UnknownStandardN o (seen r).bytes
   ins_seen EndSequence = EndSequence
   ins_seen (SetAddress a) = SetAddress a
-  ins_seen (DefineFile f) = DefineFile (file_seen bytes number f)
+  ins_seen (DefineFile f) = DefineFile (file_seen seen number f)
   ins_seen (SetDiscriminator n) = SetDiscriminator n
-  ins_seen (UnknownExtended o r) = UnknownExtended o (bytes r)
+  ins_seen (UnknownExtended o r) = UnknownExtended o (seen r).bytes
 
-module _ {R Offset Endian : Type 0} (is_big : R → Bool) (order : Bool) where
+module _ {R Offset Endian : Type 0} (seen : R → Seen) (order : Bool) where
   -- the readers of an instruction, in its operands or its file, have this order of bytes
   abbrev pub InsHasOrder : LineInstruction R Offset Endian → Type 0
-  InsHasOrder (UnknownStandardN o r) = is_big r ≡ order
-  InsHasOrder (UnknownExtended o r) = is_big r ≡ order
-  InsHasOrder (DefineFile f) = FileHasOrder is_big order f
+  InsHasOrder (UnknownStandardN o r) = (seen r).is_big ≡ order
+  InsHasOrder (UnknownExtended o r) = (seen r).is_big ≡ order
+  InsHasOrder (DefineFile f) = FileHasOrder seen order f
   InsHasOrder i = Unit {0}
 
-module _ {R Offset Endian : Type 0} (is_big : R → Bool) where
+module _ {R Offset Endian : Type 0} (seen : R → Seen) where
   -- the orders of bytes of an instruction's readers: of its operands or its file's path, and of
   -- its file's source
   abbrev pub ins_orders : LineInstruction R Offset Endian → FileOrders
-  ins_orders (UnknownStandardN o r) = (Some (is_big r), None)
-  ins_orders (UnknownExtended o r) = (Some (is_big r), None)
-  ins_orders (DefineFile f) = file_orders is_big f
+  ins_orders (UnknownStandardN o r) = (Some (seen r).is_big, None)
+  ins_orders (UnknownExtended o r) = (Some (seen r).is_big, None)
+  ins_orders (DefineFile f) = file_orders seen f
   ins_orders i = (None, None)
 
-module _ {R Offset Endian : Type 0} (bytes : R → List ℕ) (is_big : R → Bool)
-    (number : Offset → ℕ) where
+module _ {R Offset Endian : Type 0} (seen : R → Seen) (number : Offset → ℕ) where
   -- an instruction, its readers seen by bytes and order, and its offsets by number
   abbrev pub ins_by : LineInstruction R Offset Endian → Ins × FileOrders
-  ins_by i = (ins_seen bytes number i, ins_orders is_big i)
+  ins_by i = (ins_seen seen number i, ins_orders seen i)
 
 -- ---- kinds of instructions
 

@@ -1,7 +1,7 @@
 -- What a row iterator still makes and gives.
 use Rattle.std.specs.Prelude.{◌≡◌, ◌≢◌, ◌⊎◌, ◌∷◌, ◌++◌}
 use Rattle.gimli_line.specs.Prelude.{ℕ, Bool, true, false, List, [], All, Option, Some, None}
-use Rattle.gimli_line.specs.Prelude.{Result, Ok, Err, Error, AddressOverflow, OutOfMemory}
+use Rattle.gimli_line.specs.Prelude.{Result, Ok, Err, Error, AddressOverflow, OutOfMemory, Seen}
 use Rattle.std.specs.Borrow.{Bor}
 use Rattle.gimli_line.specs.declared.run.row.LineRow.{LineRow}
 use Rattle.gimli_line.specs.header.File.{File}
@@ -91,10 +91,10 @@ pub record KeepsHeader (old new : RunState) : Type 0 where
   pub alone : GivesRowsAlone old → GivesRowsAlone new
 
 -- a header is that of a run but for its files, and it comes from the same source
-pub record SeesHeader {R Offset Endian : Type 0} (is_big : R → Bool) (number : Offset → ℕ)
+pub record SeesHeader {R Offset Endian : Type 0} (seen : R → Seen) (number : Offset → ℕ)
     (a : RunState) (h : SeenHeader R Offset Endian) : Type 0 where
   pub fixed : without_files h.meaning ≡ a.fixed
-  pub source : KeepsSource (AddsInOrder a) a.source (source_of is_big number h)
+  pub source : KeepsSource (AddsInOrder a) a.source (source_of seen number h)
 
 -- ---- an answer; `live` is `live_events` or `live_made`
 

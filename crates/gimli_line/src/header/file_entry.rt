@@ -2,6 +2,7 @@
 
 ghost use Rattle.std.specs.Prelude.{◌≡◌};
 ghost use Rattle.gimli_core.specs.Reading.{result_map};
+ghost use Rattle.gimli_core.specs.Seen.{taken};
 ghost use Rattle.gimli_core.specs.Values.{value_seen};
 ghost use Rattle.gimli_core.specs.declared.attribute_value.AttributeValue.TheVariants.{String};
 ghost use Rattle.gimli_line.specs.header.HeaderGrammar.{digest};
@@ -64,10 +65,10 @@ where
 
     /// A file of which the path alone is known.
     pub(crate) fn of_path(path_name: R) -> Self
-        ensures file { file_seen R.bytes Offset.number result
-            ≡ plain_file (R.bytes path_name) 0 0 0 }
+        ensures file { file_seen R.seen Offset.number result
+            ≡ plain_file (R.seen path_name).bytes 0 0 0 }
         ensures path { result.path_name ≡ String path_name }
-        ensures order { FileHasOrder R.is_big (R.is_big path_name) result }
+        ensures order { FileHasOrder R.seen (R.seen path_name).is_big result }
     {
         FileEntry {
             path_name: AttributeValue::String(path_name),
@@ -83,10 +84,9 @@ where
     #[inline(always)]
     #[tactic(auto, unfolding(crate::specs::header::HeaderGrammar::file_production))]
     pub(crate) fn parse(input: &mut R, path_name: R) -> Result<Self>
-        ensures read { (result_map (file_seen R.bytes Offset.number) result, R.bytes input.new)
-            ≡ (file_production (R.bytes path_name)).read (R.bytes input.old) }
-        ensures order { R.is_big input.new ≡ R.is_big input.old }
-        ensures file { IfOk result (FileHasOrder R.is_big (R.is_big path_name)) }
+        ensures read { (result_map (file_seen R.seen Offset.number) result, R.seen input.new)
+            ≡ taken (file_production (R.seen path_name).bytes) (R.seen input.old) }
+        ensures file { IfOk result (FileHasOrder R.seen (R.seen path_name).is_big) }
     {
         let directory_index = read_uleb128(input)?;
         let timestamp = read_uleb128(input)?;
@@ -104,12 +104,12 @@ where
     /// Takes in a value of an entry of version 5. A value that isn't of use for its content type
     /// changes nothing, and neither does an unknown content type.
     pub(crate) fn update(&mut self, content_type: DwLnct, value: AttributeValue<R, Offset>)
-        ensures file { file_seen R.bytes Offset.number self.new
-            ≡ file_with (file_seen R.bytes Offset.number self.old) content_type.0
-            (value_seen R.bytes Offset.number value) }
-        ensures order { (order : Bool) → FileHasOrder R.is_big order self.old
-            → ValueHasOrder R.is_big order value
-            → FileHasOrder R.is_big order self.new }
+        ensures file { file_seen R.seen Offset.number self.new
+            ≡ file_with (file_seen R.seen Offset.number self.old) content_type.0
+            (value_seen R.seen Offset.number value) }
+        ensures order { (order : Bool) → FileHasOrder R.seen order self.old
+            → ValueHasOrder R.seen order value
+            → FileHasOrder R.seen order self.new }
     {
         match content_type {
             constants::DW_LNCT_path => self.path_name = value,
@@ -201,7 +201,7 @@ fn digest_of<R, Offset>(value: AttributeValue<R, Offset>) -> Option<[u8; 16]>
 where
     R: Reader<Offset = Offset>,
     Offset: ReaderOffset,
-    ensures { result ≡ digest (value_seen R.bytes Offset.number value) }
+    ensures { result ≡ digest (value_seen R.seen Offset.number value) }
 {
     match value {
         AttributeValue::Block(mut block) => {

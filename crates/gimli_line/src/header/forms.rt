@@ -4,6 +4,7 @@ ghost use Rattle.std.specs.Prelude.{◌≡◌, IfOk, drop};
 ghost use Rattle.gimli_core.specs.Form.{block_production, form_production, shapes};
 ghost use Rattle.gimli_core.specs.Production.{below_limit, unsigned};
 ghost use Rattle.gimli_core.specs.Reading.{result_map};
+ghost use Rattle.gimli_core.specs.Seen.{taken};
 ghost use Rattle.gimli_core.specs.Layout.{layout_of};
 ghost use Rattle.gimli_core.specs.Values.{value_seen, ValueHasOrder};
 ghost use Rattle.gimli_line.specs.inside.header.HeaderGrammar.{form_among};
@@ -20,11 +21,10 @@ pub(crate) fn parse_attribute<R: Reader>(
     format: Format,
     form: DwForm,
 ) -> Result<AttributeValue<R>>
-    ensures read { (result_map (value_seen R.bytes R.Offset.number) result, R.bytes input.new)
-        ≡ (form_production (layout_of (R.is_big input.old) R.Offset.limit) format form.0).read
-        (R.bytes input.old) }
-    ensures order { R.is_big input.new ≡ R.is_big input.old }
-    ensures part { IfOk result (ValueHasOrder R.is_big (R.is_big input.old)) }
+    ensures read { (result_map (value_seen R.seen R.Offset.number) result, R.seen input.new)
+        ≡ taken (form_production (layout_of (R.seen input.old).is_big R.Offset.limit) format form.0)
+        (R.seen input.old) }
+    ensures part { IfOk result (ValueHasOrder R.seen (R.seen input.old).is_big) }
 {
     match form {
         constants::DW_FORM_block1 => {
@@ -50,11 +50,11 @@ pub(crate) fn parse_attribute<R: Reader>(
 
 /// Takes a value in a form that isn't a block: a number, or what comes after those.
 fn parse_number<R: Reader>(input: &mut R, format: Format, form: DwForm) -> Result<AttributeValue<R>>
-    ensures read { (result_map (value_seen R.bytes R.Offset.number) result, R.bytes input.new)
-        ≡ (form_among (layout_of (R.is_big input.old) R.Offset.limit) format (drop 5 shapes)
-        form.0).read (R.bytes input.old) }
-    ensures order { R.is_big input.new ≡ R.is_big input.old }
-    ensures part { IfOk result (ValueHasOrder R.is_big (R.is_big input.old)) }
+    ensures read { (result_map (value_seen R.seen R.Offset.number) result, R.seen input.new)
+        ≡ taken
+        (form_among (layout_of (R.seen input.old).is_big R.Offset.limit) format (drop 5 shapes)
+        form.0) (R.seen input.old) }
+    ensures part { IfOk result (ValueHasOrder R.seen (R.seen input.old).is_big) }
 {
     match form {
         constants::DW_FORM_data1 => Ok(AttributeValue::Data1(input.read_u8()?)),
@@ -74,11 +74,11 @@ fn parse_word_or_text<R: Reader>(
     format: Format,
     form: DwForm,
 ) -> Result<AttributeValue<R>>
-    ensures read { (result_map (value_seen R.bytes R.Offset.number) result, R.bytes input.new)
-        ≡ (form_among (layout_of (R.is_big input.old) R.Offset.limit) format (drop 12 shapes)
-        form.0).read (R.bytes input.old) }
-    ensures order { R.is_big input.new ≡ R.is_big input.old }
-    ensures part { IfOk result (ValueHasOrder R.is_big (R.is_big input.old)) }
+    ensures read { (result_map (value_seen R.seen R.Offset.number) result, R.seen input.new)
+        ≡ taken
+        (form_among (layout_of (R.seen input.old).is_big R.Offset.limit) format (drop 12 shapes)
+        form.0) (R.seen input.old) }
+    ensures part { IfOk result (ValueHasOrder R.seen (R.seen input.old).is_big) }
 {
     match form {
         constants::DW_FORM_sec_offset => Ok(AttributeValue::SecOffset(input.read_offset(format)?)),
@@ -104,11 +104,11 @@ fn parse_word_or_text<R: Reader>(
 
 /// Takes an index of a text. Refused by `UnknownForm` at a form that has none.
 fn parse_index<R: Reader>(input: &mut R, format: Format, form: DwForm) -> Result<AttributeValue<R>>
-    ensures read { (result_map (value_seen R.bytes R.Offset.number) result, R.bytes input.new)
-        ≡ (form_among (layout_of (R.is_big input.old) R.Offset.limit) format (drop 18 shapes)
-        form.0).read (R.bytes input.old) }
-    ensures order { R.is_big input.new ≡ R.is_big input.old }
-    ensures part { IfOk result (ValueHasOrder R.is_big (R.is_big input.old)) }
+    ensures read { (result_map (value_seen R.seen R.Offset.number) result, R.seen input.new)
+        ≡ taken
+        (form_among (layout_of (R.seen input.old).is_big R.Offset.limit) format (drop 18 shapes)
+        form.0) (R.seen input.old) }
+    ensures part { IfOk result (ValueHasOrder R.seen (R.seen input.old).is_big) }
 {
     let index = match form {
         constants::DW_FORM_strx | constants::DW_FORM_GNU_str_index => parse_offset(input)?,
@@ -123,10 +123,9 @@ fn parse_index<R: Reader>(input: &mut R, format: Format, form: DwForm) -> Result
 
 /// Takes so many bytes, as a block.
 fn parse_block<R: Reader>(input: &mut R, len: R::Offset) -> Result<AttributeValue<R>>
-    ensures read { (result_map (value_seen R.bytes R.Offset.number) result, R.bytes input.new)
-        ≡ (block_production (R.Offset.number len)).read (R.bytes input.old) }
-    ensures order { R.is_big input.new ≡ R.is_big input.old }
-    ensures part { IfOk result (ValueHasOrder R.is_big (R.is_big input.old)) }
+    ensures read { (result_map (value_seen R.seen R.Offset.number) result, R.seen input.new)
+        ≡ taken (block_production (R.Offset.number len)) (R.seen input.old) }
+    ensures part { IfOk result (ValueHasOrder R.seen (R.seen input.old).is_big) }
 {
     let block = input.split(len)?;
     Ok(AttributeValue::Block(block))
@@ -135,10 +134,9 @@ fn parse_block<R: Reader>(input: &mut R, len: R::Offset) -> Result<AttributeValu
 /// Takes an unsigned LEB128 number as an offset. Refused by `UnsupportedOffset` where the offset
 /// type is too narrow.
 pub(crate) fn parse_offset<R: Reader>(input: &mut R) -> Result<R::Offset>
-    ensures read { (result_map R.Offset.number result, R.bytes input.new)
-        ≡ (below_limit (layout_of (R.is_big input.old) R.Offset.limit) unsigned).read
-        (R.bytes input.old) }
-    ensures order { R.is_big input.new ≡ R.is_big input.old }
+    ensures { (result_map R.Offset.number result, R.seen input.new)
+        ≡ taken (below_limit (layout_of (R.seen input.old).is_big R.Offset.limit) unsigned)
+        (R.seen input.old) }
 {
     let number = read_uleb128(input)?;
     R::Offset::from_u64(number)

@@ -5,6 +5,7 @@ ghost use Rattle.std.specs.Prelude.{◌≡◌, ◌<◌, IfOk, IsTrue, option_map
 ghost use Rattle.gimli_core.specs.Layout.{layout_of};
 ghost use Rattle.gimli_core.specs.Numbers.{is_address_size};
 ghost use Rattle.gimli_core.specs.Reading.{result_map};
+ghost use Rattle.gimli_core.specs.Seen.{taken};
 ghost use Rattle.gimli_line.specs.header.HeaderGrammar.{
   version_production,
   address_size_production,
@@ -27,8 +28,8 @@ use std::alloc::Global;
 /// Takes a byte that isn't 0. Refused by `error` where it is.
 #[tactic(auto, unfolding(crate::specs::header::Productions::positive))]
 fn parse_positive<R: Reader>(input: &mut R, error: Error) -> Result<u8>
-    ensures read { (result, R.bytes input.new) ≡ (positive error).read (R.bytes input.old) }
-    ensures order { R.is_big input.new ≡ R.is_big input.old }
+    ensures read { (result, R.seen input.new)
+        ≡ taken (positive error) (R.seen input.old) }
     ensures positive { IfOk result (λ n. 0 < n) }
 {
     let n = input.read_u8()?;
@@ -42,9 +43,8 @@ fn parse_positive<R: Reader>(input: &mut R, error: Error) -> Result<u8>
 /// appendix F). Refused by `UnknownVersion` at any other.
 #[tactic(auto, unfolding(crate::specs::header::HeaderGrammar::version_production))]
 fn parse_version<R: Reader>(input: &mut R) -> Result<u16>
-    ensures read { (result, R.bytes input.new)
-        ≡ (version_production (R.is_big input.old)).read (R.bytes input.old) }
-    ensures order { R.is_big input.new ≡ R.is_big input.old }
+    ensures { (result, R.seen input.new)
+        ≡ taken (version_production (R.seen input.old).is_big) (R.seen input.old) }
 {
     let version = input.read_u16()?;
     if version < 2 || version > 5 {
@@ -58,9 +58,8 @@ fn parse_version<R: Reader>(input: &mut R) -> Result<u16>
 #[tactic(auto, unfolding(crate::specs::header::HeaderGrammar::address_size_production))]
 fn parse_address_size<R: Reader>(input: &mut R, version: u16, handed: u8) -> Result<u8>
     requires { IsTrue (is_address_size handed) }
-    ensures read { (result, R.bytes input.new)
-        ≡ (address_size_production version handed).read (R.bytes input.old) }
-    ensures order { R.is_big input.new ≡ R.is_big input.old }
+    ensures read { (result, R.seen input.new)
+        ≡ taken (address_size_production version handed) (R.seen input.old) }
     ensures size { IfOk result (λ n. IsTrue (is_address_size n)) }
 {
     if version <= 4 {
@@ -77,9 +76,8 @@ fn parse_address_size<R: Reader>(input: &mut R, version: u16, handed: u8) -> Res
 /// Takes what rows are encoded by. Up to version 3 the maximum of operations isn't there, and is 1.
 #[tactic(auto, unfolding(crate::specs::header::HeaderGrammar::line_encoding_production))]
 fn parse_line_encoding<R: Reader>(input: &mut R, version: u16) -> Result<LineEncoding>
-    ensures read { (result, R.bytes input.new)
-        ≡ (line_encoding_production version).read (R.bytes input.old) }
-    ensures order { R.is_big input.new ≡ R.is_big input.old }
+    ensures read { (result, R.seen input.new)
+        ≡ taken (line_encoding_production version) (R.seen input.old) }
     ensures allowed { IfOk result IsLineEncoding }
 {
     let minimum_instruction_length = parse_positive(input, Error::MinimumInstructionLengthZero)?;
@@ -99,9 +97,8 @@ fn parse_line_encoding<R: Reader>(input: &mut R, version: u16) -> Result<LineEnc
 /// The maximum of operations of an instruction: there from version 4 on, for machines whose
 /// instructions are bundles of operations.
 fn parse_operations<R: Reader>(input: &mut R, version: u16) -> Result<u8>
-    ensures read { (result, R.bytes input.new)
-        ≡ (operations_production version).read (R.bytes input.old) }
-    ensures order { R.is_big input.new ≡ R.is_big input.old }
+    ensures read { (result, R.seen input.new)
+        ≡ taken (operations_production version) (R.seen input.old) }
     ensures positive { IfOk result (λ n. 0 < n) }
 {
     if version <= 3 {
@@ -114,9 +111,8 @@ fn parse_operations<R: Reader>(input: &mut R, version: u16) -> Result<u8>
 #[tactic(auto, unfolding(crate::specs::header::HeaderGrammar::parameters_production))]
 fn parse_parameters<R: Reader>(input: &mut R, encoding: Encoding) -> Result<Parameters>
     requires { IsTrue (is_address_size encoding.address_size) }
-    ensures read { (result, R.bytes input.new)
-        ≡ (parameters_production encoding).read (R.bytes input.old) }
-    ensures order { R.is_big input.new ≡ R.is_big input.old }
+    ensures read { (result, R.seen input.new)
+        ≡ taken (parameters_production encoding) (R.seen input.old) }
     ensures positive { IfOk result (λ parameters. 0 < parameters.opcode_base) }
     ensures encoding { IfOk result (λ parameters. parameters.encoding ≡ encoding) }
 {
@@ -146,12 +142,11 @@ impl<R: Reader> HeaderOpening<R> {
     #[tactic(auto, unfolding(crate::specs::header::HeaderGrammar::opening_production))]
     fn parse(input: &mut R, handed: u8, format: Format) -> Result<Self>
         requires { IsTrue (is_address_size handed) }
-        ensures read { (result_map (opening_seen R.bytes R.Offset.number) result, R.bytes input.new)
-            ≡ (opening_production (layout_of (R.is_big input.old) R.Offset.limit) handed
-            format).read
-            (R.bytes input.old) }
-        ensures order { R.is_big input.new ≡ R.is_big input.old }
-        ensures fields { IfOk result (λ opening. R.is_big opening.fields ≡ R.is_big input.old) }
+        ensures read { (result_map (opening_seen R.seen R.Offset.number) result, R.seen input.new)
+            ≡ taken (opening_production (layout_of (R.seen input.old).is_big R.Offset.limit) handed
+            format) (R.seen input.old) }
+        ensures fields { IfOk result (λ opening.
+            (R.seen opening.fields).is_big ≡ (R.seen input.old).is_big) }
         ensures size { IfOk result (λ opening.
             IsTrue (is_address_size opening.encoding.address_size)) }
     {
@@ -200,12 +195,12 @@ where
     ) -> Result<Self>
         requires { IsTrue (is_address_size address_size) }
         ensures read { Gives OutOfMemory (λ header. header.meaning) result
-            ((header_production (layout_of (R.is_big input.old) Offset.limit)
-            (unit_entry R.bytes address_size comp_dir comp_name)).read (R.bytes input.old)).0 }
+            ((header_production (layout_of (R.seen input.old).is_big Offset.limit)
+            (unit_entry R.seen address_size comp_dir comp_name)).read (R.seen input.old).bytes).0 }
         ensures layout { IfOk result (λ header.
-            header.layout ≡ layout_of (R.is_big input.old) Offset.limit) }
+            header.layout ≡ layout_of (R.seen input.old).is_big Offset.limit) }
         ensures offset { IfOk result (λ header. header.offset ≡ offset) }
-        ensures order { IfOk result (HasOneOrder R.is_big) }
+        ensures order { IfOk result (HasOneOrder R.seen) }
         ensures directory { IfOk result (λ header. header.comp_dir
             ≡ handed_value header.meaning.parameters.encoding comp_dir) }
         ensures name { IfOk result (λ header. option_map (λ file. file.path_name) header.comp_file
@@ -237,17 +232,17 @@ where
         comp_name: Option<R>,
     ) -> Result<Self>
         requires size { IsTrue (is_address_size opening.encoding.address_size) }
-        requires order { R.is_big opening.fields ≡ R.is_big program_buf }
+        requires order { (R.seen opening.fields).is_big ≡ (R.seen program_buf).is_big }
         ensures read { Gives OutOfMemory (λ header. header.meaning) result
-            ((fields_production (layout_of (R.is_big program_buf) Offset.limit)
-            (unit_entry R.bytes opening.encoding.address_size comp_dir comp_name)
+            ((fields_production (layout_of (R.seen program_buf).is_big Offset.limit)
+            (unit_entry R.seen opening.encoding.address_size comp_dir comp_name)
             (Offset.number unit_length)
-            (opening_seen R.bytes Offset.number opening) (R.bytes program_buf)).read
-            (R.bytes opening.fields)).0 }
+            (opening_seen R.seen Offset.number opening) (R.seen program_buf).bytes).read
+            (R.seen opening.fields).bytes).0 }
         ensures layout { IfOk result (λ header.
-            header.layout ≡ layout_of (R.is_big program_buf) Offset.limit) }
+            header.layout ≡ layout_of (R.seen program_buf).is_big Offset.limit) }
         ensures offset { IfOk result (λ header. header.offset ≡ offset) }
-        ensures order { IfOk result (HasOneOrder R.is_big) }
+        ensures order { IfOk result (HasOneOrder R.seen) }
         ensures directory { IfOk result (λ header. header.comp_dir
             ≡ handed_value header.meaning.parameters.encoding comp_dir) }
         ensures name { IfOk result (λ header. option_map (λ file. file.path_name) header.comp_file
@@ -279,8 +274,8 @@ where
 
     /// The handed directory, where the version takes it.
     fn comp_dir_of(encoding: Encoding, comp_dir: Option<R>) -> Option<R>
-        ensures bytes { option_map R.bytes result
-            ≡ handed_value encoding (option_map R.bytes comp_dir) }
+        ensures bytes { option_map (λ r. (R.seen r).bytes) result
+            ≡ handed_value encoding (option_map (λ r. (R.seen r).bytes) comp_dir) }
         ensures own { result ≡ handed_value encoding comp_dir }
     {
         if encoding.version <= 4 {
@@ -292,9 +287,10 @@ where
 
     /// The file of the handed name, where the version takes it.
     fn comp_file_of(encoding: Encoding, comp_name: Option<R>) -> Option<FileEntry<R, Offset>>
-        ensures file { option_map (file_seen R.bytes Offset.number) result
+        ensures file { option_map (file_seen R.seen Offset.number) result
             ≡ handed_value encoding
-            (option_map (λ path. plain_file path 0 0 0) (option_map R.bytes comp_name)) }
+            (option_map (λ path. plain_file path 0 0 0)
+            (option_map (λ r. (R.seen r).bytes) comp_name)) }
         ensures path { option_map (λ file. file.path_name) result
             ≡ handed_value encoding (option_map String comp_name) }
     {

@@ -58,16 +58,16 @@ where
         parameters = a.parameters;
         unit_length = Offset.number a.unit_length;
         header_length = Offset.number a.header_length;
-        operand_counts = R.bytes a.standard_opcode_lengths;
+        operand_counts = (R.seen a.standard_opcode_lengths).bytes;
         directory_formats = a.directory_entry_format.items;
-        directories = map (value_seen R.bytes Offset.number) a.include_directories.items;
+        directories = map (value_seen R.seen Offset.number) a.include_directories.items;
         file_formats = a.file_name_entry_format.items;
-        files = map (file_seen R.bytes Offset.number) a.file_names.items;
-        program = R.bytes a.program_buf;
-        comp_dir = option_map R.bytes a.comp_dir;
-        comp_file = option_map (file_seen R.bytes Offset.number) a.comp_file;
+        files = map (file_seen R.seen Offset.number) a.file_names.items;
+        program = (R.seen a.program_buf).bytes;
+        comp_dir = option_map (λ r. (R.seen r).bytes) a.comp_dir;
+        comp_file = option_map (file_seen R.seen Offset.number) a.comp_file;
       };
-      layout = record { is_big = R.is_big a.program_buf; limit = Offset.limit };
+      layout = record { is_big = (R.seen a.program_buf).is_big; limit = Offset.limit };
       parameters = a.parameters;
       offset = a.offset;
       unit_length = a.unit_length;
@@ -284,7 +284,7 @@ where
 
     /// How many LEB128 operands each standard opcode has, from opcode 1 on: a byte for each.
     pub fn standard_opcode_lengths(&self) -> &R
-        ensures bytes { R.bytes result.now ≡ self.now.meaning.operand_counts }
+        ensures bytes { (R.seen result.now).bytes ≡ self.now.meaning.operand_counts }
         ensures own { result.now ≡ self.now.standard_opcode_lengths }
     {
         &self.standard_opcode_lengths
@@ -311,7 +311,7 @@ where
 
     /// The table of directories. Up to version 4 it begins with directory 1.
     pub fn include_directories(&self) -> &[AttributeValue<R, Offset>]
-        ensures directories { map (value_seen R.bytes Offset.number) result.now
+        ensures directories { map (value_seen R.seen Offset.number) result.now
             ≡ self.now.meaning.directories }
         ensures own { result.now ≡ self.now.include_directories.items }
     {
@@ -320,7 +320,7 @@ where
 
     /// The directory of an index. Up to version 4 index 0 is the handed directory.
     pub fn directory(&self, directory: u64) -> Option<AttributeValue<R, Offset>>
-        ensures directory { option_map (value_seen R.bytes Offset.number) result
+        ensures directory { option_map (value_seen R.seen Offset.number) result
             ≡ directory_of self.now.meaning directory }
         ensures own { result ≡ own_directory_of self.now directory }
     {
@@ -385,7 +385,7 @@ where
     /// The table of files, and after them those that the program has defined so far. Up to version
     /// 4 it begins with file 1.
     pub fn file_names(&self) -> &[FileEntry<R, Offset>]
-        ensures files { map (file_seen R.bytes Offset.number) result.now ≡ self.now.meaning.files }
+        ensures files { map (file_seen R.seen Offset.number) result.now ≡ self.now.meaning.files }
         ensures own { result.now ≡ self.now.file_names.items }
     {
         &self.file_names
@@ -393,7 +393,7 @@ where
 
     /// The file of an index. Up to version 4 index 0 is a file of the handed name.
     pub fn file(&self, file: u64) -> Option<&FileEntry<R, Offset>>
-        ensures file { option_map (λ found. file_seen R.bytes Offset.number found.now) result
+        ensures file { option_map (λ found. file_seen R.seen Offset.number found.now) result
             ≡ file_of self.now.meaning file }
         ensures own { option_map (λ found. found.now) result ≡ own_file_of self.now file }
     {
@@ -409,20 +409,20 @@ where
     /// Adds a file after the others. Refused by `OutOfMemory` alone; nothing is changed then.
     pub(crate) fn add_file(&mut self, file: FileEntry<R, Offset>) -> Result<()>
         ensures ok { OnOk result (self.new.meaning
-            ≡ with_file (file_seen R.bytes Offset.number file) self.old.meaning) }
+            ≡ with_file (file_seen R.seen Offset.number file) self.old.meaning) }
         ensures err { OnErr result (self.new.meaning ≡ self.old.meaning) }
         ensures memory { IsOkUnless result Error.OutOfMemory }
-        ensures source { KeepsSource (λ order. FileHasOrder R.is_big order file)
-            (source_of R.is_big Offset.number self.old)
-            (source_of R.is_big Offset.number self.new) }
+        ensures source { KeepsSource (λ order. FileHasOrder R.seen order file)
+            (source_of R.seen Offset.number self.old)
+            (source_of R.seen Offset.number self.new) }
     {
         push(&mut self.file_names, file)
     }
 
     /// The bytes of the program.
     pub fn raw_program_buf(&self) -> R
-        ensures bytes { R.bytes result ≡ self.now.meaning.program }
-        ensures order { R.is_big result ≡ self.now.layout.is_big }
+        ensures bytes { (R.seen result).bytes ≡ self.now.meaning.program }
+        ensures order { (R.seen result).is_big ≡ self.now.layout.is_big }
         ensures own { result ≡ self.now.program_buf }
     {
         self.program_buf
@@ -441,7 +441,7 @@ where
         &self,
         header: &LineProgramHeader<R, Offset>,
     ) -> Option<AttributeValue<R, Offset>>
-        ensures directory { option_map (value_seen R.bytes Offset.number) result
+        ensures directory { option_map (value_seen R.seen Offset.number) result
             ≡ directory_of header.now.meaning self.now.directory_index }
         ensures own { result ≡ own_directory_of header.now self.now.directory_index }
     {

@@ -3,6 +3,7 @@
 ghost use Rattle.std.specs.Prelude.{◌≡◌, [], ◌∷◌, ◌++◌, map, IsOkUnless, IfOk, OnErr, OnOk};
 ghost use Rattle.gimli_core.specs.Production.{times};
 ghost use Rattle.gimli_core.specs.Reading.{result_map};
+ghost use Rattle.gimli_core.specs.Seen.{in_order, taken};
 ghost use Rattle.std.specs.List.{All};
 ghost use Rattle.gimli_core.specs.Layout.{layout_of};
 ghost use Rattle.gimli_core.specs.Values.{value_seen, ValueHasOrder};
@@ -49,9 +50,9 @@ pub(crate) fn push<T: Drop>(list: &mut Vec<T>, item: T) -> Result<()>
 /// them is a path.
 #[tactic(auto, unfolding(crate::specs::header::HeaderGrammar::formats_production))]
 pub(crate) fn parse_formats<R: Reader>(alloc: Global, input: &mut R) -> Result<Vec<FileEntryFormat>>
-    ensures read { IsOutcome (λ formats. formats.items) result (R.bytes input.new)
-        (formats_production.read (R.bytes input.old)) }
-    ensures order { R.is_big input.new ≡ R.is_big input.old }
+    ensures read { IsOutcome (λ formats. formats.items) result (R.seen input.new).bytes
+        (formats_production.read (R.seen input.old).bytes) }
+    ensures order { (R.seen input.new).is_big ≡ (R.seen input.old).is_big }
 {
     let count = input.read_u8()?;
     let formats = parse_all_formats(alloc, input, count)?;
@@ -71,9 +72,9 @@ fn parse_all_formats<R: Reader>(
     input: &mut R,
     count: u8,
 ) -> Result<Vec<FileEntryFormat>>
-    ensures read { IsOutcome (λ formats. formats.items) result (R.bytes input.new)
-        ((times count format_production).read (R.bytes input.old)) }
-    ensures order { R.is_big input.new ≡ R.is_big input.old }
+    ensures read { IsOutcome (λ formats. formats.items) result (R.seen input.new).bytes
+        ((times count format_production).read (R.seen input.old).bytes) }
+    ensures order { (R.seen input.new).is_big ≡ (R.seen input.old).is_big }
 {
     let mut formats = Vec::new(alloc);
     for _ in 0..count {
@@ -86,8 +87,8 @@ fn parse_all_formats<R: Reader>(
 /// Takes a format. A content type that is too large becomes the greatest one.
 #[tactic(auto, unfolding(crate::specs::header::HeaderGrammar::format_production))]
 fn parse_format<R: Reader>(input: &mut R) -> Result<FileEntryFormat>
-    ensures read { (result, R.bytes input.new) ≡ format_production.read (R.bytes input.old) }
-    ensures order { R.is_big input.new ≡ R.is_big input.old }
+    ensures { (result, R.seen input.new)
+        ≡ taken format_production (R.seen input.old) }
 {
     let content_type = input.read_uleb128()?.min(0xffff) as u16;
     let form = input.read_uleb128_u16()?;
@@ -101,11 +102,11 @@ fn parse_format<R: Reader>(input: &mut R) -> Result<FileEntryFormat>
 
 /// Takes directories up to an empty one.
 fn parse_directories<R: Reader>(alloc: Global, input: &mut R) -> Result<Vec<AttributeValue<R>>>
-    ensures read { IsListOutcome (value_seen R.bytes R.Offset.number) result (R.bytes input.new)
-        (read_map (map String) (paths_production.read (R.bytes input.old))) }
-    ensures order { R.is_big input.new ≡ R.is_big input.old }
+    ensures read { IsListOutcome (value_seen R.seen R.Offset.number) result (R.seen input.new).bytes
+        (read_map (map String) (paths_production.read (R.seen input.old).bytes)) }
+    ensures order { (R.seen input.new).is_big ≡ (R.seen input.old).is_big }
     ensures parts { IfOk result (λ directories.
-        All (ValueHasOrder R.is_big (R.is_big input.old)) directories.items) }
+        All (ValueHasOrder R.seen (R.seen input.old).is_big) directories.items) }
 {
     let mut directories = Vec::new(alloc);
     loop {
@@ -119,11 +120,11 @@ fn parse_directories<R: Reader>(alloc: Global, input: &mut R) -> Result<Vec<Attr
 
 /// Takes files up to one with an empty path.
 fn parse_files<R: Reader>(alloc: Global, input: &mut R) -> Result<Vec<FileEntry<R>>>
-    ensures read { IsListOutcome (file_seen R.bytes R.Offset.number) result (R.bytes input.new)
-        (files_production.read (R.bytes input.old)) }
-    ensures order { R.is_big input.new ≡ R.is_big input.old }
+    ensures read { IsListOutcome (file_seen R.seen R.Offset.number) result (R.seen input.new).bytes
+        (files_production.read (R.seen input.old).bytes) }
+    ensures order { (R.seen input.new).is_big ≡ (R.seen input.old).is_big }
     ensures parts { IfOk result (λ files.
-        All (FileHasOrder R.is_big (R.is_big input.old)) files.items) }
+        All (FileHasOrder R.seen (R.seen input.old).is_big) files.items) }
 {
     let mut files = Vec::new(alloc);
     loop {
@@ -140,8 +141,8 @@ fn parse_files<R: Reader>(alloc: Global, input: &mut R) -> Result<Vec<FileEntry<
 
 /// A reader in place of an empty text.
 fn nothing<R: Reader>(input: &R) -> R
-    ensures bytes { R.bytes result ≡ [] }
-    ensures order { R.is_big result ≡ R.is_big input.now }
+    ensures bytes { (R.seen result).bytes ≡ [] }
+    ensures order { (R.seen result).is_big ≡ (R.seen input.now).is_big }
 {
     let mut nothing = *input;
     nothing.empty();
@@ -154,11 +155,11 @@ fn parse_directory_v5<R: Reader>(
     format: Format,
     formats: &[FileEntryFormat],
 ) -> Result<AttributeValue<R>>
-    ensures read { (result_map (value_seen R.bytes R.Offset.number) result, R.bytes input.new)
-        ≡ read_map path_of ((entry_production (layout_of (R.is_big input.old) R.Offset.limit)
-        format formats.now).read (R.bytes input.old)) }
-    ensures order { R.is_big input.new ≡ R.is_big input.old }
-    ensures part { IfOk result (ValueHasOrder R.is_big (R.is_big input.old)) }
+    ensures read { (result_map (value_seen R.seen R.Offset.number) result, R.seen input.new)
+        ≡ in_order (R.seen input.old).is_big (read_map path_of
+        ((entry_production (layout_of (R.seen input.old).is_big R.Offset.limit) format
+        formats.now).read (R.seen input.old).bytes)) }
+    ensures part { IfOk result (ValueHasOrder R.seen (R.seen input.old).is_big) }
 {
     let file = parse_file_v5(input, format, formats)?;
     Ok(file.path_name)
@@ -170,11 +171,11 @@ fn parse_file_v5<R: Reader>(
     format: Format,
     formats: &[FileEntryFormat],
 ) -> Result<FileEntry<R>>
-    ensures read { (result_map (file_seen R.bytes R.Offset.number) result, R.bytes input.new)
-        ≡ read_map file_of_entry ((entry_production (layout_of (R.is_big input.old) R.Offset.limit)
-        format formats.now).read (R.bytes input.old)) }
-    ensures order { R.is_big input.new ≡ R.is_big input.old }
-    ensures part { IfOk result (FileHasOrder R.is_big (R.is_big input.old)) }
+    ensures read { (result_map (file_seen R.seen R.Offset.number) result, R.seen input.new)
+        ≡ in_order (R.seen input.old).is_big (read_map file_of_entry
+        ((entry_production (layout_of (R.seen input.old).is_big R.Offset.limit) format
+        formats.now).read (R.seen input.old).bytes)) }
+    ensures part { IfOk result (FileHasOrder R.seen (R.seen input.old).is_big) }
 {
     let mut file = FileEntry::of_path(nothing(input));
     for entry_format in formats {
@@ -192,12 +193,13 @@ fn parse_directories_v5<R: Reader>(
     format: Format,
     formats: &[FileEntryFormat],
 ) -> Result<Vec<AttributeValue<R>>>
-    ensures read { IsListOutcome (value_seen R.bytes R.Offset.number) result (R.bytes input.new)
-        (read_map (map path_of) ((entries_production (layout_of (R.is_big input.old) R.Offset.limit)
-        format formats.now).read (R.bytes input.old))) }
-    ensures order { R.is_big input.new ≡ R.is_big input.old }
+    ensures read { IsListOutcome (value_seen R.seen R.Offset.number) result (R.seen input.new).bytes
+        (read_map (map path_of)
+        ((entries_production (layout_of (R.seen input.old).is_big R.Offset.limit)
+        format formats.now).read (R.seen input.old).bytes)) }
+    ensures order { (R.seen input.new).is_big ≡ (R.seen input.old).is_big }
     ensures parts { IfOk result (λ directories.
-        All (ValueHasOrder R.is_big (R.is_big input.old)) directories.items) }
+        All (ValueHasOrder R.seen (R.seen input.old).is_big) directories.items) }
 {
     let count = input.read_uleb128()?;
     let mut directories = Vec::new(alloc);
@@ -216,13 +218,13 @@ fn parse_files_v5<R: Reader>(
     format: Format,
     formats: &[FileEntryFormat],
 ) -> Result<Vec<FileEntry<R>>>
-    ensures read { IsListOutcome (file_seen R.bytes R.Offset.number) result (R.bytes input.new)
+    ensures read { IsListOutcome (file_seen R.seen R.Offset.number) result (R.seen input.new).bytes
         (read_map (map file_of_entry) ((entries_production
-        (layout_of (R.is_big input.old) R.Offset.limit) format formats.now).read
-        (R.bytes input.old))) }
-    ensures order { R.is_big input.new ≡ R.is_big input.old }
+        (layout_of (R.seen input.old).is_big R.Offset.limit) format formats.now).read
+        (R.seen input.old).bytes)) }
+    ensures order { (R.seen input.new).is_big ≡ (R.seen input.old).is_big }
     ensures parts { IfOk result (λ files.
-        All (FileHasOrder R.is_big (R.is_big input.old)) files.items) }
+        All (FileHasOrder R.seen (R.seen input.old).is_big) files.items) }
 {
     let count = input.read_uleb128()?;
     let mut files = Vec::new(alloc);
@@ -241,12 +243,13 @@ pub(crate) fn parse_directory_table<R: Reader>(
     input: &mut R,
     encoding: Encoding,
 ) -> Result<(Vec<FileEntryFormat>, Vec<AttributeValue<R>>)>
-    ensures read { IsTableOutcome (value_seen R.bytes R.Offset.number) result (R.bytes input.new)
-        ((directory_table (layout_of (R.is_big input.old) R.Offset.limit) encoding).read
-        (R.bytes input.old)) }
-    ensures order { R.is_big input.new ≡ R.is_big input.old }
+    ensures read { IsTableOutcome (value_seen R.seen R.Offset.number) result
+        (R.seen input.new).bytes
+        ((directory_table (layout_of (R.seen input.old).is_big R.Offset.limit) encoding).read
+        (R.seen input.old).bytes) }
+    ensures order { (R.seen input.new).is_big ≡ (R.seen input.old).is_big }
     ensures parts { IfOk result (λ table.
-        All (ValueHasOrder R.is_big (R.is_big input.old)) table.1.items) }
+        All (ValueHasOrder R.seen (R.seen input.old).is_big) table.1.items) }
 {
     if encoding.version <= 4 {
         let directories = parse_directories(alloc, input)?;
@@ -263,12 +266,12 @@ pub(crate) fn parse_file_table<R: Reader>(
     input: &mut R,
     encoding: Encoding,
 ) -> Result<(Vec<FileEntryFormat>, Vec<FileEntry<R>>)>
-    ensures read { IsTableOutcome (file_seen R.bytes R.Offset.number) result (R.bytes input.new)
-        ((file_table (layout_of (R.is_big input.old) R.Offset.limit) encoding).read
-        (R.bytes input.old)) }
-    ensures order { R.is_big input.new ≡ R.is_big input.old }
+    ensures read { IsTableOutcome (file_seen R.seen R.Offset.number) result (R.seen input.new).bytes
+        ((file_table (layout_of (R.seen input.old).is_big R.Offset.limit) encoding).read
+        (R.seen input.old).bytes) }
+    ensures order { (R.seen input.new).is_big ≡ (R.seen input.old).is_big }
     ensures parts { IfOk result (λ table.
-        All (FileHasOrder R.is_big (R.is_big input.old)) table.1.items) }
+        All (FileHasOrder R.seen (R.seen input.old).is_big) table.1.items) }
 {
     if encoding.version <= 4 {
         let files = parse_files(alloc, input)?;

@@ -14,6 +14,7 @@
 
 ghost use Rattle.std.specs.Prelude.{◌≡◌, ◌<◌, IfErr, IfOk, IfSome, IsNone, IsTrue, Ok};
 ghost use Rattle.gimli_core.specs.Layout.{OrderAndLimit, layout_of};
+ghost use Rattle.gimli_core.specs.Seen.{taken};
 ghost use Rattle.gimli_core.specs.Production.{below_limit, number, unsigned};
 ghost use Rattle.gimli_line.specs.declared.run.instruction.LineInstruction.TheVariants.{DefineFile};
 ghost use Rattle.gimli_line.specs.header.File.{file_seen, FileHasOrder};
@@ -69,10 +70,10 @@ impl Executed {
 /// isn't there as a whole, or the offset type is too narrow.
 #[inline(always)]
 fn read_short_offset<R: Reader>(input: &mut R) -> Option<R::Offset>
-    ensures read { IfSome result (λ offset. (Ok (R.Offset.number offset), R.bytes input.new)
-        ≡ (below_limit (layout_of (R.is_big input.old) R.Offset.limit) unsigned).read
-        (R.bytes input.old)) }
-    ensures order { R.is_big input.new ≡ R.is_big input.old }
+    ensures read { IfSome result (λ offset. (Ok (R.Offset.number offset), (R.seen input.new).bytes)
+        ≡ (below_limit (layout_of (R.seen input.old).is_big R.Offset.limit) unsigned).read
+        (R.seen input.old).bytes) }
+    ensures order { (R.seen input.new).is_big ≡ (R.seen input.old).is_big }
 {
     let Some(number) = read_short_uleb128(input) else {
         return None;
@@ -85,9 +86,9 @@ fn read_short_offset<R: Reader>(input: &mut R) -> Option<R::Offset>
 
 /// Takes the operand of a set address.
 fn read_set_address<R: Reader>(operands: &mut R, parameters: &Parameters) -> Result<u64>
-    ensures read { (result, R.bytes operands.new)
-        ≡ (number (R.is_big operands.old) parameters.now.encoding.address_size).read
-        (R.bytes operands.old) }
+    ensures { (result, R.seen operands.new)
+        ≡ taken (number (R.seen operands.old).is_big parameters.now.encoding.address_size)
+        (R.seen operands.old) }
 {
     operands.read_address(parameters.encoding.address_size)
 }
@@ -100,11 +101,11 @@ fn read_defined_file<R: Reader>(
     input: &mut R,
 ) -> Option<FileEntry<R>>
     ensures read { IfSome result (λ file.
-        (extended_production (layout_of (R.is_big input.old) R.Offset.limit)
-        header.now.meaning).read (R.bytes input.old)
-        ≡ (Ok (DefineFile (file_seen R.bytes R.Offset.number file)), R.bytes input.new)) }
-    ensures order { R.is_big input.new ≡ R.is_big input.old }
-    ensures file { IfSome result (FileHasOrder R.is_big (R.is_big input.old)) }
+        (extended_production (layout_of (R.seen input.old).is_big R.Offset.limit)
+        header.now.meaning).read (R.seen input.old).bytes
+        ≡ (Ok (DefineFile (file_seen R.seen R.Offset.number file)), (R.seen input.new).bytes)) }
+    ensures order { (R.seen input.new).is_big ≡ (R.seen input.old).is_big }
+    ensures file { IfSome result (FileHasOrder R.seen (R.seen input.old).is_big) }
 {
     let Some(length) = read_short_offset(input) else {
         return None;
@@ -135,11 +136,12 @@ impl LineRow {
     #[inline(always)]
     fn exec_common_opcode<R: Reader>(&mut self, opcode: DwLns, input: &mut R) -> Executed
         ensures executed { IsTrue (is_executed result) → (n : OrderAndLimit) → (h : Header) →
-            IsExecutedAs h.parameters ((standard_production n h opcode.0).read (R.bytes input.old))
-            (R.bytes input.new) self.old self.new result }
+            IsExecutedAs h.parameters
+            ((standard_production n h opcode.0).read (R.seen input.old).bytes)
+            (R.seen input.new).bytes self.old self.new result }
         ensures some { IsTrue (is_executed result) → 0 < opcode.0 }
         ensures none { result ≡ Executed.No → self.new ≡ self.old }
-        ensures order { R.is_big input.new ≡ R.is_big input.old }
+        ensures order { (R.seen input.new).is_big ≡ (R.seen input.old).is_big }
     {
         match opcode {
             constants::DW_LNS_copy => return Executed::Row,
@@ -178,11 +180,11 @@ impl LineRow {
         input: &mut R,
     ) -> Executed
         ensures executed { IsTrue (is_executed result) → IsExecutedAs header.now.meaning.parameters
-            ((extended_production (layout_of (R.is_big input.old) R.Offset.limit)
+            ((extended_production (layout_of (R.seen input.old).is_big R.Offset.limit)
             header.now.meaning).read
-            (R.bytes input.old)) (R.bytes input.new) self.old self.new result }
+            (R.seen input.old).bytes) (R.seen input.new).bytes self.old self.new result }
         ensures none { result ≡ Executed.No → self.new ≡ self.old }
-        ensures order { R.is_big input.new ≡ R.is_big input.old }
+        ensures order { (R.seen input.new).is_big ≡ (R.seen input.old).is_big }
     {
         let Some(length) = read_short_offset(input) else {
             return Executed::No;
@@ -289,10 +291,10 @@ impl<R: Reader> LineInstructions<R> {
     ) -> Option<FileEntry<R>>
         ensures read { IfSome result (λ file.
             (instruction_production self.old.layout header.now.meaning).read self.old.bytes
-            ≡ (Ok (DefineFile (file_seen R.bytes R.Offset.number file)), self.new.bytes)) }
+            ≡ (Ok (DefineFile (file_seen R.seen R.Offset.number file)), self.new.bytes)) }
         ensures none { IsNone result → self.new ≡ self.old }
         ensures layout { self.new.layout ≡ self.old.layout }
-        ensures order { IfSome result (FileHasOrder R.is_big self.old.layout.is_big) }
+        ensures order { IfSome result (FileHasOrder R.seen self.old.layout.is_big) }
     {
         let mut input = self.input;
         let Ok(opcode) = input.read_u8() else {

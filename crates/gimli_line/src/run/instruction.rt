@@ -4,6 +4,7 @@ ghost use Rattle.std.specs.Prelude.{◌≡◌, ◌-◌, IfOk, IfSome, slice_inde
 ghost use Rattle.gimli_core.specs.Layout.{layout_of};
 ghost use Rattle.gimli_core.specs.Production.{times, unsigned};
 ghost use Rattle.gimli_core.specs.Reading.{result_map};
+ghost use Rattle.gimli_core.specs.Seen.{in_order, part_taken, taken};
 ghost use Rattle.gimli_line.specs.header.Productions.{bytes_of};
 ghost use Rattle.gimli_line.specs.inside.header.Outcome.{without_value};
 
@@ -104,7 +105,7 @@ where
 
     /// Whether it makes a row, under a tombstone or not.
     pub(crate) fn makes_row(&self) -> bool
-        ensures { result ≡ makes_row (ins_seen R.bytes Offset.number self.now) }
+        ensures { result ≡ makes_row (ins_seen R.seen Offset.number self.now) }
     {
         match self {
             LineInstruction::Special(_) | LineInstruction::Copy | LineInstruction::EndSequence => {
@@ -116,13 +117,12 @@ where
 
     /// Takes an instruction.
     pub(crate) fn parse(header: &LineProgramHeader<R, Offset>, input: &mut R) -> Result<Self>
-        ensures read { (result_map (ins_seen R.bytes Offset.number) result, R.bytes input.new)
-            ≡ (instruction_production (layout_of (R.is_big input.old) Offset.limit)
-            header.now.meaning).read (R.bytes input.old) }
-        ensures order { R.is_big input.new ≡ R.is_big input.old }
+        ensures read { (result_map (ins_seen R.seen Offset.number) result, R.seen input.new)
+            ≡ taken (instruction_production (layout_of (R.seen input.old).is_big Offset.limit)
+            header.now.meaning) (R.seen input.old) }
         ensures allowed { IfOk result (λ i. IsAllowed header.now.meaning.parameters
-            (ins_seen R.bytes Offset.number i)) }
-        ensures operands { IfOk result (InsHasOrder R.is_big (R.is_big input.old)) }
+            (ins_seen R.seen Offset.number i)) }
+        ensures operands { IfOk result (InsHasOrder R.seen (R.seen input.old).is_big) }
     {
         let opcode = input.read_u8()?;
         if opcode == 0 {
@@ -138,13 +138,12 @@ where
     /// length, the opcode, and its operands. Surplus bytes within its length are skipped.
     #[tactic(auto, unfolding(crate::specs::run::InstructionGrammar::extended_production))]
     fn parse_extended(header: &LineProgramHeader<R, Offset>, input: &mut R) -> Result<Self>
-        ensures read { (result_map (ins_seen R.bytes Offset.number) result, R.bytes input.new)
-            ≡ (extended_production (layout_of (R.is_big input.old) Offset.limit)
-            header.now.meaning).read (R.bytes input.old) }
-        ensures order { R.is_big input.new ≡ R.is_big input.old }
+        ensures read { (result_map (ins_seen R.seen Offset.number) result, R.seen input.new)
+            ≡ taken (extended_production (layout_of (R.seen input.old).is_big Offset.limit)
+            header.now.meaning) (R.seen input.old) }
         ensures allowed { IfOk result (λ i. IsAllowed header.now.meaning.parameters
-            (ins_seen R.bytes Offset.number i)) }
-        ensures operands { IfOk result (InsHasOrder R.is_big (R.is_big input.old)) }
+            (ins_seen R.seen Offset.number i)) }
+        ensures operands { IfOk result (InsHasOrder R.seen (R.seen input.old).is_big) }
     {
         let length = parse_offset(input)?;
         let mut inside = input.split(length)?;
@@ -160,12 +159,13 @@ where
         operands: R,
     ) -> Result<Self>
         ensures read { (after : List ℕ)
-            → (result_map (ins_seen R.bytes Offset.number) result, after)
-            ≡ (extended_operands (layout_of (R.is_big operands) Offset.limit) header.now.meaning
-            opcode.0 (R.bytes operands)).read after }
+            → (result_map (ins_seen R.seen Offset.number) result, after)
+            ≡ (extended_operands (layout_of (R.seen operands).is_big Offset.limit)
+            header.now.meaning
+            opcode.0 (R.seen operands).bytes).read after }
         ensures allowed { IfOk result (λ i. IsAllowed header.now.meaning.parameters
-            (ins_seen R.bytes Offset.number i)) }
-        ensures operands { IfOk result (InsHasOrder R.is_big (R.is_big operands)) }
+            (ins_seen R.seen Offset.number i)) }
+        ensures operands { IfOk result (InsHasOrder R.seen (R.seen operands).is_big) }
     {
         let encoding = header.parameters.encoding;
         let mut input = operands;
@@ -196,13 +196,13 @@ where
         input: &mut R,
     ) -> Result<Self>
         requires { 0 < opcode.0 }
-        ensures read { (result_map (ins_seen R.bytes Offset.number) result, R.bytes input.new)
-            ≡ (standard_production (layout_of (R.is_big input.old) Offset.limit) header.now.meaning
-            opcode.0).read (R.bytes input.old) }
-        ensures order { R.is_big input.new ≡ R.is_big input.old }
+        ensures read { (result_map (ins_seen R.seen Offset.number) result, R.seen input.new)
+            ≡ taken (standard_production (layout_of (R.seen input.old).is_big Offset.limit)
+            header.now.meaning
+            opcode.0) (R.seen input.old) }
         ensures allowed { IfOk result (λ i. IsAllowed header.now.meaning.parameters
-            (ins_seen R.bytes Offset.number i)) }
-        ensures operands { IfOk result (InsHasOrder R.is_big (R.is_big input.old)) }
+            (ins_seen R.seen Offset.number i)) }
+        ensures operands { IfOk result (InsHasOrder R.seen (R.seen input.old).is_big) }
     {
         match opcode {
             constants::DW_LNS_copy => Ok(LineInstruction::Copy),
@@ -233,14 +233,14 @@ where
         input: &mut R,
     ) -> Result<Self>
         requires { 0 < opcode.0 }
-        ensures read { (result_map (ins_seen R.bytes Offset.number) result, R.bytes input.new)
-            ≡ (unknown_production (layout_of (R.is_big input.old) Offset.limit) header.now.meaning
-            opcode.0 (slice_index header.now.meaning.operand_counts (opcode.0 - 1))).read
-            (R.bytes input.old) }
-        ensures order { R.is_big input.new ≡ R.is_big input.old }
+        ensures read { (result_map (ins_seen R.seen Offset.number) result, R.seen input.new)
+            ≡ taken (unknown_production (layout_of (R.seen input.old).is_big Offset.limit)
+            header.now.meaning
+            opcode.0 (slice_index header.now.meaning.operand_counts (opcode.0 - 1)))
+            (R.seen input.old) }
         ensures allowed { IfOk result (λ i. IsAllowed header.now.meaning.parameters
-            (ins_seen R.bytes Offset.number i)) }
-        ensures operands { IfOk result (InsHasOrder R.is_big (R.is_big input.old)) }
+            (ins_seen R.seen Offset.number i)) }
+        ensures operands { IfOk result (InsHasOrder R.seen (R.seen input.old).is_big) }
     {
         match header.operand_count(opcode) {
             0 => Ok(LineInstruction::UnknownStandard0(opcode)),
@@ -255,10 +255,8 @@ where
 
 /// Takes so many LEB128 numbers, as the bytes that spell them.
 fn parse_operands<R: Reader>(input: &mut R, count: u8) -> Result<R>
-    ensures read { (result_map R.bytes result, R.bytes input.new)
-        ≡ (bytes_of (times count unsigned)).read (R.bytes input.old) }
-    ensures order { R.is_big input.new ≡ R.is_big input.old }
-    ensures part { IfOk result (λ part. R.is_big part ≡ R.is_big input.old) }
+    ensures { (result_map R.seen result, R.seen input.new)
+        ≡ part_taken (bytes_of (times count unsigned)) (R.seen input.old) }
 {
     let mut operands = *input;
     skip_operands(input, count)?;
@@ -269,9 +267,9 @@ fn parse_operands<R: Reader>(input: &mut R, count: u8) -> Result<R>
 
 /// Takes so many LEB128 numbers.
 fn skip_operands<R: Reader>(input: &mut R, count: u8) -> Result<()>
-    ensures read { (result, R.bytes input.new)
-        ≡ without_value ((times count unsigned).read (R.bytes input.old)) }
-    ensures order { R.is_big input.new ≡ R.is_big input.old }
+    ensures { (result, R.seen input.new)
+        ≡ in_order (R.seen input.old).is_big
+        (without_value ((times count unsigned).read (R.seen input.old).bytes)) }
 {
     for _ in 0..count {
         input.read_uleb128()?;
@@ -292,8 +290,8 @@ impl<R: Reader> Model for LineInstructions<R> {
 
     ghost view = { λ a.
         record {
-          bytes = R.bytes a.input;
-          layout = record { is_big = R.is_big a.input; limit = R.Offset.limit };
+          bytes = (R.seen a.input).bytes;
+          layout = record { is_big = (R.seen a.input).is_big; limit = R.Offset.limit };
         } };
 }
 
@@ -308,7 +306,7 @@ impl<R: Reader> LineInstructions<R> {
 
     /// The instructions of these bytes.
     pub(crate) fn new(input: R) -> Self
-        ensures { result ≡ unread_of R.bytes R.is_big R.Offset.limit input }
+        ensures { result ≡ unread_of R.seen R.Offset.limit input }
     {
         LineInstructions { input }
     }
@@ -354,14 +352,14 @@ impl<R: Reader> LineInstructions<R> {
         header: &LineProgramHeader<R>,
     ) -> Result<Option<LineInstruction<R>>>
         ensures next { IfOk result (λ next. TakesNext header.now.meaning self.old self.new
-            (option_map (ins_seen R.bytes R.Offset.number) next)) }
+            (option_map (ins_seen R.seen R.Offset.number) next)) }
         ensures refusal { IfErr result (EndsByFault header.now.meaning self.old self.new) }
         ensures ended { self.old.bytes ≡ [] → result ≡ Ok None }
         ensures allowed { IfOk result (λ next. IfSome next
-            (λ i. IsAllowed header.now.meaning.parameters (ins_seen R.bytes R.Offset.number i))) }
+            (λ i. IsAllowed header.now.meaning.parameters (ins_seen R.seen R.Offset.number i))) }
         ensures layout { self.new.layout ≡ self.old.layout }
         ensures operands { IfOk result
-            (λ next. IfSome next (InsHasOrder R.is_big self.old.layout.is_big)) }
+            (λ next. IfSome next (InsHasOrder R.seen self.old.layout.is_big)) }
     {
         if self.input.is_empty() {
             return Ok(None);

@@ -2,6 +2,7 @@
 
 ghost use Rattle.std.specs.Prelude.{◌≡◌, ◌<◌, ◌-ℤ◌, pos, nat_le, if◌then◌else◌, IfSome, Ok};
 ghost use Rattle.gimli_core.specs.Reading.{signed_at, unsigned_at};
+ghost use Rattle.gimli_core.specs.Seen.{on_bytes};
 
 use gimli_core::{Reader, Result};
 
@@ -9,8 +10,8 @@ use gimli_core::{Reader, Result};
 /// most are, in line.
 #[inline(always)]
 pub(crate) fn read_uleb128<R: Reader>(input: &mut R) -> Result<u64>
-    ensures read { (result, R.bytes input.new) ≡ unsigned_at (R.bytes input.old) }
-    ensures order { R.is_big input.new ≡ R.is_big input.old }
+    ensures { (result, R.seen input.new)
+        ≡ on_bytes unsigned_at (R.seen input.old) }
 {
     let mut short = *input;
     let Some(number) = read_short_uleb128(&mut short) else {
@@ -26,8 +27,8 @@ pub(crate) fn read_uleb128<R: Reader>(input: &mut R) -> Result<u64>
 #[tactic(auto, unfolding(gimli_core::specs::Reading::uleb_at))]
 pub(crate) fn read_short_uleb128<R: Reader>(input: &mut R) -> Option<u64>
     ensures read { IfSome result (λ n.
-        (Ok n, R.bytes input.new) ≡ unsigned_at (R.bytes input.old)) }
-    ensures order { R.is_big input.new ≡ R.is_big input.old }
+        (Ok n, (R.seen input.new).bytes) ≡ unsigned_at (R.seen input.old).bytes) }
+    ensures order { (R.seen input.new).is_big ≡ (R.seen input.old).is_big }
 {
     let Ok(first) = input.read_u8() else {
         return None;
@@ -49,8 +50,9 @@ pub(crate) fn read_short_uleb128<R: Reader>(input: &mut R) -> Option<u64>
 #[inline(always)]
 #[tactic(auto, unfolding(gimli_core::specs::Reading::sleb_at))]
 pub(crate) fn read_short_sleb128<R: Reader>(input: &mut R) -> Option<i64>
-    ensures read { IfSome result (λ z. (Ok z, R.bytes input.new) ≡ signed_at (R.bytes input.old)) }
-    ensures order { R.is_big input.new ≡ R.is_big input.old }
+    ensures read { IfSome result (λ z.
+        (Ok z, (R.seen input.new).bytes) ≡ signed_at (R.seen input.old).bytes) }
+    ensures order { (R.seen input.new).is_big ≡ (R.seen input.old).is_big }
 {
     let Ok(first) = input.read_u8() else {
         return None;

@@ -24,16 +24,16 @@ pub trait LineProgram<R: Reader> {
     /// The header.
     fn header(&self) -> &LineProgramHeader<R>
         ensures meaning { result.now.meaning ≡ meaning self.now }
-        ensures source { source_of R.is_big R.Offset.number result.now ≡ source self.now };
+        ensures source { source_of R.seen R.Offset.number result.now ≡ source self.now };
 
     /// Adds a file that the program defines, where the list of files isn't complete. Refused by
     /// `OutOfMemory` alone; nothing is changed then.
     fn add_file(&mut self, file: FileEntry<R>) -> Result<()>
         ensures ok { OnOk result (meaning self.new ≡ with_defined_file appends
-            (file_seen R.bytes R.Offset.number file) (meaning self.old)) }
+            (file_seen R.seen R.Offset.number file) (meaning self.old)) }
         ensures err { OnErr result (meaning self.new ≡ meaning self.old) }
         ensures memory { IfErr result (λ e. (e ≡ Error.OutOfMemory) × (appends ≡ true)) }
-        ensures source { KeepsSource (λ order. appends ≡ true → FileHasOrder R.is_big order file)
+        ensures source { KeepsSource (λ order. appends ≡ true → FileHasOrder R.seen order file)
             (source self.old) (source self.new) };
 }
 
@@ -99,7 +99,7 @@ impl<R: Reader> LineProgram<R> for IncompleteLineProgram<R> {
 
     ghost meaning = { λ p. p.meaning };
 
-    ghost source = { λ p. source_of R.is_big R.Offset.number p };
+    ghost source = { λ p. source_of R.seen R.Offset.number p };
 
     ghost appends = { true };
 
@@ -109,12 +109,12 @@ impl<R: Reader> LineProgram<R> for IncompleteLineProgram<R> {
 
     fn add_file(&mut self, file: FileEntry<R>) -> Result<()>
         ensures ok { OnOk result (self.new.meaning
-            ≡ with_file (file_seen R.bytes R.Offset.number file) self.old.meaning) }
+            ≡ with_file (file_seen R.seen R.Offset.number file) self.old.meaning) }
         ensures err { OnErr result (self.new.meaning ≡ self.old.meaning) }
         ensures memory { IfErr result (λ e. (e ≡ Error.OutOfMemory) × (true ≡ true)) }
-        ensures source { KeepsSource (λ order. true ≡ true → FileHasOrder R.is_big order file)
-            (source_of R.is_big R.Offset.number self.old)
-            (source_of R.is_big R.Offset.number self.new) }
+        ensures source { KeepsSource (λ order. true ≡ true → FileHasOrder R.seen order file)
+            (source_of R.seen R.Offset.number self.old)
+            (source_of R.seen R.Offset.number self.new) }
     {
         self.header.add_file(file)
     }
@@ -181,7 +181,7 @@ impl<'program, R: Reader> LineProgram<R> for &'program CompleteLineProgram<R> {
 
     ghost meaning = { λ p. p.now.meaning };
 
-    ghost source = { λ p. source_of R.is_big R.Offset.number p.now };
+    ghost source = { λ p. source_of R.seen R.Offset.number p.now };
 
     ghost appends = { false };
 
@@ -194,9 +194,9 @@ impl<'program, R: Reader> LineProgram<R> for &'program CompleteLineProgram<R> {
         ensures ok { OnOk result (self.new.now.meaning ≡ self.old.now.meaning) }
         ensures err { OnErr result (self.new.now.meaning ≡ self.old.now.meaning) }
         ensures memory { IfErr result (λ e. (e ≡ Error.OutOfMemory) × (false ≡ true)) }
-        ensures source { KeepsSource (λ order. false ≡ true → FileHasOrder R.is_big order _file)
-            (source_of R.is_big R.Offset.number self.old.now)
-            (source_of R.is_big R.Offset.number self.new.now) }
+        ensures source { KeepsSource (λ order. false ≡ true → FileHasOrder R.seen order _file)
+            (source_of R.seen R.Offset.number self.old.now)
+            (source_of R.seen R.Offset.number self.new.now) }
         ensures only { IsOk result }
     {
         Ok(())

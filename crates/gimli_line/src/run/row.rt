@@ -130,7 +130,7 @@ impl LineRow {
         &self,
         header: &'header LineProgramHeader<R>,
     ) -> Option<&'header FileEntry<R>>
-        ensures file { option_map (λ found. file_seen R.bytes R.Offset.number found.now) result
+        ensures file { option_map (λ found. file_seen R.seen R.Offset.number found.now) result
             ≡ file_of header.now.meaning self.now.file }
         ensures own { option_map (λ found. found.now) result
             ≡ own_file_of header.now self.now.file }
@@ -226,11 +226,11 @@ impl LineRow {
         program: &mut P,
     ) -> Result<bool>
         requires { IsAllowed (P.meaning program.old).parameters
-            (ins_seen R.bytes R.Offset.number instruction) }
-        ensures executed { IsExecution P.appends (ins_seen R.bytes R.Offset.number instruction)
+            (ins_seen R.seen R.Offset.number instruction) }
+        ensures executed { IsExecution P.appends (ins_seen R.seen R.Offset.number instruction)
             self.old (P.meaning program.old) (result, self.new, P.meaning program.new) }
         ensures source { KeepsSource (λ order.
-            P.appends ≡ true → InsHasOrder R.is_big order instruction)
+            P.appends ≡ true → InsHasOrder R.seen order instruction)
             (P.source program.old) (P.source program.new) }
     {
         let parameters = program.header().parameters;
@@ -248,14 +248,14 @@ impl LineRow {
         instruction: LineInstruction<R>,
         parameters: &Parameters,
     ) -> Result<()>
-        requires { IsAllowed parameters.now (ins_seen R.bytes R.Offset.number instruction) }
+        requires { IsAllowed parameters.now (ins_seen R.seen R.Offset.number instruction) }
         ensures step { self.new
-            ≡ step_of parameters.now (ins_seen R.bytes R.Offset.number instruction) self.old }
+            ≡ step_of parameters.now (ins_seen R.seen R.Offset.number instruction) self.old }
         ensures fits { OnOk result
-            (is_refused parameters.now (ins_seen R.bytes R.Offset.number instruction) self.old
+            (is_refused parameters.now (ins_seen R.seen R.Offset.number instruction) self.old
             ≡ false) }
         ensures overflow { IfErr result (λ e. (e ≡ Error.AddressOverflow)
-            × (is_refused parameters.now (ins_seen R.bytes R.Offset.number instruction) self.old
+            × (is_refused parameters.now (ins_seen R.seen R.Offset.number instruction) self.old
             ≡ true)) }
     {
         match instruction {
@@ -295,7 +295,7 @@ impl LineRow {
     /// nothing.
     #[inline(always)]
     pub(super) fn set_register<R: Reader>(&mut self, instruction: LineInstruction<R>)
-        ensures { self.new ≡ with_register (ins_seen R.bytes R.Offset.number instruction) self.old }
+        ensures { self.new ≡ with_register (ins_seen R.seen R.Offset.number instruction) self.old }
     {
         match instruction {
             LineInstruction::AdvanceLine(advance) => self.apply_line_advance(advance),

@@ -92,7 +92,7 @@ impl<R: Reader, P: LineProgram<R>> LineRows<R, P> {
 
     /// The header, with the files that were defined so far.
     pub fn header(&self) -> &LineProgramHeader<R>
-        ensures header { SeesHeader R.is_big R.Offset.number self.now result.now }
+        ensures header { SeesHeader R.seen R.Offset.number self.now result.now }
         ensures files { result.now.meaning.files ≡ self.now.files }
     {
         self.program.header()
@@ -109,7 +109,7 @@ impl<R: Reader, P: LineProgram<R>> LineRows<R, P> {
             (λ new. KeepsHeader self.old new × NextIs live_events self.old new result)) }
         ensures ended { self.old.unread.bytes ≡ [] → result ≡ Ok None }
         ensures header { IfOk result (λ found. IfSome found
-            (λ next. SeesHeader R.is_big R.Offset.number self.old next.0.now)) }
+            (λ next. SeesHeader R.seen R.Offset.number self.old next.0.now)) }
         ensures unrefused { GivesRowsAlone self.old → IsOk result }
     {
         match self.advance() {
@@ -127,7 +127,7 @@ impl<R: Reader, P: LineProgram<R>> LineRows<R, P> {
         ensures* after { sem 𝓛 (Rests ⟦<LineRows<R, P> as Lent>⟧.lent self.entry
             (λ new. KeepsHeader self.old new × NextIs live_made self.old new result)) }
         ensures header { IfOk result (λ found. IfSome found
-            (λ next. SeesHeader R.is_big R.Offset.number self.old next.0.now)) }
+            (λ next. SeesHeader R.seen R.Offset.number self.old next.0.now)) }
     {
         match self.advance_any() {
             Err(e) => Err(e),
@@ -336,7 +336,7 @@ impl<R: Reader, P: LineProgram<R>> LineRows<R, P> {
 
     /// The header and the row, as they are.
     fn current(&self) -> (&LineProgramHeader<R>, &LineRow)
-        ensures header { SeesHeader R.is_big R.Offset.number self.now result.0.now }
+        ensures header { SeesHeader R.seen R.Offset.number self.now result.0.now }
         ensures files { result.0.now.meaning.files ≡ self.now.files }
         ensures row { result.1.now ≡ self.now.row }
     {
@@ -389,7 +389,7 @@ impl<R: Reader> IncompleteLineProgram<R> {
             (made_left result) }
         ensures files { FilesAtEnd self.layout true self.meaning self.meaning.program
             (files_at_end result) }
-        ensures start { result ≡ whole_run self.meaning (source_of R.is_big R.Offset.number self) }
+        ensures start { result ≡ whole_run self.meaning (source_of R.seen R.Offset.number self) }
     {
         let instructions = self.header.instructions();
         LineRows::start(self, instructions)

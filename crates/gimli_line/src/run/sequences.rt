@@ -171,8 +171,8 @@ impl<R: Reader> IncompleteLineProgram<R> {
         ensures ok { IfOk result (λ found. AreSequences self.layout self.meaning found.0.meaning
             (map sequence_of found.1.items)) }
         ensures source { IfOk result (λ found. KeepsSource (λ order. self.layout.is_big ≡ order)
-            (source_of R.is_big R.Offset.number self)
-            (source_of R.is_big R.Offset.number found.0)) }
+            (source_of R.seen R.Offset.number self)
+            (source_of R.seen R.Offset.number found.0)) }
         ensures unrefused { IfOk result (λ found.
             All (ResumesToRows found.0.meaning) (map sequence_of found.1.items)) }
         ensures err { IfErr result
@@ -200,8 +200,8 @@ impl<R: Reader> IncompleteLineProgram<R> {
             HaveRuns found.0.meaning (map sequence_of found.1.items)
             (map (map row) found.2.items)) }
         ensures source { IfOk result (λ found. KeepsSource (λ order. self.layout.is_big ≡ order)
-            (source_of R.is_big R.Offset.number self)
-            (source_of R.is_big R.Offset.number found.0)) }
+            (source_of R.seen R.Offset.number self)
+            (source_of R.seen R.Offset.number found.0)) }
         ensures unrefused { IfOk result (λ found.
             All (ResumesToRows found.0.meaning) (map sequence_of found.1.items)) }
         ensures err { IfErr result
@@ -246,7 +246,7 @@ impl<R: Reader> CompleteLineProgram<R> {
             sequence.now.instructions.bytes run → events_of (events_left result) ≡ run }
         ensures files { files_at_end result ≡ self.now.meaning.files }
         ensures start { result ≡ start_of_run false self.now.meaning
-            (source_of R.is_big R.Offset.number self.now) sequence.now.instructions }
+            (source_of R.seen R.Offset.number self.now) sequence.now.instructions }
         ensures unrefused { ResumesToRows self.now.meaning (sequence_of sequence.now)
             → GivesRowsAlone result }
     {

@@ -13,6 +13,7 @@ use specs.Prelude.{
   Sections,
 }
 use specs.convert.Preparation.{Handed, handed_of}
+use Rattle.gimli_core.specs.Layout.{Seen}
 
 -- a source: its layout and its header, the sections that hold its texts, and what is handed for
 -- the conversion
@@ -23,12 +24,12 @@ pub record ToConvert : Type 0 where
   pub given : Handed
 
 -- the source that a call is handed, where these are the bytes of a reader
-abbrev pub to_convert : {R Offset Endian : Type 0} → (R → List ℕ) → R → R
+abbrev pub to_convert : {R Offset Endian : Type 0} → (R → Seen) → R → R
     → SeenHeader R Offset Endian → Option R → Option Encoding → Option LineEncoding → ToConvert
-to_convert bytes debug_str debug_line_str from_program from_comp_name encoding line_encoding =
+to_convert seen debug_str debug_line_str from_program from_comp_name encoding line_encoding =
     record {
       layout = from_program.layout;
-      sections = record { strings = bytes debug_str; line_strings = bytes debug_line_str };
+      sections = record { strings = (seen debug_str).bytes; line_strings = (seen debug_line_str).bytes };
       header = from_program.meaning;
-      given = handed_of encoding line_encoding (option_map bytes from_comp_name);
+      given = handed_of encoding line_encoding (option_map (λ r. (seen r).bytes) from_comp_name);
     }

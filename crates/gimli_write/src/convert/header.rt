@@ -46,9 +46,9 @@ fn first_path<R: Reader>(
     sections: &TextSections<R>,
 ) -> ConvertResult<Vec<u8>>
     ensures ok { IfOk result (λ path. first_path version sections.now header.now.meaning
-        (value_seen R.bytes R.Offset.number value) ≡ Ok path.items) }
+        (value_seen R.seen R.Offset.number value) ≡ Ok path.items) }
     ensures err { IfErr result (IsRefusedBy (first_path version sections.now header.now.meaning
-        (value_seen R.bytes R.Offset.number value))) }
+        (value_seen R.seen R.Offset.number value))) }
     ensures no_zero { IfOk result (λ path. All (λ b. b ≢ 0) path.items) }
 {
     if header.version() >= 5 {
@@ -133,9 +133,9 @@ fn own_source_file<R: Reader>(
     sections: &TextSections<R>,
 ) -> ConvertResult<SourceFile>
     ensures ok { IfOk result (λ found. own_source_file version sections.now header.now.meaning
-        (file_seen R.bytes R.Offset.number file.now) ≡ Ok found) }
+        (file_seen R.seen R.Offset.number file.now) ≡ Ok found) }
     ensures err { IfErr result (IsRefusedBy (own_source_file version sections.now header.now.meaning
-        (file_seen R.bytes R.Offset.number file.now))) }
+        (file_seen R.seen R.Offset.number file.now))) }
     ensures directory_no_zero { IfOk result (λ found.
         IfSome found.directory (λ text. All (λ b. b ≢ 0) text)) }
     ensures path_no_zero { IfOk result (λ found. All (λ b. b ≢ 0) found.path) }
@@ -147,8 +147,8 @@ fn own_source_file<R: Reader>(
 
 /// The source file, of the name that is handed in.
 fn named_source_file<R: Reader>(alloc: Global, name: R) -> ConvertResult<SourceFile>
-    ensures ok { IfOk result (λ found. named_source_file (R.bytes name) ≡ Ok found) }
-    ensures err { IfErr result (IsRefusedBy (named_source_file (R.bytes name))) }
+    ensures ok { IfOk result (λ found. named_source_file (R.seen name).bytes ≡ Ok found) }
+    ensures err { IfErr result (IsRefusedBy (named_source_file (R.seen name).bytes)) }
     ensures directory { IfOk result (λ found. found.directory ≡ None) }
     ensures path_no_zero { IfOk result (λ found. All (λ b. b ≢ 0) found.path) }
 {
@@ -170,10 +170,10 @@ fn source_file<R: Reader>(
     sections: &TextSections<R>,
 ) -> ConvertResult<SourceFile>
     ensures ok { IfOk result (λ found.
-        source_file version sections.now header.now.meaning (option_map R.bytes from_comp_name)
+        source_file version sections.now header.now.meaning (option_map (λ r. (R.seen r).bytes) from_comp_name)
         ≡ Ok found) }
     ensures err { IfErr result (IsRefusedBy
-        (source_file version sections.now header.now.meaning (option_map R.bytes from_comp_name))) }
+        (source_file version sections.now header.now.meaning (option_map (λ r. (R.seen r).bytes) from_comp_name))) }
     ensures directory_no_zero { IfOk result (λ found.
         IfSome found.directory (λ text. All (λ b. b ≢ 0) text)) }
     ensures path_no_zero { IfOk result (λ found. All (λ b. b ≢ 0) found.path) }
@@ -367,10 +367,10 @@ fn tables_at_start<R: Reader>(
     requires address_size { IsTrue (is_address_size encoding.address_size) }
     requires lines { IfSome line_encoding CanEncode }
     ensures ok { IfOk result (λ tables. tables_at_start sections.now header.now.meaning
-        encoding line_encoding (option_map R.bytes from_comp_name) line_strings.old
+        encoding line_encoding (option_map (λ r. (R.seen r).bytes) from_comp_name) line_strings.old
         ≡ Ok (tables_with line_strings.new tables)) }
     ensures err { IfErr result (IsRefusedBy (tables_at_start sections.now header.now.meaning
-        encoding line_encoding (option_map R.bytes from_comp_name) line_strings.old)) }
+        encoding line_encoding (option_map (λ r. (R.seen r).bytes) from_comp_name) line_strings.old)) }
     ensures stays { KeepsTexts line_strings.old line_strings.new }
 {
     let alloc = *line_strings.allocator();
@@ -419,10 +419,10 @@ pub(crate) fn prepare<R: Reader>(
     requires address_size { IfSome encoding (λ e. IsTrue (is_address_size e.address_size)) }
     requires lines { IfSome line_encoding CanEncode }
     ensures ok { IfOk result (λ tables. tables_of_header sections.now header.now.meaning
-        (handed_of encoding line_encoding (option_map R.bytes from_comp_name)) line_strings.old
+        (handed_of encoding line_encoding (option_map (λ r. (R.seen r).bytes) from_comp_name)) line_strings.old
         ≡ Ok (tables_with line_strings.new tables)) }
     ensures err { IfErr result (IsRefusedBy (tables_of_header sections.now header.now.meaning
-        (handed_of encoding line_encoding (option_map R.bytes from_comp_name)) line_strings.old)) }
+        (handed_of encoding line_encoding (option_map (λ r. (R.seen r).bytes) from_comp_name)) line_strings.old)) }
     ensures stays { KeepsTexts line_strings.old line_strings.new }
 {
     let encoding = encoding.unwrap_or(header.encoding());

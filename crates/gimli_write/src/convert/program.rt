@@ -99,10 +99,10 @@ impl<R: Reader> ConvertLineHeader<R> {
         line_strings: &mut LineStringTable,
     ) -> ConvertResult<Self>
         requires { CanBeHanded encoding line_encoding }
-        ensures ok { IfOk result (λ header. IsBegun (to_convert R.bytes debug_str debug_line_str
+        ensures ok { IfOk result (λ header. IsBegun (to_convert R.seen debug_str debug_line_str
             from_program from_comp_name encoding line_encoding) line_strings.old
             (beside line_strings.new header)) }
-        ensures err { IfErr result (IsHeaderRefusal (to_convert R.bytes debug_str debug_line_str
+        ensures err { IfErr result (IsHeaderRefusal (to_convert R.seen debug_str debug_line_str
             from_program from_comp_name encoding line_encoding) line_strings.old) }
         ensures stays { KeepsTexts line_strings.old line_strings.new }
     {
@@ -171,10 +171,10 @@ impl<'a, 'b, R: Reader> ConvertLineProgram<'a, 'b, R, Conversion<R>> {
         strings: &'b mut StringTable,
     ) -> ConvertResult<Self>
         requires { CanBeHanded encoding line_encoding }
-        ensures ok { IfOk result (λ convert. IsBegun (to_convert R.bytes debug_str debug_line_str
+        ensures ok { IfOk result (λ convert. IsBegun (to_convert R.seen debug_str debug_line_str
             from_program from_comp_name encoding line_encoding)
             line_strings.old (progress convert)) }
-        ensures err { IfErr result (IsHeaderRefusal (to_convert R.bytes debug_str debug_line_str
+        ensures err { IfErr result (IsHeaderRefusal (to_convert R.seen debug_str debug_line_str
             from_program from_comp_name encoding line_encoding) line_strings.old) }
         ensures string_tables { IfOk result (λ convert.
             KeepsStringTables (lent line_strings.entry strings.entry) (lent_tables convert)) }
@@ -348,11 +348,11 @@ pub fn convert_program<R: Reader, F: Fn(u64) -> Option<Address>>(
     requires handed { CanBeHanded encoding line_encoding }
     requires callable { F.IsAlwaysCallable convert_address }
     ensures outcome { IfOk result (λ answer. ConvertsWell (F.post convert_address)
-        (to_convert R.bytes debug_str debug_line_str
+        (to_convert R.seen debug_str debug_line_str
         from_program from_comp_name encoding line_encoding)
         line_strings.old answer (texts_in strings.new line_strings.new)) }
     ensures refusal { IfErr result (IsConvertRefusal (F.post convert_address)
-        (to_convert R.bytes debug_str debug_line_str
+        (to_convert R.seen debug_str debug_line_str
         from_program from_comp_name encoding line_encoding) line_strings.old) }
     ensures tables { AddsLineStrings
         (texts_in strings.old line_strings.old) (texts_in strings.new line_strings.new) }

@@ -48,11 +48,11 @@ pub fn convert_and_read_back<R: Reader, E: Endianity, F: Fn(u64) -> Option<Addre
     requires handed { CanBeHanded encoding line_encoding }
     requires callable { F.IsAlwaysCallable convert_address }
     ensures faithful { IfOk result (λ answer. ReadsBackSource (F.post convert_address)
-        (to_convert R.bytes debug_str debug_line_str
+        (to_convert R.seen debug_str debug_line_str
         from_program from_comp_name encoding line_encoding)
         answer.1.items (answers answer.0)) }
     ensures refusal { IfErr result (IsSourceRefusal (F.post convert_address)
-        (to_convert R.bytes debug_str debug_line_str
+        (to_convert R.seen debug_str debug_line_str
         from_program from_comp_name encoding line_encoding) (E.is_big w.old.0.endian)
         (texts_in strings.old line_strings.old) w.old.0.bytes w.new.0.bytes) }
     ensures keeps { Begins w.old.0.bytes w.new.0.bytes }

@@ -161,7 +161,7 @@ impl<R: Reader> SourceRun<R> {
     /// the instruction is, or by `AddressOverflow`. Takes no memory.
     #[inline(always)]
     pub(crate) fn step(&mut self) -> ConvertResult<SourceStep<R>>
-        ensures { StepsSource R.bytes R.Offset.number self.old self.new result }
+        ensures { StepsSource R.seen R.Offset.number self.old self.new result }
     {
         let header = self.program.header();
         let executed = match self.instructions.execute_next(header, &mut self.row) {
@@ -186,7 +186,7 @@ impl<R: Reader> SourceRun<R> {
 
     /// Does what `step` does, of an instruction as it is parsed.
     fn step_parsed(&mut self) -> ConvertResult<SourceStep<R>>
-        ensures { StepsSource R.bytes R.Offset.number self.old self.new result }
+        ensures { StepsSource R.seen R.Offset.number self.old self.new result }
     {
         let instruction = match self.instructions.next_instruction(self.program.header()) {
             Err(e) => return Err(ConvertError::Read(e)),
@@ -217,18 +217,18 @@ impl<R: Reader> SourceRun<R> {
     /// `AddressOverflow`.
     fn execute(&mut self, instruction: LineInstruction<R>) -> ConvertResult<SourceStep<R>>
         requires allowed { IsAllowed self.old.header.parameters
-            (ins_seen R.bytes R.Offset.number instruction) }
-        requires address { address_operand (ins_seen R.bytes R.Offset.number instruction) ≡ None }
-        requires file { defines_file (ins_seen R.bytes R.Offset.number instruction) ≡ false }
+            (ins_seen R.seen R.Offset.number instruction) }
+        requires address { address_operand (ins_seen R.seen R.Offset.number instruction) ≡ None }
+        requires file { defines_file (ins_seen R.seen R.Offset.number instruction) ≡ false }
         ensures fits { OnOk result (is_refused self.old.header.parameters
-            (ins_seen R.bytes R.Offset.number instruction) self.old.row ≡ false) }
+            (ins_seen R.seen R.Offset.number instruction) self.old.row ≡ false) }
         ensures step { OnOk result
-            (self.new ≡ state_after (ins_seen R.bytes R.Offset.number instruction) self.old) }
+            (self.new ≡ state_after (ins_seen R.seen R.Offset.number instruction) self.old) }
         ensures made { IfOk result (λ step.
-            step ≡ step_made self.old (ins_seen R.bytes R.Offset.number instruction)) }
+            step ≡ step_made self.old (ins_seen R.seen R.Offset.number instruction)) }
         ensures overflow { IfErr result (λ e. (e ≡ ConvertError.Read AddressOverflow)
             × (is_refused self.old.header.parameters
-            (ins_seen R.bytes R.Offset.number instruction) self.old.row ≡ true)) }
+            (ins_seen R.seen R.Offset.number instruction) self.old.row ≡ true)) }
         ensures header { self.new.header ≡ self.old.header }
         ensures unread { self.new.unread ≡ self.old.unread }
     {

@@ -86,11 +86,11 @@ impl SourceTables {
     ) -> ConvertResult<()>
         ensures ok { OnOk result
             (directory_added sections.now (tables_with line_strings.old self.old)
-            (value_seen R.bytes R.Offset.number directory)
+            (value_seen R.seen R.Offset.number directory)
             ≡ Ok (tables_with line_strings.new self.new)) }
         ensures err { IfErr result
             (IsRefusedBy (directory_added sections.now (tables_with line_strings.old self.old)
-            (value_seen R.bytes R.Offset.number directory))) }
+            (value_seen R.seen R.Offset.number directory))) }
         ensures kept { IfErr result (λ e. e ≢ ConvertError.OutOfMemory → self.new ≡ self.old) }
         ensures stays { KeepsTexts line_strings.old line_strings.new }
     {
@@ -113,10 +113,10 @@ impl SourceTables {
         sections: &TextSections<R>,
     ) -> ConvertResult<FileParts>
         ensures ok { IfOk result (λ parts. file_parts self.now.program.encoding.version sections.now
-            self.now.directory_ids (file_seen R.bytes R.Offset.number file.now) ≡ Ok parts) }
+            self.now.directory_ids (file_seen R.seen R.Offset.number file.now) ≡ Ok parts) }
         ensures err { IfErr result
             (IsRefusedBy (file_parts self.now.program.encoding.version sections.now
-            self.now.directory_ids (file_seen R.bytes R.Offset.number file.now))) }
+            self.now.directory_ids (file_seen R.seen R.Offset.number file.now))) }
         // What a program asks of them.
         ensures no_zero { IfOk result (λ parts. All (λ b. b ≢ 0) parts.path) }
         ensures not_empty { IfOk result (λ parts.
@@ -153,7 +153,7 @@ impl SourceTables {
         requires source_no_zero { IfSome parts.now.source (λ text. All (λ b. b ≢ 0) text) }
         requires within { parts.now.directory < length self.old.program.directories }
         ensures ok { OnOk result (with_parts (tables_with line_strings.old self.old)
-            (file_seen R.bytes R.Offset.number file.now) parts.now
+            (file_seen R.seen R.Offset.number file.now) parts.now
             ≡ tables_with line_strings.new self.new) }
         ensures memory { IsOkUnless result ConvertError.OutOfMemory }
         // However it ends.
@@ -186,11 +186,11 @@ impl SourceTables {
         line_strings: &mut LineStringTable,
     ) -> ConvertResult<()>
         ensures ok { OnOk result (file_added sections.now (tables_with line_strings.old self.old)
-            (file_seen R.bytes R.Offset.number file.now)
+            (file_seen R.seen R.Offset.number file.now)
             ≡ Ok (tables_with line_strings.new self.new)) }
         ensures err { IfErr result
             (IsRefusedBy (file_added sections.now (tables_with line_strings.old self.old)
-            (file_seen R.bytes R.Offset.number file.now))) }
+            (file_seen R.seen R.Offset.number file.now))) }
         ensures kept { IfErr result (λ e. e ≢ ConvertError.OutOfMemory → self.new ≡ self.old) }
         ensures texts { IfErr result (λ e.
             e ≢ ConvertError.OutOfMemory → line_strings.new ≡ line_strings.old) }
@@ -228,11 +228,11 @@ impl SourceTables {
         line_strings: &mut LineStringTable,
     ) -> ConvertResult<()>
         ensures ok { OnOk result (all_added (directory_added sections.now)
-            (map (value_seen R.bytes R.Offset.number) directories.now)
+            (map (value_seen R.seen R.Offset.number) directories.now)
             (tables_with line_strings.old self.old)
             ≡ Ok (tables_with line_strings.new self.new)) }
         ensures err { IfErr result (IsRefusedBy (all_added (directory_added sections.now)
-            (map (value_seen R.bytes R.Offset.number) directories.now)
+            (map (value_seen R.seen R.Offset.number) directories.now)
             (tables_with line_strings.old self.old))) }
         ensures stays { KeepsTexts line_strings.old line_strings.new }
     {
@@ -251,11 +251,11 @@ impl SourceTables {
         line_strings: &mut LineStringTable,
     ) -> ConvertResult<()>
         ensures ok { OnOk result (all_added (file_added sections.now)
-            (map (file_seen R.bytes R.Offset.number) files.now)
+            (map (file_seen R.seen R.Offset.number) files.now)
             (tables_with line_strings.old self.old)
             ≡ Ok (tables_with line_strings.new self.new)) }
         ensures err { IfErr result (IsRefusedBy (all_added (file_added sections.now)
-            (map (file_seen R.bytes R.Offset.number) files.now)
+            (map (file_seen R.seen R.Offset.number) files.now)
             (tables_with line_strings.old self.old))) }
         ensures stays { KeepsTexts line_strings.old line_strings.new }
     {

@@ -41,10 +41,10 @@ pub(crate) fn source_text<R: Reader>(
     sections: &TextSections<R>,
 ) -> ConvertResult<Vec<u8>>
     ensures ok { IfOk result (λ text.
-        source_text sections.now (value_seen R.bytes R.Offset.number value)
+        source_text sections.now (value_seen R.seen R.Offset.number value)
         ≡ Ok text.items) }
     ensures err { IfErr result
-        (IsRefusedBy (source_text sections.now (value_seen R.bytes R.Offset.number value))) }
+        (IsRefusedBy (source_text sections.now (value_seen R.seen R.Offset.number value))) }
     ensures no_zero { IfOk result (λ text. All (λ b. b ≢ 0) text.items) }
 {
     match value {
@@ -60,11 +60,11 @@ pub(crate) fn optional_text<R: Reader>(
     sections: &TextSections<R>,
 ) -> ConvertResult<Option<Vec<u8>>>
     ensures ok { IfOk result (λ text. if_there (source_text sections.now)
-        (option_map (value_seen R.bytes R.Offset.number) value)
+        (option_map (value_seen R.seen R.Offset.number) value)
         ≡ Ok (option_map (λ text. text.items) text)) }
     ensures err { IfErr result (IsRefusedBy
         (if_there (source_text sections.now)
-        (option_map (value_seen R.bytes R.Offset.number) value))) }
+        (option_map (value_seen R.seen R.Offset.number) value))) }
     ensures no_zero { IfOk result (λ text. IfSome text (λ text. All (λ b. b ≢ 0) text.items)) }
 {
     match value {
@@ -83,11 +83,11 @@ pub(crate) fn source_path<R: Reader>(
     sections: &TextSections<R>,
 ) -> ConvertResult<Vec<u8>>
     ensures ok { IfOk result (λ path.
-        source_path version sections.now (value_seen R.bytes R.Offset.number value)
+        source_path version sections.now (value_seen R.seen R.Offset.number value)
         ≡ Ok path.items) }
     ensures err { IfErr result
         (IsRefusedBy
-        (source_path version sections.now (value_seen R.bytes R.Offset.number value))) }
+        (source_path version sections.now (value_seen R.seen R.Offset.number value))) }
     ensures no_zero { IfOk result (λ path. All (λ b. b ≢ 0) path.items) }
     ensures not_empty { IfOk result (λ path. version ≤ 4 → path.items ≢ []) }
 {

@@ -27,7 +27,7 @@ impl<'a, R: Reader> LineProgram<R> for LentHeader<'a, R> {
 
     ghost meaning = { λ p. p.header.now.meaning };
 
-    ghost source = { λ p. source_of R.is_big R.Offset.number p.header.now };
+    ghost source = { λ p. source_of R.seen R.Offset.number p.header.now };
 
     ghost appends = { false };
 
@@ -39,9 +39,9 @@ impl<'a, R: Reader> LineProgram<R> for LentHeader<'a, R> {
         ensures ok { OnOk result (self.new.header.now.meaning ≡ self.old.header.now.meaning) }
         ensures err { OnErr result (self.new.header.now.meaning ≡ self.old.header.now.meaning) }
         ensures memory { IfErr result (λ e. (e ≡ OutOfMemory) × (false ≡ true)) }
-        ensures source { KeepsSource (λ order. false ≡ true → FileHasOrder R.is_big order _file)
-            (source_of R.is_big R.Offset.number self.old.header.now)
-            (source_of R.is_big R.Offset.number self.new.header.now) }
+        ensures source { KeepsSource (λ order. false ≡ true → FileHasOrder R.seen order _file)
+            (source_of R.seen R.Offset.number self.old.header.now)
+            (source_of R.seen R.Offset.number self.new.header.now) }
         ensures only { IsOk result }
     {
         Ok(())
@@ -50,7 +50,7 @@ impl<'a, R: Reader> LineProgram<R> for LentHeader<'a, R> {
 
 /// Whether an instruction ends a sequence.
 fn ends_sequence<R: Reader>(instruction: &LineInstruction<R>) -> bool
-    ensures { result ≡ is_end (ins_seen R.bytes R.Offset.number instruction.now) }
+    ensures { result ≡ is_end (ins_seen R.seen R.Offset.number instruction.now) }
 {
     match instruction {
         LineInstruction::EndSequence => true,
@@ -60,7 +60,7 @@ fn ends_sequence<R: Reader>(instruction: &LineInstruction<R>) -> bool
 
 /// Whether an instruction makes a row, under a tombstone or not.
 fn gives_row<R: Reader>(instruction: &LineInstruction<R>) -> bool
-    ensures { result ≡ makes_row (ins_seen R.bytes R.Offset.number instruction.now) }
+    ensures { result ≡ makes_row (ins_seen R.seen R.Offset.number instruction.now) }
 {
     match instruction {
         LineInstruction::Special(_) | LineInstruction::Copy | LineInstruction::EndSequence => true,
@@ -106,13 +106,13 @@ impl<R: Reader> Watch<R> {
     /// row. An address that would be too large stays, as it does where rows are read.
     fn execute(&mut self, instruction: LineInstruction<R>, header: &LineProgramHeader<R>) -> bool
         requires { IsAllowed header.now.meaning.parameters
-            (ins_seen R.bytes R.Offset.number instruction) }
+            (ins_seen R.seen R.Offset.number instruction) }
         ensures hides { result
-            ≡ hides (ins_seen R.bytes R.Offset.number instruction) self.old.row self.old.gave_row }
+            ≡ hides (ins_seen R.seen R.Offset.number instruction) self.old.row self.old.gave_row }
         ensures row { self.new.row ≡ next_registers header.now.meaning.parameters
-            (ins_seen R.bytes R.Offset.number instruction) self.old.row }
+            (ins_seen R.seen R.Offset.number instruction) self.old.row }
         ensures gave { self.new.gave_row ≡ gave_after
-            (ins_seen R.bytes R.Offset.number instruction) self.old.row self.old.gave_row }
+            (ins_seen R.seen R.Offset.number instruction) self.old.row self.old.gave_row }
         ensures unread { self.new.instructions ≡ self.old.instructions }
     {
         let ends = ends_sequence(&instruction);
@@ -135,11 +135,11 @@ fn execute_on<R: Reader>(
     header: &LineProgramHeader<R>,
 ) -> bool
     requires { IsAllowed header.now.meaning.parameters
-        (ins_seen R.bytes R.Offset.number instruction) }
+        (ins_seen R.seen R.Offset.number instruction) }
     ensures refused { result ≡ is_refused header.now.meaning.parameters
-        (ins_seen R.bytes R.Offset.number instruction) row.old }
+        (ins_seen R.seen R.Offset.number instruction) row.old }
     ensures row { row.new ≡ step_of header.now.meaning.parameters
-        (ins_seen R.bytes R.Offset.number instruction) row.old }
+        (ins_seen R.seen R.Offset.number instruction) row.old }
 {
     row.execute(instruction, &mut LentHeader { header })
         .is_err()

@@ -14,7 +14,7 @@ itself a = Some (Constant a)
 pub write-requires : goal.write-requires
 write-requires g c =
     let source : ToConvert =
-    to_convert g.R.Reader.bytes c.args.no_texts c.args.no_texts c.args.from_program None None None in
+    to_convert g.R.Reader.seen c.args.no_texts c.args.no_texts c.args.from_program None None None in
     let done : DoneConversion = record {
       convert_address = itself;
       source = source;

@@ -11,6 +11,6 @@ returns-clause-some g c = record {
   seen_is = c.new.ensures;
   path_is =
       c.text_here.ensures
-      ∙ ap (λ p. text_here (Some (value_seen g.R.Reader.bytes g.R.Offset.ReaderOffset.number p))) c.path_name.ensures;
+      ∙ ap (λ p. text_here (Some (value_seen g.R.Reader.seen g.R.Offset.ReaderOffset.number p))) c.path_name.ensures;
   directory_is = c.text_here-2.ensures ∙ ap text_here c.directory.ensures.directory;
 }

@@ -21,10 +21,10 @@ returns-in-Ok-clause-place g c =
       row_is = c.new.ensures;
       path_is =
           subst
-          (λ p. found_path (texts_seen g.R.Reader.bytes p.paths) (listed p.lookup) rows ≡ Ok c.as_slice.result.now)
+          (λ p. found_path (texts_seen g.R.Reader.seen p.paths) (listed p.lookup) rows ≡ Ok c.as_slice.result.now)
           c.in-Some.ensures.program
           (subst
-          (λ (xs : List ℕ). found_path (texts_seen g.R.Reader.bytes own.paths) (listed own.lookup) rows ≡ Ok xs)
+          (λ (xs : List ℕ). found_path (texts_seen g.R.Reader.seen own.paths) (listed own.lookup) rows ≡ Ok xs)
           (sym c.as_slice.ensures.value) c.in-Ok.ensures.ok);
     })
     c.put_bytes.ensures
@@ -50,7 +50,7 @@ returns-else-status-eq-OUT_OF_MEMORY-clause-place g c =
         row_is = c.new-in-Err.ensures;
         path_is =
             subst
-            (λ p. found_path (texts_seen g.R.Reader.bytes p.paths) (listed p.lookup) rows ≡ Err c.in-Err.e)
+            (λ p. found_path (texts_seen g.R.Reader.seen p.paths) (listed p.lookup) rows ≡ Err c.in-Err.e)
             c.in-Some.ensures.program (c.in-Err.ensures.err why.1);
       },
     )))

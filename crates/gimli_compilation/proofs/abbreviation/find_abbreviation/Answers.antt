@@ -21,7 +21,7 @@ pub returns-then-found-code-clause-read : goal.returns-then-found-code-clause-re
 returns-then-found-code-clause-read g c =
     let found = rw c.in-Some.is at c.in_ok-next_declaration.ensures in
     let some = ne_eqb c.in-Some.found.0 0 found.declared.0 in
-    let last : ends_search c.args.code (c.in-Some.found.0, listed (g.R.Reader.bytes c.in-Some.found.1)) ≡ true =
+    let last : ends_search c.args.code (c.in-Some.found.0, listed (g.R.Reader.seen c.in-Some.found.1).bytes) ≡ true =
     rw some (eq-eqb _ _ c.if-found-code.true) in
     sym (rw some at (search_last _ _ _ _ found.read last)) ∙ c.loop-found.invariant
 
@@ -32,6 +32,6 @@ loop-found-smaller g c =
 pub loop-found-preserved : goal.loop-found-preserved
 loop-found-preserved g c =
     let found = rw c.in-Some.is at c.in_ok-next_declaration.ensures in
-    let more : ends_search c.args.code (c.in-Some.found.0, listed (g.R.Reader.bytes c.in-Some.found.1)) ≡ false =
+    let more : ends_search c.args.code (c.in-Some.found.0, listed (g.R.Reader.seen c.in-Some.found.1).bytes) ≡ false =
     rw (ne_eqb c.in-Some.found.0 0 found.declared.0) (ne_eqb _ _ c.if-found-code.false) in
     sym (search_more _ _ _ _ found.read more) ∙ c.loop-found.invariant

@@ -1,3 +1,4 @@
+use Rattle.gimli_core.proofs.Taken.{read_of}
 use Rattle.std.proofs.lemmas.Result.{err_from_is_err_and}
 use Rattle.gimli_compilation.proofs.Specifications.{passed_is_listed}
 use Rattle.gimli_compilation.proofs.Declarations.{declared_done, declared_fault}
@@ -8,12 +9,12 @@ returns-in_err-pass_specifications-clause-read g c =
     let p =
     err_from_is_err_and c.from_residual-in_err-pass_specifications.result
     c.from_residual-in_err-pass_specifications.ensures.1 in
-    rw (p.1, p.2) (declared_fault _ _ _ _ _ c.in_ok-read_uleb128.ensures.read c.in_ok-read_u8.ensures.read _ _
+    rw (p.1, p.2) (declared_fault _ _ _ _ _ (read_of c.in_ok-read_uleb128.ensures) (read_of c.in_ok-read_u8.ensures) _ _
     c.in_err-pass_specifications.ensures.read)
 
 pub returns-clause-read : goal.returns-clause-read
 returns-clause-read g c =
-    declared_done _ _ _ _ _ c.in_ok-read_uleb128.ensures.read c.in_ok-read_u8.ensures.read _
+    declared_done _ _ _ _ _ (read_of c.in_ok-read_uleb128.ensures) (read_of c.in_ok-read_u8.ensures) _
     c.in_ok-pass_specifications.ensures.read
 
 pub returns-clause-listed : goal.returns-clause-listed

@@ -1,3 +1,4 @@
+use Rattle.gimli_core.proofs.Taken.{read_of, order_of}
 use Rattle.std.proofs.Common.{refl, sym, ◌∙◌}
 use Rattle.std.proofs.lemmas.Result.{err_from_is_err_and}
 use Rattle.gimli_compilation.proofs.Specifications.{specification_smaller, still_listed, never_refused}
@@ -26,7 +27,7 @@ returns-then-is_end g c =
 pub returns-in_err-value : goal.returns-in_err-value
 returns-in_err-value g c =
     let p = err_from_is_err_and c.from_residual-in_err-value.result c.from_residual-in_err-value.ensures.1 in
-    let read = rw c.loop-specification.invariant.order at c.in_err-value.ensures.read in
+    let read = rw c.loop-specification.invariant.order at (read_of c.in_err-value.ensures.read) in
     record {
       read =
           rw (p.1, p.2)
@@ -37,14 +38,14 @@ returns-in_err-value g c =
 pub loop-specification-preserved : goal.loop-specification-preserved
 loop-specification-preserved g c =
     let on = sym c.is_end.ensures ∙ c.if-is_end.false in
-    let read = rw c.loop-specification.invariant.order at c.in_ok-value.ensures.read in
+    let read = rw c.loop-specification.invariant.order at (read_of c.in_ok-value.ensures.read) in
     record {
       so_far =
           rw (c.update.ensures, seen_with) (attributes_go_on _ _ _ _ _ c.loop-specification.invariant.closed
           c.in_ok-specification.ensures.read on _ _ _ _ _
           read c.loop-specification.invariant.so_far);
       closed = still_listed _ _ _ c.loop-specification.invariant.closed c.in_ok-specification.ensures.read on;
-      order = c.parse_form.ensures.order ∙ c.loop-specification.invariant.order;
+      order = order_of c.parse_form.ensures.read ∙ c.loop-specification.invariant.order;
     }
 
 pub loop-specification-smaller : goal.loop-specification-smaller

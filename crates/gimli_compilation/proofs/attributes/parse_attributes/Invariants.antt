@@ -8,17 +8,17 @@ use Rattle.gimli_compilation.proofs.attributes.parse_attributes.Given as goal
 
 abbrev pub invariant-loop-specification : goal.invariant-loop-specification
 invariant-loop-specification g l =
-    let layout = layout_of (g.R.Reader.is_big l.initial.input) g.R.Offset.ReaderOffset.limit in
+    let layout = layout_of (g.R.Reader.seen l.initial.input).is_big g.R.Offset.ReaderOffset.limit in
     record {
-      so_far : (attributes_production layout l.encoding (attributes_seen g.R.Reader.bytes l.attributes)
-          (listed (g.R.Reader.bytes l.specifications))).read
-          (g.R.Reader.bytes l.input)
+      so_far : (attributes_production layout l.encoding (attributes_seen g.R.Reader.seen l.attributes)
+          (listed (g.R.Reader.seen l.specifications).bytes)).read
+          (g.R.Reader.seen l.input).bytes
           ≡ (attributes_production layout l.encoding no_attributes
-          (listed (g.R.Reader.bytes l.initial.specifications))).read
-          (g.R.Reader.bytes l.initial.input);
-      closed : IsListed (g.R.Reader.bytes l.specifications);
-      order : g.R.Reader.is_big l.input ≡ g.R.Reader.is_big l.initial.input;
+          (listed (g.R.Reader.seen l.initial.specifications).bytes)).read
+          (g.R.Reader.seen l.initial.input).bytes;
+      closed : IsListed (g.R.Reader.seen l.specifications).bytes;
+      order : (g.R.Reader.seen l.input).is_big ≡ (g.R.Reader.seen l.initial.input).is_big;
     }
 
 abbrev pub decreases-loop-specification : goal.decreases-loop-specification
-decreases-loop-specification g l = length (g.R.Reader.bytes l.specifications)
+decreases-loop-specification g l = length (g.R.Reader.seen l.specifications).bytes

@@ -13,13 +13,13 @@ use Rattle.gimli_index.proofs.made.entries_of.Goals as goal
 
 pub take_ranges-requires-clause-entered : goal.take_ranges-requires-clause-entered
 take_ranges-requires-clause-entered g c =
-    let t = texts_seen g.R.Reader.bytes c.args.origin.now.paths.now in
+    let t = texts_seen g.R.Reader.seen c.args.origin.now.paths.now in
     rw (c.in_ok-entries.ensures, c.ranges-ranges.ensures)
     (none_entered t c.args.origin.now.lookup.now c.args.table.now c.requires)
 
 pub returns-then-are_in_turn-clause-entered : goal.returns-then-are_in_turn-clause-entered
 returns-then-are_in_turn-clause-entered g c =
-    let t = texts_seen g.R.Reader.bytes c.args.origin.now.paths.now in
+    let t = texts_seen g.R.Reader.seen c.args.origin.now.paths.now in
     let units : List KeptUnit = c.args.origin.now.lookup.now in
     let limit = c.args.origin.now.limit in
     let turns : List Turn = c.in_ok-turns.turns.items in

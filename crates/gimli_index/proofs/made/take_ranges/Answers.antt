@@ -10,7 +10,7 @@ use Rattle.gimli_index.proofs.made.take_ranges.Goals as goal
 
 pub ranges-2-preserved : goal.ranges-2-preserved
 ranges-2-preserved g c =
-    let t = texts_seen g.R.Reader.bytes c.args.origin.now.paths.now in
+    let t = texts_seen g.R.Reader.seen c.args.origin.now.paths.now in
     let units = c.args.origin.now.lookup.now in
     let old = c.ranges-2.table in
     let new = c.place_of.new.self in

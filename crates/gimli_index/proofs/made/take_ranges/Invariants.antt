@@ -7,7 +7,7 @@ use Rattle.gimli_index.proofs.made.take_ranges.Given as goal
 abbrev pub invariant-ranges-2 : goal.invariant-ranges-2
 invariant-ranges-2 g l = record {
   units : l.ranges.units ≡ l.origin.lookup.now;
-  entered : Entered (texts_seen g.R.Reader.bytes l.origin.paths.now) l.origin.lookup.now
+  entered : Entered (texts_seen g.R.Reader.seen l.origin.paths.now) l.origin.lookup.now
       l.origin.limit l.table l.entries.items
       l.ranges.from;
 }

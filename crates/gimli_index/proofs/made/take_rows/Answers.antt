@@ -14,7 +14,7 @@ use Rattle.gimli_index.proofs.made.take_rows.Goals as goal
 
 pub loop-index-preserved : goal.loop-index-preserved
 loop-index-preserved g c =
-    let t = texts_seen g.R.Reader.bytes c.args.origin.now.paths.now in
+    let t = texts_seen g.R.Reader.seen c.args.origin.now.paths.now in
     let units = c.args.origin.now.lookup.now in
     let turn = c.args.turn in
     let old = c.loop-index.table in
@@ -43,7 +43,7 @@ loop-index-preserved g c =
 
 pub returns-clause-walked : goal.returns-clause-walked
 returns-clause-walked g c =
-    let t = texts_seen g.R.Reader.bytes c.args.origin.now.paths.now in
+    let t = texts_seen g.R.Reader.seen c.args.origin.now.paths.now in
     let units = c.args.origin.now.lookup.now in
     let limit = c.args.origin.now.limit in
     let rows = rows_of c.args.turn.rows in

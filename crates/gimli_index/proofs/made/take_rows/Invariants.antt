@@ -10,7 +10,7 @@ use Rattle.gimli_index.proofs.made.take_rows.Given as goal
 
 abbrev pub invariant-loop-index : goal.invariant-loop-index
 invariant-loop-index g l =
-    let t = texts_seen g.R.Reader.bytes l.origin.paths.now in
+    let t = texts_seen g.R.Reader.seen l.origin.paths.now in
     let units = l.origin.lookup.now in
     let limit = l.origin.limit in
     let rows = rows_of l.turn.rows in

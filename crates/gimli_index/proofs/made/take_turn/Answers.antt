@@ -9,7 +9,7 @@ use Rattle.gimli_index.proofs.made.take_turn.Goals as goal
 
 pub returns-clause-walked : goal.returns-clause-walked
 returns-clause-walked g c =
-    let t = texts_seen g.R.Reader.bytes c.args.origin.now.paths.now in
+    let t = texts_seen g.R.Reader.seen c.args.origin.now.paths.now in
     let units = c.args.origin.now.lookup.now in
     let turn = c.args.turn in
     let table = c.take_rows.new.table in

@@ -9,7 +9,7 @@ use Rattle.gimli_index.proofs.made.take_turns.Given as goal
 
 abbrev pub invariant-loop-turn : goal.invariant-loop-turn
 invariant-loop-turn g l =
-    let t = texts_seen g.R.Reader.bytes l.origin.paths.now in
+    let t = texts_seen g.R.Reader.seen l.origin.paths.now in
     let units = l.origin.lookup.now in
     let limit = l.origin.limit in
     record {

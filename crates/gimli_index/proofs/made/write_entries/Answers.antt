@@ -16,7 +16,7 @@ use Rattle.gimli_index.proofs.made.write_entries.Goals as goal
 pub write_named-requires-clause-entries : goal.write_named-requires-clause-entries
 write_named-requires-clause-entries g c =
     let units = c.args.origin.now.lookup.now in
-    let t = texts_seen g.R.Reader.bytes c.args.origin.now.paths.now in
+    let t = texts_seen g.R.Reader.seen c.args.origin.now.paths.now in
     let table = c.statements_of.new.table in
     let said = c.in_ok-statements.ensures in
     let entered =
@@ -36,7 +36,7 @@ write_named-requires-clause-statements g c =
 pub returns-clause-bytes : goal.returns-clause-bytes
 returns-clause-bytes g c =
     let units = c.args.origin.now.lookup.now in
-    let t = texts_seen g.R.Reader.bytes c.args.origin.now.paths.now in
+    let t = texts_seen g.R.Reader.seen c.args.origin.now.paths.now in
     let given : Given = record { texts = t; units = units; size = c.args.address_size; name = c.args.identity.now } in
     let parts : Parts = record {
       address_size = c.args.address_size;
@@ -62,7 +62,7 @@ returns-clause-bytes g c =
 pub returns-clause-err : goal.returns-clause-err
 returns-clause-err g c =
     let units = c.args.origin.now.lookup.now in
-    let t = texts_seen g.R.Reader.bytes c.args.origin.now.paths.now in
+    let t = texts_seen g.R.Reader.seen c.args.origin.now.paths.now in
     let given : Given = record { texts = t; units = units; size = c.args.address_size; name = c.args.identity.now } in
     let parts : Parts = record {
       address_size = c.args.address_size;

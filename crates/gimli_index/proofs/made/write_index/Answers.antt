@@ -8,14 +8,14 @@ use Rattle.gimli_index.proofs.made.write_index.Goals as goal
 
 pub write_entries-requires-clause-sources : goal.write_entries-requires-clause-sources
 write_entries-requires-clause-sources g c =
-    let t = texts_seen g.R.Reader.bytes c.paths.result.now in
+    let t = texts_seen g.R.Reader.seen c.paths.result.now in
     subst (AreSources t c.lookup.result.now c.args.limit) (sym c.in_ok-table.ensures)
     (none_are_sources t c.lookup.result.now)
 
 pub returns-clause-index : goal.returns-clause-index
 returns-clause-index g c =
     let given : Given = record {
-      texts = texts_seen g.R.Reader.bytes c.args.program.now.paths;
+      texts = texts_seen g.R.Reader.seen c.args.program.now.paths;
       units = c.args.program.now.lookup;
       size = c.args.address_size;
       name = c.args.identity.now;

@@ -12,7 +12,7 @@ use Rattle.gimli_index.proofs.statements.statements_of.Goals as goal
 
 pub loop-unit-init : goal.loop-unit-init
 loop-unit-init g c =
-    let t = texts_seen g.R.Reader.bytes c.args.origin.now.paths.now in
+    let t = texts_seen g.R.Reader.seen c.args.origin.now.paths.now in
     record {
       are = c.requires;
       keeps = keeps_self c.args.table.now;
@@ -28,7 +28,7 @@ loop-unit-init g c =
 
 pub loop-unit-preserved : goal.loop-unit-preserved
 loop-unit-preserved g c =
-    let t = texts_seen g.R.Reader.bytes c.args.origin.now.paths.now in
+    let t = texts_seen g.R.Reader.seen c.args.origin.now.paths.now in
     let units : List KeptUnit = c.args.origin.now.lookup.now in
     let k : ℕ = c.loop-unit.unit in
     let said = c.in_ok-take_unit.ensures in
@@ -62,7 +62,7 @@ take_unit-requires-clause-unit g c =
 
 pub returns-clause-said : goal.returns-clause-said
 returns-clause-said g c =
-    let t = texts_seen g.R.Reader.bytes c.args.origin.now.paths.now in
+    let t = texts_seen g.R.Reader.seen c.args.origin.now.paths.now in
     let units : List KeptUnit = c.args.origin.now.lookup.now in
     let past : length units ≤ c.loop-unit.unit =
     omega (

@@ -6,7 +6,7 @@ use Rattle.gimli_index.proofs.statements.statements_of.Given as goal
 
 abbrev pub invariant-loop-unit : goal.invariant-loop-unit
 invariant-loop-unit g l =
-    let t = texts_seen g.R.Reader.bytes l.origin.paths.now in
+    let t = texts_seen g.R.Reader.seen l.origin.paths.now in
     let units = l.origin.lookup.now in
     record {
       are : AreSources t units l.origin.limit l.table;

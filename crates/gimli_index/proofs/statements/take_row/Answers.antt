@@ -12,7 +12,7 @@ use Rattle.gimli_index.proofs.statements.take_row.Goals as goal
 pub returns-then-goes_on-clause-said : goal.returns-then-goes_on-clause-said
 returns-then-goes_on-clause-said g c =
     λ u there rest.
-    let t = texts_seen g.R.Reader.bytes c.args.origin.now.paths.now in
+    let t = texts_seen g.R.Reader.seen c.args.origin.now.paths.now in
     let units = c.args.origin.now.lookup.now in
     let old = c.args.table.now in
     let new = c.source_of.new.self in
@@ -37,7 +37,7 @@ returns-then-not-is_stmt-clause-inside g c =
 pub returns-then-not-is_stmt-clause-said : goal.returns-then-not-is_stmt-clause-said
 returns-then-not-is_stmt-clause-said g c =
     λ u there rest.
-    let t = texts_seen g.R.Reader.bytes c.args.origin.now.paths.now in
+    let t = texts_seen g.R.Reader.seen c.args.origin.now.paths.now in
     let units = c.args.origin.now.lookup.now in
     let old = c.args.table.now in
     let new = c.source_of.new.self in
@@ -86,7 +86,7 @@ returns-clause-inside g c =
 pub returns-clause-said : goal.returns-clause-said
 returns-clause-said g c =
     λ u there rest.
-    let t = texts_seen g.R.Reader.bytes c.args.origin.now.paths.now in
+    let t = texts_seen g.R.Reader.seen c.args.origin.now.paths.now in
     let units = c.args.origin.now.lookup.now in
     let old = c.args.table.now in
     let new = c.source_of.new.self in

@@ -24,7 +24,7 @@ loop-index-init g c = record {
 
 pub loop-index-preserved : goal.loop-index-preserved
 loop-index-preserved g c =
-    let t = texts_seen g.R.Reader.bytes c.args.origin.now.paths.now in
+    let t = texts_seen g.R.Reader.seen c.args.origin.now.paths.now in
     let rows = rows_of c.args.rows in
     let k = c.loop-index.index in
     let old = c.loop-index.table in
@@ -67,7 +67,7 @@ take_row-requires-clause-found g c =
 
 pub returns-clause-said : goal.returns-clause-said
 returns-clause-said g c =
-    let t = texts_seen g.R.Reader.bytes c.args.origin.now.paths.now in
+    let t = texts_seen g.R.Reader.seen c.args.origin.now.paths.now in
     let rows = rows_of c.args.rows in
     let k = c.loop-index.index in
     let past : length rows ≤ k = omega (arith, c.loop-index-test.false, c.len-index-end.ensures) in

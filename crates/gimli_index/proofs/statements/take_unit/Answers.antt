@@ -16,7 +16,7 @@ use Rattle.gimli_index.proofs.statements.take_unit.Goals as goal
 
 pub loop-index-init : goal.loop-index-init
 loop-index-init g c =
-    let t = texts_seen g.R.Reader.bytes c.args.origin.now.paths.now in
+    let t = texts_seen g.R.Reader.seen c.args.origin.now.paths.now in
     record {
       are = c.requires.are;
       keeps = keeps_self c.args.table.now;
@@ -27,7 +27,7 @@ loop-index-init g c =
 
 pub loop-index-preserved : goal.loop-index-preserved
 loop-index-preserved g c =
-    let t = texts_seen g.R.Reader.bytes c.args.origin.now.paths.now in
+    let t = texts_seen g.R.Reader.seen c.args.origin.now.paths.now in
     let units : List KeptUnit = c.args.origin.now.lookup.now in
     let k : ℕ = c.loop-index.index in
     let known = get_inside units c.args.unit c.requires.unit in
@@ -64,7 +64,7 @@ loop-index-preserved g c =
 
 pub returns-clause-said : goal.returns-clause-said
 returns-clause-said g c =
-    let t = texts_seen g.R.Reader.bytes c.args.origin.now.paths.now in
+    let t = texts_seen g.R.Reader.seen c.args.origin.now.paths.now in
     let units : List KeptUnit = c.args.origin.now.lookup.now in
     λ u there.
     let same : slice_index_or units c.args.unit u ≡ u = get_or_from_slice_get units c.args.unit u u there in

@@ -8,7 +8,7 @@ use Rattle.gimli_index.proofs.statements.take_unit.Given as goal
 
 abbrev pub invariant-loop-index : goal.invariant-loop-index
 invariant-loop-index g l =
-    let t = texts_seen g.R.Reader.bytes l.origin.paths.now in
+    let t = texts_seen g.R.Reader.seen l.origin.paths.now in
     let units = l.origin.lookup.now in
     record {
       are : AreSources t units l.origin.limit l.table;

@@ -1,7 +1,8 @@
 use Rattle.std.specs.Prelude.{◌≡◌}
 use Rattle.gimli_line.proofs
 use proofs.Common
-use Common.{Bool, List, Option, Some, None, ℕ, refl, ap, option_map, unsigned_Decides, Value, value_by, AttributeValue}
+use Common.{Bool, List, Seen, Option, Some, None, ℕ, refl, ap, option_map, unsigned_Decides, Value, value_by}
+use Common.{AttributeValue}
 use Common.{File, FileOrders, file_by, FileEntry}
 use proofs.Equality.{both, whole, zipped}
 use proofs.laws.equal_files_look_same.Goals as goal
@@ -24,9 +25,9 @@ same : (p q : Value × Option Bool) → p ≡ q → (a b : ℕ) → a ≡ b → 
     → (m n : List ℕ) → m ≡ n → (s t : Option (Value × Option Bool)) → s ≡ t → seen_of p a c e m s ≡ seen_of q b d f n t
 same p q e1 a b e2 c d e3 e f e4 m n e5 s t e6 = rw (e1, e2, e3, e4, e5, e6) refl
 
-module _ {R Offset Endian : Type 0} (bytes : R → List ℕ) (is_big : R → Bool) (number : Offset → ℕ) where
+module _ {R Offset Endian : Type 0} (seen : R → Seen) (number : Offset → ℕ) where
   abbrev by : AttributeValue R Offset Endian → Value × Option Bool
-  by = value_by bytes is_big number
+  by = value_by seen number
 
   abbrev SameParts : (x y : FileEntry R Offset Endian) → Type 0
   SameParts x y = (by x.path_name ≡ by y.path_name)
@@ -36,12 +37,12 @@ module _ {R Offset Endian : Type 0} (bytes : R → List ℕ) (is_big : R → Boo
 
   rebuilt : (f : FileEntry R Offset Endian) (s : Option (AttributeValue R Offset Endian)) → f.source ≡ s
       → seen_of (by f.path_name) f.directory_index f.timestamp f.size f.md5 (option_map by s)
-      ≡ file_by bytes is_big number f
+      ≡ file_by seen number f
   rebuilt f (Some v) e = rw e refl
   rebuilt f None e = rw e refl
 
   joined : (x y : FileEntry R Offset Endian) → SameParts x y
-      → file_by bytes is_big number x ≡ file_by bytes is_big number y
+      → file_by seen number x ≡ file_by seen number y
   joined x y p = rw (← rebuilt x x.source refl, ← rebuilt y y.source refl)
       (same _ _ p.0 _ _ p.1.0 _ _
       p.1.1.0 _ _ p.1.1.1.0 _ _
@@ -52,11 +53,11 @@ module _ {R Offset Endian : Type 0} (bytes : R → List ℕ) (is_big : R → Boo
   sources (Some v) = refl
   sources None = refl
 
-  parted : (x y : FileEntry R Offset Endian) → file_by bytes is_big number x ≡ file_by bytes is_big number y
+  parted : (x y : FileEntry R Offset Endian) → file_by seen number x ≡ file_by seen number y
       → SameParts x y
   parted x y e =
-      let source : zipped (file_by bytes is_big number x).0.source (file_by bytes is_big number x).1.1
-      ≡ zipped (file_by bytes is_big number y).0.source (file_by bytes is_big number y).1.1 = ap
+      let source : zipped (file_by seen number x).0.source (file_by seen number x).1.1
+      ≡ zipped (file_by seen number y).0.source (file_by seen number y).1.1 = ap
       (λ z. zipped z.0.source z.1.1) e in (
         ap (λ z. (z.0.path_name, z.1.0)) e,
         (
@@ -79,4 +80,4 @@ returns g c readers offsets x y =
     whole
     (both path (both (unsigned_Decides x.directory_index y.directory_index)
     (both (unsigned_Decides x.timestamp y.timestamp) (both (unsigned_Decides x.size y.size) (both md5 source)))))
-    (joined _ _ _ x y) (parted _ _ _ x y)
+    (joined _ _ x y) (parted _ _ x y)

@@ -1,6 +1,7 @@
 -- How the header of a unit is spelled, production by production, and which refusal comes where a
 -- production isn't there (DWARF 5, section 6.2.4; DWARF 4, section 6.2.4).
 use Rattle.gimli_line.specs.Prelude.{ℕ, List, Some, None, OrderAndLimit, Value, Format, UnknownForm}
+use Rattle.gimli_line.specs.Prelude.{Seen}
 use Rattle.gimli_line.specs.Prelude.{IsTrue}
 use Rattle.gimli_line.specs.header.File.{File}
 use Rattle.gimli_line.specs.declared.header.file_entry.FileEntryFormat.{FileEntryFormat}
@@ -33,13 +34,13 @@ form_among layout format rows form = elim (lookup (nat_eq form) rows) [
   | None ↦ refuse (UnknownForm (record { 0 = form }))
 ]
 
-module _ {R Offset Endian : Type 0} (bytes : R → List ℕ) (number : Offset → ℕ) where
+module _ {R Offset Endian : Type 0} (seen : R → Seen) (number : Offset → ℕ) where
   -- what a call took of them, its reader seen by bytes and its offset by number
   abbrev pub opening_seen : HeaderOpeningOf R Endian Offset → HeaderOpening
   opening_seen o = record {
     encoding = o.encoding;
     header_length = number o.header_length;
-    fields = bytes o.fields;
+    fields = (seen o.fields).bytes;
   }
 
 -- what every header allows: addresses of a known size, and no number that is divided by or counted

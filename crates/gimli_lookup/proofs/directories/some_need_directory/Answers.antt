@@ -3,11 +3,11 @@ use Rattle.gimli_lookup.proofs.DirectoryNeeds.{unneeded_at, needed_at, none_yet,
 use Rattle.gimli_lookup.proofs.directories.some_need_directory.Goals as goal
 
 pub units-init : goal.units-init
-units-init g c = none_yet (strings g.R.Reader.bytes c.args.sections.now) c.args.units
+units-init g c = none_yet (strings g.R.Reader.seen c.args.sections.now) c.args.units
 
 pub returns-then-needs_directory-clause-ok : goal.returns-then-needs_directory-clause-ok
 returns-then-needs_directory-clause-ok g c =
-    let texts = strings g.R.Reader.bytes c.args.sections.now in
+    let texts = strings g.R.Reader.seen c.args.sections.now in
     let o = g.R.Offset.ReaderOffset.number c.in-Some.unit.offset.0 in
     found texts c.args.units c.units.units c.next.new.self o c.units.invariant
     (rw c.in-Some.is at c.in_ok-unit.ensures.next)
@@ -17,7 +17,7 @@ returns-then-needs_directory-clause-ok g c =
 
 pub units-preserved : goal.units-preserved
 units-preserved g c =
-    let texts = strings g.R.Reader.bytes c.args.sections.now in
+    let texts = strings g.R.Reader.seen c.args.sections.now in
     let o = g.R.Offset.ReaderOffset.number c.in-Some.unit.offset.0 in
     one_more texts c.args.units c.units.units c.next.new.self o c.units.invariant
     (rw c.in-Some.is at c.in_ok-unit.ensures.next)
@@ -29,4 +29,4 @@ units-preserved g c =
 pub returns-clause-ok : goal.returns-clause-ok
 returns-clause-ok g c =
     let none = rw c.in_default.is at c.in_ok-unit.ensures.next in
-    not_found (strings g.R.Reader.bytes c.args.sections.now) c.args.units c.units.units c.units.invariant none.0
+    not_found (strings g.R.Reader.seen c.args.sections.now) c.args.units c.units.units c.units.invariant none.0

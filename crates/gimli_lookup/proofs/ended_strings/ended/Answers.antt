@@ -14,8 +14,8 @@ returns-in-Ok-from_u64 g c =
     c.from_u64.result c.in-Ok-from_u64.is c.from_u64.ensures in
     record {
       ended =
-          cut_ended (number c.in-Ok-from_u64.length) (g.R.Reader.bytes c.args.section)
-          (g.R.Reader.bytes c.truncate.new.self) _ c.truncate.ensures.read
-          (subst (λ (n : ℕ). AllByRecursion (λ byte. byte ≢ 0) (drop n (g.R.Reader.bytes c.args.section))) (sym count)
+          cut_ended (number c.in-Ok-from_u64.length) (g.R.Reader.seen c.args.section).bytes
+          (g.R.Reader.seen c.truncate.new.self).bytes _ c.truncate.ensures.read
+          (subst (λ (n : ℕ). AllByRecursion (λ byte. byte ≢ 0) (drop n (g.R.Reader.seen c.args.section).bytes)) (sym count)
           none);
     }

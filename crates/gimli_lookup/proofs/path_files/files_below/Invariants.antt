@@ -7,7 +7,7 @@ abbrev pub invariant-loop-file : goal.invariant-loop-file
 invariant-loop-file g l =
     AreBelow
     (has_path
-    (unit_paths (texts_seen g.R.Reader.bytes l.paths) (g.R.Offset.ReaderOffset.number l.header.offset.0)
+    (unit_paths (texts_seen g.R.Reader.seen l.paths) (g.R.Offset.ReaderOffset.number l.header.offset.0)
     l.header.meaning)
     l.path)
     l.file l.files.items

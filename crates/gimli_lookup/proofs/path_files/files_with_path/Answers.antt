@@ -6,7 +6,7 @@ use Rattle.gimli_lookup.proofs.path_files.files_with_path.Goals as goal
 
 pub returns-clause-ok : goal.returns-clause-ok
 returns-clause-ok g c =
-    let paths = unit_paths (texts_seen g.R.Reader.bytes c.args.paths.now)
+    let paths = unit_paths (texts_seen g.R.Reader.seen c.args.paths.now)
     (g.R.Offset.ReaderOffset.number c.args.header.now.offset.0) c.args.header.now.meaning in
     let test = has_path paths c.args.path.now in
     let last = c.last_index-last.result in

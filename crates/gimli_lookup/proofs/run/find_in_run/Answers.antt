@@ -27,7 +27,7 @@ returns-in_err-row-clause-err g c =
     rw (p.1, p.2) (elim fault [
       | inl memory ↦ inr (
         memory.0,
-        defines program.meaning (source_of g.R.Reader.is_big g.R.Offset.ReaderOffset.number program) first c.rows.rows
+        defines program.meaning (source_of g.R.Reader.seen g.R.Offset.ReaderOffset.number program) first c.rows.rows
             new
             c.rows-rows.ensures.start
             i.at_end i.files c.next_row.follows.holds-at-none.0.run.appends memory.1,

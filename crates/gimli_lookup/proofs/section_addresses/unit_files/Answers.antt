@@ -10,7 +10,7 @@ use Rattle.gimli_lookup.proofs.section_addresses.unit_files.Goals as goal
 
 pub returns-in-Some-clause-ok : goal.returns-in-Some-clause-ok
 returns-in-Some-clause-ok g c =
-    let t = texts_seen g.R.Reader.bytes c.args.paths.now in
+    let t = texts_seen g.R.Reader.seen c.args.paths.now in
     let path = c.args.path.now in
     let u = c.args.unit.now in
     let h = c.in-Some.header.now in

@@ -22,7 +22,7 @@ returns-clause-kept g c =
     IsKept c.args.program.layout c.args.lowest c.args.program.meaning (header_of new) fault kept)
     (sym c.into_parts.ensures)
     (is_kept c.args.lowest c.args.program.meaning
-    (source_of g.R.Reader.is_big g.R.Offset.ReaderOffset.number c.args.program)
+    (source_of g.R.Reader.seen g.R.Offset.ReaderOffset.number c.args.program)
     old new fault c.take_rows.new.cut c.rows-run.ensures.start c.rows-run.ensures.made c.rows-run.ensures.files taken)
 
 pub returns-clause-run : goal.returns-clause-run

@@ -18,7 +18,7 @@ returns-clause-found g c =
     let end = c.in_ok-fault.ensures.ok c.args.unit (no_rows c.args.lowest) start in
     let kept =
     is_kept c.args.lowest c.args.program.meaning
-    (source_of g.R.Reader.is_big g.R.Offset.ReaderOffset.number c.args.program)
+    (source_of g.R.Reader.seen g.R.Offset.ReaderOffset.number c.args.program)
     old c.search_rows.new.run c.in_ok-fault.fault end.0 c.rows-run.ensures.start c.rows-run.ensures.made
     c.rows-run.ensures.files end.1 in (
       take end.0.ended end.0.parts,

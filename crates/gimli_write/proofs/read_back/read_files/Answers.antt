@@ -6,7 +6,7 @@ use proofs.read_back.read_files.Goals as goal
 
 pub read_file-requires : goal.read_file-requires
 read_file-requires g c =
-    let seen = file_seen g.R.Reader.bytes g.R.Offset.ReaderOffset.number in
+    let seen = file_seen g.R.Reader.seen g.R.Offset.ReaderOffset.number in
     let i = c.loop-file.file-index in
     let lt : i < length c.args.files.now = omega arith in
     mapped_at (HasFileTexts c.args.sections.now) seen c.args.files.now i lt c.file-item.is c.requires

@@ -6,7 +6,7 @@ use proofs.read_back.texts.Goals as goal
 
 pub text_there-requires : goal.text_there-requires
 text_there-requires g c =
-    let seen = value_seen g.R.Reader.bytes g.R.Offset.ReaderOffset.number in
+    let seen = value_seen g.R.Reader.seen g.R.Offset.ReaderOffset.number in
     let i = c.loop-value.value-index in
     let lt : i < length c.args.values.now = omega arith in
     mapped_at (HasText c.args.sections.now) seen c.args.values.now i lt c.value-item.is c.requires

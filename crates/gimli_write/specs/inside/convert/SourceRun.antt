@@ -10,15 +10,16 @@ use specs.convert.SourceTables.{TablesAndTexts, file_added}
 use specs.convert.Items.{Reading, ends, defines, source_row_offered, stops}
 use specs.convert.TablesAtEnd.{unless_refused, tables_at_end, tables_after_row}
 use specs.convert.SourceRun.{SourceRun, row_made, reading_upon, reading_left}
+use Rattle.gimli_core.specs.Layout.{Seen}
 
-module _ {R Offset Endian : Type 0} (bytes : R → List ℕ) (number : Offset → ℕ) where
+module _ {R Offset Endian : Type 0} (seen : R → Seen) (number : Offset → ℕ) where
   -- what is read from a step on, after which this state is
   abbrev pub step_reading : Sections → TablesAndTexts → SourceStep R Endian Offset → SourceRun
       → Reading
   step_reading sections tables Done s = ends tables
   step_reading sections tables More s = reading_left sections s tables
   step_reading sections tables (Defines f) s =
-      defines (reading_upon sections s (file_added sections tables (file_seen bytes number f)))
+      defines (reading_upon sections s (file_added sections tables (file_seen seen number f)))
   step_reading sections tables (Made r) s =
       source_row_offered s.header.parameters.encoding.version tables r
       (reading_left sections s tables)
@@ -29,7 +30,7 @@ module _ {R Offset Endian : Type 0} (bytes : R → List ℕ) (number : Offset �
   step_tables sections tables Done s = tables
   step_tables sections tables More s = tables_at_end sections s tables
   step_tables sections tables (Defines f) s =
-      unless_refused tables (file_added sections tables (file_seen bytes number f)) (λ next.
+      unless_refused tables (file_added sections tables (file_seen seen number f)) (λ next.
       tables_at_end sections s next)
   step_tables sections tables (Made r) s =
       tables_after_row s.header.parameters.encoding.version tables (Some r)
@@ -53,19 +54,19 @@ abbrev pub Shortens : {R Endian Offset : Type 0} → SourceStep R Endian Offset 
 Shortens Done old new = new.unread.bytes ≡ []
 Shortens step old new = length new.unread.bytes < length old.unread.bytes
 
-module _ {R Offset Endian : Type 0} (bytes : R → List ℕ) (number : Offset → ℕ) where
+module _ {R Offset Endian : Type 0} (seen : R → Seen) (number : Offset → ℕ) where
   -- a step: what its answer says of what is to be read, and of the tables at the end
   pub record StepsSource (old new : SourceRun)
       (answer : Result (SourceStep R Endian Offset) ConvertError) : Type 0 where
     pub reading : IfOk answer (λ step.
         (sections : Sections) (tables : TablesAndTexts)
-        → reading_left sections old tables ≡ step_reading bytes number sections tables step new)
+        → reading_left sections old tables ≡ step_reading seen number sections tables step new)
     pub refusal : IfErr answer (λ e.
         (sections : Sections) (tables : TablesAndTexts)
         → reading_left sections old tables ≡ stops e)
     pub tables : IfOk answer (λ step.
         (sections : Sections) (tables : TablesAndTexts)
-        → tables_at_end sections old tables ≡ step_tables bytes number sections tables step new)
+        → tables_at_end sections old tables ≡ step_tables seen number sections tables step new)
     pub stopped : IfErr answer (λ e.
         (sections : Sections) (tables : TablesAndTexts)
         → tables_at_end sections old tables ≡ tables)

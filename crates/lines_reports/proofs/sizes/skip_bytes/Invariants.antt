@@ -5,7 +5,7 @@ use Rattle.lines_reports.proofs.sizes.skip_bytes.Given as goal
 
 abbrev pub invariant-loop : goal.invariant-loop
 invariant-loop g l = record {
-  so_far : passed ((times (l.count - l.counter) byte).read (g.R.Reader.bytes l.rest))
-      ≡ passed ((times l.count byte).read (g.R.Reader.bytes l.initial.rest));
-  order : g.R.Reader.is_big l.rest ≡ g.R.Reader.is_big l.initial.rest;
+  so_far : passed ((times (l.count - l.counter) byte).read (g.R.Reader.seen l.rest).bytes)
+      ≡ passed ((times l.count byte).read (g.R.Reader.seen l.initial.rest).bytes);
+  order : (g.R.Reader.seen l.rest).is_big ≡ (g.R.Reader.seen l.initial.rest).is_big;
 }

@@ -23,7 +23,7 @@ returns-clause-smaller g c = elim c.match-next_declaration.branch [
   | in-Ok-Some+in_ok-keep_first-in-Ok-Some w ↦
       let found =
       rw w.in-Ok-Some.field-0-is at w.in-Ok-Some.ensures in rw w.self2-is
-      (smaller_more _ _ _ _ _ c.requires found.read)
-  | in-Ok-None w ↦ rw w.self2-is (smaller_end _ _ _ c.requires)
-  | in-Err w ↦ rw w.self2-is (smaller_end _ _ _ c.requires)
+      (smaller_more g.R.Reader.seen _ _ _ _ c.requires found.read)
+  | in-Ok-None w ↦ rw w.self2-is (smaller_end g.R.Reader.seen _ _ c.requires)
+  | in-Err w ↦ rw w.self2-is (smaller_end g.R.Reader.seen _ _ c.requires)
 ]

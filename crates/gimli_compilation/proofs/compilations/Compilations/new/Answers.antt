@@ -12,7 +12,7 @@ loop-units-init g c = record {
 pub loop-units-preserved : goal.loop-units-preserved
 loop-units-preserved g c =
     let sections : Sections =
-    sections_of g.R.Reader.bytes g.R.Reader.is_big g.R.Offset.ReaderOffset.limit c.args.sections.now in
+    sections_of g.R.Reader.seen g.R.Offset.ReaderOffset.limit c.args.sections.now in
     let next = rw c.in-Some.is at c.in_ok-unit.ensures in
     let says = rw (next.offset, c.loop-units.invariant.walks) at next.compilation in
     let refused = rw (next.offset, c.loop-units.invariant.walks) at next.refusal in
@@ -21,9 +21,9 @@ loop-units-preserved g c =
     record {
       walks = c.next.ensures.sections ∙ c.loop-units.invariant.walks;
       kept = kept_more sections c.loop-units.units.offset c.next.new.self.offset _ _ _
-          (gives_of g.R.Reader.bytes sections c.loop-units.units.offset c.in-Some.unit.compilation says refused) follows
+          (gives_of g.R.Reader.seen sections c.loop-units.units.offset c.in-Some.unit.compilation says refused) follows
           next.onward inside
-          (λ line. told g.R.Reader.bytes line _ _ _ (rw c.line_directory.ensures at (c.in_ok-keep.ensures.ok line)))
+          (λ line. told g.R.Reader.seen line _ _ _ (rw c.line_directory.ensures at (c.in_ok-keep.ensures.ok line)))
           c.loop-units.invariant.kept;
     }
 

@@ -7,6 +7,6 @@ returns-clause-read g c = λ bytes.
     let directory = rw c.in-Ok.is at (c.in_ok-comp_dir.ensures.read bytes) in
     let name = rw c.in-Ok-2.is at (c.in_ok-name.ensures.read bytes) in
     compilation_done _ _ _ _ _ _ _ bytes
-    (c.section_offset-base.ensures ∙ sym (section_offset_seen g.R.Reader.bytes c.args.attributes.now.str_offsets_base))
-    (c.section_offset.ensures ∙ sym (section_offset_seen g.R.Reader.bytes c.args.attributes.now.stmt_list))
+    (c.section_offset-base.ensures ∙ sym (section_offset_seen g.R.Reader.seen c.args.attributes.now.str_offsets_base))
+    (c.section_offset.ensures ∙ sym (section_offset_seen g.R.Reader.seen c.args.attributes.now.stmt_list))
     directory name

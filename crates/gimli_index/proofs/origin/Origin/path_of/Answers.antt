@@ -8,7 +8,7 @@ use Rattle.gimli_index.proofs.origin.Origin.path_of.Goals as goal
 
 pub returns-in-Ok-clause-path : goal.returns-in-Ok-clause-path
 returns-in-Ok-clause-path g c =
-    let t = texts_seen g.R.Reader.bytes c.args.self.now.paths.now in
+    let t = texts_seen g.R.Reader.seen c.args.self.now.paths.now in
     let header = c.in-Some.header.now.meaning in
     sym (
     ap (λ h. path_by t c.args.unit.now.offset h c.args.row.now) c.in-Some.ensures.header
@@ -18,7 +18,7 @@ returns-in-Ok-clause-path g c =
 
 pub returns-in-Some-reason_of-clause-path : goal.returns-in-Some-reason_of-clause-path
 returns-in-Some-reason_of-clause-path g c =
-    let t = texts_seen g.R.Reader.bytes c.args.self.now.paths.now in
+    let t = texts_seen g.R.Reader.seen c.args.self.now.paths.now in
     let header = c.in-Some.header.now.meaning in
     let said = c.in-Some-reason_of.ensures in
     sym (

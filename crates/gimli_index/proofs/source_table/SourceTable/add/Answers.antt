@@ -12,7 +12,7 @@ use Rattle.gimli_index.proofs.source_table.SourceTable.add.Goals as goal
 
 pub returns-then-number-ge-MOST-clause-err : goal.returns-then-number-ge-MOST-clause-err
 returns-then-number-ge-MOST-clause-err g c =
-    let t = texts_seen g.R.Reader.bytes c.args.origin.now.paths.now in
+    let t = texts_seen g.R.Reader.seen c.args.origin.now.paths.now in
     let units = c.args.origin.now.lookup.now in
     let limit = c.args.origin.now.limit in
     let f = c.args.rows in
@@ -45,7 +45,7 @@ bounds-units-rows g c =
 
 pub returns-in_err-source-clause-err : goal.returns-in_err-source-clause-err
 returns-in_err-source-clause-err g c =
-    let t = texts_seen g.R.Reader.bytes c.args.origin.now.paths.now in
+    let t = texts_seen g.R.Reader.seen c.args.origin.now.paths.now in
     let units = c.args.origin.now.lookup.now in
     let f = c.args.rows in
     let inside : Table = record {
@@ -72,7 +72,7 @@ add-requires g c =
 
 pub returns-clause-are : goal.returns-clause-are
 returns-clause-are g c =
-    let t = texts_seen g.R.Reader.bytes c.args.origin.now.paths.now in
+    let t = texts_seen g.R.Reader.seen c.args.origin.now.paths.now in
     let units = c.args.origin.now.lookup.now in
     let f = c.args.rows in
     let inside : Table = record {
@@ -95,7 +95,7 @@ returns-clause-are g c =
 
 pub returns-clause-keeps : goal.returns-clause-keeps
 returns-clause-keeps g c =
-    let t = texts_seen g.R.Reader.bytes c.args.origin.now.paths.now in
+    let t = texts_seen g.R.Reader.seen c.args.origin.now.paths.now in
     let units = c.args.origin.now.lookup.now in
     let f = c.args.rows in
     let inside : Table = record {
@@ -119,7 +119,7 @@ returns-clause-keeps g c =
 
 pub returns-clause-number : goal.returns-clause-number
 returns-clause-number g c =
-    let t = texts_seen g.R.Reader.bytes c.args.origin.now.paths.now in
+    let t = texts_seen g.R.Reader.seen c.args.origin.now.paths.now in
     let units = c.args.origin.now.lookup.now in
     let f = c.args.rows in
     let inside : Table = record {

@@ -14,7 +14,7 @@ use Rattle.gimli_index.proofs.source_table.SourceTable.place_of.Goals as goal
 
 pub returns-clause-place : goal.returns-clause-place
 returns-clause-place g c =
-    let t = texts_seen g.R.Reader.bytes c.args.origin.now.paths.now in
+    let t = texts_seen g.R.Reader.seen c.args.origin.now.paths.now in
     let units = c.args.origin.now.lookup.now in
     let rows = c.in-Some.rows in
     let within : rows.unit

@@ -7,7 +7,7 @@ use proofs.header.tables.parse_all_formats.Given as goal
 abbrev pub invariant-loop : goal.invariant-loop
 invariant-loop g l = record {
   so_far : collected l.formats.items (λ x. x)
-      ((times (l.count - l.counter) format_production).read (g.R.Reader.bytes l.input))
-      ≡ (times l.count format_production).read (g.R.Reader.bytes l.initial.input);
-  order : g.R.Reader.is_big l.input ≡ g.R.Reader.is_big l.initial.input;
+      ((times (l.count - l.counter) format_production).read (g.R.Reader.seen l.input).bytes)
+      ≡ (times l.count format_production).read (g.R.Reader.seen l.initial.input).bytes;
+  order : (g.R.Reader.seen l.input).is_big ≡ (g.R.Reader.seen l.initial.input).is_big;
 }

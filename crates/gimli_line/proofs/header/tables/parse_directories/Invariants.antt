@@ -6,12 +6,12 @@ use proofs.header.tables.parse_directories.Given as goal
 
 abbrev pub invariant-loop-directories : goal.invariant-loop-directories
 invariant-loop-directories g l = record {
-  so_far : collected (map (value_seen g.R.Reader.bytes g.R.Offset.ReaderOffset.number) l.directories.items) String
-      (paths_production.read (g.R.Reader.bytes l.input))
-      ≡ read_map (map String) (paths_production.read (g.R.Reader.bytes l.initial.input));
-  order : g.R.Reader.is_big l.input ≡ g.R.Reader.is_big l.initial.input;
-  parts : All (ValueHasOrder g.R.Reader.is_big (g.R.Reader.is_big l.initial.input)) l.directories.items;
+  so_far : collected (map (value_seen g.R.Reader.seen g.R.Offset.ReaderOffset.number) l.directories.items) String
+      (paths_production.read (g.R.Reader.seen l.input).bytes)
+      ≡ read_map (map String) (paths_production.read (g.R.Reader.seen l.initial.input).bytes);
+  order : (g.R.Reader.seen l.input).is_big ≡ (g.R.Reader.seen l.initial.input).is_big;
+  parts : All (ValueHasOrder g.R.Reader.seen (g.R.Reader.seen l.initial.input).is_big) l.directories.items;
 }
 
 abbrev pub decreases-loop-directories : goal.decreases-loop-directories
-decreases-loop-directories g l = length (g.R.Reader.bytes l.input)
+decreases-loop-directories g l = length (g.R.Reader.seen l.input).bytes

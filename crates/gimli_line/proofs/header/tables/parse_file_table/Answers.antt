@@ -16,7 +16,7 @@ returns-clause-read g c =
 
 pub returns-clause-parts : goal.returns-clause-parts
 returns-clause-parts g c =
-    files_kept _ _ _ _ c.parse_formats.ensures.order c.in_ok-files-2.ensures.parts
+    files_kept g.R.Reader.seen _ _ _ c.parse_formats.ensures.order c.in_ok-files-2.ensures.parts
 
 pub returns-in_err-files-clause-read : goal.returns-in_err-files-clause-read
 returns-in_err-files-clause-read g c =

@@ -4,6 +4,7 @@ use Rattle.std.proofs.lemmas.List.{drop_more}
 use Rattle.gimli_line.proofs
 use proofs.Common
 use Common.{ℕ, List, Ok, Err, length, drop, drop_all, refl, subst, ◌∙◌, err_from_is_err_and, Value, ValueHasOrder, Read}
+use Common.{read_of, order_of, taken_of}
 use Common.{Error, Format, OrderAndLimit, File, FileEntryFormat}
 use Rattle.gimli_core.specs.Form.{form_production}
 use Rattle.gimli_line.specs.inside.header.EntryReading.{file_with, folded_at}
@@ -30,7 +31,7 @@ pub loop-entry_format-init : goal.loop-entry_format-init
 loop-entry_format-init g c = record {
   so_far = rw (c.of_path-file.ensures.file, c.nothing.ensures.bytes) (file_is _ _ _ _);
   order = refl;
-  part = file_kept g.R.Reader.is_big _ _ c.of_path-file.result c.nothing.ensures.order c.of_path-file.ensures.order;
+  part = file_kept g.R.Reader.seen _ _ c.of_path-file.result c.nothing.ensures.order c.of_path-file.ensures.order;
 }
 
 pub loop-entry_format-preserved : goal.loop-entry_format-preserved
@@ -39,10 +40,10 @@ loop-entry_format-preserved g c =
     record {
       so_far = rw c.update.ensures.file
           (goes_on _ _ _ _ _ _ _ i.so_far _ _ _ c.loop-entry_format-test.true
-          (rw i.order at c.in_ok-value.ensures.read));
-      order = c.parse_attribute.ensures.order ∙ i.order;
+          (rw i.order at (read_of c.in_ok-value.ensures.read)));
+      order = order_of c.parse_attribute.ensures.read ∙ i.order;
       part = c.update.ensures.order _ i.part
-          (subst (λ order. ValueHasOrder g.R.Reader.is_big order c.in_ok-value.value) i.order
+          (subst (λ order. ValueHasOrder g.R.Reader.seen order c.in_ok-value.value) i.order
           c.in_ok-value.ensures.part);
     }
 
@@ -51,7 +52,12 @@ returns-in_err-value-clause-read g c =
     let p = err_from_is_err_and c.from_residual.result c.from_residual.ensures.1 in
     let i = c.loop-entry_format.invariant in
     rw (p.1, p.2)
-    (ends _ _ _ _ _ _ _ i.so_far _ _ _ c.loop-entry_format-test.true (rw i.order at c.in_err-value.ensures.read))
+    (taken_of
+    (ends _ _ _ _ _ _ _ i.so_far _ _ _ c.loop-entry_format-test.true
+    (rw i.order at (read_of c.in_err-value.ensures.read)))
+    (order_of c.in_err-value.ensures.read ∙ i.order))
 
 pub returns-clause-read : goal.returns-clause-read
-returns-clause-read g c = done _ _ _ _ _ _ _ c.loop-entry_format.invariant.so_far c.loop-entry_format-test.false
+returns-clause-read g c =
+    taken_of (done _ _ _ _ _ _ _ c.loop-entry_format.invariant.so_far c.loop-entry_format-test.false)
+    c.loop-entry_format.invariant.order

@@ -8,12 +8,13 @@ use proofs.header.tables.parse_files_v5.Given as goal
 
 abbrev pub invariant-loop : goal.invariant-loop
 invariant-loop g l =
-    let layout = layout_of (g.R.Reader.is_big l.fn.input) g.R.Offset.ReaderOffset.limit in
+    let layout = layout_of (g.R.Reader.seen l.fn.input).is_big g.R.Offset.ReaderOffset.limit in
     record {
-      so_far : collected (map (file_seen g.R.Reader.bytes g.R.Offset.ReaderOffset.number) l.files.items) file_of_entry
-          ((times (l.count - l.counter) (entry_production layout l.format l.formats)).read (g.R.Reader.bytes l.input))
+      so_far : collected (map (file_seen g.R.Reader.seen g.R.Offset.ReaderOffset.number) l.files.items) file_of_entry
+          ((times (l.count - l.counter) (entry_production layout l.format l.formats)).read
+          (g.R.Reader.seen l.input).bytes)
           ≡ read_map (map file_of_entry)
-          ((entries_production layout l.format l.formats).read (g.R.Reader.bytes l.fn.input));
-      order : g.R.Reader.is_big l.input ≡ g.R.Reader.is_big l.fn.input;
-      parts : All (FileHasOrder g.R.Reader.is_big (g.R.Reader.is_big l.fn.input)) l.files.items;
+          ((entries_production layout l.format l.formats).read (g.R.Reader.seen l.fn.input).bytes);
+      order : (g.R.Reader.seen l.input).is_big ≡ (g.R.Reader.seen l.fn.input).is_big;
+      parts : All (FileHasOrder g.R.Reader.seen (g.R.Reader.seen l.fn.input).is_big) l.files.items;
     }

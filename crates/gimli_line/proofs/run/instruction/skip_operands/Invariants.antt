@@ -4,7 +4,7 @@ use Rattle.gimli_line.proofs.run.instruction.skip_operands.Given as goal
 
 abbrev pub invariant-loop : goal.invariant-loop
 invariant-loop g l = record {
-  so_far : without_value ((times (l.count - l.counter) unsigned).read (g.R.Reader.bytes l.input))
-      ≡ without_value ((times l.count unsigned).read (g.R.Reader.bytes l.initial.input));
-  order : g.R.Reader.is_big l.input ≡ g.R.Reader.is_big l.initial.input;
+  so_far : without_value ((times (l.count - l.counter) unsigned).read (g.R.Reader.seen l.input).bytes)
+      ≡ without_value ((times l.count unsigned).read (g.R.Reader.seen l.initial.input).bytes);
+  order : (g.R.Reader.seen l.input).is_big ≡ (g.R.Reader.seen l.initial.input).is_big;
 }

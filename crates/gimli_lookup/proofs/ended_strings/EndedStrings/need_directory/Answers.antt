@@ -8,4 +8,4 @@ pub returns : goal.returns
 returns g c =
     let h = c.args.header.now.meaning in
     c.needs_directory.ensures ∙ ap needs_directory c.new.ensures
-    ∙ ap (λ s. needs_directory (paths_in (strings g.R.Reader.bytes s) h None)) c.self.view_is
+    ∙ ap (λ s. needs_directory (paths_in (strings g.R.Reader.seen s) h None)) c.self.view_is

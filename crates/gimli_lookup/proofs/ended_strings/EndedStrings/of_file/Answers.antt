@@ -10,13 +10,13 @@ use Rattle.gimli_lookup.proofs.ended_strings.EndedStrings.of_file.Goals as goal
 
 pub file_fault-requires-clause-fault : goal.file_fault-requires-clause-fault
 file_fault-requires-clause-fault g c =
-    let f = file_seen g.R.Reader.bytes g.R.Offset.ReaderOffset.number c.args.file.now in
+    let f = file_seen g.R.Reader.seen g.R.Offset.ReaderOffset.number c.args.file.now in
     let other : c.in-Err.e ≢ OutOfMemory = search rules in
     (option_copied c.args.known, ap (λ p. file_path p f) (sym c.new.ensures) ∙ c.in-Err.ensures.err other)
 
 pub returns-in-Err-clause-err : goal.returns-in-Err-clause-err
 returns-in-Err-clause-err g c =
-    let bytes = g.R.Reader.bytes in
+    let bytes = (g.R.Reader.seen in).bytes
     let known = option_copied c.args.known in
     let f = file_seen bytes g.R.Offset.ReaderOffset.number c.args.file.now in
     λ other.
@@ -31,7 +31,7 @@ by_both items (Err e) ended whole too is = is
 
 pub returns-in_default-2-clause-ok : goal.returns-in_default-2-clause-ok
 returns-in_default-2-clause-ok g c =
-    let bytes = g.R.Reader.bytes in
+    let bytes = (g.R.Reader.seen in).bytes
     let h = c.args.header.now.meaning in
     let known = option_copied c.args.known in
     let f = file_seen bytes g.R.Offset.ReaderOffset.number c.args.file.now in

@@ -9,7 +9,7 @@ use Rattle.gimli_lookup.proofs.ended_strings.Sections.file_fault.Goals as goal
 
 pub path_fault-requires-clause-fault : goal.path_fault-requires-clause-fault
 path_fault-requires-clause-fault g c =
-    let bytes = g.R.Reader.bytes in
+    let bytes = (g.R.Reader.seen in).bytes
     let number = g.R.Offset.ReaderOffset.number in
     let ended = strings bytes c.args.self.now.ended in
     let f = file_seen bytes number c.args.file.now in
@@ -25,7 +25,7 @@ path_fault-requires-clause-fault g c =
 
 pub returns : goal.returns
 returns g c =
-    let bytes = g.R.Reader.bytes in
+    let bytes = (g.R.Reader.seen in).bytes
     let number = g.R.Offset.ReaderOffset.number in
     let h = c.args.header.now.meaning in
     let ended = strings bytes c.args.self.now.ended in

@@ -7,7 +7,7 @@ use Rattle.gimli_lookup.proofs.ended_strings.Sections.path_fault.Goals as goal
 
 pub directory_fault-requires-clause-fault : goal.directory_fault-requires-clause-fault
 directory_fault-requires-clause-fault g c =
-    let bytes = g.R.Reader.bytes in
+    let bytes = (g.R.Reader.seen in).bytes
     let number = g.R.Offset.ReaderOffset.number in
     let ended = strings bytes c.args.self.now.ended in
     let v = value_seen bytes number c.in-Some.value in
@@ -20,7 +20,7 @@ directory_fault-requires-clause-fault g c =
 
 pub returns-in-Some-2 : goal.returns-in-Some-2
 returns-in-Some-2 g c =
-    let bytes = g.R.Reader.bytes in
+    let bytes = (g.R.Reader.seen in).bytes
     let number = g.R.Offset.ReaderOffset.number in
     let h = c.args.header.now.meaning in
     let ended = strings bytes c.args.self.now.ended in

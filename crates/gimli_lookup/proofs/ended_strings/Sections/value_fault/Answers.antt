@@ -6,7 +6,7 @@ use Rattle.gimli_lookup.proofs.ended_strings.Sections.value_fault.Goals as goal
 
 pub returns-in-DebugLineStrRef : goal.returns-in-DebugLineStrRef
 returns-in-DebugLineStrRef g c =
-    let bytes = g.R.Reader.bytes in
+    let bytes = (g.R.Reader.seen in).bytes
     let number = g.R.Offset.ReaderOffset.number in
     let offset = number c.in-DebugLineStrRef.offset.0 in
     let whole = bytes c.args.self.now.whole.debug_line_str in
@@ -24,7 +24,7 @@ returns-in-DebugLineStrRef g c =
 
 pub returns-in-DebugStrRef : goal.returns-in-DebugStrRef
 returns-in-DebugStrRef g c =
-    let bytes = g.R.Reader.bytes in
+    let bytes = (g.R.Reader.seen in).bytes
     let number = g.R.Offset.ReaderOffset.number in
     let offset = number c.in-DebugStrRef.offset.0 in
     let whole = bytes c.args.self.now.whole.debug_str in

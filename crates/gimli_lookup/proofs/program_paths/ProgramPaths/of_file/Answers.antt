@@ -10,7 +10,7 @@ use Rattle.gimli_lookup.proofs.program_paths.ProgramPaths.of_file.Goals as goal
 
 pub returns-in_default-clause-ok : goal.returns-in_default-clause-ok
 returns-in_default-clause-ok g c =
-    let bytes = g.R.Reader.bytes in
+    let bytes = (g.R.Reader.seen in).bytes
     let number = g.R.Offset.ReaderOffset.number in
     let directory = directory_for c.args.self.now.1 in
     let h = c.args.header.now in
@@ -28,7 +28,7 @@ returns-in_default-clause-ok g c =
 
 pub returns-in_default-clause-err : goal.returns-in_default-clause-err
 returns-in_default-clause-err g c =
-    let bytes = g.R.Reader.bytes in
+    let bytes = (g.R.Reader.seen in).bytes
     let number = g.R.Offset.ReaderOffset.number in
     let directory = directory_for c.args.self.now.1 in
     let h = c.args.header.now in
@@ -45,7 +45,7 @@ returns-in_default-clause-err g c =
 
 pub returns-clause-ok : goal.returns-clause-ok
 returns-clause-ok g c =
-    let bytes = g.R.Reader.bytes in
+    let bytes = (g.R.Reader.seen in).bytes
     let number = g.R.Offset.ReaderOffset.number in
     let directory = directory_for c.args.self.now.1 in
     let h = c.args.header.now in
@@ -64,7 +64,7 @@ returns-clause-ok g c =
 
 pub returns-clause-err : goal.returns-clause-err
 returns-clause-err g c =
-    let bytes = g.R.Reader.bytes in
+    let bytes = (g.R.Reader.seen in).bytes
     let number = g.R.Offset.ReaderOffset.number in
     let directory = directory_for c.args.self.now.1 in
     let h = c.args.header.now in

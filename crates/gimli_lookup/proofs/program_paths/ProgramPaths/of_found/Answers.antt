@@ -29,7 +29,7 @@ same_path t units f u h offset there header is =
 
 pub returns-clause-ok : goal.returns-clause-ok
 returns-clause-ok g c =
-    let t = texts_seen g.R.Reader.bytes c.args.self.now in
+    let t = texts_seen g.R.Reader.seen c.args.self.now in
     let h = c.in-Some-header.header.now in
     let kept : KeptHeader = record { meaning = h.meaning; layout = h.layout } in
     let there : slice_get c.args.units.now c.args.found.now.unit
@@ -43,7 +43,7 @@ returns-clause-ok g c =
 
 pub returns-clause-err : goal.returns-clause-err
 returns-clause-err g c =
-    let t = texts_seen g.R.Reader.bytes c.args.self.now in
+    let t = texts_seen g.R.Reader.seen c.args.self.now in
     let h = c.in-Some-header.header.now in
     let kept : KeptHeader = record { meaning = h.meaning; layout = h.layout } in
     let there : slice_get c.args.units.now c.args.found.now.unit

@@ -16,7 +16,7 @@ unit_addresses-requires g c =
 
 pub loop-unit-preserved : goal.loop-unit-preserved
 loop-unit-preserved g c =
-    let texts = texts_seen g.R.Reader.bytes c.args.paths.now in
+    let texts = texts_seen g.R.Reader.seen c.args.paths.now in
     let path = c.args.path.now in
     let units = c.args.self.now in
     let i = c.loop-unit.unit in
@@ -32,7 +32,7 @@ loop-unit-preserved g c =
 
 pub returns-clause-ok : goal.returns-clause-ok
 returns-clause-ok g c =
-    let texts = texts_seen g.R.Reader.bytes c.args.paths.now in
+    let texts = texts_seen g.R.Reader.seen c.args.paths.now in
     let units = c.args.self.now in
     let count : length c.units-unit-end.result.now ≡ length units = ap length c.units-unit-end.ensures
     ∙ length-map units (λ (u : KeptUnit). u.unit) in

@@ -6,5 +6,5 @@ use Rattle.gimli_lookup.proofs.section_lookup.SectionLookup.addresses_of.Given a
 
 abbrev pub invariant-loop-unit : goal.invariant-loop-unit
 invariant-loop-unit g l =
-    AreCollectedFrom (addresses_of_path (texts_seen g.R.Reader.bytes l.paths) l.path (take l.unit l.self)) l.line
+    AreCollectedFrom (addresses_of_path (texts_seen g.R.Reader.seen l.paths) l.path (take l.unit l.self)) l.line
     l.found

@@ -35,8 +35,8 @@ returns-clause-offsets g c =
     let units = c.units.units.items in
     let none = rw c.in_default.is at c.in_ok-next.ensures.next in
     let are = c.units.invariant.to_come ∙ ap (λ (os : List ℕ). map (λ (u : ListedUnit). u.offset) units ++ os) none.0 in
-    subst (AreUnits (layout_of (g.R.Reader.is_big c.args.section.now) g.R.Offset.ReaderOffset.limit) 0
-    (g.R.Reader.bytes c.args.section.now))
+    subst (AreUnits (layout_of (g.R.Reader.seen c.args.section.now).is_big g.R.Offset.ReaderOffset.limit) 0
+    (g.R.Reader.seen c.args.section.now).bytes)
     (all_kept c.units.sequences.items units c.units-walk.result.offsets are) c.units-walk.ensures.offsets
 
 pub returns-clause-units : goal.returns-clause-units

@@ -11,7 +11,7 @@ use Rattle.gimli_lookup.proofs.section_lookup.SectionLookup.unit_addresses.Goals
 pub returns-clause-ok : goal.returns-clause-ok
 returns-clause-ok g c =
     λ d.
-    let texts = texts_seen g.R.Reader.bytes c.args.paths.now in
+    let texts = texts_seen g.R.Reader.seen c.args.paths.now in
     let path = c.args.path.now in
     let unit = slice_index_or c.args.self.now c.args.unit d in
     let same : is_among c.deref.result.now ≡ unit_has_path texts path unit.unit =

@@ -16,7 +16,7 @@ both (Err e) f p q = tt
 pub returns-in_err-header-clause-refusal : goal.returns-in_err-header-clause-refusal
 returns-in_err-header-clause-refusal g c =
     let source : ToConvert =
-    to_convert g.R.Reader.bytes c.args.debug_str c.args.debug_line_str c.args.from_program c.args.from_comp_name
+    to_convert g.R.Reader.seen c.args.debug_str c.args.debug_line_str c.args.from_program c.args.from_comp_name
     c.args.encoding c.args.line_encoding in
     let p = err_from_is_err_and c.from_residual.result c.from_residual.ensures.1 in
     rw (p.1, p.2)
@@ -26,7 +26,7 @@ returns-in_err-header-clause-refusal g c =
 pub returns-clause-outcome : goal.returns-clause-outcome
 returns-clause-outcome g c =
     let source : ToConvert =
-    to_convert g.R.Reader.bytes c.args.debug_str c.args.debug_line_str c.args.from_program c.args.from_comp_name
+    to_convert g.R.Reader.seen c.args.debug_str c.args.debug_line_str c.args.from_program c.args.from_comp_name
     c.args.encoding c.args.line_encoding in
     let before = c.args.line_strings.now in
     let first = tables_with c.new.new.line_strings c.in_ok-header.header.tables in
@@ -48,7 +48,7 @@ returns-clause-outcome g c =
 pub returns-clause-refusal : goal.returns-clause-refusal
 returns-clause-refusal g c =
     let source : ToConvert =
-    to_convert g.R.Reader.bytes c.args.debug_str c.args.debug_line_str c.args.from_program c.args.from_comp_name
+    to_convert g.R.Reader.seen c.args.debug_str c.args.debug_line_str c.args.from_program c.args.from_comp_name
     c.args.encoding c.args.line_encoding in
     IfErr-weaker _ _ _ (λ e refused. rows_refused (goal.F-post g c.args.convert_address) source c.args.line_strings.now
     (tables_with c.new.new.line_strings c.in_ok-header.header.tables)

@@ -31,7 +31,7 @@ returns-in_err-back-clause-strings g c =
 pub returns-clause-faithful : goal.returns-clause-faithful
 returns-clause-faithful g c =
     let source : ToConvert =
-    to_convert g.R.Reader.bytes c.args.debug_str c.args.debug_line_str c.args.from_program c.args.from_comp_name
+    to_convert g.R.Reader.seen c.args.debug_str c.args.debug_line_str c.args.from_program c.args.from_comp_name
     c.args.encoding c.args.line_encoding in
     let made = outcome_with (c.in_ok-program.program, c.in_ok-program.files) c.convert_program.new.line_strings in
     let back = answers c.in_ok-back.back in

@@ -49,10 +49,10 @@ pub instructions-preserved : goal.instructions-preserved
 instructions-preserved g c =
     let h : Header = c.args.header.now.meaning in
     let layout : OrderAndLimit = c.args.header.now.layout in
-    let seen = ins_seen g.R.Reader.bytes g.R.Offset.ReaderOffset.number in
+    let seen = ins_seen g.R.Reader.seen g.R.Offset.ReaderOffset.number in
     let done =
-    next_counted layout h h.program (g.R.Reader.bytes c.instructions.rest)
-    (g.R.Reader.bytes c.instruction_bytes.new.rest) c.args.self.now
+    next_counted layout h h.program (g.R.Reader.seen c.instructions.rest).bytes
+    (g.R.Reader.seen c.instruction_bytes.new.rest).bytes c.args.self.now
     c.instructions.self c.add.new.self c.instructions.instructions c.next_instruction.new.self
     (option_map seen c.in_ok-instruction.field-0)
     (seen c.in-Some.instruction) c.on.result c.in_ok-bytes.bytes _ (c.into_u64.ensures ∙ c.len.ensures)

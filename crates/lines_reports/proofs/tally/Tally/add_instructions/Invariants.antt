@@ -5,8 +5,8 @@ use Rattle.lines_reports.proofs.tally.Tally.add_instructions.Given as goal
 abbrev pub invariant-instructions : goal.invariant-instructions
 invariant-instructions g l = record {
   counted : AreCounted l.header.layout l.header.meaning l.header.meaning.program l.initial.self
-      (g.R.Reader.bytes l.rest) l.self;
-  same : g.R.Reader.bytes l.rest ≡ l.instructions.bytes;
+      (g.R.Reader.seen l.rest).bytes l.self;
+  same : (g.R.Reader.seen l.rest).bytes ≡ l.instructions.bytes;
   layout : l.instructions.layout ≡ l.header.layout;
 }
 

@@ -11,7 +11,7 @@ returns-clause-source g c = rw (← c.self.view_is) (record {
   order = λ order has are. record {
     operand_counts = are.operand_counts;
     directories = are.directories;
-    files = files_after g.R.Reader.is_big order c.push.result c.self.inside.file_names.items _ c.args.file
+    files = files_after g.R.Reader.seen order c.push.result c.self.inside.file_names.items _ c.args.file
         c.push.ensures.ok c.push.ensures.kept has are.files;
   };
 })

@@ -1,5 +1,6 @@
 use Rattle.std.specs.Prelude.{◌≡◌, ◌-◌, ◌<◌}
-use Rattle.gimli_line.proofs.Common.{ℕ, List, ◌∙◌, arith, OrderAndLimit, Header, slice_index}
+use Rattle.gimli_line.proofs.Common.{ℕ, List, ◌∙◌, arith, OrderAndLimit, Header, slice_index, read_of, order_of}
+use Rattle.gimli_line.proofs.Common.{taken_of}
 use Rattle.gimli_line.specs.run.InstructionGrammar.{standard_production, unknown_production}
 use Rattle.gimli_line.proofs.run.instruction.LineInstruction.parse_standard.Goals as goal
 
@@ -10,4 +11,6 @@ unfolding standard_production
 above layout h n bytes lt = grind arith
 
 pub returns-in_default-clause-read : goal.returns-in_default-clause-read
-returns-in_default-clause-read g c = c.parse_unknown.ensures.read ∙ above _ _ _ _ (omega arith)
+returns-in_default-clause-read g c =
+    taken_of (read_of c.parse_unknown.ensures.read ∙ above _ _ _ _ (omega arith))
+    (order_of c.parse_unknown.ensures.read)

@@ -1,5 +1,5 @@
 use Rattle.gimli_line.proofs
-use proofs.Common.{refl, sym, ap, ◌∙◌, Header}
+use proofs.Common.{refl, sym, ap, ◌∙◌, Header, read_of}
 use proofs.Executions.{special_executed, standard_executed, executes_it, executes_none}
 use proofs.run.instruction.LineInstructions.execute_common.Goals as goal
 
@@ -10,7 +10,7 @@ returns-in-Err-clause-err g c =
     rw (← c.self.view_is) (
       over.0,
       special_executed _ _ _ _ _ _ _ same c.opcode_base.ensures c.exec_special_opcode.ensures.some
-          c.if-opcode-opcode_base.true c.in-Ok.ensures.read _ _ _
+          c.if-opcode-opcode_base.true (read_of c.in-Ok.ensures) _ _ _
           c.exec_special_opcode.ensures.step over.1,
     )
 
@@ -20,7 +20,7 @@ returns-in-Ok-exec_special_opcode-clause-ok g c =
     rw (← c.self.view_is) (
       special_executed _ _ _ _ _ _ _ same c.opcode_base.ensures c.exec_special_opcode.ensures.some
           c.if-opcode-opcode_base.true
-          c.in-Ok.ensures.read _ _ _ c.exec_special_opcode.ensures.step c.in-Ok-exec_special_opcode.ensures.fits,
+          (read_of c.in-Ok.ensures) _ _ _ c.exec_special_opcode.ensures.step c.in-Ok-exec_special_opcode.ensures.fits,
       refl,
     )
 
@@ -30,7 +30,7 @@ returns-then-is_executed-clause-ok g c =
     let executed = c.exec_common_opcode-executed.ensures in
     rw (← c.self.view_is) (executes_it _ _ _ _ _ _ is
     (standard_executed _ _ _ _ _ _ c.opcode_base.ensures (executed.some is) c.if-opcode-opcode_base.false
-    c.in-Ok.ensures.read _ _ _ _ (executed.executed is _ _)))
+    (read_of c.in-Ok.ensures) _ _ _ _ (executed.executed is _ _)))
 
 pub returns-else-is_executed-clause-ok : goal.returns-else-is_executed-clause-ok
 returns-else-is_executed-clause-ok g c =

@@ -1,18 +1,18 @@
 use Rattle.std.specs.Prelude.{◌≡◌}
 use Rattle.gimli_line.proofs
-use proofs.Common.{rules, ◌∙◌, refl, sym, ap, arith, layout_of, AdvancePc, ConstAddPc}
+use proofs.Common.{rules, ◌∙◌, refl, sym, ap, arith, layout_of, AdvancePc, ConstAddPc, read_of, order_of}
 use proofs.Executions.{executes_it}
 use proofs.OtherExecutions.{below_executed, advance_read, const_add_read, extended_first}
 use proofs.run.instruction.LineInstructions.execute_other.Goals as goal
 
 pub returns-then-is_executed-clause-ok : goal.returns-then-is_executed-clause-ok
 returns-then-is_executed-clause-ok g c =
-    let n = layout_of (g.R.Reader.is_big c.self.inside.input) g.R.Offset.ReaderOffset.limit in
+    let n = layout_of (g.R.Reader.seen c.self.inside.input).is_big g.R.Offset.ReaderOffset.limit in
     let first =
-    extended_first n c.args.header.now.meaning _ _ c.in-Ok.opcode c.if-opcode-eq0.true c.in-Ok.ensures.read in
+    extended_first n c.args.header.now.meaning _ _ c.in-Ok.opcode c.if-opcode-eq0.true (read_of c.in-Ok.ensures) in
     let is = sym c.is_executed.ensures ∙ c.if-is_executed.true in
     rw (← c.self.view_is) (executes_it _ _ _ _ _ _ is
-    (rw first (rw c.in-Ok.ensures.order at (c.exec_extended_opcode-executed.ensures.executed is))))
+    (rw first (rw (order_of c.in-Ok.ensures) at (c.exec_extended_opcode-executed.ensures.executed is))))
 
 pub returns-else-is_executed-clause-ok : goal.returns-else-is_executed-clause-ok
 returns-else-is_executed-clause-ok g c = grind (arith)
@@ -25,7 +25,7 @@ returns-in-Err-clause-err g c =
     rw (← c.self.view_is) (
       over.0,
       below_executed _ _ _ _ _ _ _ same c.opcode_base.ensures (omega (arith)) c.if-opcode-opcode_base.false
-          c.in-Ok.ensures.read
+          (read_of c.in-Ok.ensures)
           (AdvancePc c.in-Some.advance)
           _ (advance_read _ _ _ _ is _ _ c.in-Some.ensures.read) refl _ _ _ c.apply_operation_advance.ensures.step
           over.1,
@@ -37,7 +37,7 @@ returns-in-Ok-apply_operation_advance-clause-ok g c =
     let is : c.in-Ok.opcode ≡ 2 = search rules in
     rw (← c.self.view_is) (
       below_executed _ _ _ _ _ _ _ same c.opcode_base.ensures (omega (arith)) c.if-opcode-opcode_base.false
-          c.in-Ok.ensures.read
+          (read_of c.in-Ok.ensures)
           (AdvancePc c.in-Some.advance) _ (advance_read _ _ _ _ is _ _ c.in-Some.ensures.read) refl _ _ _
           c.apply_operation_advance.ensures.step
           c.in-Ok-apply_operation_advance.ensures.fits,
@@ -52,7 +52,7 @@ returns-in-Err-exec_const_add_pc-clause-err g c =
     rw (← c.self.view_is) (
       over.0,
       below_executed _ _ _ _ _ _ _ same c.opcode_base.ensures (omega (arith)) c.if-opcode-opcode_base.false
-          c.in-Ok.ensures.read ConstAddPc _
+          (read_of c.in-Ok.ensures) ConstAddPc _
           (const_add_read _ _ _ _ is) refl _ _ _ c.exec_const_add_pc.ensures.step over.1,
     )
 
@@ -62,7 +62,7 @@ returns-in-Ok-exec_const_add_pc-clause-ok g c =
     let is : c.in-Ok.opcode ≡ 8 = search rules in
     rw (← c.self.view_is) (
       below_executed _ _ _ _ _ _ _ same c.opcode_base.ensures (omega (arith)) c.if-opcode-opcode_base.false
-          c.in-Ok.ensures.read
+          (read_of c.in-Ok.ensures)
           ConstAddPc _ (const_add_read _ _ _ _ is) refl _ _ _ c.exec_const_add_pc.ensures.step
           c.in-Ok-exec_const_add_pc.ensures.fits,
       refl,

@@ -12,7 +12,7 @@ returns-clause-events g c =
           ∙ ap (λ v. (let s : Unread = record { bytes = v.meaning.program; layout = v.layout } in s))
           c.self.view_is,
     )
-    (started_events true c.args.self.meaning (source_of g.R.Reader.is_big g.R.Offset.ReaderOffset.number c.args.self) s)
+    (started_events true c.args.self.meaning (source_of g.R.Reader.seen g.R.Offset.ReaderOffset.number c.args.self) s)
 
 pub returns-clause-made : goal.returns-clause-made
 returns-clause-made g c =
@@ -23,7 +23,7 @@ returns-clause-made g c =
           ∙ ap (λ v. (let s : Unread = record { bytes = v.meaning.program; layout = v.layout } in s))
           c.self.view_is,
     )
-    (started_made true c.args.self.meaning (source_of g.R.Reader.is_big g.R.Offset.ReaderOffset.number c.args.self) s)
+    (started_made true c.args.self.meaning (source_of g.R.Reader.seen g.R.Offset.ReaderOffset.number c.args.self) s)
 
 pub returns-clause-files : goal.returns-clause-files
 returns-clause-files g c =
@@ -34,4 +34,4 @@ returns-clause-files g c =
           ∙ ap (λ v. (let s : Unread = record { bytes = v.meaning.program; layout = v.layout } in s))
           c.self.view_is,
     )
-    (started_files true c.args.self.meaning (source_of g.R.Reader.is_big g.R.Offset.ReaderOffset.number c.args.self) s)
+    (started_files true c.args.self.meaning (source_of g.R.Reader.seen g.R.Offset.ReaderOffset.number c.args.self) s)

@@ -12,7 +12,7 @@ returns-in-Ok g c =
     refl refl (refl, refl, refl)
     (keeps_run _ _ _ _ _ (refl, refl, refl) (refl, refl, refl) (ap without_files c.in-Ok.ensures.ok)
     c.in-Some.ensures.layout
-    (λ is_big. FileHasOrder g.R.Reader.is_big is_big c.in-Some.file) c.in-Ok.ensures.source c.in-Some.ensures.order))
+    (λ is_big. FileHasOrder g.R.Reader.seen is_big c.in-Some.file) c.in-Ok.ensures.source c.in-Some.ensures.order))
 
 pub returns-in-Err : goal.returns-in-Err
 returns-in-Err g c =
@@ -24,4 +24,4 @@ returns-in-Err g c =
     (ap (λ (s : Unread). s.bytes) c.clear.ensures) (refl, refl, refl)
     (keeps_run _ _ _ _ _ (refl, refl, refl) (refl, refl, refl) (ap without_files c.in-Err.ensures.err)
     (ap (λ (u : Unread). u.layout) c.clear.ensures ∙ c.in-Some.ensures.layout)
-    (λ is_big. FileHasOrder g.R.Reader.is_big is_big c.in-Some.file) c.in-Err.ensures.source c.in-Some.ensures.order))
+    (λ is_big. FileHasOrder g.R.Reader.seen is_big c.in-Some.file) c.in-Err.ensures.source c.in-Some.ensures.order))

@@ -33,7 +33,7 @@ returns-then-not-made g c =
     d.files d.fits false (d.makes ∙ c.if-not-made.true) d.step (refl, refl, refl)
     (keeps_run _ _ _ _ _ (refl, refl, refl) (refl, refl, refl) (ap without_files d.files)
     c.in-Ok-Some.ensures.layout
-    (λ is_big. InsHasOrder g.R.Reader.is_big is_big c.in-Ok-Some.instruction) c.execute.ensures.source operands))
+    (λ is_big. InsHasOrder g.R.Reader.seen is_big c.in-Ok-Some.instruction) c.execute.ensures.source operands))
 
 pub returns : goal.returns
 returns g c =
@@ -45,7 +45,7 @@ returns g c =
     d.files d.fits true (d.makes ∙ c.if-not-made.false) d.step (refl, refl, refl)
     (keeps_run _ _ _ _ _ (refl, refl, refl) (refl, refl, refl) (ap without_files d.files)
     c.in-Ok-Some.ensures.layout
-    (λ is_big. InsHasOrder g.R.Reader.is_big is_big c.in-Ok-Some.instruction) c.execute.ensures.source operands))
+    (λ is_big. InsHasOrder g.R.Reader.seen is_big c.in-Ok-Some.instruction) c.execute.ensures.source operands))
 
 pub returns-in-OutOfMemory : goal.returns-in-OutOfMemory
 returns-in-OutOfMemory g c =
@@ -60,7 +60,7 @@ returns-in-OutOfMemory g c =
           (ap (λ (s : Unread). s.bytes) c.clear.ensures) (refl, refl, refl)
           (keeps_run _ _ _ _ _ (refl, refl, refl) (refl, refl, refl) (ap without_files m.1.kept)
           (ap (λ (u : Unread). u.layout) c.clear.ensures ∙ c.in-Ok-Some.ensures.layout)
-          (λ is_big. InsHasOrder g.R.Reader.is_big is_big c.in-Ok-Some.instruction) c.execute.ensures.source operands))
+          (λ is_big. InsHasOrder g.R.Reader.seen is_big c.in-Ok-Some.instruction) c.execute.ensures.source operands))
     ]
 
 pub returns-in_default : goal.returns-in_default
@@ -74,5 +74,5 @@ returns-in_default g c =
           o.1.kept o.1.over o.1.step (refl, refl, refl)
           (keeps_run _ _ _ _ _ (refl, refl, refl) (refl, refl, refl) (ap without_files o.1.kept)
           c.in-Ok-Some.ensures.layout
-          (λ is_big. InsHasOrder g.R.Reader.is_big is_big c.in-Ok-Some.instruction) c.execute.ensures.source operands))
+          (λ is_big. InsHasOrder g.R.Reader.seen is_big c.in-Ok-Some.instruction) c.execute.ensures.source operands))
     ]

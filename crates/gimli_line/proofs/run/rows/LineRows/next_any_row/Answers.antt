@@ -14,6 +14,6 @@ returns-in-Ok-true g c =
       (refl, λ _. tt, (keeps, rw (c.current.ensures.row, c.current.ensures.files) r)),
       record {
         after = tt;
-        header = sees_after _ _ _ _ _ c.in-Ok-true.ensures.keeps c.current.ensures.header;
+        header = sees_after g.R.Reader.seen _ _ _ _ c.in-Ok-true.ensures.keeps c.current.ensures.header;
       },
     )

@@ -19,7 +19,7 @@ use proofs.run.sequences.IncompleteLineProgram+R.sequences.Goals as goal
 pub rows-init : goal.rows-init
 rows-init g c =
     let h = c.args.self.meaning in
-    let source = source_of g.R.Reader.is_big g.R.Offset.ReaderOffset.number c.args.self in
+    let source = source_of g.R.Reader.seen g.R.Offset.ReaderOffset.number c.args.self in
     let unread : Unread = record { bytes = h.program; layout = c.args.self.layout } in
     split_starts h source _ c.rows-rows.result c.rows-rows.ensures.start
     (rw (
@@ -73,7 +73,7 @@ returns-clause-ok g c =
 pub returns-clause-source : goal.returns-clause-source
 returns-clause-source g c =
     split_source _ _ _ c.rows.rows c.advance.new.self c.rows.invariant c.in_ok-advance.ensures.keeps _
-    (ap (source_of g.R.Reader.is_big g.R.Offset.ReaderOffset.number) c.header.view_is ∙ c.into_program.ensures.source)
+    (ap (source_of g.R.Reader.seen g.R.Offset.ReaderOffset.number) c.header.view_is ∙ c.into_program.ensures.source)
 
 pub returns-clause-unrefused : goal.returns-clause-unrefused
 returns-clause-unrefused g c =

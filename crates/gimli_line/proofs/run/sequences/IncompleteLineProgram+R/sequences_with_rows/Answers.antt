@@ -11,7 +11,7 @@ use proofs.run.sequences.IncompleteLineProgram+R.sequences_with_rows.Goals as go
 pub run-init : goal.run-init
 run-init g c =
     let h = c.args.self.meaning in
-    let source = source_of g.R.Reader.is_big g.R.Offset.ReaderOffset.number c.args.self in
+    let source = source_of g.R.Reader.seen g.R.Offset.ReaderOffset.number c.args.self in
     let unread : Unread = record { bytes = h.program; layout = c.args.self.layout } in
     split_starts h source _ c.rows-run.result c.rows-run.ensures.start
     (rw (
@@ -83,7 +83,7 @@ returns-clause-each g c =
 pub returns-clause-source : goal.returns-clause-source
 returns-clause-source g c =
     split_source _ _ _ c.run.run c.advance.new.self c.run.invariant c.in_ok-advance.ensures.keeps _
-    (ap (source_of g.R.Reader.is_big g.R.Offset.ReaderOffset.number) c.header.view_is ∙ c.into_program.ensures.source)
+    (ap (source_of g.R.Reader.seen g.R.Offset.ReaderOffset.number) c.header.view_is ∙ c.into_program.ensures.source)
 
 pub returns-clause-unrefused : goal.returns-clause-unrefused
 returns-clause-unrefused g c =

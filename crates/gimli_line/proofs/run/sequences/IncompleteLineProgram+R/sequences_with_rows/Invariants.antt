@@ -5,7 +5,7 @@ use proofs.run.sequences.IncompleteLineProgram+R.sequences_with_rows.Given as go
 
 abbrev pub invariant-run : goal.invariant-run
 invariant-run g l = IsSplit (Keeping l.fn.self.meaning l.split l.kept) l.fn.self.meaning
-    (source_of g.R.Reader.is_big g.R.Offset.ReaderOffset.number l.fn.self) l.run
+    (source_of g.R.Reader.seen g.R.Offset.ReaderOffset.number l.fn.self) l.run
 
 abbrev pub decreases-run : goal.decreases-run
 decreases-run g l = length l.run.unread.bytes

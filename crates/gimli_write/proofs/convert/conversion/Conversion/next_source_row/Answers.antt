@@ -22,7 +22,7 @@ returns-in-Done-clause-ok g c =
 pub steps-preserved : goal.steps-preserved
 steps-preserved g c =
     let a = c.steps.self-inside in
-    let f = file_seen g.R.Reader.bytes g.R.Offset.ReaderOffset.number c.in-Defines.file in
+    let f = file_seen g.R.Reader.seen g.R.Offset.ReaderOffset.number c.in-Defines.file in
     let before = tables_with c.steps.line_strings a.tables in
     let after = tables_with c.add_file.new.line_strings c.add_file.new.self in
     let read = rw c.in-Defines.is at c.in_ok-step.ensures.reading in
@@ -53,7 +53,7 @@ steps-preserved g c =
 pub returns-in_err-add_file-in-Defines-clause-err : goal.returns-in_err-add_file-in-Defines-clause-err
 returns-in_err-add_file-in-Defines-clause-err g c =
     let a = c.steps.self-inside in
-    let f = file_seen g.R.Reader.bytes g.R.Offset.ReaderOffset.number c.in-Defines.file in
+    let f = file_seen g.R.Reader.seen g.R.Offset.ReaderOffset.number c.in-Defines.file in
     let before = tables_with c.steps.line_strings a.tables in
     let read = rw c.in-Defines.is at c.in_ok-step.ensures.reading in
     let now = conversion a.sections a.source a.tables a.address a.held a.failed in

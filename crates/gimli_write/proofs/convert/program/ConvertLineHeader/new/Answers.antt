@@ -17,13 +17,13 @@ returns-in_err-tables-clause-err g c =
 pub returns-clause-ok : goal.returns-clause-ok
 returns-clause-ok g c =
     let sections : Sections = record {
-      strings = g.R.Reader.bytes c.args.debug_str;
-      line_strings = g.R.Reader.bytes c.args.debug_line_str;
+      strings = (g.R.Reader.seen c.args.debug_str).bytes;
+      line_strings = (g.R.Reader.seen c.args.debug_line_str).bytes;
     } in
     let h = c.args.from_program.meaning in
     let layout = c.args.from_program.layout in
     let tables = tables_with c.prepare.new.line_strings c.in_ok-tables.tables in
-    let given = handed_of c.args.encoding c.args.line_encoding (option_map g.R.Reader.bytes c.args.from_comp_name) in
+    let given = handed_of c.args.encoding c.args.line_encoding (option_map (λ r. (g.R.Reader.seen r).bytes) c.args.from_comp_name) in
     let is = rw c.header.ensures at c.in_ok-tables.ensures.ok in
     let same : without_built tables ≡ tables = prepared_plain sections h given c.args.line_strings.now is in
     rw c.start-conversion.ensures (record {

@@ -11,7 +11,7 @@ use proofs.convert.run.SourceRun.execute.Goals as goal
 pub invariant_of-self : goal.invariant_of-self
 invariant_of-self g c =
     let o = (overflow_of _ _ _ _ _ _ _ c.requires.file c.in-Err.ensures.executed).1 in
-    ready_at_refusal (ins_seen g.R.Reader.bytes g.R.Offset.ReaderOffset.number c.args.instruction) c.self.inside.row
+    ready_at_refusal (ins_seen g.R.Reader.seen g.R.Offset.ReaderOffset.number c.args.instruction) c.self.inside.row
     c.execute.new.self c.self.invariant c.self.inside.program.meaning.parameters o.over o.step
 
 pub returns-in-Err-clause-overflow : goal.returns-in-Err-clause-overflow
@@ -19,7 +19,7 @@ returns-in-Err-clause-overflow g c =
     let o = overflow_of _ _ _ _ _ _ _ c.requires.file c.in-Err.ensures.executed in (
       ap Read o.0,
       subst (λ s.
-          is_refused s.header.parameters (ins_seen g.R.Reader.bytes g.R.Offset.ReaderOffset.number c.args.instruction)
+          is_refused s.header.parameters (ins_seen g.R.Reader.seen g.R.Offset.ReaderOffset.number c.args.instruction)
           s.row ≡ true) c.self.view_is o.1.over,
     )
 
@@ -31,7 +31,7 @@ returns-in-Err-clause-header g c =
 pub invariant_of-self-then-not-made : goal.invariant_of-self-then-not-made
 invariant_of-self-then-not-made g c =
     let d = done_of _ _ _ _ _ _ _ c.in-Ok.ensures.executed in
-    ready_when_quiet (ins_seen g.R.Reader.bytes g.R.Offset.ReaderOffset.number c.args.instruction) c.self.inside.row
+    ready_when_quiet (ins_seen g.R.Reader.seen g.R.Offset.ReaderOffset.number c.args.instruction) c.self.inside.row
     c.execute.new.self c.self.invariant c.self.inside.program.meaning.parameters
     (d.makes ∙ c.if-not-made.true) d.step
 
@@ -39,7 +39,7 @@ pub returns-then-not-made-clause-fits : goal.returns-then-not-made-clause-fits
 returns-then-not-made-clause-fits g c =
     let d = done_of _ _ _ _ _ _ _ c.in-Ok.ensures.executed in
     subst (λ s.
-    is_refused s.header.parameters (ins_seen g.R.Reader.bytes g.R.Offset.ReaderOffset.number c.args.instruction) s.row
+    is_refused s.header.parameters (ins_seen g.R.Reader.seen g.R.Offset.ReaderOffset.number c.args.instruction) s.row
     ≡ false) c.self.view_is d.fits
 
 pub returns-then-not-made-clause-step : goal.returns-then-not-made-clause-step
@@ -47,8 +47,8 @@ returns-then-not-made-clause-step g c =
     let d = done_of _ _ _ _ _ _ _ c.in-Ok.ensures.executed in
     subst (λ s. state c.execute.new.program.meaning c.execute.new.self c.self.inside.base c.self.inside.pending
     c.self.inside.instructions
-    ≡ state_after (ins_seen g.R.Reader.bytes g.R.Offset.ReaderOffset.number c.args.instruction) s) c.self.view_is
-    (quiet_state (ins_seen g.R.Reader.bytes g.R.Offset.ReaderOffset.number c.args.instruction)
+    ≡ state_after (ins_seen g.R.Reader.seen g.R.Offset.ReaderOffset.number c.args.instruction) s) c.self.view_is
+    (quiet_state (ins_seen g.R.Reader.seen g.R.Offset.ReaderOffset.number c.args.instruction)
     c.self.inside.program.meaning c.execute.new.program.meaning
     c.self.inside.row c.execute.new.self c.self.inside.base c.self.inside.pending c.self.inside.instructions
     c.requires.address c.requires.file d.fits d.files d.step
@@ -58,7 +58,7 @@ pub returns-then-not-made-clause-header : goal.returns-then-not-made-clause-head
 returns-then-not-made-clause-header g c =
     let d = done_of _ _ _ _ _ _ _ c.in-Ok.ensures.executed in
     subst (λ s. c.execute.new.program.meaning ≡ s.header) c.self.view_is
-    (header_kept (ins_seen g.R.Reader.bytes g.R.Offset.ReaderOffset.number c.args.instruction)
+    (header_kept (ins_seen g.R.Reader.seen g.R.Offset.ReaderOffset.number c.args.instruction)
     c.self.inside.program.meaning c.execute.new.program.meaning
     c.self.inside.row c.execute.new.self c.self.inside.base c.self.inside.pending c.self.inside.instructions
     c.requires.address c.requires.file d.fits d.files d.step)
@@ -67,7 +67,7 @@ pub returns-clause-fits : goal.returns-clause-fits
 returns-clause-fits g c =
     let d = done_of _ _ _ _ _ _ _ c.in-Ok.ensures.executed in
     subst (λ s.
-    is_refused s.header.parameters (ins_seen g.R.Reader.bytes g.R.Offset.ReaderOffset.number c.args.instruction) s.row
+    is_refused s.header.parameters (ins_seen g.R.Reader.seen g.R.Offset.ReaderOffset.number c.args.instruction) s.row
     ≡ false) c.self.view_is d.fits
 
 pub returns-clause-step : goal.returns-clause-step
@@ -77,9 +77,9 @@ returns-clause-step g c =
     ≡ reset_row c.header.result.now.meaning.parameters c.execute.new.self = c.reset.ensures in
     let lent : c.header.result.now.meaning ≡ c.execute.new.program.meaning = rw c.header.ensures refl in
     subst
-    (λ s. c.made.new.self ≡ state_after (ins_seen g.R.Reader.bytes g.R.Offset.ReaderOffset.number c.args.instruction) s)
+    (λ s. c.made.new.self ≡ state_after (ins_seen g.R.Reader.seen g.R.Offset.ReaderOffset.number c.args.instruction) s)
     c.self.view_is (c.made.ensures.new
-    ∙ row_state (ins_seen g.R.Reader.bytes g.R.Offset.ReaderOffset.number c.args.instruction)
+    ∙ row_state (ins_seen g.R.Reader.seen g.R.Offset.ReaderOffset.number c.args.instruction)
     c.self.inside.program.meaning c.execute.new.program.meaning
     c.self.inside.row c.execute.new.self c.self.inside.base c.self.inside.pending c.self.inside.instructions
     c.requires.address c.requires.file d.fits d.files d.step
@@ -89,9 +89,9 @@ pub returns-clause-made : goal.returns-clause-made
 returns-clause-made g c =
     let d = done_of _ _ _ _ _ _ _ c.in-Ok.ensures.executed in
     subst
-    (λ s. c.made.result ≡ step_made s (ins_seen g.R.Reader.bytes g.R.Offset.ReaderOffset.number c.args.instruction))
+    (λ s. c.made.result ≡ step_made s (ins_seen g.R.Reader.seen g.R.Offset.ReaderOffset.number c.args.instruction))
     c.self.view_is
-    (made_is (ins_seen g.R.Reader.bytes g.R.Offset.ReaderOffset.number c.args.instruction) c.self.inside.program.meaning
+    (made_is (ins_seen g.R.Reader.seen g.R.Offset.ReaderOffset.number c.args.instruction) c.self.inside.program.meaning
     c.execute.new.program.meaning
     c.self.inside.row c.execute.new.self c.self.inside.base c.self.inside.pending c.self.inside.instructions
     c.requires.address c.requires.file d.fits d.files d.step
@@ -101,7 +101,7 @@ pub returns-clause-header : goal.returns-clause-header
 returns-clause-header g c =
     let d = done_of _ _ _ _ _ _ _ c.in-Ok.ensures.executed in
     subst (λ s. c.made.new.self.header ≡ s.header) c.self.view_is (ap (λ q. q.header) c.made.ensures.new
-    ∙ header_kept (ins_seen g.R.Reader.bytes g.R.Offset.ReaderOffset.number c.args.instruction)
+    ∙ header_kept (ins_seen g.R.Reader.seen g.R.Offset.ReaderOffset.number c.args.instruction)
     c.self.inside.program.meaning c.execute.new.program.meaning
     c.self.inside.row c.execute.new.self c.self.inside.base c.self.inside.pending c.self.inside.instructions
     c.requires.address c.requires.file d.fits d.files d.step)

@@ -11,7 +11,7 @@ returns-in-Err g c =
     c.self.inside.instructions in
     let lent : c.header-header.result.now.meaning ≡ c.self.inside.program.meaning = rw c.header-header.ensures refl in
     rw (← c.self.view_is)
-    (refused_steps g.R.Reader.bytes g.R.Offset.ReaderOffset.number s _ lent _ _
+    (refused_steps g.R.Reader.seen g.R.Offset.ReaderOffset.number s _ lent _ _
     c.in-Err.ensures.layout _ c.in-Err.ensures.err)
 
 pub returns-in-Quiet : goal.returns-in-Quiet
@@ -22,7 +22,7 @@ returns-in-Quiet g c =
     let lent : c.header-header.result.now.meaning ≡ c.self.inside.program.meaning = rw c.header-header.ensures refl in
     let q = rw c.in-Quiet.is at c.in-Ok.ensures.ok in
     rw (← c.self.view_is)
-    (quiet_steps g.R.Reader.bytes g.R.Offset.ReaderOffset.number s _ lent _ _
+    (quiet_steps g.R.Reader.seen g.R.Offset.ReaderOffset.number s _ lent _ _
     c.in-Ok.ensures.layout q.0 q.1)
 
 pub returns-in-Address : goal.returns-in-Address
@@ -33,7 +33,7 @@ returns-in-Address g c =
     let lent : c.header-header.result.now.meaning ≡ c.self.inside.program.meaning = rw c.header-header.ensures refl in
     let q = rw c.in-Address.is at c.in-Ok.ensures.ok in
     rw (← c.self.view_is)
-    (address_steps g.R.Reader.bytes g.R.Offset.ReaderOffset.number s _ lent _ _
+    (address_steps g.R.Reader.seen g.R.Offset.ReaderOffset.number s _ lent _ _
     c.in-Ok.ensures.layout q.0 _ q.1)
 
 pub returns-in-Row : goal.returns-in-Row
@@ -44,7 +44,7 @@ returns-in-Row g c =
     let lent : c.header-header.result.now.meaning ≡ c.self.inside.program.meaning = rw c.header-header.ensures refl in
     let q = rw c.in-Row.is at c.in-Ok.ensures.ok in
     rw (← c.self.view_is)
-    (row_steps g.R.Reader.bytes g.R.Offset.ReaderOffset.number s _ lent _ _ c.in-Ok.ensures.layout q.0 c.self.invariant
+    (row_steps g.R.Reader.seen g.R.Offset.ReaderOffset.number s _ lent _ _ c.in-Ok.ensures.layout q.0 c.self.invariant
     q.1 c.header.result.now.meaning
     (rw c.header.ensures refl) c.reset.ensures _ _ c.made.ensures.step c.made.ensures.new)
 

@@ -47,8 +47,8 @@ returns-in-DefineFile g c =
     let u = c.next_instruction.new.self in
     let layout = c.in-Ok-Some.ensures.layout in
     let lent : c.header.result.now.meaning ≡ c.self.inside.program.meaning = rw c.header.ensures refl in
-    let f = file_seen g.R.Reader.bytes g.R.Offset.ReaderOffset.number c.in-DefineFile.file in
-    let is : ins_seen g.R.Reader.bytes g.R.Offset.ReaderOffset.number c.in-Ok-Some.instruction
+    let f = file_seen g.R.Reader.seen g.R.Offset.ReaderOffset.number c.in-DefineFile.file in
+    let is : ins_seen g.R.Reader.seen g.R.Offset.ReaderOffset.number c.in-Ok-Some.instruction
     ≡ DefineFile f = rw c.in-DefineFile.is refl in
     let spelled = spelled_as _ _ lent is n.2 in
     rw (← c.self.view_is) (record {
@@ -69,7 +69,7 @@ returns-in-SetAddress g c =
     c.self.inside.instructions in
     let u = c.next_instruction.new.self in
     let lent : c.header.result.now.meaning ≡ c.self.inside.program.meaning = rw c.header.ensures refl in
-    let is : ins_seen g.R.Reader.bytes g.R.Offset.ReaderOffset.number c.in-Ok-Some.instruction
+    let is : ins_seen g.R.Reader.seen g.R.Offset.ReaderOffset.number c.in-Ok-Some.instruction
     ≡ SetAddress c.in-SetAddress.address = rw c.in-SetAddress.is refl in
     let spelled = spelled_as _ _ lent is n.2 in
     rw (← c.self.view_is) (steps_source _ _ s c.set_address.new.self u c.in-Ok-Some.ensures.layout
@@ -80,7 +80,7 @@ returns-in-SetAddress g c =
 pub returns-in_default : goal.returns-in_default
 returns-in_default g c =
     let n = rw c.in-Ok-Some.field-0-is at c.in-Ok-Some.ensures.next in
-    let i = ins_seen g.R.Reader.bytes g.R.Offset.ReaderOffset.number c.in-Ok-Some.instruction in
+    let i = ins_seen g.R.Reader.seen g.R.Offset.ReaderOffset.number c.in-Ok-Some.instruction in
     let s =
     state c.self.inside.program.meaning c.self.inside.row c.self.inside.base c.self.inside.pending
     c.self.inside.instructions in

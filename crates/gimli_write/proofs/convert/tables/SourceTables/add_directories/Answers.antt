@@ -9,7 +9,7 @@ use proofs.convert.tables.SourceTables.add_directories.Goals as goal
 pub loop-directory-preserved : goal.loop-directory-preserved
 loop-directory-preserved g c =
     let lt : c.loop-directory.directory-index < length c.args.directories.now = omega arith in
-    let seen = value_seen g.R.Reader.bytes g.R.Offset.ReaderOffset.number in
+    let seen = value_seen g.R.Reader.seen g.R.Offset.ReaderOffset.number in
     let xs = c.args.directories.now in
     let i = c.loop-directory.directory-index in
     let x = c.directory-item.result in

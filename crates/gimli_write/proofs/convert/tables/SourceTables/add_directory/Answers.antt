@@ -23,7 +23,7 @@ directory_done s tables v is made after program id ids =
 
 pub returns-in-Ok-clause-ok : goal.returns-in-Ok-clause-ok
 returns-in-Ok-clause-ok g c =
-    let v = value_seen g.R.Reader.bytes g.R.Offset.ReaderOffset.number c.args.directory in
+    let v = value_seen g.R.Reader.seen g.R.Offset.ReaderOffset.number c.args.directory in
     let tables : TablesAndTexts = record {
       program = c.self.inside.program;
       directory_ids = c.self.inside.directories.items;

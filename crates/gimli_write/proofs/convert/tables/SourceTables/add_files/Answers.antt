@@ -9,7 +9,7 @@ use proofs.convert.tables.SourceTables.add_files.Goals as goal
 pub loop-file-preserved : goal.loop-file-preserved
 loop-file-preserved g c =
     let lt : c.loop-file.file-index < length c.args.files.now = omega arith in
-    let seen = file_seen g.R.Reader.bytes g.R.Offset.ReaderOffset.number in
+    let seen = file_seen g.R.Reader.seen g.R.Offset.ReaderOffset.number in
     let xs = c.args.files.now in
     let i = c.loop-file.file-index in
     let x = c.file-item.result in
@@ -27,7 +27,7 @@ loop-file-preserved g c =
 pub returns-in_err-add_file-clause-err : goal.returns-in_err-add_file-clause-err
 returns-in_err-add_file-clause-err g c =
     let lt : c.loop-file.file-index < length c.args.files.now = omega arith in
-    let seen = file_seen g.R.Reader.bytes g.R.Offset.ReaderOffset.number in
+    let seen = file_seen g.R.Reader.seen g.R.Offset.ReaderOffset.number in
     let xs = c.args.files.now in
     let i = c.loop-file.file-index in
     let x = c.file-item.result in

@@ -6,7 +6,7 @@ use Rattle.gimli_write.proofs.convert.tables.SourceTables.add_files.Given as goa
 abbrev pub invariant-loop-file : goal.invariant-loop-file
 invariant-loop-file g l =
     let add = all_added (file_added l.sections) in
-    let seen = file_seen g.R.Reader.bytes g.R.Offset.ReaderOffset.number in
+    let seen = file_seen g.R.Reader.seen g.R.Offset.ReaderOffset.number in
     record {
       left : add (map seen (drop l.file-index l.files)) (tables_with l.line_strings l.self)
           ≡ add (map seen l.files) (tables_with l.fn.line_strings l.fn.self);

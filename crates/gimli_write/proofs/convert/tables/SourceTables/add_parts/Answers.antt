@@ -91,7 +91,7 @@ returns-in_err-push-in-Ok g c =
 
 pub returns-in_ok-push-in-Ok-clause-ok : goal.returns-in_ok-push-in-Ok-clause-ok
 returns-in_ok-push-in-Ok-clause-ok g c =
-    let f = file_seen g.R.Reader.bytes g.R.Offset.ReaderOffset.number c.args.file.now in
+    let f = file_seen g.R.Reader.seen g.R.Offset.ReaderOffset.number c.args.file.now in
     let tables : TablesAndTexts = record {
       program = c.self.inside.program;
       directory_ids = c.self.inside.directories.items;

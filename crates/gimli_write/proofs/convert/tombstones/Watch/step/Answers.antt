@@ -17,7 +17,7 @@ returns-in-Ok-None g c =
 pub returns-in-Ok-Some : goal.returns-in-Ok-Some
 returns-in-Ok-Some g c =
     let n = rw c.in-Ok-Some.field-0-is at c.in-Ok-Some.ensures.next in
-    let i = ins_seen g.R.Reader.bytes g.R.Offset.ReaderOffset.number c.in-Ok-Some.instruction in
+    let i = ins_seen g.R.Reader.seen g.R.Offset.ReaderOffset.number c.in-Ok-Some.instruction in
     let unread = c.execute.ensures.unread in
     instruction_hides c.args.header.now.meaning (watched c.args.self.now) (watched c.execute.new.self) i n.0
     (ap (λ (u : Unread). u.layout) unread ∙ c.in-Ok-Some.ensures.layout)
