@@ -62,9 +62,7 @@ impl<'i> Reader for NarrowReader<'i> {
 
     type Offset = Narrow;
 
-    ghost bytes = { λ r. (⟦<EndianSlice<'static, LittleEndian> as Reader>⟧.seen r.left).bytes };
-
-    ghost is_big = { λ r. (⟦<EndianSlice<'static, LittleEndian> as Reader>⟧.seen r.left).is_big };
+    ghost seen = { λ r. ⟦<EndianSlice<'static, LittleEndian> as Reader>⟧.seen r.left };
 
     fn endian(&self) -> LittleEndian {
         self.left.endian()

@@ -10,10 +10,6 @@ IsExact {A} eq = (x y : A) → Decides (eq x y) (x ≡ y)
 abbrev pub ComparesBy : {A B : Type 0} → (A → B) → (A → A → Bool) → Type 0
 ComparesBy {A} view eq = (x y : A) → Decides (eq x y) (view x ≡ view y)
 
--- seen in two ways
-abbrev pub both : {A B C : Type 0} → (A → B) → (A → C) → A → B × C
-both first second x = (first x, second x)
-
 -- ---- clones
 
 -- each clone is the value that it was made of

@@ -3,7 +3,7 @@
 
 ghost use Rattle.std.specs.Prelude.{ℕ, Bool, [], ◌≡◌, ◌<◌, ◌^◌};
 ghost use Rattle.gimli_core.specs.Numbers.{SpellsNumber, number_bytes};
-ghost use Rattle.gimli_core.specs.Equality.{IsExact, ComparesBy, ClonesGiveSame, GivesSame, both};
+ghost use Rattle.gimli_core.specs.Equality.{IsExact, ComparesBy, ClonesGiveSame, GivesSame};
 ghost use Rattle.gimli_core.specs.Layout.{OrderAndLimit};
 ghost use Rattle.gimli_core.specs.Values.{value_by};
 ghost use Rattle.gimli_core.specs.declared.common.Format.{Format};

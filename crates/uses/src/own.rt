@@ -49,9 +49,7 @@ impl<'i> Reader for OwnReader<'i> {
 
     type Offset = usize;
 
-    ghost bytes = { λ r. r.slice.now };
-
-    ghost is_big = { λ r. false };
+    ghost seen = { λ r. record { bytes = r.slice.now; is_big = false } };
 
     fn endian(&self) -> LittleEndian {
         LittleEndian
