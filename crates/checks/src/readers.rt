@@ -46,7 +46,8 @@ impl ReaderOffset for Narrow {
 #[derive(Clone, Copy)]
 pub struct NarrowReader<'i> {
     left: EndianSlice<'i, LittleEndian>,
-    ghost short: { length (⟦<EndianSlice<'static, LittleEndian> as Reader>⟧.seen left).bytes < 2 ^ 32 },
+    ghost short: { length (⟦<EndianSlice<'static, LittleEndian> as Reader>⟧.seen left).bytes
+        < 2 ^ 32 },
 }
 
 impl<'i> NarrowReader<'i> {

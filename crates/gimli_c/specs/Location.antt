@@ -1,6 +1,9 @@
 -- Where a unit stands: a section, how its numbers are read, and an offset.
 use Rattle.std.specs.Prelude.{◌≡◌, ◌^◌, ◌⊎◌, ℕ, Bool, true, false, List, None, drop}
-use Rattle.gimli_core.specs.Layout.{OrderAndLimit, layout_of}
+use Rattle.gimli_core.specs.Layout.{OrderAndLimit, Seen, layout_of}
+use Rattle.gimli_core.specs.Order.{is_big_endian}
+use Rattle.gimli_core.specs.declared.endian_slice.EndianSlice.{EndianSlice}
+use Rattle.gimli_core.specs.declared.endianity.RunTimeEndian.{RunTimeEndian}
 use Rattle.gimli_core.specs.Numbers.{is_address_size}
 use Rattle.gimli_core.specs.declared.error.Error.{Error}
 use Rattle.gimli_line.specs.header.Header.{Header, UnitEntry}
@@ -20,6 +23,10 @@ pub record Location : Type 0 where
 abbrev pub location : List ℕ → Bool → ℕ → ℕ → Location
 location section is_big address_size offset =
     record { section = section; is_big = is_big; address_size = address_size; offset = offset }
+
+-- a slice, seen as a reader: its bytes and their order
+abbrev pub slice_seen : EndianSlice RunTimeEndian → Seen
+slice_seen s = record { bytes = s.slice.now; is_big = is_big_endian s.endian }
 
 -- offsets have 64 bits
 abbrev pub layout_at : Location → OrderAndLimit

@@ -2,11 +2,11 @@
 
 ghost use Rattle.std.specs.Prelude.{◌≡◌, ◌++◌, ◌^◌, ℕ, IfErr, IfOk, List, OnOk, option_map};
 ghost use Rattle.std.specs.List.{AllZip};
-ghost use Rattle.gimli_core.specs.Order.{is_big_endian};
 ghost use Rattle.gimli_compilation.specs.Directories.{directory_for};
 ghost use Rattle.gimli_compilation.specs.Sections.{sections_of};
 ghost use Rattle.gimli_c.specs.CompDir.{sections_handed, CopiesDirectory};
 ghost use Rattle.gimli_c.specs.Listed.{CopiesCompDirs, IsCompDirAnswer};
+ghost use Rattle.gimli_c.specs.Location.{slice_seen};
 
 use crate::file::put_bytes;
 use crate::listed::add_text;
@@ -25,7 +25,7 @@ pub(crate) fn sections_in<'s>(
     string_offsets: &'s [u8],
     is_big: bool,
 ) -> CompilationSections<EndianSlice<'s, RunTimeEndian>>
-    ensures { sections_of (λ s. s.slice.now) (λ s. is_big_endian s.endian) (2 ^ 64) result
+    ensures { sections_of slice_seen (2 ^ 64) result
         ≡ sections_handed info.now abbreviations.now line_strings.now strings.now
         string_offsets.now is_big }
 {

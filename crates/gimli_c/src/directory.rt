@@ -51,7 +51,8 @@ fn directory_told<R: Reader>(
     number: u64,
 ) -> Option<(GimliText, Option<R>)>
     ensures some { IfSome result (λ told.
-        TellsDirectory header.now.meaning number told.0 (option_map (λ r. (R.seen r).bytes) told.1)) }
+        TellsDirectory header.now.meaning number told.0
+        (option_map (λ r. (R.seen r).bytes) told.1)) }
     ensures none { IfNone result (directory_of header.now.meaning number ≡ None) }
 {
     let value = header.directory(number)?;

@@ -8,7 +8,7 @@ ghost use Rattle.gimli_line.specs.header.File.{file_seen};
 ghost use Rattle.gimli_lookup.specs.Paths.{file_path};
 ghost use Rattle.gimli_lookup.specs.Strings.{strings};
 ghost use Rattle.gimli_c.specs.Listed.{CopiesFiles, GivesFiles, IsFileAnswer, SeesPathAmong};
-ghost use Rattle.gimli_c.specs.Location.{location, HasNoUnit};
+ghost use Rattle.gimli_c.specs.Location.{slice_seen, location, HasNoUnit};
 ghost use Rattle.gimli_c.specs.Path.{paths_handed, texts_handed};
 
 use crate::file::{GimliFile, put_bytes};
@@ -67,8 +67,8 @@ fn add_path<'s>(
     comp_dir: &[u8],
 ) -> Result<(usize, usize, u32), u32>
     ensures ok { IfOk result (λ told. SeesPathAmong texts.new.items (file_path
-        (paths_handed (strings (λ s. s.slice.now) sections.entry) header.now.meaning comp_dir.now)
-        (file_seen (λ s. s.slice.now) (λ n. n) file.now)) told.0 told.1 told.2) }
+        (paths_handed (strings slice_seen sections.entry) header.now.meaning comp_dir.now)
+        (file_seen slice_seen (λ n. n) file.now)) told.0 told.1 told.2) }
     ensures more { OnOk result ((more : List ℕ) × (texts.new.items ≡ texts.old.items ++ more)) }
     ensures err { IfErr result (λ s. s ≡ OUT_OF_MEMORY) }
 {
@@ -96,7 +96,7 @@ fn file_listed<'s>(
     asked: GimliListedFile,
 ) -> Result<GimliListedFile, u32>
     ensures ok { IfOk result (IsFileAnswer header.now.meaning
-        (strings (λ s. s.slice.now) sections.entry) comp_dir.now texts.new.items asked) }
+        (strings slice_seen sections.entry) comp_dir.now texts.new.items asked) }
     ensures more { OnOk result ((more : List ℕ) × (texts.new.items ≡ texts.old.items ++ more)) }
     ensures err { IfErr result (λ s. s ≡ OUT_OF_MEMORY) }
 {
@@ -125,7 +125,7 @@ fn list_files<'s>(
     files: &mut [GimliListedFile],
 ) -> Result<Vec<u8>, u32>
     ensures ok { IfOk result (λ texts. AllZip (IsFileAnswer header.now.meaning
-        (strings (λ s. s.slice.now) sections.entry) comp_dir.now texts.items)
+        (strings slice_seen sections.entry) comp_dir.now texts.items)
         files.old files.new) }
     ensures err { IfErr result (λ s. s ≡ OUT_OF_MEMORY) }
 {
@@ -149,7 +149,7 @@ fn files_of<'s>(
 ) -> Result<Vec<u8>, u32>
     ensures ok { IfOk result (λ texts. GivesFiles
         (location section.now is_big address_size offset)
-        (strings (λ s. s.slice.now) sections.entry) comp_dir.now files.old files.new texts.items) }
+        (strings slice_seen sections.entry) comp_dir.now files.old files.new texts.items) }
     ensures refused { IfErr result (λ s. s ≢ OUT_OF_MEMORY →
         HasNoUnit (location section.now is_big address_size offset) s) }
     ensures kept { IfErr result (λ s. s ≢ OUT_OF_MEMORY → files.new ≡ files.old) }

@@ -43,7 +43,8 @@ fn bytes_from<R: Reader>(section: R, offset: R::Offset) -> R
 fn skip_unit<R: Reader>(input: &mut R)
     ensures { (R.seen input.new).bytes
         ≡ after_unit
-        ((any_unit (layout_of (R.seen input.old).is_big R.Offset.limit)).read (R.seen input.old).bytes) }
+        ((any_unit (layout_of (R.seen input.old).is_big R.Offset.limit)).read
+        (R.seen input.old).bytes) }
 {
     if split_unit(input).is_err() {
         input.empty();
@@ -54,7 +55,8 @@ fn skip_unit<R: Reader>(input: &mut R)
 #[tactic(auto, unfolding(gimli_line::specs::Units::any_unit))]
 fn split_unit<R: Reader>(input: &mut R) -> Result<R>
     ensures { (result_map (λ r. (R.seen r).bytes) result, (R.seen input.new).bytes)
-        ≡ (any_unit (layout_of (R.seen input.old).is_big R.Offset.limit)).read (R.seen input.old).bytes }
+        ≡ (any_unit (layout_of (R.seen input.old).is_big R.Offset.limit)).read
+        (R.seen input.old).bytes }
 {
     let (length, _format) = input.read_initial_length()?;
     input.split(length)

@@ -7,7 +7,7 @@ ghost use Rattle.gimli_lookup.specs.Paths.{file_path};
 ghost use Rattle.gimli_lookup.specs.Strings.{strings};
 ghost use Rattle.gimli_lookup.specs.declared.path_error.PathError.{PathError};
 ghost use Rattle.gimli_lookup.specs.declared.path_error.PathError.TheVariants.{OutOfMemory};
-ghost use Rattle.gimli_c.specs.Location.{location};
+ghost use Rattle.gimli_c.specs.Location.{slice_seen, location};
 ghost use Rattle.gimli_c.specs.Path.{paths_handed, texts_handed, CopiesPath, GivesPath, HasNoPath};
 
 use crate::file::put_bytes;
@@ -44,12 +44,12 @@ pub(crate) fn path_in_header<'s>(
     comp_dir: &[u8],
 ) -> Result<Vec<u8>, u32>
     ensures ok { IfOk result (λ path. file_path
-        (paths_handed (strings (λ s. s.slice.now) texts.entry) header.now.meaning comp_dir.now)
-        (file_seen (λ s. s.slice.now) (λ n. n) file.now) ≡ Ok path.items) }
+        (paths_handed (strings slice_seen texts.entry) header.now.meaning comp_dir.now)
+        (file_seen slice_seen (λ n. n) file.now) ≡ Ok path.items) }
     ensures err { IfErr result (λ s. s ≢ OUT_OF_MEMORY → (s ≡ UNKNOWN_PATH) × ((e : PathError)
         × (file_path
-        (paths_handed (strings (λ s. s.slice.now) texts.entry) header.now.meaning comp_dir.now)
-        (file_seen (λ s. s.slice.now) (λ n. n) file.now) ≡ Err e))) }
+        (paths_handed (strings slice_seen texts.entry) header.now.meaning comp_dir.now)
+        (file_seen slice_seen (λ n. n) file.now) ≡ Err e))) }
     ensures other { IfErr result (λ s. (s ≢ OK) × (s ≢ NO_ROOM)) }
 {
     match Paths::new(header, texts, Some(comp_dir)).of_file(alloc, file) {
@@ -70,9 +70,9 @@ fn path_of<'s>(
     comp_dir: &[u8],
 ) -> Result<Vec<u8>, u32>
     ensures ok { IfOk result (λ path. GivesPath (location section.now is_big address_size offset)
-        (strings (λ s. s.slice.now) texts.entry) number comp_dir.now path.items) }
+        (strings slice_seen texts.entry) number comp_dir.now path.items) }
     ensures err { IfErr result (λ s. s ≢ OUT_OF_MEMORY → HasNoPath
-        (location section.now is_big address_size offset) (strings (λ s. s.slice.now) texts.entry)
+        (location section.now is_big address_size offset) (strings slice_seen texts.entry)
         number
         comp_dir.now s) }
     ensures other { IfErr result (λ s. (s ≢ OK) × (s ≢ NO_ROOM)) }

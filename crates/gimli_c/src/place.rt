@@ -2,13 +2,13 @@
 
 ghost use Rattle.std.specs.Prelude.{◌≡◌, ◌≢◌, ◌^◌, true, false};
 ghost use Rattle.gimli_core.specs.Numbers.{is_address_size};
-ghost use Rattle.gimli_core.specs.Order.{is_big_endian};
 ghost use Rattle.gimli_compilation.specs.Sections.{sections_of};
 ghost use Rattle.gimli_lookup.specs.ProgramPaths.{texts_seen};
 ghost use Rattle.gimli_c.specs.CompDir.{sections_handed};
 ghost use Rattle.gimli_c.specs.MadeIndex.{program};
 ghost use Rattle.gimli_c.specs.Place.{CopiesPlace};
 ghost use Rattle.gimli_c.specs.inside.Place.{CopiesPlaceOf};
+ghost use Rattle.gimli_c.specs.Location.{slice_seen};
 
 use crate::comp_dir::sections_in;
 use crate::file::put_bytes;
@@ -73,7 +73,7 @@ fn place_in<'s>(
     requires { is_address_size options.now.address_size ≡ true }
     ensures place { CopiesPlace (program section.now options.now.is_big options.now.address_size
         options.now.lowest texts.now.debug_line_str.slice.now texts.now.debug_str.slice.now)
-        (sections_of (λ s. s.slice.now) (λ s. is_big_endian s.endian) (2 ^ 64) sections.now)
+        (sections_of slice_seen (2 ^ 64) sections.now)
         address row.new result path.old path.new size.old size.new }
     ensures no_row { result ≢ OK → result ≢ NO_ROOM → result ≢ UNKNOWN_PATH
         → row.new ≡ row.old }

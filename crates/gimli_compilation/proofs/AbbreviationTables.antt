@@ -37,17 +37,22 @@ module _ {R : Type 0} (seen : R → Seen) where
             ≡ ((abbreviation_production code).read (seen input).bytes).0
         at_test true is =
             let last : ends_search code (declared, listed (seen part).bytes) ≡ true = rw (ne_eqb declared 0 some) is in
-            rw
-            (search_last code (seen input).bytes (seen rest).bytes (declared, listed (seen part).bytes) read last, ne_eqb declared 0 some)
+            rw (
+              search_last code (seen input).bytes (seen rest).bytes (declared, listed (seen part).bytes) read last,
+              ne_eqb declared 0 some,
+            )
             refl
         at_test false is =
             let more : ends_search code (declared, listed (seen part).bytes) ≡ false = rw (ne_eqb declared 0 some) is in
-            rw (search_more code (seen input).bytes (seen rest).bytes (declared, listed (seen part).bytes) read more) refl
+            rw (search_more code (seen input).bytes (seen rest).bytes (declared, listed (seen part).bytes) read more)
+            refl
 
-    end_answers : (kept : Option R) (left : List ℕ) → (Ok (0, []), left) ≡ declaration_production.read (seen input).bytes
+    end_answers : (kept : Option R) (left : List ℕ)
+        → (Ok (0, []), left) ≡ declaration_production.read (seen input).bytes
         → answer_to seen code kept (Ok None) ≡ answer_to seen code kept (Ok (Some input))
     end_answers (Some found) left read = refl
-    end_answers None left read = sym (ap (λ (r : Answer). r.0) (search_last code (seen input).bytes left (0, []) read refl))
+    end_answers None left read =
+        sym (ap (λ (r : Answer). r.0) (search_last code (seen input).bytes left (0, []) read refl))
 
     refusal_answers : (kept : Option R) (e : Error) (left : List ℕ)
         → (Err e, left) ≡ declaration_production.read (seen input).bytes

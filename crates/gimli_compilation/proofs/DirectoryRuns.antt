@@ -38,17 +38,20 @@ module _ {R : Type 0} (seen : R → Seen) where
   in_seen line (Some given) = at_test (nat_eq given.0 line)
     where
       at_test : (test : Bool)
-          → option_map (λ r. (seen r).bytes) (if test then Some given.1 else None) ≡ (if test then Some (seen given.1).bytes else None)
+          → option_map (λ r. (seen r).bytes) (if test then Some given.1 else None)
+          ≡ (if test then Some (seen given.1).bytes else None)
       at_test true = refl
       at_test false = refl
 
   first_seen : (o other : Option R)
-      → option_map (λ r. (seen r).bytes) (first_of o other) ≡ first_of (option_map (λ r. (seen r).bytes) o) (option_map (λ r. (seen r).bytes) other)
+      → option_map (λ r. (seen r).bytes) (first_of o other)
+      ≡ first_of (option_map (λ r. (seen r).bytes) o) (option_map (λ r. (seen r).bytes) other)
   first_seen (Some d) other = refl
   first_seen None other = refl
 
   pub told : (line : ℕ) (given : Option (ℕ × R)) (old new : Option R) → new ≡ first_of old (directory_in line given)
-      → option_map (λ r. (seen r).bytes) new ≡ first_of (option_map (λ r. (seen r).bytes) old) (directory_in line (option_map pair_seen given))
+      → option_map (λ r. (seen r).bytes) new
+      ≡ first_of (option_map (λ r. (seen r).bytes) old) (directory_in line (option_map pair_seen given))
   told line given old new is =
       ap (option_map (λ r. (seen r).bytes)) is ∙ first_seen old (directory_in line given)
       ∙ ap (first_of (option_map (λ r. (seen r).bytes) old)) (in_seen line given)

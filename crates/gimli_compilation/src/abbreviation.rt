@@ -54,7 +54,8 @@ fn pass_constant<R: Reader>(input: &mut R, form: DwForm) -> Result<()>
 /// Takes the specification of an attribute, with the number that stands there in one form.
 #[tactic(auto, unfolding(crate::specs::Abbreviation::specification_production))]
 pub(crate) fn parse_specification<R: Reader>(input: &mut R) -> Result<Specification>
-    ensures read { (result, (R.seen input.new).bytes) ≡ specification_production.read (R.seen input.old).bytes }
+    ensures read { (result, (R.seen input.new).bytes)
+        ≡ specification_production.read (R.seen input.old).bytes }
 {
     let name = DwAt(input.read_uleb128_u16()?);
     let form = DwForm(input.read_uleb128_u16()?);
@@ -79,7 +80,10 @@ fn pass_specifications<R: Reader>(input: &mut R) -> Result<()>
 /// specifications.
 #[tactic(auto, unfolding(crate::specs::Abbreviation::declared_production))]
 fn parse_declaration<R: Reader>(input: &mut R) -> Result<R>
-    ensures read { (result_map (λ found. listed (R.seen found).bytes) result, (R.seen input.new).bytes)
+    ensures read { (
+      result_map (λ found. listed (R.seen found).bytes) result,
+      (R.seen input.new).bytes,
+    )
         ≡ declared_production.read (R.seen input.old).bytes }
     ensures listed { IfOk result (λ found. IsListed (R.seen found).bytes) }
 {
@@ -350,7 +354,8 @@ impl<R: Reader> Tables<R> {
         ensures tables { AreTables R.seen (R.seen section.now).bytes self.new }
         ensures found { IfOk result
             (λ found. result_map (option_map (λ part. listed (R.seen part).bytes)) found
-            ≡ ((table_production (R.Offset.number offset) code).read (R.seen section.now).bytes).0) }
+            ≡ ((table_production (R.Offset.number offset) code).read
+            (R.seen section.now).bytes).0) }
         ensures listed { IfOk result (λ found. IfOk found
             (λ found. IfSome found (λ part. IsListed (R.seen part).bytes))) }
     {

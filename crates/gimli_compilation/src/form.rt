@@ -172,7 +172,8 @@ fn block_shape(form: DwForm) -> Option<Shape>
 /// Lets so many bytes go. Refused by `UnsupportedOffset` where the offset type is too narrow.
 fn pass_bytes<R: Reader>(input: &mut R, count: u64) -> Result<Value<R>>
     ensures read { (result_map (value_seen R.seen) result, R.seen input.new)
-            ≡ taken (passed_production (layout_of (R.seen input.old).is_big R.Offset.limit) count) (R.seen input.old) }
+        ≡ taken (passed_production (layout_of (R.seen input.old).is_big R.Offset.limit) count)
+        (R.seen input.old) }
 {
     let count = R::Offset::from_u64(count)?;
     input.split(count)?;
@@ -183,7 +184,8 @@ fn pass_bytes<R: Reader>(input: &mut R, count: u64) -> Result<Value<R>>
 fn parse_shape<R: Reader>(input: &mut R, shape: Shape) -> Result<Value<R>>
     requires { IsReadable shape }
     ensures read { (result_map (value_seen R.seen) result, R.seen input.new)
-            ≡ taken (shape_production (layout_of (R.seen input.old).is_big R.Offset.limit) shape) (R.seen input.old) }
+        ≡ taken (shape_production (layout_of (R.seen input.old).is_big R.Offset.limit) shape)
+        (R.seen input.old) }
 {
     match shape {
         Shape::Fixed(size, kind) => {
@@ -220,7 +222,7 @@ fn parse_shape<R: Reader>(input: &mut R, shape: Shape) -> Result<Value<R>>
 fn parse_known_form<R: Reader>(input: &mut R, encoding: Encoding, form: DwForm) -> Result<Value<R>>
     requires { IsTrue (is_address_size encoding.address_size) }
     ensures read { (result_map (value_seen R.seen) result, R.seen input.new)
-            ≡ taken (known_form_production (layout_of (R.seen input.old).is_big R.Offset.limit) encoding
+        ≡ taken (known_form_production (layout_of (R.seen input.old).is_big R.Offset.limit) encoding
         form.0) (R.seen input.old) }
 {
     match shape_of(form, encoding) {
@@ -240,7 +242,9 @@ pub(crate) fn parse_form<R: Reader>(
 ) -> Result<Value<R>>
     requires { IsTrue (is_address_size encoding.address_size) }
     ensures read { (result_map (value_seen R.seen) result, R.seen input.new)
-            ≡ taken (form_production (layout_of (R.seen input.old).is_big R.Offset.limit) encoding form.0) (R.seen input.old) }
+        ≡ taken
+        (form_production (layout_of (R.seen input.old).is_big R.Offset.limit) encoding form.0)
+        (R.seen input.old) }
 {
     match form {
         constants::DW_FORM_implicit_const => Ok(Value::Passed),

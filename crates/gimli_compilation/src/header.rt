@@ -16,7 +16,8 @@ use gimli_core::{Encoding, Error, Format, Reader, ReaderOffset, Result};
 #[tactic(auto, unfolding(crate::specs::Header::frame_production))]
 pub(crate) fn split_unit<R: Reader>(input: &mut R) -> Result<(R, Format)>
     ensures read { (result_map (frame_seen R.seen) result, R.seen input.new)
-            ≡ taken (frame_production (layout_of (R.seen input.old).is_big R.Offset.limit)) (R.seen input.old) }
+        ≡ taken (frame_production (layout_of (R.seen input.old).is_big R.Offset.limit))
+        (R.seen input.old) }
     ensures part { IfOk result (λ unit. (R.seen unit.0).is_big ≡ (R.seen input.old).is_big) }
 {
     let (length, format) = input.read_initial_length()?;
@@ -28,7 +29,7 @@ pub(crate) fn split_unit<R: Reader>(input: &mut R) -> Result<(R, Format)>
 #[tactic(auto, unfolding(crate::specs::Header::version_production))]
 fn parse_version<R: Reader>(input: &mut R) -> Result<u16>
     ensures read { (result, R.seen input.new)
-            ≡ taken (version_production (R.seen input.old).is_big) (R.seen input.old) }
+        ≡ taken (version_production (R.seen input.old).is_big) (R.seen input.old) }
 {
     let version = input.read_u16()?;
     if version < 2 || version > 5 {
@@ -81,7 +82,8 @@ impl<R: Reader> UnitHeader<R> {
     #[tactic(auto, unfolding(crate::specs::Header::header_production))]
     pub(crate) fn parse(input: &mut R, format: Format) -> Result<Self>
         ensures read { (result_map (header_seen R.Offset.number) result, R.seen input.new)
-            ≡ taken (header_production (layout_of (R.seen input.old).is_big R.Offset.limit) format) (R.seen input.old) }
+            ≡ taken (header_production (layout_of (R.seen input.old).is_big R.Offset.limit) format)
+            (R.seen input.old) }
         ensures size { IfOk result
             (λ header. IsTrue (is_address_size header.encoding.address_size)) }
     {
@@ -97,7 +99,8 @@ impl<R: Reader> UnitHeader<R> {
     #[tactic(auto, unfolding(crate::specs::Header::old_fields_production))]
     fn parse_old(input: &mut R, format: Format, version: u16) -> Result<Self>
         ensures read { (result_map (header_seen R.Offset.number) result, R.seen input.new)
-            ≡ taken (old_fields_production (layout_of (R.seen input.old).is_big R.Offset.limit) format
+            ≡ taken
+            (old_fields_production (layout_of (R.seen input.old).is_big R.Offset.limit) format
             version) (R.seen input.old) }
         ensures size { IfOk result
             (λ header. IsTrue (is_address_size header.encoding.address_size)) }
@@ -119,7 +122,8 @@ impl<R: Reader> UnitHeader<R> {
     #[tactic(auto, unfolding(crate::specs::Header::new_fields_production))]
     fn parse_new(input: &mut R, format: Format, version: u16) -> Result<Self>
         ensures read { (result_map (header_seen R.Offset.number) result, R.seen input.new)
-            ≡ taken (new_fields_production (layout_of (R.seen input.old).is_big R.Offset.limit) format
+            ≡ taken
+            (new_fields_production (layout_of (R.seen input.old).is_big R.Offset.limit) format
             version) (R.seen input.old) }
         ensures size { IfOk result
             (λ header. IsTrue (is_address_size header.encoding.address_size)) }

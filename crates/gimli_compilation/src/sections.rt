@@ -139,7 +139,8 @@ fn place_of(base: u64, index: u64, size: u8) -> Result<u64>
 /// The string offset of an index.
 #[tactic(auto, unfolding(crate::specs::Unit::string_offset_production))]
 fn string_offset<R: Reader>(section: &R, format: Format, base: u64, index: u64) -> Result<u64>
-    ensures { result ≡ ((string_offset_production (layout_of (R.seen section.now).is_big R.Offset.limit)
+    ensures { result
+        ≡ ((string_offset_production (layout_of (R.seen section.now).is_big R.Offset.limit)
         format base index).read (R.seen section.now).bytes).0 }
 {
     let size = format.word_size();

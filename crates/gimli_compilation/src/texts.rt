@@ -22,7 +22,8 @@ use std::marker::Model;
 fn text_start<R: Reader>(section: &R, offset: u64) -> Result<R>
     ensures ok { IfOk result (λ input. (text_at (R.seen input).bytes).0
         ≡ ((text_production R.Offset.limit offset).read (R.seen section.now).bytes).0) }
-    ensures rest { IfOk result (λ input. (R.seen input).bytes ≡ drop offset (R.seen section.now).bytes) }
+    ensures rest { IfOk result (λ input.
+        (R.seen input).bytes ≡ drop offset (R.seen section.now).bytes) }
     ensures err { IfErr result (λ e. Err e
         ≡ ((text_production R.Offset.limit offset).read (R.seen section.now).bytes).0) }
 {
@@ -55,7 +56,8 @@ fn known_size<R: Reader>(input: &R, size: u64) -> R::Offset
 
 /// The first bytes, so many.
 fn front_of<R: Reader>(input: &R, count: u64) -> Result<R>
-    ensures bytes { IfOk result (λ front. (R.seen front).bytes ≡ take count (R.seen input.now).bytes) }
+    ensures bytes { IfOk result (λ front.
+        (R.seen front).bytes ≡ take count (R.seen input.now).bytes) }
     ensures within { IfOk result (λ _. count ≤ length (R.seen input.now).bytes) }
 {
     let count = R::Offset::from_u64(count)?;

@@ -25,7 +25,10 @@ impl<R: Reader> Model for TextSections<R> {
     ghost Value = { Sections };
 
     ghost view = { λ a.
-        record { strings = (R.seen a.strings).bytes; line_strings = (R.seen a.line_strings).bytes } };
+        record {
+          strings = (R.seen a.strings).bytes;
+          line_strings = (R.seen a.line_strings).bytes;
+        } };
 }
 
 /// The bytes of the text that a value stands for. Refused by `OutOfMemory`, by `UnexpectedEof`
@@ -66,7 +69,8 @@ fn find_text<R: Reader>(
 
 /// The text of a section from an offset on, up to a zero byte.
 fn text_from<R: Reader>(section: R, offset: R::Offset) -> gimli_core::Result<R>
-    ensures { result_map (λ r. (R.seen r).bytes) result ≡ text_from (R.seen section).bytes (R.Offset.number offset) }
+    ensures { result_map (λ r. (R.seen r).bytes) result
+        ≡ text_from (R.seen section).bytes (R.Offset.number offset) }
 {
     let mut section = section;
     section.skip(offset)?;

@@ -2,11 +2,11 @@
 
 ghost use Rattle.std.specs.Prelude.{◌≡◌, ◌≢◌, ◌^◌, [], ℕ, true, false, IfErr, IfOk, List};
 ghost use Rattle.gimli_core.specs.Numbers.{is_address_size};
-ghost use Rattle.gimli_core.specs.Order.{is_big_endian};
 ghost use Rattle.gimli_compilation.specs.Sections.{sections_of};
 ghost use Rattle.gimli_c.specs.MadeIndex.{make_status, index_source, program, source_handed};
 ghost use Rattle.gimli_c.specs.MadeIndex.{AreAllUnitsOf, CopiesIndex, IsIndexBytesOf};
 ghost use Rattle.gimli_c.specs.MadeIndex.{IsIndexRefusal};
+ghost use Rattle.gimli_c.specs.Location.{slice_seen};
 
 use crate::comp_dir::sections_in;
 use crate::file::put_bytes;
@@ -102,7 +102,7 @@ fn made_index<'s>(
     ensures ok { IfOk result (λ bytes. IsIndexBytesOf (index_source
         (program section.now options.now.is_big options.now.address_size options.now.lowest
         texts.now.debug_line_str.slice.now texts.now.debug_str.slice.now)
-        (sections_of (λ s. s.slice.now) (λ s. is_big_endian s.endian) (2 ^ 64) sections.now)
+        (sections_of slice_seen (2 ^ 64) sections.now)
         identity.now)
         bytes.items) }
     ensures err { IfErr result IsIndexRefusal }

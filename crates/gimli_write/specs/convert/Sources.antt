@@ -29,7 +29,10 @@ abbrev pub to_convert : {R Offset Endian : Type 0} → (R → Seen) → R → R
 to_convert seen debug_str debug_line_str from_program from_comp_name encoding line_encoding =
     record {
       layout = from_program.layout;
-      sections = record { strings = (seen debug_str).bytes; line_strings = (seen debug_line_str).bytes };
+      sections = record {
+        strings = (seen debug_str).bytes;
+        line_strings = (seen debug_line_str).bytes;
+      };
       header = from_program.meaning;
       given = handed_of encoding line_encoding (option_map (λ r. (seen r).bytes) from_comp_name);
     }

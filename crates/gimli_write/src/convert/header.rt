@@ -170,10 +170,12 @@ fn source_file<R: Reader>(
     sections: &TextSections<R>,
 ) -> ConvertResult<SourceFile>
     ensures ok { IfOk result (λ found.
-        source_file version sections.now header.now.meaning (option_map (λ r. (R.seen r).bytes) from_comp_name)
+        source_file version sections.now header.now.meaning
+        (option_map (λ r. (R.seen r).bytes) from_comp_name)
         ≡ Ok found) }
     ensures err { IfErr result (IsRefusedBy
-        (source_file version sections.now header.now.meaning (option_map (λ r. (R.seen r).bytes) from_comp_name))) }
+        (source_file version sections.now header.now.meaning
+        (option_map (λ r. (R.seen r).bytes) from_comp_name))) }
     ensures directory_no_zero { IfOk result (λ found.
         IfSome found.directory (λ text. All (λ b. b ≢ 0) text)) }
     ensures path_no_zero { IfOk result (λ found. All (λ b. b ≢ 0) found.path) }
@@ -370,7 +372,8 @@ fn tables_at_start<R: Reader>(
         encoding line_encoding (option_map (λ r. (R.seen r).bytes) from_comp_name) line_strings.old
         ≡ Ok (tables_with line_strings.new tables)) }
     ensures err { IfErr result (IsRefusedBy (tables_at_start sections.now header.now.meaning
-        encoding line_encoding (option_map (λ r. (R.seen r).bytes) from_comp_name) line_strings.old)) }
+        encoding line_encoding (option_map (λ r. (R.seen r).bytes) from_comp_name)
+        line_strings.old)) }
     ensures stays { KeepsTexts line_strings.old line_strings.new }
 {
     let alloc = *line_strings.allocator();
@@ -419,10 +422,12 @@ pub(crate) fn prepare<R: Reader>(
     requires address_size { IfSome encoding (λ e. IsTrue (is_address_size e.address_size)) }
     requires lines { IfSome line_encoding CanEncode }
     ensures ok { IfOk result (λ tables. tables_of_header sections.now header.now.meaning
-        (handed_of encoding line_encoding (option_map (λ r. (R.seen r).bytes) from_comp_name)) line_strings.old
+        (handed_of encoding line_encoding (option_map (λ r. (R.seen r).bytes) from_comp_name))
+        line_strings.old
         ≡ Ok (tables_with line_strings.new tables)) }
     ensures err { IfErr result (IsRefusedBy (tables_of_header sections.now header.now.meaning
-        (handed_of encoding line_encoding (option_map (λ r. (R.seen r).bytes) from_comp_name)) line_strings.old)) }
+        (handed_of encoding line_encoding (option_map (λ r. (R.seen r).bytes) from_comp_name))
+        line_strings.old)) }
     ensures stays { KeepsTexts line_strings.old line_strings.new }
 {
     let encoding = encoding.unwrap_or(header.encoding());

@@ -1,11 +1,11 @@
 use Rattle.std.proofs.Common.{◌^◌, Some, None, refl, sym, ap, ◌∙◌, inl, inr}
 use Rattle.std.specs.Option.{option_map}
-use Rattle.gimli_core.specs.Order.{is_big_endian}
 use Rattle.gimli_compilation.specs.Directories.{directory_for}
 use Rattle.gimli_compilation.specs.Sections.{sections_of}
 use Rattle.gimli_c.specs.CompDir.{sections_handed}
 use Rattle.gimli_c.proofs.CompDirs.{tells}
 use Rattle.gimli_c.proofs.Copied.{copied, not_copied_at}
+use Rattle.gimli_c.specs.Location.{slice_seen}
 use Rattle.gimli_c.proofs.comp_dir.gimli_line_proved_comp_dir.Goals as goal
 
 pub returns-in_default : goal.returns-in_default
@@ -16,7 +16,7 @@ returns-in_default-directory_of c =
     not_copied_at _ _ _ _ _ refl refl
     (inl (
       refl,
-      tells (sections_of (λ s. s.slice.now) (λ s. is_big_endian s.endian) (2 ^ 64) c.sections_in-sections.result)
+      tells (sections_of slice_seen (2 ^ 64) c.sections_in-sections.result)
           (sections_handed c.args.info.now c.args.abbreviations.now c.args.line_strings.now c.args.strings.now
           c.args.string_offsets.now c.args.is_big)
           (λ line. option_map (λ s. s.slice.now) (directory_for c.in-Ok.compilations line)) c.args.offset None
@@ -27,7 +27,7 @@ returns-in_default-directory_of c =
 pub returns : goal.returns
 returns c =
     copied _ _ _ _ _ _ _ _
-    (tells (sections_of (λ s. s.slice.now) (λ s. is_big_endian s.endian) (2 ^ 64) c.sections_in-sections.result)
+    (tells (sections_of slice_seen (2 ^ 64) c.sections_in-sections.result)
     (sections_handed c.args.info.now c.args.abbreviations.now c.args.line_strings.now c.args.strings.now
     c.args.string_offsets.now c.args.is_big)
     (λ line. option_map (λ s. s.slice.now) (directory_for c.in-Ok.compilations line)) c.args.offset

@@ -1,12 +1,12 @@
 use Rattle.std.proofs.Common.{◌^◌, List, ℕ, refl, subst, sym}
 use Rattle.std.specs.Option.{option_map}
-use Rattle.gimli_core.specs.Order.{is_big_endian}
 use Rattle.gimli_compilation.specs.Directories.{directory_for}
 use Rattle.gimli_compilation.specs.Sections.{sections_of}
 use Rattle.gimli_c.specs.CompDir.{sections_handed}
 use Rattle.gimli_c.specs.Listed.{GivesCompDirs}
 use Rattle.gimli_c.proofs.CompDirs.{all_told}
 use Rattle.gimli_c.proofs.Copied.{copied, not_copied_at}
+use Rattle.gimli_c.specs.Location.{slice_seen}
 use Rattle.gimli_c.proofs.comp_dir.gimli_line_proved_comp_dirs.Goals as goal
 
 pub returns-in_default : goal.returns-in_default
@@ -24,7 +24,7 @@ returns c =
     copied _ _ _ _ _ _ _ _
     (subst (λ (xs : List ℕ). GivesCompDirs sections c.args.directories.now now xs)
     (sym c.as_slice.ensures.value)
-    (all_told (sections_of (λ s. s.slice.now) (λ s. is_big_endian s.endian) (2 ^ 64) c.sections_in-sections.result)
+    (all_told (sections_of slice_seen (2 ^ 64) c.sections_in-sections.result)
     sections (λ line. option_map (λ s. s.slice.now) (directory_for c.in-Ok.compilations line)) c.args.directories.now
     now c.in-Ok-list_comp_dirs.whole.items c.sections_in-sections.ensures c.in-Ok.ensures.ok
     c.in-Ok-list_comp_dirs.ensures.ok))

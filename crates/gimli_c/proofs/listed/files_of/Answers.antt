@@ -5,6 +5,7 @@ use Rattle.gimli_lookup.specs.Strings.{strings}
 use Rattle.gimli_c.specs.Listed.{IsFileAnswer}
 use Rattle.gimli_c.proofs.Files.{complete, has_complete, header_whole}
 use Rattle.gimli_c.proofs.PathsOfFiles.{ok_more, err_more}
+use Rattle.gimli_c.specs.Location.{slice_seen}
 use Rattle.gimli_c.proofs.listed.files_of.Goals as goal
 
 pub returns-clause-ok : goal.returns-clause-ok
@@ -19,7 +20,7 @@ returns-clause-ok c =
       each =
           subst
           (λ (k : Header).
-          AllZip (IsFileAnswer k (strings (λ s. s.slice.now) c.args.sections) c.args.comp_dir.now texts.items)
+          AllZip (IsFileAnswer k (strings slice_seen c.args.sections) c.args.comp_dir.now texts.items)
           c.args.files.now c.list_files.new.files)
           (header_whole start c.run_on.new.rows h c.header.ensures.header.fixed c.header.ensures.files
           c.run_on.ensures.fixed c.in-Ok-run_on.ensures.files)

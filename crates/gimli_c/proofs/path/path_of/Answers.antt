@@ -3,6 +3,7 @@ use Rattle.gimli_line.specs.header.File.{file_seen}
 use Rattle.gimli_lookup.specs.Strings.{strings}
 use Rattle.gimli_c.proofs.Files.{complete, file_is, has_complete, looked_up}
 use Rattle.gimli_c.proofs.PathsOfFiles.{same_path, ok_more, err_more}
+use Rattle.gimli_c.specs.Location.{slice_seen}
 use Rattle.gimli_c.proofs.path.path_of.Goals as goal
 
 pub returns-in-Err-clause-err : goal.returns-in-Err-clause-err
@@ -35,7 +36,7 @@ returns-clause-ok c =
     looked_up start c.run_to_file.new.rows h c.args.number c.header-header.ensures.header.fixed
     c.header-header.ensures.files c.run_to_file.ensures.fixed
     c.in-Ok-run_to_file.ensures.file in
-    let seen = file_seen (λ s. s.slice.now) (λ n. n) c.in-Some.entry.now in
+    let seen = file_seen slice_seen (λ n. n) c.in-Some.entry.now in
     ok_more c.path_in_header.result (λ path is. record {
       header = complete start;
       file = seen;
@@ -46,7 +47,7 @@ returns-clause-ok c =
         is_file = sym (file_is start c.run_to_file.new.rows h c.args.number l) ∙ sym c.in-Some.ensures.file;
       };
       is_path =
-          sym (same_path (strings (λ s. s.slice.now) c.args.texts) start c.run_to_file.new.rows h c.args.number
+          sym (same_path (strings slice_seen c.args.texts) start c.run_to_file.new.rows h c.args.number
           c.args.comp_dir.now seen l)
           ∙ is;
     }) c.path_in_header.ensures.ok
@@ -59,7 +60,7 @@ returns-clause-err c =
     looked_up start c.run_to_file.new.rows h c.args.number c.header-header.ensures.header.fixed
     c.header-header.ensures.files c.run_to_file.ensures.fixed
     c.in-Ok-run_to_file.ensures.file in
-    let seen = file_seen (λ s. s.slice.now) (λ n. n) c.in-Some.entry.now in
+    let seen = file_seen slice_seen (λ n. n) c.in-Some.entry.now in
     err_more c.path_in_header.result (λ status is other. let told = is other in inr (inl (
       told.0,
       record {
@@ -73,7 +74,7 @@ returns-clause-err c =
         };
         error = told.1.0;
         is_error =
-            sym (same_path (strings (λ s. s.slice.now) c.args.texts) start c.run_to_file.new.rows h c.args.number
+            sym (same_path (strings slice_seen c.args.texts) start c.run_to_file.new.rows h c.args.number
             c.args.comp_dir.now seen l)
             ∙ told.1.1;
       },

@@ -1,12 +1,12 @@
 use Rattle.std.proofs.Common.{◌^◌, ◌∙◌, ℕ, List, Option, refl, sym, inl, inr}
 use Rattle.std.specs.Option.{option_map}
-use Rattle.gimli_core.specs.Order.{is_big_endian}
 use Rattle.gimli_compilation.specs.Directories.{directory_for}
 use Rattle.gimli_compilation.specs.Sections.{sections_of}
 use Rattle.gimli_c.specs.MadeIndex.{program}
 use Rattle.gimli_c.specs.declared.status.TheConstants.{NO_ROOM, OK, OUT_OF_MEMORY}
 use Rattle.gimli_c.proofs.Copied.{apart, copies_more, not_copied, not_copied_at}
 use Rattle.gimli_c.proofs.Places.{place_in, no_place_in}
+use Rattle.gimli_c.specs.Location.{slice_seen}
 use Rattle.gimli_c.proofs.place.place_in.Goals as goal
 
 pub returns-in-Err-clause-place : goal.returns-in-Err-clause-place
@@ -26,7 +26,7 @@ returns-clause-place c =
     program c.args.section.now options.is_big options.address_size options.lowest texts.debug_line_str.slice.now
     texts.debug_str.slice.now in
     let sections =
-    sections_of (λ s. s.slice.now) (λ s. is_big_endian s.endian) (2 ^ 64) c.args.sections.now in
+    sections_of slice_seen (2 ^ 64) c.args.sections.now in
     let directory : ℕ → Option (List ℕ) = λ line.
     option_map (λ s. s.slice.now) (directory_for c.in-Ok-new.compilations line) in
     let are = c.in-Ok.ensures.ok texts.debug_line_str.slice.now texts.debug_str.slice.now in

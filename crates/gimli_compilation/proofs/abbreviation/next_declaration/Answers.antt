@@ -9,7 +9,8 @@ returns-in_err-specifications-clause-read g c =
     err_from_is_err_and c.from_residual-in_err-specifications.result
     c.from_residual-in_err-specifications.ensures.1 in
     rw (p.1, p.2)
-    (declaration_fault _ _ _ (read_of c.in_ok-code.ensures) c.if-code-eq0.false _ _ c.in_err-specifications.ensures.read)
+    (declaration_fault _ _ _ (read_of c.in_ok-code.ensures) c.if-code-eq0.false _ _
+    c.in_err-specifications.ensures.read)
 
 pub returns-clause-read : goal.returns-clause-read
 returns-clause-read g c =

@@ -4,7 +4,8 @@ use Rattle.gimli_compilation.proofs.abbreviation.pass_specifications.Given as go
 
 abbrev pub invariant-loop-specification : goal.invariant-loop-specification
 invariant-loop-specification g l =
-    specifications_passed (g.R.Reader.seen l.input).bytes ≡ specifications_passed (g.R.Reader.seen l.initial.input).bytes
+    specifications_passed (g.R.Reader.seen l.input).bytes
+    ≡ specifications_passed (g.R.Reader.seen l.initial.input).bytes
 
 abbrev pub decreases-loop-specification : goal.decreases-loop-specification
 decreases-loop-specification g l = length (g.R.Reader.seen l.input).bytes

@@ -1,12 +1,12 @@
 use Rattle.std.proofs.Common.{◌^◌, refl, rules}
 use Rattle.std.proofs.lemmas.Result.{err_from_is_err_and}
 use Rattle.std.specs.Option.{option_map}
-use Rattle.gimli_core.specs.Order.{is_big_endian}
 use Rattle.gimli_compilation.specs.Directories.{directory_for}
 use Rattle.gimli_compilation.specs.Sections.{sections_of}
 use Rattle.gimli_index.specs.declared.error.MakeError.TheVariants.{OutOfMemory}
 use Rattle.gimli_c.specs.MadeIndex.{index_source, program}
 use Rattle.gimli_c.proofs.MadeIndexes.{index_made}
+use Rattle.gimli_c.specs.Location.{slice_seen}
 use Rattle.gimli_c.proofs.index.write.made_index.Goals as goal
 
 pub returns-in-Ok-write_index-clause-ok : goal.returns-in-Ok-write_index-clause-ok
@@ -17,7 +17,7 @@ returns-in-Ok-write_index-clause-ok c =
     index_source
     (program c.args.section.now options.is_big options.address_size options.lowest texts.debug_line_str.slice.now
     texts.debug_str.slice.now)
-    (sections_of (λ s. s.slice.now) (λ s. is_big_endian s.endian) (2 ^ 64) c.args.sections.now) c.args.identity.now in
+    (sections_of slice_seen (2 ^ 64) c.args.sections.now) c.args.identity.now in
     record {
       units = c.in_ok-program.program.lookup;
       are_units = c.in_ok-program.ensures.ok texts.debug_line_str.slice.now texts.debug_str.slice.now;

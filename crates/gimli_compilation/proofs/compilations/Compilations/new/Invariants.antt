@@ -11,7 +11,8 @@ invariant-loop-units g l =
     let sections : Sections = sections_of g.R.Reader.seen g.R.Offset.ReaderOffset.limit l.sections in
     record {
       walks : l.units.sections ≡ sections;
-      kept : Kept sections l.units.offset (λ line. option_map (λ r. (g.R.Reader.seen r).bytes) (get nat_cmp l.directories line));
+      kept : Kept sections l.units.offset (λ line.
+          option_map (λ r. (g.R.Reader.seen r).bytes) (get nat_cmp l.directories line));
     }
 
 abbrev pub decreases-loop-units : goal.decreases-loop-units

@@ -4,7 +4,7 @@ use Rattle.std.proofs.lemmas.List.{drop_more}
 use Rattle.gimli_line.proofs
 use proofs.Common
 use Common.{ℕ, List, Ok, Err, length, drop, drop_all, refl, subst, ◌∙◌, err_from_is_err_and, Value, ValueHasOrder, Read}
-use Common.{read_of, order_of, taken_of}
+use Common.{read_of, order_of, taken_of, ap, layout_of}
 use Common.{Error, Format, OrderAndLimit, File, FileEntryFormat}
 use Rattle.gimli_core.specs.Form.{form_production}
 use Rattle.gimli_line.specs.inside.header.EntryReading.{file_with, folded_at}
@@ -14,15 +14,15 @@ use proofs.header.tables.parse_file_v5.Goals as goal
 
 module _ (layout : OrderAndLimit) (format : Format) (fs : List FileEntryFormat) (i : ℕ) (x : File) (bytes : List ℕ)
     (total : Read File) (so_far : folded_at layout format file_with x (drop i fs) bytes ≡ total) where
-  goes_on : (d : FileEntryFormat) (value : Value) (rest : List ℕ) → i < length fs
-      → (Ok value, rest) ≡ (form_production layout format (get_or fs i d).form.0).read bytes
+  goes_on : {at : OrderAndLimit} → at ≡ layout → (d : FileEntryFormat) (value : Value) (rest : List ℕ) → i < length fs
+      → (Ok value, rest) ≡ (form_production at format (get_or fs i d).form.0).read bytes
       → folded_at layout format file_with (file_with x (get_or fs i d).content_type.0 value) (drop (i + 1) fs) rest
       ≡ total
-  goes_on d value rest lt read = rw (drop_more fs i d lt, ← read) at so_far
+  goes_on same d value rest lt at_it = let read = rw same at at_it in rw (drop_more fs i d lt, ← read) at so_far
 
-  ends : (d : FileEntryFormat) (e : Error) (rest : List ℕ) → i < length fs
-      → (Err e, rest) ≡ (form_production layout format (get_or fs i d).form.0).read bytes → (Err e, rest) ≡ total
-  ends d e rest lt read = rw (drop_more fs i d lt, ← read) at so_far
+  ends : {at : OrderAndLimit} → at ≡ layout → (d : FileEntryFormat) (e : Error) (rest : List ℕ) → i < length fs
+      → (Err e, rest) ≡ (form_production at format (get_or fs i d).form.0).read bytes → (Err e, rest) ≡ total
+  ends same d e rest lt at_it = let read = rw same at at_it in rw (drop_more fs i d lt, ← read) at so_far
 
   done : length fs ≤ i → (Ok x, bytes) ≡ total
   done le = rw (drop_all i fs le) at so_far
@@ -39,8 +39,9 @@ loop-entry_format-preserved g c =
     let i = c.loop-entry_format.invariant in
     record {
       so_far = rw c.update.ensures.file
-          (goes_on _ _ _ _ _ _ _ i.so_far _ _ _ c.loop-entry_format-test.true
-          (rw i.order at (read_of c.in_ok-value.ensures.read)));
+          (goes_on _ _ _ _ _ _ _ i.so_far (ap (λ order. layout_of order g.R.Offset.ReaderOffset.limit) i.order) _ _ _
+          c.loop-entry_format-test.true
+          (read_of c.in_ok-value.ensures.read));
       order = order_of c.parse_attribute.ensures.read ∙ i.order;
       part = c.update.ensures.order _ i.part
           (subst (λ order. ValueHasOrder g.R.Reader.seen order c.in_ok-value.value) i.order
@@ -53,8 +54,9 @@ returns-in_err-value-clause-read g c =
     let i = c.loop-entry_format.invariant in
     rw (p.1, p.2)
     (taken_of
-    (ends _ _ _ _ _ _ _ i.so_far _ _ _ c.loop-entry_format-test.true
-    (rw i.order at (read_of c.in_err-value.ensures.read)))
+    (ends _ _ _ _ _ _ _ i.so_far (ap (λ order. layout_of order g.R.Offset.ReaderOffset.limit) i.order) _ _ _
+    c.loop-entry_format-test.true
+    (read_of c.in_err-value.ensures.read))
     (order_of c.in_err-value.ensures.read ∙ i.order))
 
 pub returns-clause-read : goal.returns-clause-read

@@ -8,7 +8,9 @@ pub returns-in_err-tables-clause-err : goal.returns-in_err-tables-clause-err
 returns-in_err-tables-clause-err g c =
     let s = c.args.sections.now in
     let h = c.args.header.now.meaning in
-    let given = handed_of c.args.encoding c.args.line_encoding (option_map (λ r. (g.R.Reader.seen r).bytes) c.args.from_comp_name) in
+    let given =
+    handed_of c.args.encoding c.args.line_encoding
+    (option_map (λ r. (g.R.Reader.seen r).bytes) c.args.from_comp_name) in
     let target = c.unwrap_or-encoding.ensures ∙ ap (λ own. unwrap_or c.args.encoding own) c.encoding.ensures.encoding in
     let p = err_from_is_err_and c.from_residual.result c.from_residual.ensures.1 in
     rw (p.1, p.2)
@@ -19,7 +21,9 @@ pub returns-in_err-add_directories_and_files-clause-err : goal.returns-in_err-ad
 returns-in_err-add_directories_and_files-clause-err g c =
     let s = c.args.sections.now in
     let h = c.args.header.now.meaning in
-    let given = handed_of c.args.encoding c.args.line_encoding (option_map (λ r. (g.R.Reader.seen r).bytes) c.args.from_comp_name) in
+    let given =
+    handed_of c.args.encoding c.args.line_encoding
+    (option_map (λ r. (g.R.Reader.seen r).bytes) c.args.from_comp_name) in
     let target = c.unwrap_or-encoding.ensures ∙ ap (λ own. unwrap_or c.args.encoding own) c.encoding.ensures.encoding in
     let p =
     err_from_is_err_and c.from_residual-in_err-add_directories_and_files.result

@@ -3,7 +3,8 @@ use Rattle.std.specs.Result.{result_unwrap_or}
 use Rattle.std.proofs.lemmas.List.{get_or_past}
 use Rattle.gimli_core.specs.Reading.{skip_at}
 use Rattle.gimli_line.proofs
-use proofs.Common.{ℕ, zero, suc, List, [], Result, Ok, Err, Error, Read, byte_at, drop, refl, ◌∙◌, arith, slice_index}
+use proofs.Common.{read_of, ℕ, zero, suc, List, [], Result, Ok, Err, Error, Read, byte_at, drop, refl, ◌∙◌, arith}
+use proofs.Common.{slice_index}
 use proofs.header.program_header.LineProgramHeader.operand_count.Goals as goal
 
 first : (xs : List ℕ) (n : ℕ) → result_unwrap_or (byte_at (drop n xs)).0 0 ≡ slice_index xs n
@@ -23,7 +24,7 @@ module _ (xs after : List ℕ) (n : ℕ) where
 
 pub returns-in-Ok : goal.returns-in-Ok
 returns-in-Ok g c = rw (← c.self.view_is, ← c.from_u8.ensures)
-    (c.unwrap_or.ensures ∙ counted _ _ _ _ _ c.in-Ok.ensures.read c.read_u8.ensures.read)
+    (c.unwrap_or.ensures ∙ counted _ _ _ _ _ (read_of c.in-Ok.ensures) (read_of c.read_u8.ensures))
 
 pub returns-in-Err : goal.returns-in-Err
-returns-in-Err g c = rw (← c.self.view_is, ← c.from_u8.ensures) (missing _ _ _ _ c.in-Err.ensures.read)
+returns-in-Err g c = rw (← c.self.view_is, ← c.from_u8.ensures) (missing _ _ _ _ (read_of c.in-Err.ensures))

@@ -23,7 +23,9 @@ returns-clause-ok g c =
     let h = c.args.from_program.meaning in
     let layout = c.args.from_program.layout in
     let tables = tables_with c.prepare.new.line_strings c.in_ok-tables.tables in
-    let given = handed_of c.args.encoding c.args.line_encoding (option_map (λ r. (g.R.Reader.seen r).bytes) c.args.from_comp_name) in
+    let given =
+    handed_of c.args.encoding c.args.line_encoding
+    (option_map (λ r. (g.R.Reader.seen r).bytes) c.args.from_comp_name) in
     let is = rw c.header.ensures at c.in_ok-tables.ensures.ok in
     let same : without_built tables ≡ tables = prepared_plain sections h given c.args.line_strings.now is in
     rw c.start-conversion.ensures (record {

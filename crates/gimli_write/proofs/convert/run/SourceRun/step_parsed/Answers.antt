@@ -87,7 +87,8 @@ returns-in_default g c =
     let u = c.next_instruction.new.self in
     let lent : c.header.result.now.meaning ≡ c.self.inside.program.meaning = rw c.header.ensures refl in
     let spelled = spelled_as _ _ {i = i} {j = i} lent refl n.2 in
-    let file : defines_file i ≡ false = other_kind _ _ _ (λ f is. c.in_default.not-DefineFile f is) in
+    let file : defines_file i ≡ false = other_kind g.R.Reader.seen g.R.Offset.ReaderOffset.number _
+    (λ f is. c.in_default.not-DefineFile f is) in
     rw (← c.self.view_is) (steps_source _ _ s c.execute.new.self u c.in-Ok-Some.ensures.layout i (n.0, n.1, spelled) _
     c.execute.ensures.header c.execute.ensures.unread file
     c.execute.ensures.fits c.execute.ensures.step c.execute.ensures.made c.execute.ensures.overflow)
