@@ -74,7 +74,8 @@ fn is_empty_at<R: Reader>(section: R, offset: R::Offset) -> bool
 
 /// The string of a section at an offset, up to its zero byte.
 fn string_at<R: Reader>(section: R, offset: R::Offset) -> Result<R, PathError>
-    ensures { result_map (λ r. (R.seen r).bytes) result ≡ string_at (R.seen section).bytes (R.Offset.number offset) }
+    ensures { result_map (λ r. (R.seen r).bytes) result
+        ≡ string_at (R.seen section).bytes (R.Offset.number offset) }
 {
     let mut bytes = section;
     if bytes.skip(offset).is_err() || bytes.is_empty() {

@@ -1,5 +1,6 @@
 use Rattle.std.proofs.Common.{◌≢◌, ◌∙◌, List, ℕ, drop, sym, subst}
 use Rattle.std.specs.List.{AllByRecursion}
+use Rattle.gimli_core.proofs.Taken.{read_of}
 use Rattle.gimli_lookup.proofs.EndedStrings.{cut_ended, offset_is}
 use Rattle.gimli_lookup.proofs.ended_strings.ended.Goals as goal
 
@@ -15,7 +16,8 @@ returns-in-Ok-from_u64 g c =
     record {
       ended =
           cut_ended (number c.in-Ok-from_u64.length) (g.R.Reader.seen c.args.section).bytes
-          (g.R.Reader.seen c.truncate.new.self).bytes _ c.truncate.ensures.read
-          (subst (λ (n : ℕ). AllByRecursion (λ byte. byte ≢ 0) (drop n (g.R.Reader.seen c.args.section).bytes)) (sym count)
+          (g.R.Reader.seen c.truncate.new.self).bytes _ (read_of c.truncate.ensures)
+          (subst (λ (n : ℕ). AllByRecursion (λ byte. byte ≢ 0) (drop n (g.R.Reader.seen c.args.section).bytes))
+          (sym count)
           none);
     }

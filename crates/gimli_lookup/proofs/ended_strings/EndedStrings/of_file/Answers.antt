@@ -16,11 +16,11 @@ file_fault-requires-clause-fault g c =
 
 pub returns-in-Err-clause-err : goal.returns-in-Err-clause-err
 returns-in-Err-clause-err g c =
-    let bytes = (g.R.Reader.seen in).bytes
+    let seen = g.R.Reader.seen in
     let known = option_copied c.args.known in
-    let f = file_seen bytes g.R.Offset.ReaderOffset.number c.args.file.now in
+    let f = file_seen seen g.R.Offset.ReaderOffset.number c.args.file.now in
     λ other.
-    ap (λ s. file_path (paths_in (strings bytes s) c.args.header.now.meaning known) f) (sym c.self.view_is)
+    ap (λ s. file_path (paths_in (strings seen s) c.args.header.now.meaning known) f) (sym c.self.view_is)
     ∙ c.file_fault.ensures known
 
 by_both : {V : Type 0} (items : V → List ℕ) (result : Result V PathError) (ended whole : Result (List ℕ) PathError)
@@ -31,16 +31,16 @@ by_both items (Err e) ended whole too is = is
 
 pub returns-in_default-2-clause-ok : goal.returns-in_default-2-clause-ok
 returns-in_default-2-clause-ok g c =
-    let bytes = (g.R.Reader.seen in).bytes
+    let seen = g.R.Reader.seen in
     let h = c.args.header.now.meaning in
     let known = option_copied c.args.known in
-    let f = file_seen bytes g.R.Offset.ReaderOffset.number c.args.file.now in
+    let f = file_seen seen g.R.Offset.ReaderOffset.number c.args.file.now in
     let sections = c.self.inside.sections in
     by_both (λ path. path.items) c.of_file.result (file_path c.new.result f)
-    (file_path (paths_in (strings bytes c.args.self.now) h known) f)
+    (file_path (paths_in (strings seen c.args.self.now) h known) f)
     (λ path is.
-    ap (λ s. file_path (paths_in (strings bytes s) h known) f) (sym c.self.view_is)
-    ∙ c.paths_end_alike.ensures (strings bytes sections.whole) (strings bytes sections.ended) h known f path
+    ap (λ s. file_path (paths_in (strings seen s) h known) f) (sym c.self.view_is)
+    ∙ c.paths_end_alike.ensures (strings seen sections.whole) (strings seen sections.ended) h known f path
     c.self.invariant
     (ap (λ p. file_path p f) (sym c.new.ensures) ∙ is))
     c.of_file.ensures.ok
