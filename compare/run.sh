@@ -2,7 +2,7 @@
 # Compares the rows that linetool prints with those of llvm-dwarfdump and readelf, over small C and C++ programs built by
 # each compiler at hand, in each version from 2 to 5, both formats, with and without optimisation, and with a section for
 # each function; and what lines says of addresses and units with addr2line, llvm-symbolizer and llvm-dwarfdump, where these are
-# there. Outside the gate. It needs python3, objcopy, readelf, llvm-dwarfdump and at least one of gcc and clang;
+# there. The gate runs it, by `.ci/test compare`. It needs python3, objcopy, readelf, llvm-dwarfdump and at least one of gcc and clang;
 # on Debian: apt-get install binutils llvm gcc g++ clang python3.
 #
 # A command that a compiler can't do (clang has no 64-bit format in version 2) is passed over, and counted.
