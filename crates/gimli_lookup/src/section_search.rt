@@ -43,6 +43,22 @@ fn needs_compilation<R: Reader>(
     }
 }
 
+/// The same of what is found at some addresses: whether one of the paths does.
+fn some_need_compilation<R: Reader>(
+    paths: &ProgramPaths<R>,
+    units: &[UnitLookup<R>],
+    rows: &[Option<CoveringRows>],
+) -> bool
+    ensures { result ≡ some_found_need (strings R.seen paths.now.0) units.now rows.now }
+{
+    for found in rows {
+        if needs_compilation(paths, units, found) {
+            return true;
+        }
+    }
+    false
+}
+
 impl<R: Reader> FoundRows<R> {
     /// Whether the path of some of the found rows may go on from a directory that is in
     /// `.debug_info`, as `ProgramPaths::found_needs` says of each. If not, `ProgramPaths::of_found`
@@ -51,12 +67,7 @@ impl<R: Reader> FoundRows<R> {
         ensures { result ≡ some_found_need (strings R.seen paths.now.0)
             self.now.units.items self.now.rows.items }
     {
-        for found in &self.rows {
-            if needs_compilation(paths, &self.units, found) {
-                return true;
-            }
-        }
-        false
+        some_need_compilation(paths, &self.units, &self.rows)
     }
 }
 
