@@ -87,9 +87,10 @@ impl<R: Reader> ProgramPaths<R> {
         self.strings.need_directory(header)
     }
 
-    /// Whether the paths of a unit need the directory of its compilation. A refused unit has no
-    /// paths.
-    pub(crate) fn unit_needs(&self, unit: &UnitLookup<R>) -> bool
+    /// Whether the paths of a unit may go on from a directory that is in `.debug_info`: it has no
+    /// directory of its compilation, or an empty one (DWARF 5, section 6.2.4). A refused unit has
+    /// no paths. Takes no memory.
+    pub fn unit_needs(&self, unit: &UnitLookup<R>) -> bool
         ensures { result ≡ unit_needs (strings R.seen self.now.0) unit.now }
     {
         match unit.header() {
@@ -98,10 +99,9 @@ impl<R: Reader> ProgramPaths<R> {
         }
     }
 
-    /// Whether the path of found rows may go on from a directory that is in `.debug_info`: their
-    /// unit has no directory of its compilation, or an empty one (DWARF 5, section 6.2.4). If not,
-    /// `of_found` returns the same whatever compilations are handed in. False where these units
-    /// lack that of the rows, or no header of it is known. Takes no memory.
+    /// Whether the path of found rows may go on from such a directory, as `unit_needs` says of
+    /// their unit. If not, `of_found` returns the same whatever compilations are handed in. False
+    /// where these units lack that of the rows, or no header of it is known. Takes no memory.
     pub fn found_needs(&self, units: &[UnitLookup<R>], found: &CoveringRows) -> bool
         ensures { result ≡ found_needs (strings R.seen self.now.0) units.now found.now }
     {
