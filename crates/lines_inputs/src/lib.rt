@@ -25,7 +25,7 @@ mod units;
 pub use files::{build_id_in, write_file};
 pub use functions::Functions;
 pub use input::{Input, InputError, InputSections, tell_refusal};
-pub use locate::{Answered, Places, SourceLine};
+pub use locate::{Answered, PlaceRows, Places, SourceLine};
 pub use lookup::{Covering, look_up_any, look_up_each, program_of};
 pub use named_code::FunctionStarts;
 pub use path_budget::PathBudget;
