@@ -10,7 +10,7 @@ use crate::place_printer::{Asked, FoundPlace, PlacePrinter};
 use crate::sentence::{tell, tell_of_unit};
 use crate::units::{column_of, flags_of, line_of};
 use gimli_core::{Reader, ReaderOffset};
-use gimli_lookup::{ProgramPaths, StringSections};
+use gimli_lookup::ProgramPaths;
 use lines_words::{CodeAddress, Json, Output, Request};
 use std::alloc::Global;
 
@@ -87,9 +87,9 @@ impl<'r, 'n, R: Reader> PlaceRows<'r, 'n, R> {
     }
 
     /// Whether the paths of these rows need the sections that say where compilations ran, by the
-    /// sections of texts. It says so too if memory is missing.
-    pub fn need_units(&self, strings: StringSections<R>) -> bool {
-        match ProgramPaths::new(strings) {
+    /// sections of texts of a program. It says so too if memory is missing.
+    pub fn need_units(&self, input: &Input<R>) -> bool {
+        match ProgramPaths::new(input.strings) {
             Ok(paths) => self.lookup.need_compilations(&paths),
             Err(_) => true,
         }
@@ -171,19 +171,20 @@ impl<'r, 'n, R: Reader> Places<'r, 'n, R> {
     /// Prints the place of an address. In JSON its rows say more: their range is moved by the bias,
     /// as the address is. Why its path isn't known is reported.
     fn print_place(&self, address: u64, output: &mut Output<'_>) -> Result<Answered> {
-        let request = self.rows.printer.request;
+        let rows = &self.rows;
+        let request = rows.printer.request;
         let own = address.checked_sub(request.bias);
         // The search for the end of a name takes as long as the name.
         let function = match own {
-            Some(own) if request.has_function => self.rows.functions.name_at(own),
+            Some(own) if request.has_function => rows.functions.name_at(own),
             _ => None,
         };
-        let Some(found) = own.and_then(|own| self.rows.lookup.find(own)) else {
-            self.rows.printer.print(Some(address), function, None, output);
+        let Some(found) = own.and_then(|own| rows.lookup.find(own)) else {
+            rows.printer.print(Some(address), function, None, output);
             return Ok(Answered::Whole);
         };
-        let units = self.rows.lookup.units();
-        let path = self.sources.paths().of_found(self.rows.alloc, units, &found);
+        let units = rows.lookup.units();
+        let path = self.sources.paths().of_found(rows.alloc, units, &found);
         let (path, fault) = path_or_fault(&self.sources, path)?;
         let (line, column) = (line_of(&found.row), column_of(&found.row));
         let start = found.row.address().saturating_add(request.bias);
@@ -199,9 +200,9 @@ impl<'r, 'n, R: Reader> Places<'r, 'n, R> {
                 ("flags", Json::Flags(&flags)),
             ],
         };
-        self.rows.printer
+        rows.printer
             .print(Some(address), function, Some(place), output);
-        if let (Some(fault), Some(unit)) = (fault, self.rows.lookup.units().get(found.unit)) {
+        if let (Some(fault), Some(unit)) = (fault, rows.lookup.units().get(found.unit)) {
             let pieces = [Piece::Address(address), Piece::Fault(fault)];
             let offset = unit.offset().0.into_u64();
             tell_of_unit(offset, "at address %: %", &pieces, output);
