@@ -2,9 +2,7 @@
 //! and of `.debug_str`, few programs do.
 
 use gimli_core::{DW_FORM_strp, EndianSlice, Reader, RunTimeEndian};
-use gimli_line::{
-    DebugLine, FileEntryFormat, IncompleteLineProgram, LineProgramHeader, LineUnits,
-};
+use gimli_line::{DebugLine, FileEntryFormat, IncompleteLineProgram, LineProgramHeader, LineUnits};
 use gimli_lookup::{StringSections, some_need_directory};
 use std::alloc::Global;
 

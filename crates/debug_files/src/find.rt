@@ -58,7 +58,11 @@ pub fn open_source<R: Files + AllocGlobal>(
 ///
 /// <!-- part of crates/lines/src/inputs.rt -->
 /// ```rust
-/// Ok(opened) if is_late => Ok(Some((opened.found, opened.file))),
+/// let inputs = Inputs::new(request, source.found, line_str, strings);
+/// Ok(Some(OpenInputs {
+///     inputs,
+///     file: source.file,
+/// }))
 /// ```
 #[derive(Drop)]
 pub struct OpenSource<F> {

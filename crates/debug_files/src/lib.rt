@@ -2,9 +2,9 @@
 //! that is stripped has its line programs there.
 //!
 //! [`source_of`] is the whole of it; [`open_source`] leaves some sections for later, which are read
-//! from the open file only if the paths of found rows need them. [`debug_file_paths`] names the places; [`Outline`] reads what
-//! a file's sections are known by, and [`Outline::section`] one of them, so that a large file
-//! isn't read whole.
+//! from the open file only if the paths of found rows need them. [`debug_file_paths`] names the
+//! places; [`Outline`] reads what a file's sections are known by, and [`Outline::section`] one of
+//! them, so that a large file isn't read whole.
 #![tactic(auto)]
 
 mod debug_paths;

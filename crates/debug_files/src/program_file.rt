@@ -23,11 +23,9 @@ pub(crate) struct Link {
 
 /// A file that is open, and what its sections are known by.
 ///
-/// <!-- part of crates/lines/src/places.rt -->
+/// <!-- part of crates/lines_inputs/src/late_sections.rt -->
 /// ```rust
-/// if has_strings {
-///     late.strings = file.strings(alloc)?;
-/// }
+/// self.units.get_or_try_init(|| file.units(alloc))
 /// ```
 #[derive(Drop)]
 pub struct ProgramFile<F> {

@@ -6,15 +6,10 @@ use std::alloc::Global;
 ///
 /// <!-- part of crates/lines/src/inputs.rt -->
 /// ```rust
-/// let wanted = if request.command.prints_functions() {
-///     Wanted::Symbols
-/// } else if request.command.prints_whole_paths() {
-///     Wanted::Paths
-/// } else if request.command.prints_paths() {
-///     Wanted::Names
-/// } else {
-///     Wanted::Lines
-/// };
+/// match (reads_later(request), command.prints_functions()) {
+///     (true, true) => Wanted::RowsAndSymbols,
+///     (true, false) => Wanted::Rows,
+///     (false, true) => Wanted::Symbols,
 /// ```
 #[derive(Clone, Copy, Debug, PartialEq, Eq)]
 pub enum Wanted {
@@ -46,10 +41,7 @@ impl Wanted {
 /// ```rust
 /// let kind = match &found {
 ///     Found::Whole(_) => request.kind,
-///     Found::Sections(of) => {
-///         let notation = Notation::new(of.is_big_endian, of.address_size, of.lowest, of.code_end);
-///         InputKind::Raw(notation)
-///     }
+///     Found::Sections(of) => InputKind::Raw(notation_of(of)),
 /// };
 /// ```
 #[derive(Drop)]
@@ -64,7 +56,7 @@ pub enum Found {
 ///
 /// <!-- part of crates/lines/src/inputs.rt -->
 /// ```rust
-/// let notation = Notation::new(of.is_big_endian, of.address_size, of.lowest, of.code_end);
+/// Notation::new(of.is_big_endian, of.address_size, of.lowest, of.code_end)
 /// ```
 #[derive(Drop)]
 pub struct FoundSections {

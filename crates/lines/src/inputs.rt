@@ -3,7 +3,9 @@
 ghost use Rattle.std.specs.Prelude.{◌≤◌, IfOk};
 
 use crate::session::{REFUSED, Run, Session};
-use debug_files::{DEBUG_DIRECTORY, Found, Missing, OpenSource, ProgramFile, Wanted};
+use debug_files::{
+    DEBUG_DIRECTORY, Found, FoundSections, Missing, OpenSource, ProgramFile, Wanted,
+};
 use elf_sections::usual_limit;
 use lines_inputs::{InputError, InputSections, tell_refusal};
 use lines_words::{Command, Files, InputKind, NameText, Notation, Request, UnitFiles};
@@ -121,10 +123,7 @@ impl Inputs {
     fn new(request: &Request<'_>, found: Found, line_str: Vec<u8>, strings: Vec<u8>) -> Inputs {
         let kind = match &found {
             Found::Whole(_) => request.kind,
-            Found::Sections(of) => {
-                let (size, lowest, end) = (of.address_size, of.lowest, of.code_end);
-                InputKind::Raw(Notation::new(of.is_big_endian, size, lowest, end))
-            }
+            Found::Sections(of) => InputKind::Raw(notation_of(of)),
         };
         Inputs {
             kind,
@@ -176,6 +175,11 @@ impl Inputs {
             }
         }
     }
+}
+
+/// How the numbers of sections are read.
+fn notation_of(of: &FoundSections) -> Notation {
+    Notation::new(of.is_big_endian, of.address_size, of.lowest, of.code_end)
 }
 
 /// A section that is named apart, or else the program's own.

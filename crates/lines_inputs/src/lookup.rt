@@ -81,10 +81,7 @@ fn unit_needs_strings<R: Reader>(unit: &UnitLookup<R>) -> bool {
 }
 
 /// Whether the paths of some of these rows, which were found in units, need `.debug_str`.
-fn found_need_strings<R: Reader>(
-    units: &[UnitLookup<R>],
-    rows: &[Option<CoveringRows>],
-) -> bool {
+fn found_need_strings<R: Reader>(units: &[UnitLookup<R>], rows: &[Option<CoveringRows>]) -> bool {
     for found in rows {
         let unit = found.and_then(|rows| units.get(rows.unit));
         if unit.is_some_and(|unit| unit_needs_strings(unit)) {
