@@ -77,18 +77,13 @@ impl<F: Read + Seek> ProgramFile<F> {
             Wanted::Lines => PathSections::none(alloc),
             _ => self.path_sections(alloc, &lines, wanted)?,
         };
-        let (symbols, symbol_names) = if wanted.has_symbols() {
-            self.symbol_sections(alloc)?
-        } else {
-            (Vec::new(alloc), Vec::new(alloc))
-        };
+        let (symbols, symbol_names) = self.wanted_symbols(alloc, wanted)?;
         let lowest = self.lowest()?;
         let code_end = self.code_end()?;
         let sections = self.outline.sections()?;
-        let code_ends = if wanted.has_symbols() {
-            sections.code_ends(alloc)?
-        } else {
-            Vec::new(alloc)
+        let code_ends = match wanted.has_symbols() {
+            true => sections.code_ends(alloc)?,
+            false => Vec::new(alloc),
         };
         Ok(Some(FoundSections {
             is_big_endian: sections.is_big_endian(),
@@ -173,6 +168,19 @@ impl<F: Read + Seek> ProgramFile<F> {
             abbreviations: self.readable(alloc, b".debug_abbrev")?,
             string_offsets: self.readable(alloc, b".debug_str_offsets")?,
         })
+    }
+
+    /// The symbols, and their names, where these are wanted.
+    fn wanted_symbols(
+        &mut self,
+        alloc: Global,
+        wanted: Wanted,
+    ) -> Result<(Vec<u8>, Vec<u8>), Missing> {
+        if wanted.has_symbols() {
+            self.symbol_sections(alloc)
+        } else {
+            Ok((Vec::new(alloc), Vec::new(alloc)))
+        }
     }
 
     /// The symbols, and their names: all of them, or else those for linking when it runs.
