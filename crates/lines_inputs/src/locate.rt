@@ -4,13 +4,13 @@ use crate::Result;
 use crate::functions::Functions;
 use crate::input::Input;
 use crate::lookup::{Covering, look_up_any, look_up_each};
-use crate::path_sources::{PathSources, path_or_fault};
+use crate::path_sources::{PathFault, PathSources, path_or_fault};
 use crate::piece::Piece;
 use crate::place_printer::{Asked, FoundPlace, PlacePrinter};
 use crate::sentence::{tell, tell_of_unit};
 use crate::units::{column_of, flags_of, line_of};
 use gimli_core::{Reader, ReaderOffset};
-use gimli_lookup::ProgramPaths;
+use gimli_lookup::{CoveringRows, ProgramPaths};
 use lines_words::{CodeAddress, Json, Output, Request};
 use std::alloc::Global;
 
@@ -202,17 +202,29 @@ impl<'r, 'n, R: Reader> Places<'r, 'n, R> {
         };
         rows.printer
             .print(Some(address), function, Some(place), output);
-        if let (Some(fault), Some(unit)) = (fault, rows.lookup.units().get(found.unit)) {
-            let pieces = [Piece::Address(address), Piece::Fault(fault)];
-            let offset = unit.offset().0.into_u64();
-            tell_of_unit(offset, "at address %: %", &pieces, output);
-        }
+        self.tell_fault(address, &found, fault, output);
         Ok(match path {
             Some(path) if request.has_source => {
                 Answered::Above(SourceLine { path, line, column })
             }
             _ => Answered::Whole,
         })
+    }
+
+    /// Reports why the path of the rows of an address isn't known, where it isn't.
+    fn tell_fault(
+        &self,
+        address: u64,
+        found: &CoveringRows,
+        fault: Option<PathFault>,
+        output: &mut Output<'_>,
+    ) {
+        let units = self.rows.lookup.units();
+        if let (Some(fault), Some(unit)) = (fault, units.get(found.unit)) {
+            let pieces = [Piece::Address(address), Piece::Fault(fault)];
+            let offset = unit.offset().0.into_u64();
+            tell_of_unit(offset, "at address %: %", &pieces, output);
+        }
     }
 }
 
