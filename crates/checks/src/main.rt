@@ -30,7 +30,7 @@ fn first_false(found: &[bool]) -> Option<usize> {
 }
 
 /// Each check, and what it finds.
-fn checks(alloc: Global) -> [(&'static str, Found); 23] {
+fn checks(alloc: Global) -> [(&'static str, Found); 24] {
     [
         ("readers::skipped", readers::skipped()),
         ("lookups::narrow_unit", lookups::narrow_unit(alloc)),
@@ -38,6 +38,7 @@ fn checks(alloc: Global) -> [(&'static str, Found); 23] {
             "programs::late_directories",
             programs::late_directories(alloc),
         ),
+        ("programs::found_needs", programs::found_needs(alloc)),
         ("lookups::wide_numbers", lookups::wide_numbers(alloc)),
         ("lookups::many", lookups::many(alloc)),
         ("relocations::calls", relocations::calls(alloc)),

@@ -1,4 +1,5 @@
-//! Places of a program, and the lines of its files, before and after directories are handed in.
+//! Places of a program, and the lines of its files, before and after directories are handed in; and
+//! which of these the paths of found rows need.
 
 use crate::lookups::DEMO;
 use crate::units::slice;
@@ -6,7 +7,7 @@ use crate::{Found, first_false};
 use gimli_compilation::{CompilationSections, Compilations};
 use gimli_core::{EndianSlice, LittleEndian, Reader, Result};
 use gimli_line::DebugLine;
-use gimli_lookup::{Program, StringSections};
+use gimli_lookup::{Program, StringSections, find_in_section};
 use std::alloc::Global;
 
 /// A unit of `.debug_info` whose line program is at 0 and whose directory is `/w`.
@@ -18,6 +19,11 @@ const ABBREV: &[u8] = b"\x01\x11\0\x10\x17\x1b\x08\0\0\0";
 /// A unit of version 5 whose directory 0 is `/w`, without rows.
 const WITH_DIRECTORY: &[u8] =
     b"\x19\0\0\0\x05\0\x04\0\x11\0\0\0\x01\x01\x01\0\x01\x01\x01\x01\x08\x01/w\0\x01\x01\x08\0";
+
+/// The same with rows of the file `/w/a.c` from 0x2000 to 0x2008.
+const WITH_ROWS: &[u8] =
+    b"\x2e\0\0\0\x05\0\x04\0\x19\0\0\0\x01\x01\x01\0\x01\x01\x01\x01\x08\x01/w\0\x01\x01\x08\x02\
+      b.c\0a.c\0\0\x05\x02\0\x20\0\0\x01\x05\x05\0\x01\x01";
 
 /// A program whose strings stand in its section.
 fn program_of<'a>(
@@ -96,4 +102,52 @@ pub fn late_directories(alloc: Global) -> Found {
     }
     let mut program = program_of(alloc, DEMO)?;
     first_wrong_with_directory(alloc, &mut program)
+}
+
+/// Whether the path of an address needs the directory of its compilation. None where it is covered
+/// by no rows.
+fn needs_at<R: Reader>(program: &Program<R>, address: u64) -> Option<bool> {
+    let place = program.place(address)?;
+    Some(place.needs_compilation())
+}
+
+/// Whether some path of what one run finds at addresses needs the directory of its compilation,
+/// and whether the path of what is found at the last of them does.
+fn need_in_run<R: Reader>(
+    alloc: Global,
+    section: &DebugLine<R>,
+    program: &Program<R>,
+    addresses: &[u64],
+) -> Result<[bool; 2]> {
+    let found = find_in_section(section, alloc, 4, 0, addresses)?;
+    let paths = program.paths();
+    let last = match found.rows.last() {
+        Some(Some(rows)) => paths.found_needs(&found.units, rows),
+        _ => false,
+    };
+    Ok([found.need_compilations(paths), last])
+}
+
+/// What is otherwise of the paths of a program of two units: those at 0x2000 need no directory, and
+/// those at 0x1000 do.
+fn first_wrong_need(alloc: Global, section: &[u8]) -> Found {
+    let lines = DebugLine::from(slice(section));
+    let program = program_of(alloc, section)?;
+    let of_first = need_in_run(alloc, &lines, &program, &[0x2005, 0x3000, 0x2007])?;
+    let of_both = need_in_run(alloc, &lines, &program, &[0x3000, 0x2005, 0x1005])?;
+    Ok(first_false(&[
+        program.needs_compilations(),
+        needs_at(&program, 0x2005) == Some(false),
+        needs_at(&program, 0x1005) == Some(true),
+        needs_at(&program, 0x3000).is_none(),
+        of_first == [false, false],
+        of_both == [true, true],
+    ]))
+}
+
+/// What is otherwise of the directories that found rows need.
+pub fn found_needs(alloc: Global) -> Found {
+    let mut section = Vec::from_slice(alloc, WITH_ROWS)?;
+    section.extend_from_slice(DEMO)?;
+    first_wrong_need(alloc, &section)
 }

@@ -2,7 +2,7 @@
 //! and of `.debug_str`, few programs do.
 
 use gimli_core::{DW_FORM_strp, EndianSlice, Reader, RunTimeEndian};
-use gimli_line::{DebugLine, FileEntryFormat, IncompleteLineProgram, LineUnits};
+use gimli_line::{DebugLine, FileEntryFormat, IncompleteLineProgram, LineProgramHeader, LineUnits};
 use gimli_lookup::{StringSections, some_need_directory};
 use std::alloc::Global;
 
@@ -20,14 +20,16 @@ fn name_strings(formats: &[FileEntryFormat]) -> bool {
     formats.iter().any(|format| format.form == DW_FORM_strp)
 }
 
+/// Whether the tables of a header name texts of `.debug_str` (DWARF 5, section 7.5.5:
+/// `DW_FORM_strp`), so that the paths of its files need that section.
+pub fn needs_strings<R: Reader>(header: &LineProgramHeader<R>) -> bool {
+    name_strings(header.directory_entry_format()) || name_strings(header.file_name_entry_format())
+}
+
 /// Whether the tables of a unit name texts of `.debug_str`. One that can't be read names none.
 fn is_named<R: Reader>(program: gimli_core::Result<IncompleteLineProgram<R>>) -> bool {
     match program {
-        Ok(program) => {
-            let header = program.header();
-            name_strings(header.directory_entry_format())
-                || name_strings(header.file_name_entry_format())
-        }
+        Ok(program) => needs_strings(program.header()),
         Err(_) => false,
     }
 }

@@ -24,21 +24,60 @@ pub fn source_of<R: Files + AllocGlobal>(
     wanted: Wanted,
     limit: Option<u64>,
 ) -> Result<Found, Missing> {
+    let opened = open_source(rt, path, directory, wanted, limit)?;
+    Ok(opened.found)
+}
+
+/// The sections of a program by its path, as [`source_of`] finds them, and the file that they are
+/// in, of which those that were left can be read later.
+pub fn open_source<R: Files + AllocGlobal>(
+    rt: &R,
+    path: &str,
+    directory: &str,
+    wanted: Wanted,
+    limit: Option<u64>,
+) -> Result<OpenSource<R::File>, Missing> {
     let mut program = open(rt, path, limit)?;
     if program.is_relocatable()? {
-        let bytes = program.whole(rt.alloc())?;
-        return Ok(Found::Whole(bytes));
+        let found = Found::Whole(program.whole(rt.alloc())?);
+        return Ok(OpenSource { found, file: None });
     }
     if let Some(source) = program.source(rt.alloc(), wanted)? {
-        return Ok(Found::Sections(source));
+        return Ok(opened(source, program));
     }
     let places = Places { path, directory };
-    let mut source = find_apart(rt, places, &mut program, wanted, limit)?;
+    let (mut source, file) = find_apart(rt, places, &mut program, wanted, limit)?;
     if source.lowest == 0 {
         source.lowest = program.lowest()?;
         source.code_end = program.code_end()?;
     }
-    Ok(Found::Sections(source))
+    Ok(opened(source, file))
+}
+
+/// The sections of a program, and the file that they are in.
+///
+/// <!-- part of crates/lines/src/inputs.rt -->
+/// ```rust
+/// let inputs = Inputs::new(request, source.found, line_str, strings);
+/// Ok(Some(OpenInputs {
+///     inputs,
+///     file: source.file,
+/// }))
+/// ```
+#[derive(Drop)]
+pub struct OpenSource<F> {
+    /// The sections that were read.
+    pub found: Found,
+    /// Their file. None where all of it was read.
+    pub file: Option<ProgramFile<F>>,
+}
+
+/// The sections of a linked program with their file.
+fn opened<F>(source: FoundSections, file: ProgramFile<F>) -> OpenSource<F> {
+    OpenSource {
+        found: Found::Sections(source),
+        file: Some(file),
+    }
 }
 
 /// Where a debug file is looked for.
@@ -67,14 +106,14 @@ struct Search<'i> {
     limit: Option<u64>,
 }
 
-/// The sections in the debug file of a program.
+/// The sections in the debug file of a program, and that file.
 fn find_apart<R: Files + AllocGlobal>(
     rt: &R,
     places: Places<'_>,
     program: &mut ProgramFile<R::File>,
     wanted: Wanted,
     limit: Option<u64>,
-) -> Result<FoundSections, Missing> {
+) -> Result<(FoundSections, ProgramFile<R::File>), Missing> {
     let alloc = rt.alloc();
     let directory = places.directory;
     let whole = whole_path(rt, places.path)?;
@@ -116,14 +155,14 @@ fn whole_path<R: Files + AllocGlobal>(rt: &R, path: &str) -> Result<String, Allo
     }
 }
 
-/// The sections at the first place where there is a debug file with them. Why each place before it
-/// isn't one goes to the end of a text, after the end of a line.
+/// The sections at the first place where there is a debug file with them, and that file. Why each
+/// place before it isn't one goes to the end of a text, after the end of a line.
 fn try_each<R: Files + AllocGlobal>(
     rt: &R,
     places: &[String],
     search: Search<'_>,
     reasons: &mut String,
-) -> Result<Option<FoundSections>, Missing> {
+) -> Result<Option<(FoundSections, ProgramFile<R::File>)>, Missing> {
     for place in places {
         match signed_source(rt, place, search) {
             Ok(source) => return Ok(Some(source)),
@@ -137,12 +176,12 @@ fn try_each<R: Files + AllocGlobal>(
     Ok(None)
 }
 
-/// The sections of a file that has a sign.
+/// The sections of a file that has a sign, and the file.
 fn signed_source<R: Files + AllocGlobal>(
     rt: &R,
     place: &str,
     search: Search<'_>,
-) -> Result<FoundSections, Missing> {
+) -> Result<(FoundSections, ProgramFile<R::File>), Missing> {
     let alloc = rt.alloc();
     let mut file = open(rt, place, search.limit)?;
     check_sign(alloc, &mut file, search.sign)?;
@@ -150,7 +189,7 @@ fn signed_source<R: Files + AllocGlobal>(
         return Err(Missing::NotLinked);
     }
     match file.source(alloc, search.wanted)? {
-        Some(source) => Ok(source),
+        Some(source) => Ok((source, file)),
         None => Err(Missing::NoLines),
     }
 }

@@ -1,9 +1,10 @@
 //! The file with a program's debug information: where it may be, and what is read of it. A program
 //! that is stripped has its line programs there.
 //!
-//! [`source_of`] is the whole of it. [`debug_file_paths`] names the places; [`Outline`] reads what
-//! a file's sections are known by, and [`Outline::section`] one of them, so that a large file
-//! isn't read whole.
+//! [`source_of`] is the whole of it; [`open_source`] leaves some sections for later, which are read
+//! from the open file only if the paths of found rows need them. [`debug_file_paths`] names the
+//! places; [`Outline`] reads what a file's sections are known by, and [`Outline::section`] one of
+//! them, so that a large file isn't read whole.
 #![tactic(auto)]
 
 mod debug_paths;
@@ -16,10 +17,10 @@ mod refusal;
 mod source;
 
 pub use debug_paths::{DEBUG_DIRECTORY, debug_file_paths};
-pub use directories::LinePrograms;
-pub use find::source_of;
+pub use directories::{LinePrograms, needs_strings};
+pub use find::{OpenSource, open_source, source_of};
 pub use missing::Missing;
 pub use outline::{Outline, checksum};
-pub use program_file::is_archive;
+pub use program_file::{ProgramFile, is_archive};
 pub use refusal::Refusal;
-pub use source::{Found, FoundSections, PathSections, Wanted};
+pub use source::{Found, FoundSections, PathSections, UnitSections, Wanted};

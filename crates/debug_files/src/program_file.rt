@@ -6,7 +6,7 @@ ghost use Rattle.debug_files.specs.Outlines.{section_in, Holds};
 use crate::directories::LinePrograms;
 use crate::missing::Missing;
 use crate::outline::{Outline, checksum, whole};
-use crate::source::{FoundSections, PathSections, Wanted};
+use crate::source::{FoundSections, PathSections, UnitSections, Wanted};
 use elf_sections::usual_limit;
 use std::alloc::Global;
 use std::fs;
@@ -21,9 +21,14 @@ pub(crate) struct Link {
     pub(crate) checksum: u32,
 }
 
-/// A file, and what its sections are known by.
+/// A file that is open, and what its sections are known by.
+///
+/// <!-- part of crates/lines_inputs/src/late_sections.rt -->
+/// ```rust
+/// self.units.get_or_try_init(|| file.units(alloc))
+/// ```
 #[derive(Drop)]
-pub(crate) struct ProgramFile<F> {
+pub struct ProgramFile<F> {
     file: F,
     outline: Outline,
     /// The most bytes that a section of it may have, once it is made whole.
@@ -72,16 +77,13 @@ impl<F: Read + Seek> ProgramFile<F> {
             Wanted::Lines => PathSections::none(alloc),
             _ => self.path_sections(alloc, &lines, wanted)?,
         };
-        let (symbols, symbol_names) = match wanted {
-            Wanted::Symbols => self.symbol_sections(alloc)?,
-            _ => (Vec::new(alloc), Vec::new(alloc)),
-        };
+        let (symbols, symbol_names) = self.wanted_symbols(alloc, wanted)?;
         let lowest = self.lowest()?;
         let code_end = self.code_end()?;
         let sections = self.outline.sections()?;
-        let code_ends = match wanted {
-            Wanted::Symbols => sections.code_ends(alloc)?,
-            _ => Vec::new(alloc),
+        let code_ends = match wanted.has_symbols() {
+            true => sections.code_ends(alloc)?,
+            false => Vec::new(alloc),
         };
         Ok(Some(FoundSections {
             is_big_endian: sections.is_big_endian(),
@@ -98,7 +100,7 @@ impl<F: Read + Seek> ProgramFile<F> {
     }
 
     /// The texts that line programs name, and where whole paths are wanted and need them, the
-    /// sections of units.
+    /// sections of units; of these only `.debug_line_str` where the others are read later.
     fn path_sections(
         &mut self,
         alloc: Global,
@@ -106,6 +108,23 @@ impl<F: Read + Seek> ProgramFile<F> {
         wanted: Wanted,
     ) -> Result<PathSections, Missing> {
         let line_str = self.texts(alloc, b".debug_line_str")?;
+        match wanted {
+            Wanted::Rows | Wanted::RowsAndSymbols => {
+                Ok(PathSections::of_texts(alloc, line_str, Vec::new(alloc)))
+            }
+            _ => self.needed_sections(alloc, lines, line_str, wanted),
+        }
+    }
+
+    /// These texts and the others that line programs name, and where whole paths are wanted and
+    /// need them, the sections of units.
+    fn needed_sections(
+        &mut self,
+        alloc: Global,
+        lines: &[u8],
+        line_str: Vec<u8>,
+        wanted: Wanted,
+    ) -> Result<PathSections, Missing> {
         let sections = self.outline.sections()?;
         let programs = LinePrograms {
             alloc,
@@ -117,21 +136,51 @@ impl<F: Read + Seek> ProgramFile<F> {
         let mut strings = Vec::new(alloc);
         let has_strings = programs.need_strings();
         if has_strings {
-            strings = self.texts(alloc, b".debug_str")?;
+            strings = self.strings(alloc)?;
         }
         if wanted == Wanted::Names || !programs.need_units(&strings) {
             return Ok(PathSections::of_texts(alloc, line_str, strings));
         }
         if !has_strings {
-            strings = self.texts(alloc, b".debug_str")?;
+            strings = self.strings(alloc)?;
         }
+        let units = self.units(alloc)?;
         Ok(PathSections {
             line_str,
             strings,
+            info: units.info,
+            abbreviations: units.abbreviations,
+            string_offsets: units.string_offsets,
+        })
+    }
+
+    /// The texts (`.debug_str`); no bytes where there is no such section. Refused where it can't be
+    /// read, or the limit forbids it.
+    pub fn strings(&mut self, alloc: Global) -> Result<Vec<u8>, Missing> {
+        self.texts(alloc, b".debug_str")
+    }
+
+    /// The sections that say where compilations ran. Refused only where memory is missing for one
+    /// of them, or the limit forbids it, or the file can't be read.
+    pub fn units(&mut self, alloc: Global) -> Result<UnitSections, Missing> {
+        Ok(UnitSections {
             info: self.readable(alloc, b".debug_info")?,
             abbreviations: self.readable(alloc, b".debug_abbrev")?,
             string_offsets: self.readable(alloc, b".debug_str_offsets")?,
         })
+    }
+
+    /// The symbols, and their names, where these are wanted.
+    fn wanted_symbols(
+        &mut self,
+        alloc: Global,
+        wanted: Wanted,
+    ) -> Result<(Vec<u8>, Vec<u8>), Missing> {
+        if wanted.has_symbols() {
+            self.symbol_sections(alloc)
+        } else {
+            Ok((Vec::new(alloc), Vec::new(alloc)))
+        }
     }
 
     /// The symbols, and their names: all of them, or else those for linking when it runs.

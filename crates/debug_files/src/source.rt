@@ -6,15 +6,10 @@ use std::alloc::Global;
 ///
 /// <!-- part of crates/lines/src/inputs.rt -->
 /// ```rust
-/// let wanted = if request.command.prints_functions() {
-///     Wanted::Symbols
-/// } else if request.command.prints_whole_paths() {
-///     Wanted::Paths
-/// } else if request.command.prints_paths() {
-///     Wanted::Names
-/// } else {
-///     Wanted::Lines
-/// };
+/// match (reads_later(request), command.prints_functions()) {
+///     (true, true) => Wanted::RowsAndSymbols,
+///     (true, false) => Wanted::Rows,
+///     (false, true) => Wanted::Symbols,
 /// ```
 #[derive(Clone, Copy, Debug, PartialEq, Eq)]
 pub enum Wanted {
@@ -22,10 +17,22 @@ pub enum Wanted {
     Lines,
     /// The texts of directories and files, too.
     Names,
+    /// The line programs and `.debug_line_str`. The others that whole paths need are read later, by
+    /// `ProgramFile::strings` and `ProgramFile::units`.
+    Rows,
+    /// The same, and those that the names of code need.
+    RowsAndSymbols,
     /// Those that whole paths need, too.
     Paths,
     /// Those that whole paths and the names of code need, too.
     Symbols,
+}
+
+impl Wanted {
+    /// Whether the symbols are read.
+    pub(crate) fn has_symbols(self) -> bool {
+        matches!(self, Wanted::Symbols | Wanted::RowsAndSymbols)
+    }
 }
 
 /// What the sections of a program are read from.
@@ -34,10 +41,7 @@ pub enum Wanted {
 /// ```rust
 /// let kind = match &found {
 ///     Found::Whole(_) => request.kind,
-///     Found::Sections(of) => {
-///         let notation = Notation::new(of.is_big_endian, of.address_size, of.lowest, of.code_end);
-///         InputKind::Raw(notation)
-///     }
+///     Found::Sections(of) => InputKind::Raw(notation_of(of)),
 /// };
 /// ```
 #[derive(Drop)]
@@ -52,7 +56,7 @@ pub enum Found {
 ///
 /// <!-- part of crates/lines/src/inputs.rt -->
 /// ```rust
-/// let notation = Notation::new(of.is_big_endian, of.address_size, of.lowest, of.code_end);
+/// Notation::new(of.is_big_endian, of.address_size, of.lowest, of.code_end)
 /// ```
 #[derive(Drop)]
 pub struct FoundSections {
@@ -102,6 +106,29 @@ pub struct PathSections {
     pub abbreviations: Vec<u8>,
     /// The offsets of texts (`.debug_str_offsets`).
     pub string_offsets: Vec<u8>,
+}
+
+/// The sections that say where compilations ran; no bytes where there is none, or one that can't be
+/// read: paths then stay as the line programs have them.
+#[derive(Drop)]
+pub struct UnitSections {
+    /// The units (`.debug_info`).
+    pub info: Vec<u8>,
+    /// Their abbreviations (`.debug_abbrev`).
+    pub abbreviations: Vec<u8>,
+    /// The offsets of texts (`.debug_str_offsets`).
+    pub string_offsets: Vec<u8>,
+}
+
+impl UnitSections {
+    /// No bytes.
+    pub fn none(alloc: Global) -> UnitSections {
+        UnitSections {
+            info: Vec::new(alloc),
+            abbreviations: Vec::new(alloc),
+            string_offsets: Vec::new(alloc),
+        }
+    }
 }
 
 impl PathSections {

@@ -20,6 +20,19 @@ unit_needs texts u = option_map_or (λ h. needs_directory (paths_of texts h.mean
 abbrev pub some_need : Strings → List KeptUnit → Bool
 some_need texts units = list_any (unit_needs texts) (listed units)
 
+-- whether the path of found rows needs the directory of its compilation: those of their unit do;
+-- where there is no such unit, nothing does
+abbrev pub found_needs : Strings → List ListedUnit → CoveringRows → Bool
+found_needs texts units f = option_map_or (unit_needs texts) (slice_get units f.unit) false
+
+-- the same of what is found at an address; where no rows are, nothing is needed
+abbrev pub need_at : Strings → List ListedUnit → Option CoveringRows → Bool
+need_at texts units found = option_map_or (found_needs texts units) found false
+
+-- whether one of the paths of what is found at some addresses does
+abbrev pub some_found_need : Strings → List ListedUnit → List (Option CoveringRows) → Bool
+some_found_need texts units rows = list_any (need_at texts units) rows
+
 -- the header of the unit that rows are found in, if it is known
 abbrev pub header_of_found : List KeptUnit → CoveringRows → Option KeptHeader
 header_of_found units f = option_and_then (λ u. u.header) (slice_get (listed units) f.unit)

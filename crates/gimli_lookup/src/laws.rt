@@ -1,7 +1,7 @@
 //! Laws of what a lookup returns, of strings and of paths.
 
 ghost use Rattle.std.specs.Prelude.{◌≡◌, ◌≤◌, ◌↔◌, ℕ, List, length, Ok, Err, Option, IsTrue, false};
-ghost use Rattle.std.specs.Prelude.{true};
+ghost use Rattle.std.specs.Prelude.{true, Contains, Some};
 ghost use Rattle.std.specs.Prelude.{[], option_map, unwrap_or};
 ghost use Rattle.gimli_core.specs.Equality.{ClonesGiveSame, GivesSame, IsExact};
 ghost use Rattle.gimli_core.specs.Layout.{OrderAndLimit};
@@ -13,11 +13,11 @@ ghost use Rattle.gimli_lookup.specs.FirstPair.{first_pair_of};
 ghost use Rattle.gimli_lookup.specs.Paths.{Paths, is_absolute, directory_string};
 ghost use Rattle.gimli_lookup.specs.Paths.{file_path, compilation_directory, needs_directory};
 ghost use Rattle.gimli_lookup.specs.Paths.{with_directory, EndsWithOwnPath, HasAbsoluteRoot};
-ghost use Rattle.gimli_lookup.specs.Program.{listed, some_need};
+ghost use Rattle.gimli_lookup.specs.Program.{found_needs, listed, some_found_need, some_need};
 ghost use Rattle.gimli_lookup.specs.ProgramPaths.{found_path, Texts};
 ghost use Rattle.gimli_lookup.specs.Run.{AreRowsOfSequences, IsFoundInRun};
 ghost use Rattle.gimli_lookup.specs.Probes.{NoneGoesDown};
-ghost use Rattle.gimli_lookup.specs.Section.{KeptUnit, all_sequences, found_at};
+ghost use Rattle.gimli_lookup.specs.Section.{KeptUnit, ListedUnit, all_sequences, found_at};
 ghost use Rattle.gimli_lookup.specs.SectionUnits.{AreUnitsOf};
 ghost use Rattle.gimli_lookup.specs.declared.section_lookup.CoveringRows.{CoveringRows};
 ghost use Rattle.gimli_lookup.specs.declared.path_error.PathError.TheVariants.{
@@ -65,12 +65,22 @@ pub fn directories_are_needed()
 {}
 
 /// Where `Program::needs_compilations` is false, each path that a place has is the same whatever
-/// compilations are handed in.
+/// compilations are handed in. So is the path of found rows where `ProgramPaths::found_needs` is
+/// false, and that of each where `FoundRows::need_compilations` is.
 pub fn compilations_are_needed()
-    ensures { (texts : Texts) (units : List KeptUnit) (found : CoveringRows)
+    ensures section { (texts : Texts) (units : List KeptUnit) (found : CoveringRows)
         (other : ℕ → Option (List ℕ)) → some_need texts.strings units ≡ false
         → found_path (record texts { directory = other }) (listed units) found
         ≡ found_path texts (listed units) found }
+    ensures one { (texts : Texts) (units : List ListedUnit) (found : CoveringRows)
+        (other : ℕ → Option (List ℕ)) → found_needs texts.strings units found ≡ false
+        → found_path (record texts { directory = other }) units found
+        ≡ found_path texts units found }
+    ensures each { (texts : Texts) (units : List ListedUnit) (rows : List (Option CoveringRows))
+        (found : CoveringRows) (other : ℕ → Option (List ℕ)) → Contains rows (Some found)
+        → some_found_need texts.strings units rows ≡ false
+        → found_path (record texts { directory = other }) units found
+        ≡ found_path texts units found }
 {}
 
 /// Whole paths are absolute where the directory of the compilation is, as it is where directory 0

@@ -5,7 +5,7 @@ ghost use Rattle.std.specs.Prelude.{IfSome, Some, option_map};
 ghost use Rattle.gimli_core.specs.Numbers.{is_address_size};
 ghost use Rattle.gimli_line.specs.header.Header.{unit_entry};
 ghost use Rattle.gimli_line.specs.run.Unread.{unread_of};
-ghost use Rattle.gimli_lookup.specs.Program.{header_of_found, listed, some_need, unit_needs};
+ghost use Rattle.gimli_lookup.specs.Program.{found_needs, header_of_found, listed, some_need};
 ghost use Rattle.gimli_lookup.specs.ProgramPaths.{found_path, texts_seen};
 ghost use Rattle.gimli_lookup.specs.Section.{found_at};
 ghost use Rattle.gimli_lookup.specs.SectionAddresses.{addresses_of_path};
@@ -17,7 +17,6 @@ ghost use Rattle.gimli_lookup.specs.declared.path_error.PathError.TheVariants.{O
 use crate::path_error::PathError;
 use crate::program_paths::ProgramPaths;
 use crate::section_lookup::{CoveringRows, SectionLookup};
-use crate::section_unit::UnitLookup;
 use crate::statements::Addresses;
 use crate::string_sections::StringSections;
 use gimli_compilation::Compilations;
@@ -62,15 +61,16 @@ impl<R: Reader> Place<'_, R> {
         let Program { lookup, paths } = self.program;
         paths.of_found(alloc, lookup.units(), &self.rows)
     }
-}
 
-/// Whether the paths of a unit need the directory of its compilation. A refused unit has no paths.
-fn unit_needs<R: Reader>(paths: &ProgramPaths<R>, unit: &UnitLookup<R>) -> bool
-    ensures { result ≡ unit_needs (strings R.seen paths.now.0) unit.now }
-{
-    match unit.header() {
-        Some(header) => paths.need_directory(header),
-        None => false,
+    /// Whether the path may go on from a directory that is in `.debug_info`, as
+    /// `ProgramPaths::found_needs` says of the rows. If not, it is the same whatever compilations
+    /// are handed in. Takes no memory.
+    pub fn needs_compilation(&self) -> bool
+        ensures { let program = self.now.program.now in result ≡ found_needs
+            (strings R.seen program.paths.0) (listed program.lookup) self.now.rows }
+    {
+        let Program { lookup, paths } = self.program;
+        paths.found_needs(lookup.units(), &self.rows)
     }
 }
 
@@ -79,7 +79,8 @@ fn unit_needs<R: Reader>(paths: &ProgramPaths<R>, unit: &UnitLookup<R>) -> bool
 ///
 /// Up to version 4 the directory of a compilation, from which relative paths go on, is in
 /// `.debug_info` alone (DWARF 4, section 3.1.1). Ask `needs_compilations` before you read or
-/// decompress that section; if it returns true, hand its directories in by `set_compilations`.
+/// decompress that section, or `Place::needs_compilation` of the places whose paths you need; if it
+/// returns true, hand the directories in by `set_compilations`.
 ///
 /// <!-- part of crates/uses/src/where_is.rt -->
 /// ```rust
@@ -129,7 +130,7 @@ impl<R: Reader> Program<R> {
         self.lookup
             .units()
             .iter()
-            .any(|unit| unit_needs(&self.paths, unit))
+            .any(|unit| self.paths.unit_needs(unit))
     }
 
     /// Makes paths by the directories of these compilations from now on.

@@ -5,6 +5,7 @@ ghost use Rattle.gimli_compilation.specs.Directories.{directory_for};
 ghost use Rattle.gimli_line.specs.header.File.{file_seen};
 ghost use Rattle.gimli_lookup.specs.PathFiles.{paths_of};
 ghost use Rattle.gimli_lookup.specs.Paths.{file_path, needs_directory, row_path};
+ghost use Rattle.gimli_lookup.specs.Program.{found_needs, unit_needs};
 ghost use Rattle.gimli_lookup.specs.ProgramPaths.{found_path, texts_seen, unit_paths};
 ghost use Rattle.gimli_lookup.specs.Strings.{strings};
 ghost use Rattle.gimli_lookup.specs.declared.path_error.PathError.TheVariants.{OutOfMemory};
@@ -84,6 +85,30 @@ impl<R: Reader> ProgramPaths<R> {
             (paths_of (strings R.seen self.now.0) header.now.meaning) }
     {
         self.strings.need_directory(header)
+    }
+
+    /// Whether the paths of a unit may go on from a directory that is in `.debug_info`: it has no
+    /// directory of its compilation, or an empty one (DWARF 5, section 6.2.4). A refused unit has
+    /// no paths. Takes no memory.
+    pub fn unit_needs(&self, unit: &UnitLookup<R>) -> bool
+        ensures { result ≡ unit_needs (strings R.seen self.now.0) unit.now }
+    {
+        match unit.header() {
+            Some(header) => self.need_directory(header),
+            None => false,
+        }
+    }
+
+    /// Whether the path of found rows may go on from such a directory, as `unit_needs` says of
+    /// their unit. If not, `of_found` returns the same whatever compilations are handed in. False
+    /// where these units lack that of the rows, or no header of it is known. Takes no memory.
+    pub fn found_needs(&self, units: &[UnitLookup<R>], found: &CoveringRows) -> bool
+        ensures { result ≡ found_needs (strings R.seen self.now.0) units.now found.now }
+    {
+        match units.get(found.unit) {
+            Some(unit) => self.unit_needs(unit),
+            None => false,
+        }
     }
 
     /// The whole path of a file of a header. Refused as `Paths::of_file` is.

@@ -4,9 +4,12 @@ ghost use Rattle.std.specs.Prelude.{◌≡◌, None, IfErr, IfOk, IsTrue};
 ghost use Rattle.gimli_core.specs.Numbers.{is_address_size};
 ghost use Rattle.gimli_line.specs.header.Header.{unit_entry};
 ghost use Rattle.gimli_line.specs.run.Unread.{unread_of};
+ghost use Rattle.gimli_lookup.specs.Program.{need_at, some_found_need};
 ghost use Rattle.gimli_lookup.specs.SectionSearch.{AreFoundInSection};
+ghost use Rattle.gimli_lookup.specs.Strings.{strings};
 
 use crate::covering_pairs::first_of_each;
+use crate::program_paths::ProgramPaths;
 use crate::section_lookup::{CoveringRows, push};
 use crate::section_unit::UnitLookup;
 use gimli_core::{Error, Reader, ReaderOffset, Result};
@@ -23,6 +26,49 @@ pub struct FoundRows<R: Reader> {
     /// For each address the first rows that cover it, and the index of their unit. None where no
     /// rows cover it.
     pub rows: Vec<Option<CoveringRows>>,
+}
+
+/// Whether the path of what is found at an address needs the directory of its compilation. Where no
+/// rows are found, there is no path.
+fn needs_compilation<R: Reader>(
+    paths: &ProgramPaths<R>,
+    units: &[UnitLookup<R>],
+    found: &Option<CoveringRows>,
+) -> bool
+    ensures { result ≡ need_at (strings R.seen paths.now.0) units.now found.now }
+{
+    match found {
+        Some(rows) => paths.found_needs(units, rows),
+        None => false,
+    }
+}
+
+/// The same of what is found at some addresses: whether one of the paths does.
+fn some_need_compilation<R: Reader>(
+    paths: &ProgramPaths<R>,
+    units: &[UnitLookup<R>],
+    rows: &[Option<CoveringRows>],
+) -> bool
+    ensures { result ≡ some_found_need (strings R.seen paths.now.0) units.now rows.now }
+{
+    for found in rows {
+        if needs_compilation(paths, units, found) {
+            return true;
+        }
+    }
+    false
+}
+
+impl<R: Reader> FoundRows<R> {
+    /// Whether the path of some of the found rows may go on from a directory that is in
+    /// `.debug_info`, as `ProgramPaths::found_needs` says of each. If not, `ProgramPaths::of_found`
+    /// returns the same for all of them whatever compilations are handed in. Takes no memory.
+    pub fn need_compilations(&self, paths: &ProgramPaths<R>) -> bool
+        ensures { result ≡ some_found_need (strings R.seen paths.now.0)
+            self.now.units.items self.now.rows.items }
+    {
+        some_need_compilation(paths, &self.units, &self.rows)
+    }
 }
 
 /// What `SectionLookup::find` returns at each of some addresses, found while the program of each

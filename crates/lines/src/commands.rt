@@ -321,7 +321,7 @@ impl<'r> Session<'r> {
 
     /// Answers questions up to the first that is asked of another section. Returns whether there
     /// was one that wasn't.
-    fn answer_all<R: Reader>(
+    pub(crate) fn answer_all<R: Reader>(
         &mut self,
         places: &Places<'_, '_, R>,
         questions: &mut Questions<'_>,

@@ -3,10 +3,13 @@
 ghost use Rattle.std.specs.Prelude.{◌≤◌, IfOk};
 
 use crate::session::{REFUSED, Run, Session};
-use debug_files::{DEBUG_DIRECTORY, Found, Missing, Wanted};
+use debug_files::{
+    DEBUG_DIRECTORY, Found, FoundSections, Missing, OpenSource, ProgramFile, Wanted,
+};
 use elf_sections::usual_limit;
 use lines_inputs::{InputError, InputSections, tell_refusal};
-use lines_words::{Files, InputKind, NameText, Notation, UnitFiles};
+use lines_words::{Command, Files, InputKind, NameText, Notation, Request, UnitFiles};
+use std::fs::File;
 use std::io::{Read, Write};
 use std::{fmt, fs, io};
 
@@ -29,55 +32,84 @@ pub(crate) struct Inputs {
     strings: Vec<u8>,
 }
 
+/// The bytes of the files that a request names, and the file of their sections, of which others can
+/// still be read.
+#[derive(Drop)]
+pub(crate) struct OpenInputs {
+    pub(crate) inputs: Inputs,
+    /// None where the file was read whole.
+    pub(crate) file: Option<ProgramFile<File>>,
+}
+
 /// Reads a file, and those that the request names beside it; None where there is one that can't be
 /// read, which is reported.
 pub(crate) fn inputs_of(run: Run<'_>, name: &str) -> io::Result<Option<Inputs>> {
+    match open_inputs(run, name)? {
+        Some(opened) => Ok(Some(opened.inputs)),
+        None => Ok(None),
+    }
+}
+
+/// The same, and the file itself, of which the sections that `reads_later` speaks of are left.
+pub(crate) fn open_inputs(run: Run<'_>, name: &str) -> io::Result<Option<OpenInputs>> {
     let Run { rt, request } = run;
-    let found = match request.kind {
-        InputKind::Elf if name == STANDARD_INPUT => Some(Found::Whole(read_elf(rt)?)),
+    let source = match request.kind {
+        InputKind::Elf if name == STANDARD_INPUT => Some(read_whole(read_elf(rt)?)),
         InputKind::Elf => sections_of(run, name)?,
-        InputKind::Raw(_) => read(rt, name)?.map(Found::Whole),
+        InputKind::Raw(_) => read(rt, name)?.map(|bytes| read_whole(bytes)),
     };
     let line_str = read_named(rt, request.line_str)?;
     let strings = read_named(rt, request.strings)?;
-    let (Some(found), Some(line_str), Some(strings)) = (found, line_str, strings) else {
+    let (Some(source), Some(line_str), Some(strings)) = (source, line_str, strings) else {
         return Ok(None);
     };
-    let kind = match &found {
-        Found::Whole(_) => request.kind,
-        Found::Sections(of) => {
-            let notation = Notation::new(of.is_big_endian, of.address_size, of.lowest, of.code_end);
-            InputKind::Raw(notation)
-        }
-    };
-    Ok(Some(Inputs {
-        kind,
-        limit: request.memory_limit,
-        found,
-        line_str,
-        strings,
+    let inputs = Inputs::new(request, source.found, line_str, strings);
+    Ok(Some(OpenInputs {
+        inputs,
+        file: source.file,
     }))
+}
+
+/// A file that was read whole.
+fn read_whole(bytes: Vec<u8>) -> OpenSource<File> {
+    OpenSource {
+        found: Found::Whole(bytes),
+        file: None,
+    }
+}
+
+/// Whether the sections that whole paths need are read once rows are found, as far as these need
+/// them: where places are asked, and no section of texts is named that takes the place of the
+/// program's own.
+pub(crate) fn reads_later(request: &Request<'_>) -> bool {
+    let is_where = matches!(request.command, Command::Where { .. });
+    is_where && request.line_str.is_none() && request.strings.is_none()
+}
+
+/// The sections that a request needs from the beginning.
+fn wanted_by(request: &Request<'_>) -> Wanted {
+    let command = &request.command;
+    match (reads_later(request), command.prints_functions()) {
+        (true, true) => Wanted::RowsAndSymbols,
+        (true, false) => Wanted::Rows,
+        (false, true) => Wanted::Symbols,
+        (false, false) if command.prints_whole_paths() => Wanted::Paths,
+        (false, false) if command.prints_paths() => Wanted::Names,
+        (false, false) => Wanted::Lines,
+    }
 }
 
 /// The sections of a program that the request needs, of its own file or of its debug file; None
 /// where there are none, which is reported.
-fn sections_of(run: Run<'_>, name: &str) -> io::Result<Option<Found>> {
+fn sections_of(run: Run<'_>, name: &str) -> io::Result<Option<OpenSource<File>>> {
     let Run { rt, request } = run;
     if !can_be_opened(rt, name)? {
         return Ok(None);
     }
-    let wanted = if request.command.prints_functions() {
-        Wanted::Symbols
-    } else if request.command.prints_whole_paths() {
-        Wanted::Paths
-    } else if request.command.prints_paths() {
-        Wanted::Names
-    } else {
-        Wanted::Lines
-    };
+    let wanted = wanted_by(request);
     let directory = request.debug_directory.unwrap_or(DEBUG_DIRECTORY);
-    match debug_files::source_of(rt, name, directory, wanted, request.memory_limit) {
-        Ok(found) => Ok(Some(found)),
+    match debug_files::open_source(rt, name, directory, wanted, request.memory_limit) {
+        Ok(source) => Ok(Some(source)),
         Err(missing) => {
             report_missing(rt, name, &missing);
             Ok(None)
@@ -86,6 +118,22 @@ fn sections_of(run: Run<'_>, name: &str) -> io::Result<Option<Found>> {
 }
 
 impl Inputs {
+    /// What was read of a file and of those that are named beside it. Sections that were found say
+    /// how they are read.
+    fn new(request: &Request<'_>, found: Found, line_str: Vec<u8>, strings: Vec<u8>) -> Inputs {
+        let kind = match &found {
+            Found::Whole(_) => request.kind,
+            Found::Sections(of) => InputKind::Raw(notation_of(of)),
+        };
+        Inputs {
+            kind,
+            limit: request.memory_limit,
+            found,
+            line_str,
+            strings,
+        }
+    }
+
     /// The bytes of the files. Sections of texts that are named apart take the place of a program's
     /// own.
     pub(crate) fn files(&self) -> Files<'_> {
@@ -129,13 +177,18 @@ impl Inputs {
     }
 }
 
+/// How the numbers of sections are read.
+fn notation_of(of: &FoundSections) -> Notation {
+    Notation::new(of.is_big_endian, of.address_size, of.lowest, of.code_end)
+}
+
 /// A section that is named apart, or else the program's own.
 fn named_or<'s>(named: &'s [u8], own: &'s [u8]) -> &'s [u8] {
     if named.is_empty() { own } else { named }
 }
 
 /// Reports why a program has no sections that are read.
-fn report_missing(rt: &HostRuntime, name: &str, missing: &Missing) {
+pub(crate) fn report_missing(rt: &HostRuntime, name: &str, missing: &Missing) {
     match missing {
         Missing::Elf(error) => report(rt, name, InputError::Elf(*error)),
         Missing::NoLines => report(rt, name, InputError::NoLines),

@@ -4,10 +4,12 @@
 mod commands;
 mod indexes;
 mod inputs;
+mod places;
 mod session;
 
 use crate::indexes::{ask, ask_lines, write_index};
 use crate::inputs::{compare, inputs_of};
+use crate::places::locate;
 use crate::session::{REFUSED, Run};
 use clap::Error;
 use clap::error::ErrorKind as WordsError;
@@ -84,6 +86,7 @@ fn perform(rt: &HostRuntime, request: &Request<'_>) -> io::Result<u8> {
         Command::Ask(index) => ask(run, index),
         Command::AskLines(names) => ask_lines(run, names),
         Command::Diff(new) => compare(run, new),
+        Command::Where { .. } => locate(run),
         _ => match inputs_of(run, request.file)? {
             Some(inputs) => run.perform(inputs.kind, inputs.files()),
             None => Ok(REFUSED),

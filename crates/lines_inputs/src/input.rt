@@ -71,6 +71,40 @@ impl<R: Reader> Input<R> {
         all
     }
 
+    /// The same program with these texts in the place of `.debug_str`.
+    pub(crate) fn with_strings(&self, debug_str: R) -> Input<R> {
+        let debug_line_str = self.strings.debug_line_str;
+        Input {
+            strings: StringSections {
+                debug_line_str,
+                debug_str,
+            },
+            compilations: CompilationSections {
+                debug_str,
+                ..self.compilations
+            },
+            ..*self
+        }
+    }
+
+    /// The same program with these sections in the place of those that say where compilations ran.
+    pub(crate) fn with_units(
+        &self,
+        debug_info: R,
+        debug_abbrev: R,
+        debug_str_offsets: R,
+    ) -> Input<R> {
+        Input {
+            compilations: CompilationSections {
+                debug_info,
+                debug_abbrev,
+                debug_str_offsets,
+                ..self.compilations
+            },
+            ..*self
+        }
+    }
+
     /// Why a command that needs addresses refuses it, where it isn't linked.
     pub fn refusal(&self) -> &'static str {
         if self.is_split { SPLIT } else { NOT_LINKED }

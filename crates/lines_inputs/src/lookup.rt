@@ -6,9 +6,12 @@ ghost use Rattle.gimli_compilation.specs.Sections.{sections_of};
 ghost use Rattle.lines_inputs.specs.Lookups.{AreUnitsIn, IsReadFrom, Knows};
 
 use crate::input::Input;
+use debug_files::needs_strings;
 use gimli_compilation::Compilations;
 use gimli_core::{Reader, ReaderOffset};
-use gimli_lookup::{CoveringRows, FoundRows, Program, SectionLookup, UnitLookup, find_in_section};
+use gimli_lookup::{
+    CoveringRows, FoundRows, Program, ProgramPaths, SectionLookup, UnitLookup, find_in_section,
+};
 use lines_words::Output;
 use std::alloc::{AllocError, Global};
 
@@ -49,6 +52,43 @@ impl<R: Reader> Covering<R> {
             }
         }
     }
+
+    /// Whether the paths of what it finds may need `.debug_str`: of the units of found rows, or
+    /// where rows are kept for any address, of each unit.
+    pub fn need_strings(&self) -> bool {
+        match self {
+            Covering::Kept(lookup) => lookup.units().iter().any(|unit| unit_needs_strings(unit)),
+            Covering::Found { found, .. } => found_need_strings(&found.units, &found.rows),
+        }
+    }
+
+    /// Whether they may need the sections that say where compilations ran, as
+    /// `ProgramPaths::unit_needs` says of the same units.
+    pub fn need_compilations(&self, paths: &ProgramPaths<R>) -> bool {
+        match self {
+            Covering::Kept(lookup) => lookup.units().iter().any(|unit| paths.unit_needs(unit)),
+            Covering::Found { found, .. } => found.need_compilations(paths),
+        }
+    }
+}
+
+/// Whether the paths of a unit need `.debug_str`. A refused unit has no paths.
+fn unit_needs_strings<R: Reader>(unit: &UnitLookup<R>) -> bool {
+    match unit.header() {
+        Some(header) => needs_strings(header),
+        None => false,
+    }
+}
+
+/// Whether the paths of some of these rows, which were found in units, need `.debug_str`.
+fn found_need_strings<R: Reader>(units: &[UnitLookup<R>], rows: &[Option<CoveringRows>]) -> bool {
+    for found in rows {
+        let unit = found.and_then(|rows| units.get(rows.unit));
+        if unit.is_some_and(|unit| unit_needs_strings(unit)) {
+            return true;
+        }
+    }
+    false
 }
 
 /// Keeps the rows of all units, as `look_up` does.
