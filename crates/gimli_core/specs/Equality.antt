@@ -6,7 +6,7 @@ use Rattle.std.specs.declared.clone.Clone as clone
 abbrev pub IsExact : {A : Type 0} → (A → A → Bool) → Type 0
 IsExact {A} eq = (x y : A) → Decides (eq x y) (x ≡ y)
 
--- it holds exactly where the two look the same, seen in such a way
+-- it holds exactly where the two look the same, seen by view
 abbrev pub ComparesBy : {A B : Type 0} → (A → B) → (A → A → Bool) → Type 0
 ComparesBy {A} view eq = (x y : A) → Decides (eq x y) (view x ≡ view y)
 

@@ -82,7 +82,7 @@ block_production n = do
   done (Block bytes)
 
 module _ (layout : OrderAndLimit) (format : Format) where
-  -- a value that lies so in the bytes
+  -- a value of this shape
   abbrev pub shape_production : Shape → Production Value
   shape_production (fixed size make) = do
     n ← number layout.is_big size

@@ -8,7 +8,7 @@ pub record OrderAndLimit : Type 0 where
   -- the first number that is too large for an offset of the reader
   pub limit : ℕ
 
--- both
+-- the record of both
 abbrev pub layout_of : Bool → ℕ → OrderAndLimit
 layout_of is_big limit = record { is_big = is_big; limit = limit }
 

@@ -17,7 +17,7 @@ le_value (b ∷ bytes) = b + 256 * le_value bytes
 abbrev pub value_of : Bool → List ℕ → ℕ
 value_of is_big bytes = if is_big then le_value (reverse bytes) else le_value bytes
 
--- so many bytes are n
+-- the bytes are n, and there are so many of them
 pub record SpellsNumber (is_big : Bool) (size : ℕ) (bytes : List ℕ) (n : ℕ) : Type 0 where
   pub size_is : length bytes ≡ size
   pub value_is : value_of is_big bytes ≡ n
@@ -48,7 +48,8 @@ is_negative [] = false
 is_negative (b ∷ []) = nat_le 64 b
 is_negative (b ∷ c ∷ bytes) = is_negative (c ∷ bytes)
 
--- the number of groups that are n as an unsigned one: less 2 ^ (7 * bytes) where the sign is set
+-- the signed number whose groups are n as an unsigned one: n, less 2 ^ (7 * bytes) where the sign
+-- is set
 abbrev pub signed_value : List ℕ → ℕ → ℤ
 signed_value bytes n = pos n -ℤ pos (if is_negative bytes then 2 ^ (7 * length bytes) else 0)
 

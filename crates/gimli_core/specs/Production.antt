@@ -166,8 +166,8 @@ signed_byte = do
 abbrev pub AllHigh : List ℕ → Type 0
 AllHigh bytes = AllByRecursion (λ b. 128 ≤ b) bytes
 
--- no LEB128 number of at most so many bytes: the bytes end before its last one, or that many bytes
--- have the high bit set but for the last of them, which isn't allowed
+-- no LEB128 number of at most so many bytes: the bytes end before its last one, or the last of so
+-- many bytes isn't allowed, and those before it have the high bit set
 abbrev pub IsLebFault : ℕ → (ℕ → Type 0) → Error → List ℕ → Error → Type 0
 IsLebFault most IsRefused bad bytes e =
     ((length bytes < most) × AllHigh bytes × (e ≡ eof []))

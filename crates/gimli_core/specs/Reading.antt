@@ -51,12 +51,12 @@ closed_below (suc more) read bytes =
 abbrev pub closed_at : {A : Type 0} → (List ℕ → Read A) → List ℕ → Read (List A)
 closed_at read bytes = closed_below (suc (length bytes)) read bytes
 
--- a call on bytes that were taken before: what it answers and what it leaves of these
+-- a call on bytes that were taken before: what it returns and what it leaves of them
 abbrev pub with_rest : {A : Type 0} → Read A → Result (A × List ℕ) Error
 with_rest (Ok x, rest) = Ok (x, rest)
 with_rest (Err e, rest) = Err e
 
--- an answer, its value seen by view
+-- a result, its value seen by view
 abbrev pub result_map : {A B E : Type 0} → (A → B) → Result A E → Result B E
 result_map view (Ok x) = Ok (view x)
 result_map view (Err e) = Err e
@@ -78,7 +78,7 @@ abbrev pub truncate_at : ℕ → List ℕ → Read (Unit {0})
 truncate_at n bytes =
     if nat_lt (length bytes) n then (Err (eof bytes), bytes) else (Ok tt, take n bytes)
 
--- how many bytes stand before the first such byte
+-- how many bytes come before the first such byte
 abbrev pub find_at : ℕ → List ℕ → Result ℕ Error
 find_at byte bytes =
     elim (position (λ b. nat_eq b byte) bytes) [ Some n ↦ Ok n | None ↦ Err (eof bytes) ]

@@ -22,9 +22,10 @@ taken l s = on_bytes l.read s
 abbrev pub as_reader : Bool → List ℕ → Seen
 as_reader is_big bytes = record { bytes = bytes; is_big = is_big }
 
--- the same where the bytes that are taken are a reader of their own
+-- like in_order, where the bytes that are taken are a reader of their own
 abbrev pub part_in_order : Bool → Read (List ℕ) → Result Seen Error × Seen
 part_in_order is_big read = (result_map (as_reader is_big) read.0, as_reader is_big read.1)
 
+-- a production of bytes, taken from the front as a reader of their own
 abbrev pub part_taken : Production (List ℕ) → Seen → Result Seen Error × Seen
 part_taken l s = part_in_order s.is_big (l.read s.bytes)

@@ -32,7 +32,7 @@ where
     Flag(bool),
     /// An offset into another section.
     SecOffset(Offset),
-    /// A text that stands here, without its zero byte.
+    /// A text in place, without its zero byte.
     String(R),
     /// A text in the section `.debug_str`.
     DebugStrRef(DebugStrOffset<Offset>),

@@ -3,7 +3,7 @@
 ghost use Rattle.std.specs.Prelude.{◌≡◌, true, pos, negsuc, IsTrue};
 ghost use Rattle.gimli_core.specs.Numbers.{initial_length_size, word_size};
 
-/// Whether the words of a unit, as its lengths and its references into sections, have 32 or 64
+/// Whether the words of a unit, such as its lengths and its offsets into sections, have 32 or 64
 /// bits.
 ///
 /// <!-- part of crates/uses/src/make_unit.rt -->
@@ -45,7 +45,7 @@ impl Format {
     }
 }
 
-/// What the numbers of a unit are encoded by.
+/// How the numbers of a unit are encoded.
 #[derive(Clone, Copy, Debug, PartialEq, Eq)]
 pub struct Encoding {
     /// The number of bytes of an address.
@@ -56,14 +56,14 @@ pub struct Encoding {
     pub version: u16,
 }
 
-/// What the rows of a line program are encoded by.
+/// How the rows of a line program are encoded.
 #[derive(Clone, Copy, Debug, PartialEq, Eq)]
 pub struct LineEncoding {
     /// The number of bytes of the shortest instruction of the machine.
     pub minimum_instruction_length: u8,
     /// The greatest number of operations in one instruction of the machine.
     pub maximum_operations_per_instruction: u8,
-    /// Whether a row is the beginning of a statement, where the program says nothing of it.
+    /// Whether a row begins a statement, unless the program says otherwise.
     pub default_is_stmt: bool,
     /// The least line advance of a special opcode.
     pub line_base: i8,

@@ -10,7 +10,7 @@ use std::fmt;
 #[derive(Clone, Copy, Debug, PartialEq, Eq)]
 pub struct DwLns(pub u8);
 
-/// Makes a row, and clears what belongs to a row alone.
+/// Makes a row, and clears the registers that apply to one row only.
 pub const DW_LNS_copy: DwLns = DwLns(0x01);
 
 /// Advances address and op_index by an unsigned number of operations.
@@ -34,7 +34,7 @@ pub const DW_LNS_set_basic_block: DwLns = DwLns(0x07);
 /// Advances address and op_index as special opcode 255 does.
 pub const DW_LNS_const_add_pc: DwLns = DwLns(0x08);
 
-/// Adds two bytes, which are no LEB128 number, to the address.
+/// Adds a number of two bytes, which isn't in LEB128, to the address.
 pub const DW_LNS_fixed_advance_pc: DwLns = DwLns(0x09);
 
 /// Sets prologue_end. From version 3 on.
@@ -51,7 +51,7 @@ pub const DW_LNS_set_isa: DwLns = DwLns(0x0c);
 #[derive(Clone, Copy, Debug, PartialEq, Eq)]
 pub struct DwLne(pub u8);
 
-/// Makes the end row of a sequence, and starts all registers anew.
+/// Makes the end row of a sequence, and resets all registers.
 pub const DW_LNE_end_sequence: DwLne = DwLne(0x01);
 
 /// Sets the address.
@@ -77,13 +77,13 @@ pub const DW_LNCT_directory_index: DwLnct = DwLnct(0x0002);
 /// When a file was last changed.
 pub const DW_LNCT_timestamp: DwLnct = DwLnct(0x0003);
 
-/// The bytes of a file.
+/// The size of a file, in bytes.
 pub const DW_LNCT_size: DwLnct = DwLnct(0x0004);
 
 /// The MD5 digest of a file, 16 bytes.
 pub const DW_LNCT_MD5: DwLnct = DwLnct(0x0005);
 
-/// The text of a file: LLVM's own, in the range that the standard leaves to users.
+/// The source text of a file: an extension of LLVM, in the range that the standard leaves to users.
 pub const DW_LNCT_LLVM_source: DwLnct = DwLnct(0x2001);
 
 /// The form of a value: how it is spelled. DWARF 5, 7.5.5 says what each is, 7.5.6 gives their
@@ -196,7 +196,7 @@ pub const DW_EH_PE_sdata4: DwEhPe = DwEhPe(0x0b);
 /// Eight bytes, signed.
 pub const DW_EH_PE_sdata8: DwEhPe = DwEhPe(0x0c);
 
-/// Relative to where the pointer stands.
+/// Relative to the pointer's own address.
 pub const DW_EH_PE_pcrel: DwEhPe = DwEhPe(0x10);
 
 impl DwEhPe {

@@ -9,7 +9,7 @@ use crate::error::{Error, ReaderOffsetId, Result};
 use crate::reader::Reader;
 use std::borrow::CowSlice;
 
-/// A reader over bytes that were lent. It copies none, and takes no memory.
+/// A reader over borrowed bytes. It copies nothing, and takes no memory.
 #[derive(Clone, Copy, Debug, Default, PartialEq, Eq)]
 pub struct EndianSlice<'i, E: Endianity> {
     slice: &'i [u8],
@@ -39,7 +39,7 @@ impl<'i, E: Endianity> EndianSlice<'i, E> {
         Error::UnexpectedEof(ReaderOffsetId(self.slice.len() as u64))
     }
 
-    /// How many bytes stand before the first such byte.
+    /// How many bytes come before the first one that equals `byte`.
     fn index_of(&self, byte: u8) -> Option<usize>
         ensures { result ≡ position (λ b. nat_eq b byte) self.now.slice.now }
     {
@@ -108,7 +108,7 @@ impl<'i, E: Endianity> Reader for EndianSlice<'i, E> {
     fn to_slice(&self) -> Result<CowSlice<'_, u8>>
         ensures ok { IfOk result (λ slice. cow_slice_items slice ≡ self.now.slice.now) }
         ensures err { IsOkUnless result Error.OutOfMemory }
-        // The bytes are lent, and so nothing is refused.
+        // The bytes are borrowed, so the call never fails.
         ensures lent { IsOkAnd result IsBorrowedSlice }
     {
         Ok(CowSlice::Borrowed(self.slice))

@@ -3,14 +3,14 @@
 use crate::constants::DwForm;
 use std::fmt;
 
-/// Where a reader refused: the number of bytes that were left in it.
+/// Where reading failed: the number of bytes that were left in the reader.
 #[derive(Clone, Copy, Debug, PartialEq, Eq)]
 pub struct ReaderOffsetId(pub u64);
 
 /// Why bytes could not be read.
 #[derive(Clone, Copy, Debug, PartialEq, Eq)]
 pub enum Error {
-    /// Bytes are missing. It holds the number of bytes that were left where they were looked for.
+    /// Bytes are missing. It holds the number of bytes that were left in the reader that failed.
     UnexpectedEof(ReaderOffsetId),
     /// An unsigned LEB128 number doesn't fit its width, or is spelled too long.
     BadUnsignedLeb128,
@@ -18,7 +18,7 @@ pub enum Error {
     BadSignedLeb128,
     /// The first word of a length is one of the reserved ones.
     UnknownReservedLength,
-    /// The version of a unit is none that is known.
+    /// The version of a unit is unknown.
     UnknownVersion(u64),
     /// The size of addresses, in bytes, isn't 1, 2, 4 or 8.
     UnsupportedAddressSize(u8),
@@ -36,11 +36,11 @@ pub enum Error {
     MissingFileEntryFormatPath,
     /// A value has a form that line programs don't know.
     UnknownForm(DwForm),
-    /// An address passes the greatest one of its size.
+    /// An address is above the greatest one of its size.
     AddressOverflow,
     /// The reader's offset type is too narrow for a number.
     UnsupportedOffset,
-    /// A value that stands for a text is of another kind.
+    /// A value that should be a text is of another kind.
     ExpectedStringAttributeValue,
     /// Not enough memory.
     OutOfMemory,

@@ -1,5 +1,5 @@
-//! Laws of the formats: the functions that the contracts of a reader's calls name read the
-//! productions of the grammar, in both directions, with their refusals.
+//! Laws of the formats: the functions that the contracts of a reader's calls name agree with the
+//! productions of the grammar, in both directions, refusals included.
 
 ghost use Rattle.std.specs.Prelude.{ℕ, Bool, [], ◌≡◌, ◌<◌, ◌^◌};
 ghost use Rattle.gimli_core.specs.Numbers.{SpellsNumber, number_bytes};
@@ -158,7 +158,7 @@ pub fn equal_orders_are_same()
 {}
 
 /// `==` of readers over slices holds exactly where the two have the same bytes left and the same
-/// order, if `==` of orders is so.
+/// order, if `==` of orders holds exactly where the two are the same order.
 pub fn equal_slices_are_same<'i, E: Endianity>()
     ensures { ComparesBy E.is_big E.eq → ComparesBy ⟦<EndianSlice<'i, E> as Reader>⟧.seen
         ⟦<EndianSlice<'i, E> as PartialEq>⟧.eq }

@@ -1,8 +1,8 @@
 //! Readers over bytes, byte order, LEB128, and the constants, offsets and errors of DWARF line
 //! programs.
 //!
-//! A [`Reader`] means two things: the list of its bytes left, and an order of bytes. Each function
-//! says which answer it takes from the front of that list, and what it leaves.
+//! A [`Reader`] means two things: the list of the bytes left, and an order of bytes. The contract
+//! of each function says what it takes from the front of that list, and what it leaves.
 #![tactic(auto)]
 
 mod attribute_value;

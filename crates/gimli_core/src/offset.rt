@@ -7,7 +7,7 @@ ghost use Rattle.gimli_core.specs.Reading.{result_map, offset_of, sized_sum};
 
 use crate::error::{Error, Result};
 
-/// A number of bytes in a reader, or an offset into a section. Each number of 32 bits has one.
+/// A number of bytes in a reader, or an offset into a section. Every number of 32 bits fits.
 pub trait ReaderOffset: Copy + Eq + Ord {
     /// The number that it stands for.
     ghost number: { Self → ℕ };
@@ -79,8 +79,8 @@ pub trait ReaderAddress: Copy {
         requires { IsTrue (is_address_size size) }
         ensures { result_map number result ≡ sized_sum (number self) length size };
 
-    /// The least address that stands for nothing: the greatest of the size but one. Linkers put it,
-    /// or the greatest, in place of an address that they dropped. Requires that `size` is 1, 2, 4
+    /// The least tombstone: the second greatest address of the size. Linkers put it, or the
+    /// greatest, in place of the address of code that they dropped. Requires that `size` is 1, 2, 4
     /// or 8.
     fn min_tombstone(size: u8) -> Self
         requires { IsTrue (is_address_size size) }

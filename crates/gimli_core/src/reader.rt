@@ -20,8 +20,8 @@ use std::borrow::CowSlice;
 
 /// Bytes that are read from the front, and an order of bytes for the numbers among them.
 ///
-/// A copy reads on by itself. Where bytes are missing, the refusal is `UnexpectedEof`. What a
-/// refused call leaves is said at each; where nothing is said, the reader stays as it was.
+/// A copy reads on independently. Where bytes are missing, the refusal is `UnexpectedEof`. A
+/// refused call leaves the reader as it was, unless its description says otherwise.
 pub trait Reader: Copy {
     /// The order of bytes.
     type Endian: Endianity;
@@ -40,28 +40,28 @@ pub trait Reader: Copy {
     fn len(&self) -> Self::Offset
         ensures { Self.Offset.number result ≡ length (seen self.now).bytes };
 
-    /// Lets all bytes go.
+    /// Skips all bytes.
     fn empty(&mut self)
         ensures { seen self.new ≡ record { bytes = []; is_big = (seen self.old).is_big } };
 
-    /// Lets all bytes go but the first `len`.
+    /// Keeps only the first `len` bytes.
     fn truncate(&mut self, len: Self::Offset) -> Result<()>
         ensures { (result_map (λ _. tt) result, seen self.new)
             ≡ on_bytes (truncate_at (Self.Offset.number len)) (seen self.old) };
 
-    /// How many bytes stand in `base` before those that are left here. Requires that those left
-    /// here are an end of those that are left in `base`.
+    /// How many bytes come in `base` before those that are left here. Requires that the bytes left
+    /// here are a suffix of those left in `base`.
     fn offset_from(&self, base: &Self) -> Self::Offset
         requires { (front : List ℕ) × ((seen base.now).bytes ≡ front ++ (seen self.now).bytes) }
         ensures { Self.Offset.number result + length (seen self.now).bytes
             ≡ length (seen base.now).bytes };
 
-    /// How many bytes stand before the first such byte. Refused by `UnexpectedEof` where there is
-    /// none.
+    /// How many bytes come before the first one that equals `byte`. Refused by `UnexpectedEof`
+    /// where there is none.
     fn find(&self, byte: u8) -> Result<Self::Offset>
         ensures { result_map Self.Offset.number result ≡ find_at byte (seen self.now).bytes };
 
-    /// Lets the first `len` bytes go.
+    /// Skips the first `len` bytes.
     fn skip(&mut self, len: Self::Offset) -> Result<()>
         ensures { (result_map (λ _. tt) result, seen self.new)
             ≡ on_bytes (skip_at (Self.Offset.number len)) (seen self.old) };
@@ -71,14 +71,14 @@ pub trait Reader: Copy {
         ensures { (result_map seen result, seen self.new)
             ≡ part_taken (some_bytes (Self.Offset.number len)) (seen self.old) };
 
-    /// The bytes left, lent where they lie in one piece, else copied. Refused only by
-    /// `OutOfMemory`, where the copy found no memory.
+    /// The bytes left: borrowed where they lie in one piece, else copied. Refused only by
+    /// `OutOfMemory`, where there is no memory for the copy.
     fn to_slice(&self) -> Result<CowSlice<'_, u8>>
         ensures ok { IfOk result (λ slice. cow_slice_items slice ≡ (seen self.now).bytes) }
         ensures err { IsOkUnless result Error.OutOfMemory };
 
-    /// Takes as many bytes as the buffer has, into the buffer. Where they are missing, the buffer
-    /// stays as it was too.
+    /// Fills the buffer with the first bytes. Where there are too few, the buffer stays as it was,
+    /// too.
     fn read_slice(&mut self, buf: &mut [u8]) -> Result<()>
         ensures read { (result_map (λ _. buf.new) result, seen self.new)
             ≡ taken (some_bytes (length buf.old)) (seen self.old) }
@@ -232,10 +232,10 @@ pub trait Reader: Copy {
         with_tenth(value, last)
     }
 
-    /// Takes the length of a unit, and says which format it has. Refused by `UnknownReservedLength`
-    /// at a reserved first word, and by `UnsupportedOffset` where the offset type is too narrow. A
-    /// refused call has taken the first word, if it is there, and a length of eight bytes that is
-    /// too large.
+    /// Takes the length of a unit, and returns it with its format. Refused by
+    /// `UnknownReservedLength` at a reserved first word, and by `UnsupportedOffset` where the
+    /// offset type is too narrow. A refused call has taken the first word, if it is there, and also
+    /// the length of eight bytes where that is too large.
     #[tactic(auto, unfolding(crate::specs::Production::unit_length))]
     fn read_initial_length(&mut self) -> Result<(Self::Offset, Format)>
         ensures { (
