@@ -15,7 +15,7 @@ paired (Some line) (Some directory) = Some (line, directory)
 paired (Some line) None = None
 paired None directory = None
 
--- those of a compilation
+-- the line program and the directory of a compilation
 abbrev pub line_directory : {D : Type 0} → Compilation D → Option (ℕ × D)
 line_directory compilation = paired compilation.stmt_list compilation.comp_dir
 
@@ -54,7 +54,7 @@ module _ (sections : Sections) where
       (drop offset sections.info ≢ []) × Gives offset given
       × ((next : ℕ) × IsNextOffset sections offset next × Give next others)
 
-  -- this tells for each line program the directory of the first unit that has one for it
+  -- this maps each line program to the directory of the first unit that has one for it
   abbrev pub TellsDirectories : (ℕ → Option (List ℕ)) → Type 0
   TellsDirectories tell =
       (units : List (Option (ℕ × List ℕ))) × Give 0 units

@@ -14,7 +14,7 @@ pub record Sections : Type 0 where
   pub line_strings : List ℕ
   -- `.debug_str_offsets`
   pub string_offsets : List ℕ
-  -- how numbers are noted in `.debug_info`, and in `.debug_str_offsets`
+  -- how numbers are encoded in `.debug_info`, and in `.debug_str_offsets`
   pub layout : OrderAndLimit
   pub offsets_layout : OrderAndLimit
 

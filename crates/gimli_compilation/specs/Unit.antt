@@ -40,7 +40,8 @@ use Rattle.gimli_compilation.specs.Header.{is_unit_type}
 use Rattle.gimli_compilation.specs.Sections.{Sections}
 use Rattle.gimli_compilation.specs.Value.{attributes_with, no_attributes, section_offset}
 
--- a production at the front of other bytes, which may go on after it; none of the bytes themselves
+-- a production at the front of other bytes, which may go on after it; it takes none of the bytes
+-- themselves
 abbrev pub apart : {A : Type 0} → List ℕ → Production A → Production A
 apart others l = record {
   Spells = λ bytes x.
@@ -67,8 +68,8 @@ text_from limit section offset = do
   name ← apart section (text_production limit offset)
   done (Some name)
 
--- the values of an entry, in the order of its specifications; each takes the place of what stood
--- before for its attribute
+-- the values of an entry, in the order of its specifications; each replaces an earlier value of its
+-- attribute
 unfoldable pub attributes_production : OrderAndLimit → Encoding → Attributes (List ℕ)
     → List Specification
     → Production (Attributes (List ℕ))
@@ -114,7 +115,7 @@ module _ (sections : Sections) where
   text_by format None StringIndex n = done None
   text_by format base kind n = done None
 
-  -- the text of a value; None where it is none, or stands in another file
+  -- the text of a value; None where the value has no text, or one in another file
   abbrev pub text_of : Format → Option ℕ → Value (List ℕ) → Production (Option (List ℕ))
   text_of format base (Number kind n) = text_by format base kind n
   text_of format base (Text name) = done (Some name)
@@ -168,7 +169,7 @@ module _ (sections : Sections) where
     unit ← frame_production sections.layout
     apart unit.0 (content_production unit.1)
 
-  -- the bytes begin with a unit of which this comes
+  -- the bytes begin with a unit that has this outcome
   abbrev pub BeginsWithOutcome : List ℕ → Outcome (List ℕ) → Type 0
   BeginsWithOutcome bytes outcome =
       (unit : List ℕ) × (after : List ℕ) × (bytes ≡ unit ++ after)

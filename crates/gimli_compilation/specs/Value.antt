@@ -21,7 +21,7 @@ no_attributes = record {
   str_offsets_base = Passed;
 }
 
--- one more attribute, by its name (DWARF 5, section 7.5.4): where two have one name, the last
+-- one more attribute, by its name (DWARF 5, section 7.5.4): where two have the same name, the last
 -- counts
 abbrev pub attributes_with : {R : Type 0} → Attributes R → ℕ → Value R → Attributes R
 attributes_with before name value = record {

@@ -19,7 +19,7 @@ use std::alloc::{AllocError, Global};
 use std::collections::BTreeMap;
 use std::mem;
 
-/// What comes of a call that fails only where memory is missing.
+/// The result of a call that fails only where memory is missing.
 pub(crate) type MemoryResult<T> = std::result::Result<T, AllocError>;
 
 /// The name and the form of an attribute.
@@ -40,7 +40,8 @@ impl Specification {
     }
 }
 
-/// Takes the number that stands in the declaration in one form alone.
+/// Takes the number that a declaration holds for `DW_FORM_implicit_const`, and nothing for any
+/// other form.
 fn pass_constant<R: Reader>(input: &mut R, form: DwForm) -> Result<()>
     ensures read { (result_map (λ _. tt) result, (R.seen input.new).bytes)
         ≡ (constant_production form.0).read (R.seen input.old).bytes }
@@ -51,7 +52,7 @@ fn pass_constant<R: Reader>(input: &mut R, form: DwForm) -> Result<()>
     Ok(())
 }
 
-/// Takes the specification of an attribute, with the number that stands there in one form.
+/// Takes the specification of an attribute, with the number that `DW_FORM_implicit_const` has.
 #[tactic(auto, unfolding(crate::specs::Abbreviation::specification_production))]
 pub(crate) fn parse_specification<R: Reader>(input: &mut R) -> Result<Specification>
     ensures read { (result, (R.seen input.new).bytes)
@@ -152,8 +153,8 @@ pub(crate) fn keep_first<R: Reader>(
 pub(crate) struct Abbreviations<R> {
     /// Where it begins in `.debug_abbrev`.
     offset: u64,
-    /// Whether a code was asked for. Only then are declarations kept, as to keep one takes as long
-    /// as to read thirty.
+    /// Whether a code was looked up. Only then are declarations kept, since keeping one takes as
+    /// long as reading thirty.
     is_asked: bool,
     /// Where the specifications of each code begin, in the first declaration that has it.
     specifications: BTreeMap<u64, R>,
@@ -162,8 +163,8 @@ pub(crate) struct Abbreviations<R> {
     next: Result<Option<R>>,
 }
 
-/// Takes bytes that were read from those that may be read. Where these don't suffice, none are
-/// left.
+/// Subtracts the bytes that were read from the number that may still be read. Fails where that is
+/// too small, and leaves 0.
 pub(crate) fn charge(room: &mut u64, bytes: u64) -> MemoryResult<()> {
     match room.checked_sub(bytes) {
         Some(left) => {
@@ -242,8 +243,8 @@ impl<R: Reader> Abbreviations<R> {
         Ok(())
     }
 
-    /// Finds the declaration of a code: what is kept of it, else what comes where reading goes on.
-    /// Returns too how many bytes were read for it.
+    /// Finds the declaration of a code among those that are kept, else by reading on. Also returns
+    /// how many bytes it read.
     fn answer(&self, code: u64) -> (Result<Option<R>>, u64)
         ensures found { result_map (option_map (λ part. listed (R.seen part).bytes)) result.0
             ≡ answer_to R.seen code (get nat_cmp self.now.specifications code) self.now.next }
@@ -295,9 +296,9 @@ const TIMES_READ: u64 = 4;
 #[derive(Drop)]
 pub(crate) struct Tables<R> {
     alloc: Global,
-    /// The one that was asked last.
+    /// The table that was searched last.
     last: Abbreviations<R>,
-    /// Those that were asked before, by where they begin.
+    /// Those that were searched before, by where they begin.
     others: BTreeMap<u64, Abbreviations<R>>,
     /// How many more bytes may be read.
     room: u64,
@@ -322,7 +323,7 @@ impl<R: Reader> Tables<R> {
         }
     }
 
-    /// Makes the table at an offset the one that is asked.
+    /// Makes the table at an offset the one that is searched.
     fn turn_to(&mut self, section: &R, offset: R::Offset) -> MemoryResult<()>
         requires { AreTables R.seen (R.seen section.now).bytes self.old }
         ensures tables { AreTables R.seen (R.seen section.now).bytes self.new }

@@ -43,7 +43,7 @@ impl<R> Attributes<R> {
 impl<R: Drop> Attributes<R> {
     ghost use Rattle.gimli_compilation.specs.Value.{attributes_with};
 
-    /// Keeps a value, where its attribute is one of those.
+    /// Keeps a value, where its attribute is one of these.
     fn update(&mut self, name: DwAt, value: Value<R>)
         ensures { self.new ≡ attributes_with self.old name.0 value }
     {
@@ -58,7 +58,7 @@ impl<R: Drop> Attributes<R> {
 }
 
 /// Takes the attributes of an entry, and their specifications from another reader. Requires that
-/// these are closed there.
+/// the specifications are ended there.
 pub(crate) fn parse_attributes<R: Reader>(
     input: &mut R,
     encoding: Encoding,

@@ -1,5 +1,5 @@
-//! The numbers that DWARF gives to unit types, to attributes, and to the forms that stand in
-//! entries alone. The constants have the standard's names.
+//! The numbers that DWARF gives to unit types, to attributes, and to the forms that only entries
+//! have. The constants have the standard's names.
 
 use gimli_core::DwForm;
 
@@ -7,7 +7,7 @@ use gimli_core::DwForm;
 #[derive(Clone, Copy, Debug, PartialEq, Eq)]
 pub struct DwUt(pub u8);
 
-/// A full compilation, or an inlined part of one that stands by itself.
+/// A full compilation.
 pub const DW_UT_compile: DwUt = DwUt(0x01);
 
 /// A type.
@@ -16,7 +16,7 @@ pub const DW_UT_type: DwUt = DwUt(0x02);
 /// A part of a compilation that others import.
 pub const DW_UT_partial: DwUt = DwUt(0x03);
 
-/// What is left here of a compilation whose entries stand in another file.
+/// What is left here of a compilation whose entries are in another file.
 pub const DW_UT_skeleton: DwUt = DwUt(0x04);
 
 /// The compilation in the other file.
@@ -62,13 +62,13 @@ pub const DW_FORM_ref8: DwForm = DwForm(0x0014);
 /// The same as an unsigned LEB128 number.
 pub const DW_FORM_ref_udata: DwForm = DwForm(0x0015);
 
-/// The form stands in front of the value, as an unsigned LEB128 number.
+/// The form comes before the value, as an unsigned LEB128 number.
 pub const DW_FORM_indirect: DwForm = DwForm(0x0016);
 
 /// An expression: its length as an unsigned LEB128 number, and that many bytes.
 pub const DW_FORM_exprloc: DwForm = DwForm(0x0018);
 
-/// True; no byte stands for it.
+/// True; it takes no bytes.
 pub const DW_FORM_flag_present: DwForm = DwForm(0x0019);
 
 /// An index into `.debug_addr`, as an unsigned LEB128 number.

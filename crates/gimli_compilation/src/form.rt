@@ -38,7 +38,7 @@ pub(crate) enum Value<R> {
     Number(NumberKind, u64),
     /// A text that stands in the entry.
     Text(R),
-    /// What nothing is asked of.
+    /// A value of which nothing is kept.
     Passed,
 }
 
@@ -169,7 +169,7 @@ fn block_shape(form: DwForm) -> Option<Shape>
     }
 }
 
-/// Lets so many bytes go. Refused by `UnsupportedOffset` where the offset type is too narrow.
+/// Skips so many bytes. Refused by `UnsupportedOffset` where the offset type is too narrow.
 fn pass_bytes<R: Reader>(input: &mut R, count: u64) -> Result<Value<R>>
     ensures read { (result_map (value_seen R.seen) result, R.seen input.new)
         ≡ taken (passed_production (layout_of (R.seen input.old).is_big R.Offset.limit) count)
@@ -180,7 +180,7 @@ fn pass_bytes<R: Reader>(input: &mut R, count: u64) -> Result<Value<R>>
     Ok(Value::Passed)
 }
 
-/// Takes a value that lies in such a way.
+/// Takes a value of a shape.
 fn parse_shape<R: Reader>(input: &mut R, shape: Shape) -> Result<Value<R>>
     requires { IsReadable shape }
     ensures read { (result_map (value_seen R.seen) result, R.seen input.new)
@@ -216,8 +216,8 @@ fn parse_shape<R: Reader>(input: &mut R, shape: Shape) -> Result<Value<R>>
     }
 }
 
-/// Takes a value in a form that isn't of its own kind. Refused by `UnknownForm` at a form that
-/// isn't known.
+/// Takes a value in any form but `DW_FORM_implicit_const` and `DW_FORM_indirect`. Refused by
+/// `UnknownForm` at these, and at a form that isn't known.
 #[tactic(auto, unfolding(crate::specs::Form::known_form_production))]
 fn parse_known_form<R: Reader>(input: &mut R, encoding: Encoding, form: DwForm) -> Result<Value<R>>
     requires { IsTrue (is_address_size encoding.address_size) }

@@ -49,8 +49,8 @@ impl DwUt {
         1 <= self.0 && self.0 <= 6
     }
 
-    /// The bytes of a header that stand in units of this type alone: a signature and the offset of
-    /// a type, or the number of the compilation that stands in another file.
+    /// The number of bytes of the fields that only headers of this type have: a signature and the
+    /// offset of a type, or the number of the compilation that is in another file.
     fn fields_size(self, format: Format) -> u8
         ensures { result ≡ type_fields_size self.0 format }
     {

@@ -6,7 +6,7 @@ ghost use Rattle.gimli_compilation.specs.declared.sections.Compilation.{Compilat
 ghost use Rattle.gimli_compilation.specs.Sections.{Sections};
 ghost use Rattle.gimli_compilation.specs.Unit.{HasCompilationAt, HasRefusalAt};
 
-/// At each offset a section has a compilation or a refusal, never both, and only one of it.
+/// At each offset a section has one compilation or one refusal, never both, and no second one.
 pub fn one_answer()
     ensures some { (sections : Sections) (offset : ℕ) →
         ((compilation : Compilation (List ℕ)) × HasCompilationAt sections offset compilation)

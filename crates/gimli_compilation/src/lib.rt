@@ -2,8 +2,8 @@
 //! line program, its directory and its name. DWARF versions 2 to 5.
 //!
 //! A unit begins with a header (`header`). Its first entry names a declaration of `.debug_abbrev`
-//! (`abbreviation`), which says in which forms (`form`) its attributes (`attributes`) stand.
-//! [`CompilationSections`] is where both begin, and [`CompilationUnits`] walks through the units.
+//! (`abbreviation`), which says what forms (`form`) its attributes (`attributes`) have.
+//! [`CompilationSections`] holds the sections, and [`CompilationUnits`] walks through the units.
 #![tactic(auto)]
 
 mod abbreviation;

@@ -1,4 +1,4 @@
-//! Why a unit gives no answer.
+//! Why a unit gives no compilation.
 
 use gimli_core::Error;
 use std::fmt;
@@ -9,7 +9,7 @@ pub enum Refusal {
     /// Bytes of the unit, of its declarations or of its texts could not be read. Never
     /// `OutOfMemory`.
     Bytes(Error),
-    /// The type of the unit is none that is known, so that its header has no known form.
+    /// The type of the unit is unknown, and with it the layout of its header.
     UnknownUnitType(u8),
     /// The table of declarations of the unit has none with the code of its first entry.
     MissingAbbreviation(u64),

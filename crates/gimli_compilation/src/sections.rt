@@ -18,7 +18,7 @@ use crate::texts::Texts;
 use gimli_core::{Encoding, Error, Format, Reader, ReaderOffset, Result};
 use std::alloc::Global;
 
-/// The sections from which compilations are read; empty where a program has none.
+/// The sections from which compilations are read. A section that the program lacks is empty.
 ///
 /// <!-- part of crates/uses/src/where_is.rt -->
 /// ```rust
@@ -51,9 +51,9 @@ pub struct Compilation<R> {
     pub version: u16,
     /// The offset of the line program in `.debug_line`.
     pub stmt_list: Option<u64>,
-    /// The directory in which the compiler ran. None where it stands in another file.
+    /// The directory in which the compiler ran. None where there is none or it is in another file.
     pub comp_dir: Option<R>,
-    /// The name of the primary source file. None where it stands in another file.
+    /// The name of the primary source file. None where there is none or it is in another file.
     pub name: Option<R>,
 }
 
@@ -96,7 +96,7 @@ impl<R> Value<R> {
 impl<R> Outcome<R> {
     ghost use Rattle.gimli_compilation.specs.inside.Unit.{answer_of};
 
-    /// What a user has of an outcome.
+    /// What a caller sees of an outcome.
     fn answer(outcome: Result<Outcome<R>>) -> std::result::Result<Compilation<R>, Refusal>
         ensures { result ≡ answer_of outcome }
     {
@@ -159,7 +159,7 @@ impl<R: Reader> CompilationSections<R> {
     ghost use Rattle.gimli_compilation.specs.Unit.{entry_production, found_entry, text_by, text_of};
     ghost use Rattle.gimli_compilation.specs.inside.Unit.{outcome_seen};
 
-    /// What is kept of no unit.
+    /// What is kept before the first unit.
     pub(crate) fn nothing_kept(&self, alloc: Global) -> Kept<R>
         ensures tables { AreTables R.seen (R.seen self.now.debug_abbrev).bytes result.tables }
         ensures strings { result.strings ≡ (R.seen self.now.debug_str).bytes }
@@ -178,9 +178,9 @@ impl<R: Reader> CompilationSections<R> {
     }
 
     /// The compilation of the unit that begins at an offset of `.debug_info`; an offset past the
-    /// end leaves no bytes. Refused as the first part that isn't met says: the header, the table of
-    /// declarations up to the code of the first entry, the attributes of this, and the texts that
-    /// they refer to.
+    /// end leaves no bytes. The refusal is that of the first part that fails: the header, the table
+    /// of declarations up to the code of the first entry, the attributes of this entry, or the
+    /// texts that they refer to.
     pub(crate) fn compilation(
         &self,
         offset: R::Offset,
@@ -355,7 +355,7 @@ impl<R: Reader> CompilationSections<R> {
         }))
     }
 
-    /// The text of a value; None where it is none, or stands in another file.
+    /// The text of a value; None where the value has no text, or one in another file.
     fn text_of(
         &self,
         format: Format,

@@ -54,7 +54,7 @@ fn known_size<R: Reader>(input: &R, size: u64) -> R::Offset
     }
 }
 
-/// The first bytes, so many.
+/// The first `count` bytes.
 fn front_of<R: Reader>(input: &R, count: u64) -> Result<R>
     ensures bytes { IfOk result (λ front.
         (R.seen front).bytes ≡ take count (R.seen input.now).bytes) }
@@ -66,8 +66,8 @@ fn front_of<R: Reader>(input: &R, count: u64) -> Result<R>
     Ok(front)
 }
 
-/// How many bytes stand before the first zero byte: so many, unless one is among the first ones up
-/// to a place from which on it is known.
+/// How many bytes come before the first zero byte, where `size` is this number if none of the first
+/// `gap` bytes is zero.
 fn size_before<R: Reader>(input: &R, gap: u64, size: u64) -> R::Offset
     requires { size ≡ gap + text_size (drop gap (R.seen input.now).bytes) }
     ensures { R.Offset.number result ≡ text_size (R.seen input.now).bytes }
@@ -116,12 +116,12 @@ fn keep_end(ends: &mut BTreeMap<u64, u64>, end: u64, start: u64) -> MemoryResult
     Ok(())
 }
 
-/// A section of texts, and where those end that were read.
+/// A section of texts, and where the texts that were read end.
 #[derive(Drop)]
 pub(crate) struct Texts<R: Reader> {
     section: R,
-    /// By the offset of each end that was found, that of a zero byte or of the end of the section:
-    /// from where on no zero byte stands before it.
+    /// For the offset of each end that was found, be it a zero byte or the end of the section: an
+    /// offset from which on no zero byte comes before that end.
     ends: BTreeMap<u64, u64>,
 }
 

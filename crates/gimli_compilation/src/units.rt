@@ -12,7 +12,7 @@ use gimli_core::{Error, Reader, ReaderOffset, Result};
 use std::alloc::Global;
 use std::marker::Model;
 
-/// Lets the unit in front go; all bytes where they begin with no unit.
+/// Skips the unit in front, or all bytes where they don't begin with a unit.
 fn skip_unit<R: Reader>(input: &mut R)
     ensures { (R.seen input.new).bytes
         ≡ after_frame ((frame_production (layout_of (R.seen input.old).is_big R.Offset.limit)).read
@@ -86,9 +86,10 @@ impl<R: Reader> CompilationUnits<R> {
     /// The next unit; None where no bytes are left. A unit that is refused is given with its
     /// refusal, and the next one begins after it; where its length can't be read or says more bytes
     /// than there are, it is the last one. Fails only with `OutOfMemory`; nothing is changed then,
-    /// so that the call can be made again. It fails so too where tables of abbreviations overlap,
-    /// or first entries have many attributes without a value: the walk reads at most four times the
-    /// bytes of `.debug_abbrev`, and 16 bytes of specifications for each byte of `.debug_info`.
+    /// so that the call can be made again. It fails in the same way where tables of abbreviations
+    /// overlap, or first entries have many attributes without a value: the walk reads at most four
+    /// times the bytes of `.debug_abbrev`, and 16 bytes of specifications for each byte of
+    /// `.debug_info`.
     pub fn next(&mut self) -> Result<Option<CompilationUnit<R>>>
         ensures end { IfOk result
             (λ next. IfNone next (drop self.old.offset self.old.sections.info ≡ [])) }

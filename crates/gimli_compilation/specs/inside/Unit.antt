@@ -37,7 +37,7 @@ outcome_seen view (Found compilation) = Found (view compilation)
 outcome_seen view (unknown_unit_type unit_type) = unknown_unit_type unit_type
 outcome_seen view (missing_abbreviation code) = missing_abbreviation code
 
--- what a unit gives, as its users have it
+-- what a unit gives, as its callers see it
 abbrev pub answer_of : {C : Type 0} → Result (Outcome C) Error → Result (Compilation C) Refusal
 answer_of (Ok (Found compilation)) = Ok compilation
 answer_of (Ok (unknown_unit_type unit_type)) = Err (UnknownUnitType unit_type)
