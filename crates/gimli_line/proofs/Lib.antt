@@ -11,6 +11,7 @@ pub mod InstructionLaws
 pub mod InstructionRefusals
 pub mod Bounds
 pub mod RowBounds
+pub mod NarrowBits
 pub mod RowsAlone
 pub mod Fields
 pub mod HeaderParts

@@ -28,16 +28,13 @@ struct NarrowRow {
     epilogue_begin: bool,
 }
 
-/// Whether all numbers of a row fit a narrow one.
+/// Whether all numbers of a row fit a narrow one. Five of them are tested at once: what has the bits
+/// of all of them is below 2^32 where each of them is.
 fn is_narrow(row: &LineRow) -> bool
     ensures { IsTrue result ↔ IsNarrow row.now }
 {
-    row.op_index < 1 << 8
-        && row.file < 1 << 32
-        && row.line < 1 << 32
-        && row.column < 1 << 32
-        && row.isa < 1 << 32
-        && row.discriminator < 1 << 32
+    let numbers = row.file | row.line | row.column | row.isa | row.discriminator;
+    row.op_index < 1 << 8 && numbers < 1 << 32
 }
 
 impl NarrowRow {
