@@ -1,5 +1,5 @@
 -- Several numbers are below 2^32 where the number is that has the bits of all of them.
-use Rattle.std.proofs.Common.{◌<◌, ◌^◌, ℕ, arith, bit_or}
+use Rattle.std.proofs.Common.{◌<◌, ◌^◌, arith, bit_or}
 use Rattle.std.proofs.lemmas.Nat.{or_of_32, le_or_l, le_or_r}
 use Rattle.gimli_line.specs.inside.run.Rows.{IsNarrow}
 use Rattle.gimli_line.specs.declared.run.row.LineRow.{LineRow}
