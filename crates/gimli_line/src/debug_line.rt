@@ -45,9 +45,9 @@ impl<'i, E: Endianity> DebugLine<EndianSlice<'i, E>> {
 }
 
 impl<R: Reader> DebugLine<R> {
-    /// The line program whose header stands at an offset. In version 5 the address size, the
-    /// directory and the name that are handed in mean nothing. An offset past the end leaves no
-    /// bytes. Refused as the first part of the header that isn't met says, or by `OutOfMemory`.
+    /// The line program whose header begins at an offset. In version 5 the address size, the
+    /// directory and the name that are handed in are ignored. An offset past the end leaves no
+    /// bytes. The refusal is that of the first part of the header that fails, or `OutOfMemory`.
     /// Requires an address size of 1, 2, 4 or 8, whatever the version is.
     pub fn program(
         &self,

@@ -62,7 +62,7 @@ pub fn unit_or_refusal()
         ⊎ ((e : Error) × HasUnitFault layout entry bytes e) }
 {}
 
-/// They don't have both, the header is one, and so is the refusal.
+/// They don't have both, and not two headers or two refusals.
 pub fn one_unit_or_refusal()
     ensures both { (layout : OrderAndLimit) (entry : UnitEntry) (bytes : List ℕ) →
         (h : Header) (e : Error)
@@ -106,17 +106,16 @@ pub fn instructions_are_bounded()
         (end : Option Error) → Decodes layout h bytes list end → length list ≤ length bytes }
 {}
 
-/// The entries of a table of version 5 begin with their count, which says how many they are, and no
-/// fewer bytes than that stand after it: each entry has a byte at least, since some format is
-/// there.
+/// The entries of a table of version 5 begin with their count, which says how many they are, and at
+/// least as many bytes follow it: each entry has at least one byte, since there is some format.
 pub fn entries_are_bounded()
     ensures { (layout : OrderAndLimit) (format : Format) (formats : List FileEntryFormat) →
         formats ≢ [] → HaveCountedEntries layout format formats }
 {}
 
 /// Both tables of a header together have no more entries than its length counts bytes, whatever
-/// they give as their counts. What that length counts and the program stand within the unit, and
-/// the unit within the input.
+/// they give as their counts. The bytes that the length counts and the program lie within the unit,
+/// and the unit within the input.
 pub fn tables_are_bounded()
     ensures entries { (layout : OrderAndLimit) (entry : UnitEntry) (bytes : List ℕ) (h : Header) →
         SpellsUnit layout entry bytes h → entry_count h ≤ h.header_length }
@@ -179,8 +178,8 @@ pub fn equal_parts_are_same()
 {}
 
 /// `==` of files holds exactly where all their parts agree, if this is so of readers and of
-/// offsets. It isn't so of readers over slices, since a slice is a place too: of files over these
-/// `equal_files_look_same` speaks.
+/// offsets. It isn't so of readers over slices, since a slice is also a place in memory: for files
+/// over these see `equal_files_look_same`.
 pub fn equal_files_are_same<R: Reader + PartialEq>()
     ensures { IsExact R.eq → IsExact R.Offset.eq → IsExact ⟦<FileEntry<R> as PartialEq>⟧.eq }
 {
@@ -224,8 +223,8 @@ fn equal_sources_look_same<R: Reader + PartialEq>()
 }
 
 /// `==` of instructions holds exactly where they are of one kind and agree in their operands, if
-/// this is so of readers and of offsets. Of instructions over slices `equal_instructions_look_same`
-/// speaks.
+/// this is so of readers and of offsets. For instructions over slices see
+/// `equal_instructions_look_same`.
 pub fn equal_instructions_are_same<R: Reader + PartialEq>()
     ensures { IsExact R.eq → IsExact R.Offset.eq → IsExact ⟦<LineInstruction<R> as PartialEq>⟧.eq }
 {
@@ -244,7 +243,7 @@ pub fn equal_instructions_look_same<R: Reader + PartialEq>()
 }
 
 /// `==` of headers holds exactly where all their parts agree, if this is so of readers and of
-/// offsets. Of headers over slices `equal_headers_look_same` speaks.
+/// offsets. For headers over slices see `equal_headers_look_same`.
 pub fn equal_headers_are_same<R: Reader + PartialEq>()
     ensures { IsExact R.eq → IsExact R.Offset.eq
         → ComparesParts ⟦<LineProgramHeader<R> as PartialEq>⟧.eq }
@@ -279,7 +278,7 @@ pub fn same_parts_say_same<R: Reader>(x: &LineProgramHeader<R>, y: &LineProgramH
 }
 
 /// `==` of programs holds exactly where their headers agree in all parts, if this is so of readers
-/// and of offsets. Of programs over slices `equal_programs_look_same` speaks.
+/// and of offsets. For programs over slices see `equal_programs_look_same`.
 pub fn equal_programs_are_same<R: Reader + PartialEq>()
     ensures incomplete { IsExact R.eq → IsExact R.Offset.eq
         → ComparesParts ⟦<IncompleteLineProgram<R> as PartialEq>⟧.eq }
@@ -303,8 +302,8 @@ pub fn equal_programs_look_same<R: Reader + PartialEq>()
     equal_headers_look_same::<R>();
 }
 
-/// What `clone` makes of a file or of an instruction is the same, and of a section, of instructions
-/// to come or of a sequence, if this is so of readers.
+/// `clone` of a file or of an instruction gives the same, and so does `clone` of a section, of
+/// instructions to come or of a sequence, if this is so of readers.
 pub fn clones_are_same<R: Reader>()
     ensures files { IsSameClone ⟦<FileEntry<R> as Clone>⟧.is_clone }
     ensures instructions { IsSameClone ⟦<LineInstruction<R> as Clone>⟧.is_clone }
@@ -352,7 +351,7 @@ pub fn files_change_no_events()
         → EventsWithFiles layout appends h bytes events → Events layout h bytes (events_of events) }
 {}
 
-/// What a section is by default holds what its contents are by default.
+/// The default section holds the default contents.
 pub fn default_sections_are_default<R: Default>()
     ensures { (section : _) → ⟦<DebugLine<R> as Default>⟧.is_default section
         → R.is_default section }

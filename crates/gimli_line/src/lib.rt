@@ -1,8 +1,8 @@
 //! Line number programs of DWARF, versions 2 to 5, as they are read.
 //!
 //! In two layers: `header` reads the header of a unit, with its tables; above it, `run` takes the
-//! instructions of the program one by one, and gives its rows and its sequences. [`DebugLine`] is
-//! where both begin.
+//! instructions of the program one by one, and gives its rows and its sequences. Begin with
+//! [`DebugLine`].
 #![tactic(auto)]
 
 mod debug_line;

@@ -23,7 +23,7 @@ fn split_unit<R: Reader>(input: &mut R) -> Result<R>
     input.split(length)
 }
 
-/// Lets the unit in front go; all bytes where they begin with no unit.
+/// Skips the unit in front, or all bytes where they don't begin with a unit.
 fn skip_unit<R: Reader>(input: &mut R)
     ensures { (R.seen input.new).bytes
         ≡ after_unit

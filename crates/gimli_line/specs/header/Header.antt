@@ -32,7 +32,7 @@ pub record UnitEntry : Type 0 where
   pub directory : Option (List ℕ)
   pub name : Option (List ℕ)
 
--- what stands in the readers that a caller hands in
+-- what a caller hands in, its readers seen by bytes
 abbrev pub unit_entry : {R : Type 0} → (R → Seen) → ℕ → Option R → Option R → UnitEntry
 unit_entry seen address_size directory name = record {
   address_size = address_size;

@@ -68,8 +68,9 @@ files_production = list_to_zero named_file
 
 -- ---- tables of version 5 (DWARF 5, section 6.2.4, parts 13 to 20)
 
--- one format: a content type, and a form. The standard's content types have 16 bits: that a larger
--- one is ffff is ours, as gimli has it, so that a table with an unknown one can still be read
+-- one format: a content type, and a form. The standard's content types have 16 bits. Reading a
+-- larger one as ffff is our rule, and gimli's, so that a table with an unknown one can still be
+-- read
 unfoldable pub format_production : Production FileEntryFormat
 format_production = do
   content ← unsigned
@@ -131,8 +132,8 @@ abbrev pub path_of : TableEntry → Value
 path_of entry = last_value DW_LNCT_path Some (String []) entry
 
 -- the file of an entry. The standard names no value for a part that no format has, and says nothing
--- of two formats of one content type: that the first is 0 or empty, and that the later of two
--- counts, is ours, as gimli has it
+-- of two formats of one content type: that such a part is 0 or empty, and that the later of two
+-- counts, is our rule, and gimli's
 abbrev pub file_of_entry : TableEntry → File
 file_of_entry entry = record {
   path_name = path_of entry;

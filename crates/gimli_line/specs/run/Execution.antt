@@ -50,7 +50,7 @@ pub record IsExecuted (parameters : Parameters) (read : Read Ins) (rest : List �
   pub refusal : is_refused parameters instruction old ≡ refused
   pub registers : new ≡ step_of parameters instruction old
 
--- what is told of an instruction that was executed
+-- what is reported of an instruction that was executed
 abbrev pub told_of : Ins → Executed
 told_of (Special o) = Row
 told_of Copy = Row
@@ -63,13 +63,13 @@ abbrev pub is_executed : Executed → Bool
 is_executed No = false
 is_executed told = true
 
--- it wasn't refused, and this is told of it
+-- it wasn't refused, and this is reported of it
 abbrev pub IsExecutedAs : Parameters → Read Ins → List ℕ → LineRow → LineRow → Executed → Type 0
 IsExecutedAs parameters read rest old new told =
     (executed : IsExecuted parameters read rest old new false)
     × (told ≡ told_of executed.instruction)
 
--- the next instruction was executed on the registers, and this is told of it; or none was, and
+-- the next instruction was executed on the registers, and this is reported of it; or none was, and
 -- nothing changed
 abbrev pub ExecutesNext : Header → Unread → Unread → LineRow → LineRow → Executed → Type 0
 ExecutesNext h old new row after No = (new ≡ old) × (after ≡ row)

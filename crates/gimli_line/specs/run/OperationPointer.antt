@@ -60,9 +60,9 @@ advanced_by_formula parameters n p =
       op_index = s % parameters.line_encoding.maximum_operations_per_instruction;
     }
 
--- the same, where an op_index that is too large for one operation in an instruction is left out: a
--- row that another program made may have one. Any other pointer goes by the formula
--- (`laws::advances_go_by_the_formula`)
+-- the same, but where an instruction has one operation, an op_index above 0, which is too large for
+-- it, is ignored: a row that another program made may have one. Any other pointer goes by the
+-- formula (`laws::advances_go_by_the_formula`)
 abbrev pub advanced_by : Parameters → ℕ → OperationPointer → OperationPointer
 advanced_by parameters n p =
     if nat_eq parameters.line_encoding.maximum_operations_per_instruction 1
@@ -123,9 +123,9 @@ overflows parameters past i =
     [ Some to ↦ is_too_large parameters to | None ↦ false ])
     && not (is_under_tombstone parameters past)
 
--- what stands since the last point that made a row, or overflowed: a row clears the marks of the
--- next one (6.2.5.1). That an overflow does so too is ours, as gimli has it: who asks for the next
--- row after a refusal begins with cleared marks, as after a row
+-- the instructions since the last point that made a row, or overflowed: a row clears the marks of
+-- the next one (6.2.5.1). That an overflow does so too is our rule, and gimli's: the next row after
+-- a refusal begins with cleared marks, as after a row
 abbrev pub since_last_row : Parameters → List Ins → List Ins
 since_last_row parameters [] = []
 since_last_row parameters (i ∷ past) =

@@ -108,7 +108,7 @@ line_advance parameters (Special o) =
 line_advance parameters i = None
 
 -- the line v further on, modulo 2 ^ 64; one that would go below 0 stops there. The standard says
--- nothing of such a line: that it stops is ours, as gimli has it, since line 0 stands for no line
+-- nothing of such a line. That it stops is our rule, and gimli's, since line 0 stands for no line
 abbrev pub advanced_line : ℤ → ℕ → ℕ
 advanced_line (pos v) line = (line + v) % 2 ^ 64
 advanced_line (negsuc v) line = line - suc v

@@ -73,7 +73,7 @@ pub record IsOfOneOrder (a : RunState) : Type 0 where
 abbrev pub IsRow : EventWithFiles → Type 0
 IsRow t = (r : LineRow) × (t.event ≡ row r)
 
--- all files are there, and rows alone are to come: such a run is refused for nothing
+-- all files are there, and only rows are to come: such a run is never refused
 pub record GivesRowsAlone (a : RunState) : Type 0 where
   pub complete : a.appends ≡ false
   pub rows : All IsRow (events_left a)
@@ -85,7 +85,7 @@ pub record KeepsRun (old new : RunState) : Type 0 where
   pub unread : new.unread.layout ≡ old.unread.layout
   pub source : KeepsSource (AddsInOrder old) old.source new.source
 
--- and a run that is refused for nothing stays one
+-- and a run that is never refused stays one
 pub record KeepsHeader (old new : RunState) : Type 0 where
   pub run : KeepsRun old new
   pub alone : GivesRowsAlone old → GivesRowsAlone new
@@ -130,8 +130,8 @@ pub record WantsMemory (live : RunState → List EventWithFiles) (old new : RunS
   pub none : made_left new ≡ []
   pub empty : new.unread.bytes ≡ []
 
--- a fault was the next to come; the files at the end are still the same, and no bytes are left but
--- where an address overflows
+-- a fault was the next to come; the files at the end are still the same, and no bytes are left,
+-- except where an address overflows
 abbrev pub FaultComes : (RunState → List EventWithFiles) → RunState → RunState → Error → Type 0
 FaultComes live old new e =
     (live old ≡ event_of (fault e) new ∷ live (with_reset_row new))

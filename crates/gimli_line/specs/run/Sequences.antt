@@ -50,8 +50,7 @@ HaveRuns h [] [] = Unit {0}
 HaveRuns h (s ∷ parts) (run ∷ runs) = HasRun h s run × HaveRuns h parts runs
 HaveRuns h parts runs = ⊥
 
--- the bytes of a sequence give rows alone over a header, so that a run of them is refused for
--- nothing
+-- the bytes of a sequence give only rows over a header, so that a run of them is never refused
 pub record ResumesToRows (h : Header) (s : Sequence) : Type 0 where
   pub rows : List LineRow
   pub given : Events s.unread.layout h s.unread.bytes (map row rows)

@@ -180,15 +180,15 @@ where
         self.size
     }
 
-    /// The MD5 digest of the file's bytes; zeros where the header's `file_has_md5` doesn't hold.
+    /// The MD5 digest of the file's bytes; zeros where the header's `file_has_md5` is false.
     pub fn md5(&self) -> &[u8; 16]
         ensures { result.now ≡ self.now.md5 }
     {
         &self.md5
     }
 
-    /// The text of the file, where the header's `file_has_source` holds. An empty one may stand for
-    /// none.
+    /// The text of the file, where the header's `file_has_source` is true. An empty one may mean
+    /// that there is none.
     pub fn source(&self) -> Option<AttributeValue<R, Offset>>
         ensures { result ≡ self.now.source }
     {

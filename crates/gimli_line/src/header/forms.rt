@@ -48,7 +48,7 @@ pub(crate) fn parse_attribute<R: Reader>(
     }
 }
 
-/// Takes a value in a form that isn't a block: a number, or what comes after those.
+/// Takes a value in a form that isn't a block: a number, or what `parse_word_or_text` takes.
 fn parse_number<R: Reader>(input: &mut R, format: Format, form: DwForm) -> Result<AttributeValue<R>>
     ensures read { (result_map (value_seen R.seen R.Offset.number) result, R.seen input.new)
         ≡ taken
@@ -68,7 +68,7 @@ fn parse_number<R: Reader>(input: &mut R, format: Format, form: DwForm) -> Resul
     }
 }
 
-/// Takes a word of the format, a text, or what comes after those: an index.
+/// Takes a word of the format, a text or an index.
 fn parse_word_or_text<R: Reader>(
     input: &mut R,
     format: Format,

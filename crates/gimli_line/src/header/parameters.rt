@@ -1,9 +1,9 @@
-//! What instructions are read and executed by.
+//! The parameters by which instructions are read and executed.
 
 use gimli_core::{Encoding, LineEncoding};
 use std::marker::Model;
 
-/// What instructions are read and executed by.
+/// The parameters by which instructions are read and executed.
 #[derive(Clone, Copy, Debug, PartialEq, Eq)]
 pub(crate) struct Parameters {
     pub(crate) encoding: Encoding,

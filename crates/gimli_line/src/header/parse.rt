@@ -53,8 +53,8 @@ fn parse_version<R: Reader>(input: &mut R) -> Result<u16>
     Ok(version)
 }
 
-/// The address size of a unit: the handed one up to version 4, else the unit's own, after which a
-/// segment selector size of 0 stands.
+/// The address size of a unit: the handed one up to version 4, else the unit's own, which a
+/// segment selector size of 0 follows.
 #[tactic(auto, unfolding(crate::specs::header::HeaderGrammar::address_size_production))]
 fn parse_address_size<R: Reader>(input: &mut R, version: u16, handed: u8) -> Result<u8>
     requires { IsTrue (is_address_size handed) }
@@ -73,7 +73,7 @@ fn parse_address_size<R: Reader>(input: &mut R, version: u16, handed: u8) -> Res
     Ok(address_size)
 }
 
-/// Takes what rows are encoded by. Up to version 3 the maximum of operations isn't there, and is 1.
+/// Takes the encoding of rows. Up to version 3 there is no maximum of operations; it is 1 then.
 #[tactic(auto, unfolding(crate::specs::header::HeaderGrammar::line_encoding_production))]
 fn parse_line_encoding<R: Reader>(input: &mut R, version: u16) -> Result<LineEncoding>
     ensures read { (result, R.seen input.new)
@@ -107,7 +107,7 @@ fn parse_operations<R: Reader>(input: &mut R, version: u16) -> Result<u8>
     parse_positive(input, Error::MaximumOperationsPerInstructionZero)
 }
 
-/// Takes what instructions are executed by.
+/// Takes the parameters by which instructions are executed.
 #[tactic(auto, unfolding(crate::specs::header::HeaderGrammar::parameters_production))]
 fn parse_parameters<R: Reader>(input: &mut R, encoding: Encoding) -> Result<Parameters>
     requires { IsTrue (is_address_size encoding.address_size) }
@@ -182,8 +182,8 @@ where
     ghost use Rattle.gimli_line.specs.header.File.{file_seen};
 
     /// Takes the header of a unit, and its program. The unit length says where the unit ends, and
-    /// the header length where the program begins: what a later version appends to a header is
-    /// passed over so.
+    /// the header length where the program begins, so what a later version appends to a header is
+    /// skipped.
     #[tactic(auto, unfolding(crate::specs::header::HeaderGrammar::header_production))]
     pub(crate) fn parse(
         alloc: Global,

@@ -127,7 +127,7 @@ where
     ghost use Rattle.gimli_line.specs.header.Orders.{source_of, KeepsSource};
     ghost use Rattle.gimli_line.specs.Units.{offset_after};
 
-    /// A copy, which agrees with the header in all its parts and says what it says. Refused by
+    /// A copy, which agrees with the header in all its parts and in what it means. Refused by
     /// `OutOfMemory` alone.
     pub fn clone(&self) -> Result<Self>
         ensures parts { IfOk result (λ copy. parts_of copy ≡ parts_of self.now) }
@@ -193,7 +193,7 @@ where
         }
     }
 
-    /// What the numbers of the unit are encoded by; addresses have 1, 2, 4 or 8 bytes.
+    /// How the numbers of the unit are encoded; addresses have 1, 2, 4 or 8 bytes.
     pub fn encoding(&self) -> Encoding
         ensures encoding { result ≡ self.now.meaning.parameters.encoding }
         ensures address_size { IsTrue (is_address_size result.address_size) }
@@ -229,7 +229,7 @@ where
         self.parameters.encoding.format
     }
 
-    /// What rows are encoded by: no number that is divided by is 0.
+    /// How rows are encoded; no number that is a divisor is 0.
     pub fn line_encoding(&self) -> LineEncoding
         ensures line_encoding { result ≡ self.now.meaning.parameters.line_encoding }
         ensures allowed { IsLineEncoding result }
@@ -254,7 +254,7 @@ where
             .maximum_operations_per_instruction
     }
 
-    /// Whether a row is the beginning of a statement, where the program says nothing of it.
+    /// Whether a row begins a statement, unless the program says otherwise.
     pub fn default_is_stmt(&self) -> bool
         ensures { result ≡ self.now.meaning.parameters.line_encoding.default_is_stmt }
     {
@@ -343,7 +343,7 @@ where
         &self.file_name_entry_format
     }
 
-    /// Whether the files have a timestamp. Where it doesn't hold, it isn't known of any file.
+    /// Whether the files have a timestamp. If they don't, it isn't known of any file.
     pub fn file_has_timestamp(&self) -> bool
         ensures { result ≡ (nat_le self.now.meaning.parameters.encoding.version 4
             || has_content 0x0003 self.now.meaning.file_formats) }
@@ -351,7 +351,7 @@ where
         self.version() <= 4 || self.file_has(constants::DW_LNCT_timestamp)
     }
 
-    /// Whether the files have a size. Where it doesn't hold, it isn't known of any file.
+    /// Whether the files have a size. If they don't, it isn't known of any file.
     pub fn file_has_size(&self) -> bool
         ensures { result ≡ (nat_le self.now.meaning.parameters.encoding.version 4
             || has_content 0x0004 self.now.meaning.file_formats) }
@@ -436,7 +436,7 @@ where
 {
     ghost use Rattle.gimli_line.specs.header.Header.{directory_of, own_directory_of};
 
-    /// The file's directory, as far as the header has it.
+    /// The file's directory; None where the header doesn't have it.
     pub fn directory(
         &self,
         header: &LineProgramHeader<R, Offset>,

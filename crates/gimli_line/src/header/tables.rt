@@ -149,7 +149,7 @@ fn nothing<R: Reader>(input: &R) -> R
     nothing
 }
 
-/// Takes an entry of a directory, and gives its path, as of a file.
+/// Takes an entry of a directory as if it were one of a file, and returns its path.
 fn parse_directory_v5<R: Reader>(
     input: &mut R,
     format: Format,

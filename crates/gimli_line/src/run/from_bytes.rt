@@ -7,8 +7,8 @@
 //! for special opcodes and the standard ones that are met most, `next_defined_file` for a
 //! definition of a file, and `execute_other` for the rest of those that are met at all often. Each
 //! gives up, with nothing changed, where an instruction is another one, has an operand of more than
-//! two bytes or isn't there as a whole; then it is parsed. What an opcode does stands in `row.rt`
-//! alone, and here which bytes say it. What joins the two ways is one definition: by `IsExecuted`
+//! two bytes or isn't there as a whole; then it is parsed. Only `row.rt` says what an opcode does;
+//! this file says which bytes mean it. What joins the two ways is one definition: by `IsExecuted`
 //! the registers are those after the instruction that `instruction_production` reads from these
 //! bytes, which is the one that `next_instruction` returns.
 
@@ -131,8 +131,8 @@ fn read_defined_file<R: Reader>(
 }
 
 impl LineRow {
-    /// Executes one of the standard opcodes that are met most, from the bytes after it. Not
-    /// executed is another opcode, or one whose operand isn't short; no register changes then.
+    /// Executes one of the standard opcodes that are met most, from the bytes after it. It doesn't
+    /// execute any other opcode, or one whose operand isn't short; no register changes then.
     #[inline(always)]
     fn exec_common_opcode<R: Reader>(&mut self, opcode: DwLns, input: &mut R) -> Executed
         ensures executed { IsTrue (is_executed result) → (n : OrderAndLimit) → (h : Header) →
@@ -172,8 +172,8 @@ impl LineRow {
     }
 
     /// Executes one of the extended opcodes that are met most, from the bytes after the zero byte.
-    /// Not executed is another opcode, or one whose length or operand is long or isn't there; no
-    /// register changes then.
+    /// It doesn't execute any other opcode, or one whose length or operand is long or isn't there;
+    /// no register changes then.
     fn exec_extended_opcode<R: Reader>(
         &mut self,
         header: &LineProgramHeader<R>,
@@ -248,8 +248,8 @@ impl<R: Reader> LineInstructions<R> {
     }
 
     /// Executes the next instruction on the registers, from its bytes, where it is a special
-    /// opcode, a copy, or an advance of the line, a file, a column or a turn of is_stmt with a
-    /// short operand. `Executed::No`, and nothing is changed, where it is another one or isn't
+    /// opcode, a copy, a toggle of is_stmt, or, with a short operand, an advance of the line, a
+    /// file or a column. `Executed::No`, and nothing is changed, where it is another one or isn't
     /// there as a whole. Refused by `AddressOverflow`, as `LineRow::execute` is (DWARF 5, 6.2.5.1
     /// and 6.2.5.2).
     #[inline(always)]

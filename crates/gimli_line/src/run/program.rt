@@ -5,7 +5,7 @@ use crate::header::program_header::LineProgramHeader;
 use gimli_core::{Error, Reader, ReaderOffset, Result};
 use std::marker::Model;
 
-/// What has the header of a line program, and takes the files that the program defines.
+/// A type that has the header of a line program, and takes the files that the program defines.
 pub trait LineProgram<R: Reader> {
     ghost use Rattle.std.specs.Prelude.{◌≡◌, Bool, true, OnOk, OnErr, IfErr};
     ghost use Rattle.gimli_line.specs.header.Header.{Header, with_defined_file};
@@ -18,7 +18,7 @@ pub trait LineProgram<R: Reader> {
     /// Where the header comes from.
     ghost source: { Self → HeaderSource };
 
-    /// Whether a file is added, or the list is complete.
+    /// Whether a file that the program defines is added; if not, the list is complete.
     ghost appends: { Bool };
 
     /// The header.
@@ -69,7 +69,7 @@ where
     ghost use Rattle.std.specs.Prelude.{◌≡◌, IfOk, IsOkUnless};
     ghost use Rattle.gimli_line.specs.header.HeaderParts.{parts_of};
 
-    /// A copy, which agrees with the program in all its parts and says what it says. Refused by
+    /// A copy, which agrees with the program in all its parts and in what it means. Refused by
     /// `OutOfMemory` alone.
     pub fn clone(&self) -> Result<Self>
         ensures parts { IfOk result (λ copy. parts_of copy ≡ parts_of self.now) }
@@ -152,7 +152,7 @@ where
     ghost use Rattle.std.specs.Prelude.{◌≡◌, IfOk, IsOkUnless};
     ghost use Rattle.gimli_line.specs.header.HeaderParts.{parts_of};
 
-    /// A copy, which agrees with the program in all its parts and says what it says. Refused by
+    /// A copy, which agrees with the program in all its parts and in what it means. Refused by
     /// `OutOfMemory` alone.
     pub fn clone(&self) -> Result<Self>
         ensures parts { IfOk result (λ copy. parts_of copy ≡ parts_of self.now) }

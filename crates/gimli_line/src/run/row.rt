@@ -56,8 +56,8 @@ impl ColumnType {
     }
 }
 
-/// The sum as an address of a size, as `add_sized` gives it; where the size is 8, nothing more is
-/// asked than that it fits.
+/// The sum as an address of a size, as `add_sized` gives it; where the size is 8, it only has to
+/// fit 64 bits.
 #[inline(always)]
 fn sum_of_size(address: u64, length: u64, size: u8) -> Result<u64>
     requires { IsTrue (is_address_size size) }
@@ -125,7 +125,7 @@ impl LineRow {
         self.file
     }
 
-    /// The source file, as far as the header has it.
+    /// The source file; None where the header doesn't have it.
     pub fn file<'header, R: Reader>(
         &self,
         header: &'header LineProgramHeader<R>,
@@ -170,8 +170,8 @@ impl LineRow {
         self.basic_block
     }
 
-    /// Whether this is the first byte after a sequence. Beside the place, what the row says means
-    /// nothing then.
+    /// Whether this is the first byte after a sequence. Then nothing in the row but its place has a
+    /// meaning.
     pub fn end_sequence(&self) -> bool
         ensures { result ≡ self.now.end_sequence }
     {
@@ -199,15 +199,15 @@ impl LineRow {
         self.isa
     }
 
-    /// Tells blocks of one source place apart.
+    /// Distinguishes blocks that have the same source place.
     pub fn discriminator(&self) -> u64
         ensures { result ≡ self.now.discriminator }
     {
         self.discriminator
     }
 
-    /// Whether the row is under a tombstone.
-    /// `LineRows` gives no such row, but `execute` makes them.
+    /// Whether the row is under a tombstone. `LineRows::next_row` skips such rows;
+    /// `LineRows::next_any_row` returns them, and `execute` makes them.
     pub fn is_under_tombstone(&self) -> bool
         ensures { result ≡ self.now.tombstone }
     {
@@ -400,8 +400,8 @@ impl LineRow {
     }
 
     /// Adds bytes to the address, from operation 0 on (`DW_LNS_fixed_advance_pc` in DWARF 5,
-    /// 6.2.5.2). The minimum instruction length has no part in it: it is for assemblers that can't
-    /// know the lengths of instructions.
+    /// 6.2.5.2). The minimum instruction length has no part in this opcode, which is for assemblers
+    /// that can't know the lengths of instructions.
     fn exec_fixed_add_pc(&mut self, advance: u16, parameters: &Parameters) -> Result<()>
         ensures step { self.new
             ≡ step_of parameters.now (LineInstruction.FixedAddPc advance) self.old }

@@ -1,4 +1,4 @@
-//! Rows kept in few bytes each, for who holds all rows of a unit: most have small numbers.
+//! Rows kept in few bytes each, for callers that hold all rows of a unit: most have small numbers.
 
 ghost use Rattle.std.specs.Prelude.{◌↔◌, IsTrue};
 ghost use Rattle.gimli_line.specs.inside.run.Rows.{IsNarrow};
@@ -121,8 +121,8 @@ impl StoredRow {
     }
 }
 
-/// Rows in their order, each in 48 bytes. A row of which a number is 2^32 or more, its address
-/// aside, or op_index 2^8 or more, takes memory of its own beside that.
+/// Rows in their order, each in 48 bytes. A row that has a number of 2^32 or more, its address
+/// aside, or an op_index of 2^8 or more, takes memory of its own in addition.
 ///
 /// <!-- part of crates/gimli_lookup/src/sequence_cut.rt -->
 /// ```rust

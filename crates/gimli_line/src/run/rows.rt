@@ -100,8 +100,8 @@ impl<R: Reader, P: LineProgram<R>> LineRows<R, P> {
 
     /// The next row that isn't under a tombstone, with the header as it is there; None where the
     /// program has no more, and the header has all files then. Refused as an instruction is, or by
-    /// `OutOfMemory` where it defines a file: it returns None after such a refusal, as it is after
-    /// the end. Refused by `AddressOverflow` too, and then goes on after it. A program whose files
+    /// `OutOfMemory` where it defines a file; after such a refusal it returns None, as after the
+    /// end. It is also refused by `AddressOverflow`, and goes on after that. A program whose files
     /// are complete isn't refused for memory.
     #[inline(always)]
     pub fn next_row(&mut self) -> Result<Option<(&LineProgramHeader<R>, &LineRow)>>
@@ -120,9 +120,9 @@ impl<R: Reader, P: LineProgram<R>> LineRows<R, P> {
     }
 
     /// The next row, one under a tombstone too ([`LineRow::is_under_tombstone`]), with the header
-    /// as it is there; None where the program makes no more. What `next_row` returns are those of
-    /// them that aren't under a tombstone. So the end of a sequence is told also where a linker
-    /// dropped its code. Refused as `next_row` is.
+    /// as it is there; None where the program makes no more. `next_row` returns those of them that
+    /// aren't under a tombstone, whereas this call also returns the end of a sequence whose code a
+    /// linker dropped. Refused as `next_row` is.
     pub fn next_any_row(&mut self) -> Result<Option<(&LineProgramHeader<R>, &LineRow)>>
         ensures* after { sem 𝓛 (Rests ⟦<LineRows<R, P> as Lent>⟧.lent self.entry
             (λ new. KeepsHeader self.old new × NextIs live_made self.old new result)) }
@@ -212,7 +212,7 @@ impl<R: Reader, P: LineProgram<R>> LineRows<R, P> {
     }
 
     /// Executes the next instruction, and more where it is a common one that makes no row. The
-    /// first one stands before the loop, whose start a row of one instruction doesn't need.
+    /// first one is executed before the loop: a row of one instruction needn't set that up.
     #[inline(always)]
     fn execute_some(&mut self) -> Result<RowStep>
         ensures { StepsTo self.old self.new result }
@@ -237,8 +237,8 @@ impl<R: Reader, P: LineProgram<R>> LineRows<R, P> {
     }
 
     /// Executes common instructions from their bytes, up to the first that makes a row or is
-    /// another one, and that one too. What is read from stands in a variable of its own over the
-    /// loop, so that it stays in the processor's registers.
+    /// another one, and that one too. The instructions to come are in a variable of their own
+    /// during the loop, so that they stay in the processor's registers.
     #[inline(always)]
     fn execute_more(&mut self, start: LineInstructions<R>) -> Result<RowStep>
         ensures { StepsTo (record self.old { unread = start }) self.new result }

@@ -10,7 +10,7 @@ use gimli_core::{Error, Reader, ReaderOffset, Result};
 use std::alloc::Global;
 use std::marker::Model;
 
-/// A sequence of a line program: rows of which the last one is an end row, and no other.
+/// A sequence of a line program: rows of which only the last one is an end row.
 #[derive(Clone, Debug, Drop)]
 pub struct LineSequence<R: Reader> {
     /// The address of its first row; 0 where the end row is the only one.
