@@ -16,7 +16,7 @@ pub record IsUnitNeed (section : Unread) (entry : UnitEntry) (texts : Strings) (
   pub unit : SpellsUnit section.layout entry (drop offset section.bytes) header
   pub is_need : needs_directory (paths_of texts header) ≡ needs
 
--- the same, or the unit can't be read and needs none
+-- as `IsUnitNeed` says, or the unit can't be read and needs none
 abbrev pub IsNeedAt : Unread → UnitEntry → Strings → ℕ → Bool → Type 0
 IsNeedAt section entry texts offset needs =
     IsUnitNeed section entry texts offset needs

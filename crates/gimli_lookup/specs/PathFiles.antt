@@ -11,7 +11,7 @@ use Rattle.gimli_lookup.specs.declared.path_error.PathError.{PathError}
 abbrev pub paths_of : Strings → Header → Paths
 paths_of sections h = record { sections = sections; header = h; comp_dir = None }
 
--- whether a whole path is this one; one that can't be told isn't
+-- whether a whole path is this one; false if the path isn't known
 abbrev pub is_path : List ℕ → Result (List ℕ) PathError → Bool
 is_path path (Ok whole) = bytes_eq whole path
 is_path path (Err e) = false

@@ -12,7 +12,7 @@ never_go_below lowest (r ∷ rows) = not (nat_lt r.address lowest) && never_go_b
 abbrev pub never_go_down : List LineRow → Bool
 never_go_down rows = never_go_below 0 rows
 
--- so of the rows of each of these sequences
+-- in each of these sequences no row has an address below the one before it
 abbrev pub NoneGoesDown : List (List LineRow) → Type 0
 NoneGoesDown sequences = All (λ rows. never_go_down rows ≡ true) sequences
 

@@ -25,7 +25,7 @@ some_need texts units = list_any (unit_needs texts) (listed units)
 abbrev pub found_needs : Strings → List ListedUnit → CoveringRows → Bool
 found_needs texts units f = option_map_or (unit_needs texts) (slice_get units f.unit) false
 
--- the same of what is found at an address; where no rows are, nothing is needed
+-- whether the path of what is found at an address needs it; if no rows are found, nothing is needed
 abbrev pub need_at : Strings → List ListedUnit → Option CoveringRows → Bool
 need_at texts units found = option_map_or (found_needs texts units) found false
 

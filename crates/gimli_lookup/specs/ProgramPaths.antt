@@ -12,13 +12,13 @@ use Rattle.gimli_lookup.specs.declared.section_lookup.CoveringRows.{CoveringRows
 use Rattle.gimli_lookup.specs.declared.string_sections.StringSections.{StringSections}
 use Rattle.gimli_core.specs.Layout.{Seen}
 
--- what the whole paths of a section are made of, beside the headers of its units
+-- what the whole paths of a section are made of, besides the headers of its units
 pub record Texts : Type 0 where
   pub strings : Strings
   -- the directory of the compilation whose line program is at an offset
   pub directory : ℕ → Option (List ℕ)
 
--- those of the paths of a program: of the sections of strings, and of the directories of
+-- the `Texts` of the paths of a program: from its sections of strings, and the directories of its
 -- compilations
 abbrev pub texts_seen : {R : Type 0} → (R → Seen) → StringSections R × List (ℕ × R) → Texts
 texts_seen seen paths = record {
@@ -36,7 +36,7 @@ found_in t f u =
     option_map_or (λ (h : KeptHeader). row_path (unit_paths t u.offset h.meaning) f.row) u.header
     (Err (InvalidFileIndex f.row.file))
 
--- the same in units
+-- the path of the file of rows that are found in one of these units
 abbrev pub found_path : Texts → List ListedUnit → CoveringRows → Result (List ℕ) PathError
 found_path t units f =
     option_map_or (found_in t f) (slice_get units f.unit) (Err (InvalidFileIndex f.row.file))

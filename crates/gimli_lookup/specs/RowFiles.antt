@@ -7,7 +7,7 @@ use Rattle.gimli_line.specs.declared.run.row.LineRow.{LineRow}
 abbrev pub has_file : List LineRow → ℕ → Bool
 has_file rows file = list_any (λ r. r.file == file) rows
 
--- the same of sequences
+-- whether a row of these sequences has the file of a number
 abbrev pub have_file : List (List LineRow) → ℕ → Bool
 have_file sequences file = list_any (λ rows. has_file rows file) sequences
 

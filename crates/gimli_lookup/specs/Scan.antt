@@ -28,7 +28,7 @@ indexes_out_of_order first (rows ∷ later) =
     if never_go_down rows then indexes_out_of_order (first + 1) later
     else first ∷ indexes_out_of_order (first + 1) later
 
--- the table of steps of these sequences, and those that are searched row by row beside it
+-- the table of steps of these sequences, and next to it the sequences that are searched row by row
 pub record IsScanTableOf (table : ScanTable) (sequences : List (List LineRow)) : Type 0 where
   pub steps : IsStepTableOf table.table sequences
   pub unordered : table.unordered.items ≡ indexes_out_of_order 0 sequences

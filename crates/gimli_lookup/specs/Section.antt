@@ -25,7 +25,7 @@ pub record KeptHeader : Type 0 where
   pub meaning : Header
   pub layout : OrderAndLimit
 
--- that of a run, as it stands
+-- the header of a run, as it is now
 abbrev pub header_at : RunState → KeptHeader
 header_at a = record { meaning = header_of a; layout = a.source.layout }
 

@@ -1,4 +1,4 @@
-//! Pairs of rows side by side, of which the first one round an address is its answer.
+//! Pairs of adjacent rows. The first pair that covers an address is what a search finds there.
 
 ghost use Rattle.std.specs.Prelude.{◌≡◌, ◌≤◌, ◌&&◌, ◌∷◌, [], is_none, map, IfErr, IfOk, OnOk};
 ghost use Rattle.std.specs.List.{list_any};
@@ -29,8 +29,8 @@ fn first_covering(pairs: &[CoveringRows], a: u64) -> Option<CoveringRows>
     None
 }
 
-/// Whether one of the addresses stands between the rows of a pair, and between those of no other
-/// one.
+/// Whether one of the addresses stands between the rows of a pair, and between those of none of the
+/// pairs so far.
 fn is_wanted(addresses: &[u64], pairs: &[CoveringRows], pair: &CoveringRows) -> bool
     ensures { result
         ≡ list_any (λ a. is_covered a pair.now && is_none (first_covering a pairs.now))
@@ -99,7 +99,7 @@ pub(crate) fn first_of_each(
     Ok(rows)
 }
 
-/// The lesser of an address that is asked for and one that was found, if it isn't below a third.
+/// The lesser of `clear` and the address `a`, but `clear` if `a` is below `from`.
 fn nearer(clear: u64, from: u64, a: u64) -> u64
     ensures found { result ≤ clear }
     ensures asked { from ≤ a → result ≤ a }
@@ -107,8 +107,8 @@ fn nearer(clear: u64, from: u64, a: u64) -> u64
     if from <= a { clear.min(a) } else { clear }
 }
 
-/// The first address that is asked for, at another one or above it; the highest of all where there
-/// is none.
+/// The lowest of these addresses that is at or above `from`; the highest address of all if there is
+/// none.
 pub(crate) fn clear_from(addresses: &[u64], from: u64) -> u64
     ensures { AreClear addresses.now from result }
 {

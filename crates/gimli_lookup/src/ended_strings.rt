@@ -1,5 +1,5 @@
-//! Sections of strings of which no byte is searched twice in vain: where no zero byte follows, none
-//! is looked for. Else each string without an end would cost what is left of its section.
+//! Sections of strings whose last zero byte is known: after it, no search looks for another one.
+//! Otherwise each string without an end would cost a search through the rest of its section.
 
 ghost use Rattle.std.specs.Prelude.{◌≡◌, ◌≢◌, ◌≤◌, ◌<◌, drop, length, Err, IfErr, IfOk, List, Ok};
 ghost use Rattle.std.specs.Prelude.{None, Option, ℕ};
@@ -97,7 +97,7 @@ fn ended<R: Reader>(section: R) -> Result<R, AllocError>
     }
 }
 
-/// Why no string stands at an offset of a section, where none ends.
+/// Why a section has no string at an offset, if no string ends after it.
 fn fault_at<R: Reader>(section: R, offset: R::Offset) -> PathError
     ensures out { length (R.seen section).bytes ≤ R.Offset.number offset
         → result ≡ StringOffsetOutOfBounds }

@@ -1,4 +1,4 @@
-//! How far what is found at an address goes on.
+//! Up to which address a search finds the same.
 
 ghost use Rattle.std.specs.Prelude.{◌<◌, ◌≤◌, ℕ, length, slice_index_or, IfSome};
 ghost use Rattle.std.specs.List.Sorted.{IsNonDecreasingBy};

@@ -54,8 +54,9 @@ pub fn strings_are_spelled()
     laws::texts();
 }
 
-/// The caller's directory counts exactly where `needs_directory` holds: else each path is the same
-/// with any other. Where it holds, it is the directory of the compilation.
+/// The caller's directory matters exactly if `needs_directory` is true. If it is false, each path
+/// is the same with any other directory; if it is true, the caller's directory is that of the
+/// compilation.
 pub fn directories_are_needed()
     ensures unneeded { (paths : Paths) (f : File) (other : Option (List ℕ)) →
         needs_directory paths ≡ false
@@ -65,8 +66,8 @@ pub fn directories_are_needed()
 {}
 
 /// Where `Program::needs_compilations` is false, each path that a place has is the same whatever
-/// compilations are handed in. So is the path of found rows where `ProgramPaths::found_needs` is
-/// false, and that of each where `FoundRows::need_compilations` is.
+/// compilations are set. So is the path of found rows where `ProgramPaths::found_needs` is false,
+/// and that of each where `FoundRows::need_compilations` is.
 pub fn compilations_are_needed()
     ensures section { (texts : Texts) (units : List KeptUnit) (found : CoveringRows)
         (other : ℕ → Option (List ℕ)) → some_need texts.strings units ≡ false
@@ -108,7 +109,8 @@ pub fn clones_of_errors_are_same()
     ensures { ClonesGiveSame ⟦<PathError as Clone>⟧ }
 {}
 
-/// The same of the sections of strings, if it is so of readers.
+/// `clone` of the sections of strings gives the same and is never refused, if that is so of
+/// readers.
 pub fn clones_of_sections_are_same<R: Clone>()
     ensures { GivesSame R.is_clone R.is_infallible → ClonesGiveSame ⟦<StringSections<R> as Clone>⟧ }
 {}

@@ -2,10 +2,10 @@
 //! a line, in DWARF versions 2 to 5.
 //!
 //! [`Program`] is made from the sections of a program, and finds the [`Place`] of an address, with
-//! the whole path of its file. It joins two types: [`SectionLookup`] keeps the rows of all units
-//! of a section, and [`ProgramPaths`] gives the paths. The way back, from a line of a file to
-//! [`Addresses`], goes by the same rows. [`Lookup`] keeps the rows of one unit; [`find_in_run`]
-//! returns what it does for one address, and keeps none. [`Paths`] gives the paths of one unit.
+//! the whole path of its file. It joins two types: [`SectionLookup`] keeps the rows of all units of
+//! a section, and [`ProgramPaths`] gives the paths. The same rows lead back from a line of a file
+//! to its [`Addresses`]. [`Lookup`] keeps the rows of one unit; [`find_in_run`] returns what a
+//! `Lookup` finds at one address, and keeps no rows. [`Paths`] gives the paths of one unit.
 #![tactic(auto)]
 
 mod covering_pairs;

@@ -114,9 +114,9 @@ impl<R: Reader> Lookup<R> {
         self.sequences.as_slice()
     }
 
-    /// The rows that cover the address `a`: the first adjacent rows of one sequence of which the
-    /// first has an address at most `a`, and the second one above it. None where there are none.
-    /// Takes no memory.
+    /// The rows that cover the address `a`: the first pair of adjacent rows of one sequence where
+    /// the first row has an address at most `a`, and the second has an address above `a`. None
+    /// where there are none. Takes no memory.
     pub fn find(&self, a: u64) -> Option<(LineRow, LineRow)>
         ensures { result ≡ first_pair_of a self.now.rows }
     {
@@ -157,10 +157,10 @@ impl<R: Reader> Lookup<R> {
         (None, probes)
     }
 
-    /// The addresses for a breakpoint at a line of a file, by the file's index in the header: of
-    /// each run of rows of that line that stand side by side in a sequence, that of the first with
-    /// `is_stmt` (DWARF 5, section 6.2.2); in ascending order, each once. Where the line has none,
-    /// those of the next line that has; None where no line from it on has any. Fails only with
+    /// The addresses for a breakpoint at a line of a file, by the file's index in the header: from
+    /// each run of adjacent rows of that line in a sequence, the address of the first row with
+    /// `is_stmt` (DWARF 5, section 6.2.2); in ascending order, each once. If the line has none,
+    /// those of the next line that has; None if no line from it on has any. Fails only with
     /// `OutOfMemory`.
     pub fn addresses_of_file(&self, file: u64, line: u64) -> Result<Option<Addresses>>
         ensures ok { IfOk result

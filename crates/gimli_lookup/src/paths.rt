@@ -1,4 +1,4 @@
-//! The paths of files, whole: each with the directories that it goes on from.
+//! The whole paths of files: each with the directories that it is relative to.
 
 ghost use Rattle.std.specs.Prelude.{◌≡◌, ◌≢◌, ◌++◌, IfOk, IfErr, OnOk, Ok, Err};
 ghost use Rattle.std.specs.Option.{option_copied};
@@ -16,7 +16,7 @@ use gimli_line::{FileEntry, LineProgramHeader, LineRow};
 use std::alloc::Global;
 use std::marker::Model;
 
-/// Whether a byte parts the components of a path: `/`, or as in Windows a backslash.
+/// Whether a byte separates the components of a path: `/`, or a backslash as on Windows.
 fn is_separator(byte: u8) -> bool
     ensures { result ≡ is_separator byte }
 {
@@ -43,7 +43,7 @@ fn begins_with_drive(path: &[u8]) -> bool
     }
 }
 
-/// Whether a path goes on from no directory, by the rules of POSIX or of Windows.
+/// Whether a path is absolute, by the rules of POSIX or of Windows.
 fn is_absolute(path: &[u8]) -> bool
     ensures { result ≡ is_absolute path.now }
 {
@@ -93,10 +93,10 @@ fn string_bytes<R: Reader>(
 
 /// The whole paths of the files of a header (DWARF 5, section 6.2.4).
 ///
-/// A path is absolute that begins with `/`, with a backslash, or with a drive and one of both, as
-/// `C:\`. One that isn't goes on from the directory of its file. A directory that isn't absolute
-/// goes on from the directory of the compilation: directory 0 of the header, or if the header has
-/// none, as up to version 4, or an empty one, the directory that the caller knows. If that
+/// A path is absolute if it begins with `/`, with a backslash, or with a drive and one of the two,
+/// such as `C:\`. A relative path starts from the directory of its file, and a relative directory
+/// from the directory of the compilation. That is directory 0 of the header; if the header has
+/// none, as up to version 4, or an empty one, it is the directory that the caller passes. If that
 /// directory is relative or unknown, the path stays relative.
 ///
 /// [`ProgramPaths`](crate::ProgramPaths) finds the directory of the compilation by itself.
@@ -129,8 +129,8 @@ impl<'a, R: Reader> Paths<'a, R> {
     ghost use Rattle.gimli_lookup.specs.Paths.{needs_directory};
 
     /// The paths of this header. `comp_dir` is the directory of the compilation (`DW_AT_comp_dir`,
-    /// DWARF 5, section 3.1.1). It counts where `needs_directory` holds: up to version 4, if none
-    /// was handed over when the header was read, and in version 5, if directory 0 is empty.
+    /// DWARF 5, section 3.1.1). It is used only if `needs_directory` is true: up to version 4, if
+    /// no directory was passed when the header was read, and in version 5, if directory 0 is empty.
     pub fn new(
         header: &'a LineProgramHeader<R>,
         sections: StringSections<R>,
@@ -163,7 +163,7 @@ impl<'a, R: Reader> Paths<'a, R> {
     }
 
     /// The whole path of a file, as bytes of any kind. Refused as `PathError` says; a directory
-    /// that the path doesn't go on from isn't read, and so refuses nothing.
+    /// that the path isn't relative to isn't read, and so causes no refusal.
     pub fn of_file(&self, alloc: Global, file: &FileEntry<R>) -> Result<Vec<u8>, PathError>
         ensures ok { IfOk result (λ path.
             file_path self.now (file_seen R.seen R.Offset.number file.now) ≡ Ok path.items) }

@@ -62,9 +62,9 @@ impl<R: Reader> Place<'_, R> {
         paths.of_found(alloc, lookup.units(), &self.rows)
     }
 
-    /// Whether the path may go on from a directory that is in `.debug_info`, as
+    /// Whether the path may begin with a directory that is in `.debug_info`, as
     /// `ProgramPaths::found_needs` says of the rows. If not, it is the same whatever compilations
-    /// are handed in. Takes no memory.
+    /// are set. Takes no memory.
     pub fn needs_compilation(&self) -> bool
         ensures { let program = self.now.program.now in result ≡ found_needs
             (strings R.seen program.paths.0) (listed program.lookup) self.now.rows }
@@ -77,10 +77,10 @@ impl<R: Reader> Place<'_, R> {
 /// What is kept of the sections of a program: the rows of its line programs, and what the whole
 /// paths of their files are made of (DWARF 5, sections 6.2 and 7.26).
 ///
-/// Up to version 4 the directory of a compilation, from which relative paths go on, is in
+/// Up to version 4 the directory of a compilation, which relative paths start from, is in
 /// `.debug_info` alone (DWARF 4, section 3.1.1). Ask `needs_compilations` before you read or
 /// decompress that section, or `Place::needs_compilation` of the places whose paths you need; if it
-/// returns true, hand the directories in by `set_compilations`.
+/// returns true, pass the directories to `set_compilations`.
 ///
 /// <!-- part of crates/uses/src/where_is.rt -->
 /// ```rust
@@ -99,7 +99,7 @@ impl<R: Reader> Program<R> {
     /// Runs the line programs of a section, as `SectionLookup::new` does. Its paths are made of
     /// these sections of strings; no compilation is known yet. The rows below the address `lowest`
     /// are left out; 0 leaves none out. Fails only with `OutOfMemory`. Requires an address size of
-    /// 1, 2, 4 or 8 bytes, which counts up to version 4.
+    /// 1, 2, 4 or 8 bytes, which only units up to version 4 use.
     pub fn new(
         alloc: Global,
         section: &DebugLine<R>,
@@ -121,9 +121,9 @@ impl<R: Reader> Program<R> {
         Ok(Program { lookup, paths })
     }
 
-    /// Whether the path of some file may go on from a directory that is in `.debug_info`: a unit
+    /// Whether the path of some file may begin with a directory that is in `.debug_info`: a unit
     /// has no directory of its compilation, or an empty one. If not, every path is the same
-    /// whatever compilations are handed in. Takes no memory.
+    /// whatever compilations are set. Takes no memory.
     pub fn needs_compilations(&self) -> bool
         ensures { result ≡ some_need (strings R.seen self.now.paths.0) self.now.lookup }
     {
@@ -133,7 +133,7 @@ impl<R: Reader> Program<R> {
             .any(|unit| self.paths.unit_needs(unit))
     }
 
-    /// Makes paths by the directories of these compilations from now on.
+    /// From now on, paths use the directories of these compilations.
     pub fn set_compilations(&mut self, compilations: Compilations<R>)
         ensures { self.new ≡ record self.old { paths = (self.old.paths.0, compilations) } }
     {

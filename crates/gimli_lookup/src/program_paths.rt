@@ -33,7 +33,7 @@ use std::marker::Model;
 #[derive(Drop)]
 pub struct ProgramPaths<R: Reader> {
     strings: EndedStrings<R>,
-    /// None where nobody has handed any over.
+    /// None until `set_compilations` is called.
     compilations: Option<Compilations<R>>,
 }
 
@@ -47,9 +47,9 @@ impl<R: Reader> Model for ProgramPaths<R> {
 }
 
 impl<R: Reader> ProgramPaths<R> {
-    /// The paths by these sections of strings, while no compilation is known. Strings that have no
-    /// end cost no more than others: the sections are searched once for where the last one ends.
-    /// Fails only where memory is missing.
+    /// Makes paths from these sections of strings. No compilation is known yet. Strings without an
+    /// end cost no more than others, since this call searches each section once for the end of its
+    /// last string. Fails only if memory is missing.
     pub fn new(strings: StringSections<R>) -> Result<Self, AllocError>
         ensures { IfOk result (λ paths. paths ≡ (strings, [])) }
     {
@@ -59,8 +59,8 @@ impl<R: Reader> ProgramPaths<R> {
         })
     }
 
-    /// Makes paths by the directories of these compilations from now on, instead of those that were
-    /// handed over before.
+    /// From now on, paths use the directories of these compilations, instead of any that were set
+    /// before.
     pub fn set_compilations(&mut self, compilations: Compilations<R>)
         ensures { self.new ≡ (self.old.0, compilations) }
     {
@@ -87,9 +87,9 @@ impl<R: Reader> ProgramPaths<R> {
         self.strings.need_directory(header)
     }
 
-    /// Whether the paths of a unit may go on from a directory that is in `.debug_info`: it has no
-    /// directory of its compilation, or an empty one (DWARF 5, section 6.2.4). A refused unit has
-    /// no paths. Takes no memory.
+    /// Whether the paths of a unit may begin with a directory that is in `.debug_info`: the unit
+    /// has no directory of its compilation, or an empty one (DWARF 5, section 6.2.4). A refused
+    /// unit has no paths. Takes no memory.
     pub fn unit_needs(&self, unit: &UnitLookup<R>) -> bool
         ensures { result ≡ unit_needs (strings R.seen self.now.0) unit.now }
     {
@@ -99,9 +99,9 @@ impl<R: Reader> ProgramPaths<R> {
         }
     }
 
-    /// Whether the path of found rows may go on from such a directory, as `unit_needs` says of
-    /// their unit. If not, `of_found` returns the same whatever compilations are handed in. False
-    /// where these units lack that of the rows, or no header of it is known. Takes no memory.
+    /// Whether the path of found rows may begin with such a directory, as `unit_needs` says of
+    /// their unit. If not, `of_found` returns the same whatever compilations are set. False if
+    /// `units` lacks the unit of the rows, or the header of that unit isn't known. Takes no memory.
     pub fn found_needs(&self, units: &[UnitLookup<R>], found: &CoveringRows) -> bool
         ensures { result ≡ found_needs (strings R.seen self.now.0) units.now found.now }
     {

@@ -58,8 +58,8 @@ impl<'a, R: Reader> Model for Ranges<'a, R> {
 }
 
 impl<'a, R: Reader> Ranges<'a, R> {
-    /// The next range. None once all have been given. All ranges together look at each row a few
-    /// times, and search a sequence by halves where another comes before.
+    /// The next range. None after the last one. All calls together look at each row a few times,
+    /// and search a sequence by halves if the search before was in another one.
     pub fn next_range(&mut self) -> Option<CoveredRange>
         ensures start { MatchOption result (self.old.from ≡ None)
             (λ range. self.old.from ≡ Some range.start) }

@@ -88,8 +88,8 @@ impl PairSearch {
 }
 
 /// What `Lookup::find` returns at the address `a`, found while the whole program runs once. Takes
-/// no memory but for files that the program defines. Refused by the first fault of the run,
-/// wherever it stands; or by `OutOfMemory`, which a program that defines no file never is.
+/// memory only for files that the program defines. Refused by the first fault of the run, wherever
+/// it is; or by `OutOfMemory`, but never if the program defines no file.
 pub fn find_in_run<R: Reader>(
     program: IncompleteLineProgram<R>,
     a: u64,

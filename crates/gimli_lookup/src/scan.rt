@@ -19,7 +19,7 @@ use gimli_line::LineRow;
 use std::alloc::Global;
 
 /// Which of some sequences is the first that covers an address. Sequences whose addresses go down
-/// stand beside, and are searched row by row.
+/// are listed apart, and are searched row by row.
 #[derive(Debug, Drop)]
 pub(crate) struct ScanTable {
     table: StepTable,

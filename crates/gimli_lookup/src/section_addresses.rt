@@ -39,10 +39,10 @@ fn unit_files<R: Reader>(
 
 impl<R: Reader> SectionLookup<R> {
     /// The addresses for a breakpoint at a line of a file of one unit, by the file's index in the
-    /// unit's header: of each run of rows of that line that stand side by side in a sequence, that
-    /// of the first with `is_stmt` (DWARF 5, section 6.2.2); in ascending order, each once. Where
-    /// the line has none, those of the next line that has; None where no line from it on has any.
-    /// Fails only with `OutOfMemory`. Requires an index of a unit.
+    /// unit's header: from each run of adjacent rows of that line in a sequence, the address of the
+    /// first row with `is_stmt` (DWARF 5, section 6.2.2); in ascending order, each once. If the
+    /// line has none, those of the next line that has; None if no line from it on has any. Fails
+    /// only with `OutOfMemory`. Requires an index of a unit.
     pub fn addresses_of_file(&self, unit: usize, file: u64, line: u64) -> Result<Option<Addresses>>
         requires { unit < length self.now }
         ensures ok { (d : KeptUnit) → IfOk result (AreAddressesFrom

@@ -156,13 +156,13 @@ impl<R: Reader> SectionLookup<R> {
     /// error.
     ///
     /// A sequence ends where the program ends it, under a tombstone too. Rows under a tombstone are
-    /// left out, and rows below the address `lowest`, where a linker leaves code that it drops; 0
-    /// leaves none out. What is kept of a sequence are its parts: rows that stand side by side,
-    /// with none left out between them. The last row of a part ends what the one before it covers,
-    /// and covers nothing.
+    /// left out, and so are rows below the address `lowest`, where a linker leaves code that it
+    /// drops; if `lowest` is 0, there are none below it. The lookup keeps a sequence in parts: runs
+    /// of adjacent rows, with none left out between them. The last row of a part ends what the one
+    /// before it covers, and covers nothing.
     ///
-    /// Fails only with `OutOfMemory`. Requires an address size of 1, 2, 4 or 8 bytes, which counts
-    /// up to version 4.
+    /// Fails only with `OutOfMemory`. Requires an address size of 1, 2, 4 or 8 bytes, which only
+    /// units up to version 4 use.
     pub fn new(
         section: &DebugLine<R>,
         alloc: Global,
@@ -200,9 +200,10 @@ impl<R: Reader> SectionLookup<R> {
         self.units.as_slice()
     }
 
-    /// The rows that cover the address `a`, with their unit: the first adjacent rows of one part of
-    /// a sequence of which the first has an address at most `a`, and the second one above it, in
-    /// the order of units and of their sequences. None where there are none. Takes no memory.
+    /// The rows that cover the address `a`, with their unit: in the order of units and of their
+    /// sequences, the first pair of adjacent rows of one part of a sequence where the first row has
+    /// an address at most `a`, and the second has an address above `a`. None where there are none.
+    /// Takes no memory.
     #[inline(always)]
     pub fn find(&self, a: u64) -> Option<CoveringRows>
         ensures { result ≡ found_at a self.now }
@@ -237,7 +238,7 @@ impl<R: Reader> SectionLookup<R> {
     }
 
     /// What `find` returns at the address `a`, and up to where it returns the same. The search
-    /// begins where a walk stands, which goes on to `a`.
+    /// begins where the walk is, and moves the walk to `a`.
     pub(crate) fn range_from(&self, a: u64, stand: &mut Stand) -> CoveredRange
         ensures start { result.start ≡ a }
         ensures end { IfSome result.end (λ end. a < end) }
@@ -288,8 +289,8 @@ impl<R: Reader> SectionLookup<R> {
 }
 
 impl<'i, E: Endianity> SectionLookup<EndianSlice<'i, E>> {
-    /// The same rows, without the headers of the units: what is left borrows nothing of the
-    /// section, which may go. Fails only with `OutOfMemory`.
+    /// This lookup without the headers of its units. The result borrows nothing of the section, so
+    /// you may drop the section. Fails only with `OutOfMemory`.
     pub fn without_headers(self) -> Result<SectionLookup<EndianSlice<'static, E>>>
         ensures ok { IfOk result (λ units. units ≡ map unit_without_header self.entry) }
         ensures err { IfErr result (λ e. e ≡ Error.OutOfMemory) }

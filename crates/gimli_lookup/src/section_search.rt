@@ -20,8 +20,8 @@ use std::alloc::Global;
 #[derive(Drop)]
 #[derive_where(Debug; R, R::Offset)]
 pub struct FoundRows<R: Reader> {
-    /// The units of the section, in order. One of which none of the rows are, and whose run has no
-    /// fault, has no header here.
+    /// The units of the section, in order. A unit that has none of the found rows, and whose run
+    /// has no fault, has no header here.
     pub units: Vec<UnitLookup<R>>,
     /// For each address the first rows that cover it, and the index of their unit. None where no
     /// rows cover it.
@@ -43,7 +43,8 @@ fn needs_compilation<R: Reader>(
     }
 }
 
-/// The same of what is found at some addresses: whether one of the paths does.
+/// Whether one of the paths of what is found at some addresses needs the directory of its
+/// compilation.
 fn some_need_compilation<R: Reader>(
     paths: &ProgramPaths<R>,
     units: &[UnitLookup<R>],
@@ -60,9 +61,9 @@ fn some_need_compilation<R: Reader>(
 }
 
 impl<R: Reader> FoundRows<R> {
-    /// Whether the path of some of the found rows may go on from a directory that is in
+    /// Whether the path of some of the found rows may begin with a directory that is in
     /// `.debug_info`, as `ProgramPaths::found_needs` says of each. If not, `ProgramPaths::of_found`
-    /// returns the same for all of them whatever compilations are handed in. Takes no memory.
+    /// returns the same for all of them whatever compilations are set. Takes no memory.
     pub fn need_compilations(&self, paths: &ProgramPaths<R>) -> bool
         ensures { result ≡ some_found_need (strings R.seen paths.now.0)
             self.now.units.items self.now.rows.items }
@@ -72,8 +73,9 @@ impl<R: Reader> FoundRows<R> {
 }
 
 /// What `SectionLookup::find` returns at each of some addresses, found while the program of each
-/// unit runs once: for few addresses, since of other rows none is kept. Fails only with
-/// `OutOfMemory`. Requires an address size of 1, 2, 4 or 8 bytes, which counts up to version 4.
+/// unit runs once. Use it for few addresses, since it keeps no other rows. Fails only with
+/// `OutOfMemory`. Requires an address size of 1, 2, 4 or 8 bytes, which only units up to version 4
+/// use.
 pub fn find_in_section<R: Reader>(
     section: &DebugLine<R>,
     alloc: Global,

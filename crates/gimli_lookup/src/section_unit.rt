@@ -183,8 +183,8 @@ impl<R: Reader> UnitLookup<R> {
 impl<R: Reader<Offset = usize>> UnitLookup<R> {
     ghost use Rattle.gimli_lookup.specs.Section.{without_header};
 
-    /// The unit without its header, which is what lends bytes of the section, as one of another
-    /// reader.
+    /// The unit without its header, as a unit of another reader: only the header borrows bytes of
+    /// the section.
     pub(crate) fn without_header<S: Reader<Offset = usize>>(&self) -> UnitLookup<S>
         ensures { result ≡ without_header self.now }
     {

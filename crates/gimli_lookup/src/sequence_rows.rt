@@ -35,7 +35,8 @@ impl<'a> SequenceRows<'a> {
         self.rows.row(index)
     }
 
-    /// Whether no row has an address below the one before it. It is known, and no row is looked at.
+    /// Whether no row has an address below the one before it. This is stored, so no row is looked
+    /// at.
     pub fn never_go_down(&self) -> bool
         ensures { result ≡ never_go_down (rows_of self.now) }
     {

@@ -165,8 +165,8 @@ pub(crate) fn collect_from(
     Ok(Some(Addresses { line, addresses }))
 }
 
-/// Joins what was collected in two parts of a section, by those in each that are of the first line
-/// from one line on. Fails only with `OutOfMemory`.
+/// Joins what was collected from one line on in two parts of a section: the lesser of the two
+/// lines, with its addresses in both parts. Fails only with `OutOfMemory`.
 pub(crate) fn join_addresses(
     first: Option<Addresses>,
     second: Option<Addresses>,

@@ -38,7 +38,7 @@ pub(crate) struct StepTable {
     pub(crate) steps: Vec<Step>,
 }
 
-/// Whether the rows of all sequences can be counted, and more.
+/// Whether the number of rows of all sequences plus 256 fits into 64 bits.
 fn are_countable(sequences: &[KeptRows]) -> bool
     ensures { result ≡ true → 2 ^ 8 + sum_by length sequences.now < 2 ^ 64 }
 {
@@ -189,8 +189,9 @@ impl StepTable {
     }
 
     /// What `find` returns at `a`, and the address up to which it returns the same; None where it
-    /// does so at all addresses from `a` on. The search begins where a walk stands, which goes on
-    /// to `a`. Requires the sequences that the table was made of, whose addresses never go down.
+    /// does so at all addresses from `a` on. The search begins where the walk is, and moves the
+    /// walk to `a`. Requires the sequences that the table was made of, whose addresses never go
+    /// down.
     #[inline(always)]
     pub(crate) fn find_with_end(
         &self,
@@ -212,9 +213,9 @@ impl StepTable {
         (found, end)
     }
 
-    /// The address up to which what is found at `a` is found. Requires the sequences that the table
-    /// was made of, whose addresses never go down, and the number of steps whose address is at most
-    /// `a`.
+    /// The address up to which a search finds what it finds at `a`. Requires the sequences that the
+    /// table was made of, whose addresses never go down, and the number of steps whose address is
+    /// at most `a`.
     fn end_after(
         &self,
         sequences: &[KeptRows],

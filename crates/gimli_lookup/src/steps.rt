@@ -143,8 +143,8 @@ fn steps_of_one(rows: &KeptRows, index: usize) -> Option<(Step, Step)>
 }
 
 /// The steps of sequences, of which the first has the index `first`, one after the other; None
-/// where the steps of one begin below the end of those before it, which takes two sequences. Fails
-/// only with `OutOfMemory`.
+/// where the steps of one begin below the end of those before it, which only two sequences or more
+/// can do. Fails only with `OutOfMemory`.
 fn steps_in_turn(alloc: Global, sequences: &[KeptRows], first: usize) -> Result<Option<Vec<Step>>>
     requires { first + length sequences.now < 2 ^ 64 }
     ensures ok { IfOk result (λ found. MatchOption found (2 ≤ length sequences.now)
@@ -168,8 +168,9 @@ fn steps_in_turn(alloc: Global, sequences: &[KeptRows], first: usize) -> Result<
     Ok(Some(steps))
 }
 
-/// The steps of sequences, of which the first has the index `first`: one after the other where they
-/// stand so, else those of both halves, joined. Fails only with `OutOfMemory`.
+/// The steps of sequences, of which the first has the index `first`: one after the other if the
+/// sequences don't overlap and are in order, else those of both halves, joined. Fails only with
+/// `OutOfMemory`.
 pub(crate) fn steps_of(alloc: Global, sequences: &[KeptRows], first: usize) -> Result<Vec<Step>>
     requires { first + length sequences.now < 2 ^ 64 }
     ensures ok { IfOk result (λ steps. AreStepsOf first sequences.now steps.items) }

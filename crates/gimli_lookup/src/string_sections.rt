@@ -8,8 +8,8 @@ ghost use Rattle.gimli_lookup.specs.Strings.{has_no_bytes, strings, string_at, s
 use crate::path_error::PathError;
 use gimli_core::{AttributeValue, Reader};
 
-/// The sections that hold strings (DWARF 5, section 7.26). Where a program has no such section, it
-/// is a reader of no bytes.
+/// The sections that hold strings (DWARF 5, section 7.26). Pass an empty reader for a section that
+/// the program lacks.
 ///
 /// <!-- part of crates/uses/src/where_is.rt -->
 /// ```rust
@@ -27,8 +27,8 @@ pub struct StringSections<R> {
 }
 
 impl<R: Reader> StringSections<R> {
-    /// The string that a value stands for, without its zero byte (DWARF 5, section 7.5.5). One that
-    /// stands in the value needs no section. Refused as `PathError` says. Takes no memory.
+    /// The string that a value stands for, without its zero byte (DWARF 5, section 7.5.5). A string
+    /// inside the value itself needs no section. Refused as `PathError` says. Takes no memory.
     pub fn attr_line_string(&self, value: AttributeValue<R>) -> Result<R, PathError>
         ensures { result_map (λ r. (R.seen r).bytes) result
             ≡ string_of (strings R.seen self.now) (value_seen R.seen R.Offset.number value) }

@@ -1,4 +1,4 @@
-//! A search at addresses that go up: it goes on from where it stood.
+//! Searches at ascending addresses: each begins where the one before ended.
 
 ghost use Rattle.std.specs.Prelude.{◌≡◌, ◌≤◌, ◌<◌, ◌^◌, ℕ, true, length, slice_index_or};
 ghost use Rattle.std.specs.Prelude.{MatchOption};
@@ -13,8 +13,8 @@ use crate::search::first_above;
 use crate::steps::Step;
 use gimli_line::LineRow;
 
-/// Where a walk stands: what it found at the address before. It is only where the search begins, so
-/// what is found doesn't hang on it.
+/// Where a walk is: what it found at the previous address. A search only begins there, so its
+/// result doesn't depend on it.
 #[derive(Clone, Copy, Default)]
 pub(crate) struct Stand {
     /// How many steps have an address that is at most the one before.
@@ -56,7 +56,7 @@ fn known_steps(steps: &[Step], a: u64, near: usize) -> usize
     near
 }
 
-/// The number of steps whose address is at most `a`: that of a walk at an address before, and more.
+/// The number of steps whose address is at most `a`, counted on from `near` where that is possible.
 pub(crate) fn steps_from(steps: &[Step], a: u64, near: usize) -> usize
     requires order { IsNonDecreasingBy (λ s. s.from) steps.now }
     ensures index { result ≤ length steps.now }
@@ -87,7 +87,7 @@ fn known_rows(rows: &KeptRows, a: u64, near: usize) -> usize
     near
 }
 
-/// The number of rows whose address is at most `a`: that of a walk at an address before, and more.
+/// The number of rows whose address is at most `a`, counted on from `near` where that is possible.
 fn rows_from(rows: &KeptRows, a: u64, near: usize) -> usize
     requires order { never_go_down rows.now ≡ true }
     ensures index { result ≤ length rows.now }
@@ -106,8 +106,8 @@ fn rows_from(rows: &KeptRows, a: u64, near: usize) -> usize
     count
 }
 
-/// The number of rows of a sequence whose address is at most `a`: of that which was searched last
-/// from where the walk stands, of another by halves.
+/// The number of rows of a sequence whose address is at most `a`: found from where the walk is if
+/// it searched this sequence last, else by halves.
 fn rows_up_to(rows: &KeptRows, a: u64, stand: Stand, sequence: usize) -> usize
     requires order { never_go_down rows.now ≡ true }
     requires count { length rows.now < 2 ^ 64 }

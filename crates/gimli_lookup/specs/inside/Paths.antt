@@ -1,5 +1,5 @@
 -- Strings and paths by the sections of strings without the bytes after their last zero bytes, where
--- no string ends; and components of a path that are told from the last one on.
+-- no string ends; and components of a path, listed from the last one on.
 use Rattle.std.specs.Prelude.{◌≡◌, ◌≢◌, ℕ, List, ◌++◌, Option, zero, suc}
 use Rattle.std.specs.List.{AllByRecursion}
 use Rattle.gimli_line.specs.header.Header.{Header}

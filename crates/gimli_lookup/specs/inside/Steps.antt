@@ -1,4 +1,4 @@
--- What is found by the steps of an index, how far it goes on, and what stands beside the steps.
+-- What is found by the steps of an index, up to which address, and what is kept next to the steps.
 use Rattle.std.specs.Prelude.{◌⊎◌, ◌≤◌, ◌<◌, ℕ, List, Option, All, MatchOption, ◌≡◌, false, take}
 use Rattle.std.specs.Prelude.{slice_get, Some, ◌+◌, length, None}
 use Rattle.gimli_line.specs.declared.run.row.LineRow.{LineRow}
