@@ -39,8 +39,8 @@ place_of placement (OfSection section) addend = placement.section section addend
 abbrev pub bytes_over : List ℕ → ℕ → List ℕ → List ℕ
 bytes_over old at bytes = take at old ++ bytes ++ drop (at + length bytes) old
 
--- what a linker puts at a place, in as many bytes as the place has. The addend is that of the list
--- and the number at the place, of which one is 0, in as many of their lowest bytes
+-- what a linker puts at a place, in as many bytes as the place has. The addend is the sum of that
+-- of the list and the number at the place, one of them 0, in as many of its lowest bytes
 abbrev pub relocated : Placement → Bool → List ℕ → Relocation → List ℕ
 relocated placement is_big bytes r =
     let there = value_of is_big (take r.size (drop r.offset bytes)) in

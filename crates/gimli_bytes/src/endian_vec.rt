@@ -63,7 +63,7 @@ impl<E: Endianity> EndianVec<E> {
         std::mem::replace(&mut self.vec, Vec::new(alloc))
     }
 
-    /// Appends bytes. It stands apart, so that what appends one byte or two stays small.
+    /// Appends bytes. It is a function of its own, so that calls that append few bytes stay small.
     #[inline(never)]
     fn append(&mut self, bytes: &[u8]) -> Result<()>
         ensures ok { OnOk result

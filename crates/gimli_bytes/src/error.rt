@@ -21,7 +21,7 @@ pub enum Error {
     /// A number that doesn't fit the size or the form.
     #[error("The value is too large for the encoding form.")]
     ValueTooLarge,
-    /// A number of bytes that no number has.
+    /// A size, in bytes, that no number has.
     #[error("Unsupported word size: {0}")]
     UnsupportedWordSize(u8),
     /// A version of DWARF that isn't written.
@@ -36,22 +36,22 @@ pub enum Error {
     /// A reference to a symbol, where the writer knows of none.
     #[error("The reference is invalid.")]
     InvalidReference,
-    /// Something that versions below this one can't say.
+    /// Something that versions below this one can't express.
     #[error("A requested feature requires a DWARF version {0}.")]
     NeedVersion(u16),
-    /// Texts of one table that don't have one form.
+    /// Texts of one table that have different forms.
     #[error("Strings in line number program have mismatched forms.")]
     LineStringFormMismatch,
-    /// A range that is empty, or otherwise none.
+    /// A range that is empty or otherwise invalid, such as one that overlaps a relocation's place.
     #[error("The range is empty or otherwise invalid.")]
     InvalidRange,
     /// A line program of another encoding than its unit can hold.
     #[error("The line number program encoding is incompatible with the unit encoding.")]
     IncompatibleLineProgramEncoding,
-    /// An offset of code that a frame instruction can't say.
+    /// An offset of code that a frame instruction can't express.
     #[error("Could not encode code offset ({0}) for a frame instruction.")]
     InvalidFrameCodeOffset(u32),
-    /// An offset of data that a frame instruction can't say.
+    /// An offset of data that a frame instruction can't express.
     #[error("Could not encode data offset ({0}) for a frame instruction.")]
     InvalidFrameDataOffset(i32),
     /// A pointer encoding that isn't written.

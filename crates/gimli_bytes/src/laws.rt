@@ -28,7 +28,7 @@ use crate::writer::InitialLengthOffset;
 use gimli_core::Endianity;
 use std::hash::Hash;
 
-/// `==` holds of two addresses, and of two ids, exactly where all their parts agree.
+/// `==` of two addresses, and of two ids, holds exactly where all their parts agree.
 pub fn equal_addresses_and_ids()
     ensures address { (a b : Address) → Decides (⟦<Address as PartialEq>⟧.eq a b) (a ≡ b) }
     ensures string { (a b : StringId) → Decides (⟦<StringId as PartialEq>⟧.eq a b) (a ≡ b) }
@@ -77,13 +77,13 @@ pub fn sleb_is_shortest()
     ensures { (z : ℤ) → FitsSigned w64 z → IsShortest SpellsSleb128 (sleb z) z }
 {}
 
-/// A text that is added to texts leaves texts.
+/// Texts to which one is added are still distinct, and still without zero bytes.
 pub fn with_text_are_texts()
     ensures { (texts : List (List ℕ)) (t : List ℕ) → AreTexts texts → All (λ b. b ≢ 0) t
         → AreTexts (with_text texts t) }
 {}
 
-/// Where a text begins, it stands in the bytes of its table, and a zero byte after it.
+/// The bytes of a table hold each text at its offset, and a zero byte after it.
 pub fn text_at_offset()
     ensures { (texts : List (List ℕ)) (i : ℕ) (t : List ℕ) → slice_get texts i ≡ Some t →
         drop (offset_of texts i) (table_bytes texts) ≡ t ++ 0 ∷ table_bytes (drop (i + 1) texts) }
@@ -94,8 +94,8 @@ pub fn table_bytes_length()
     ensures { (texts : List (List ℕ)) → length (table_bytes texts) ≡ byte_count texts }
 {}
 
-/// Where each sum fits its size, the relocations applied to what
-/// calls wrote give what a vector of bytes alone holds of the same calls with the symbols replaced.
+/// Where each sum fits its size, what calls wrote has, once its relocations are applied, the bytes
+/// that a plain vector holds after the same calls with the symbols replaced.
 pub fn relocations_give_the_same()
     ensures { (placement : Placement) (v w : Relocatable) (calls : List Call) →
         IsTrue (are_inside v) → CallsFit placement calls → after_calls v calls ≡ Ok w →

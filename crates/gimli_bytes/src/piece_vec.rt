@@ -67,7 +67,7 @@ fn new_pieces(alloc: Global, count: usize, size: usize) -> Result<Vec<Piece>>
     Ok(pieces)
 }
 
-// Writes bytes over those that stand from a place on, in as many pieces as they reach.
+// Writes bytes over those from a place on, in all pieces that they reach.
 fn put(pieces: &mut Vec<Piece>, size: usize, at: usize, bytes: &[u8])
     requires size { 1 ≤ size }
     requires sizes { All (λ piece. length piece ≡ size) pieces.old.items }

@@ -50,7 +50,7 @@ impl<E: Endianity> Model for RelocatableVec<E> {
 }
 
 impl<E: Endianity> RelocatableVec<E> {
-    /// An empty section without relocations, whose addends will stand there.
+    /// An empty section without relocations; `addends` says where their addends will be.
     pub fn new(alloc: Global, endian: E, addends: Addends) -> RelocatableVec<E>
         ensures { result ≡ record {
           bytes = [];
@@ -91,7 +91,7 @@ impl<E: Endianity> RelocatableVec<E> {
     }
 
     /// Writes over the bytes from an offset on. Refused by `InvalidRange` where a place has one of
-    /// them, since what a linker puts there counts from what stands there.
+    /// them, since what a linker puts there depends on what is there.
     pub fn write_at(&mut self, offset: usize, bytes: &[u8]) -> Result<()>
         ensures ok { OnOk result (after_call self.old (BytesAt offset bytes.now) ≡ Ok self.new) }
         ensures err { OnErr result (self.new ≡ self.old) }
@@ -230,7 +230,8 @@ impl<E: Endianity> RelocatableVec<E> {
     }
 }
 
-/// The same of places that ascend, of which one is asked.
+/// Whether one of the places, which ascend, has one of so many bytes from an offset on. It looks at
+/// one place only, which it finds by binary search.
 fn is_one_touched(places: &[Relocation], offset: usize, size: usize) -> bool
     requires { AreAscending places.now }
     ensures { result ≡ list_any (touches offset size) places.now }

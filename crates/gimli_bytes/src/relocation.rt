@@ -12,7 +12,7 @@ pub enum RelocationTarget {
     OfSection(SectionId),
 }
 
-/// Where the addends of relocations stand (System V ABI, chapter 4, "Relocation").
+/// Where the addends of relocations are (System V ABI, chapter 4, "Relocation").
 #[derive(Clone, Copy, Debug, PartialEq, Eq)]
 pub enum Addends {
     /// In the list, as in a section `SHT_RELA`. The places are zero.
@@ -21,7 +21,7 @@ pub enum Addends {
     InPlace,
 }
 
-/// A place that a linker fills in: with what the target's address is then, and the addend.
+/// A place that a linker fills in, with the sum of the target's address and the addend.
 #[derive(Clone, Copy, Debug, PartialEq, Eq)]
 pub struct Relocation {
     /// The offset of the place in the section, in bytes.

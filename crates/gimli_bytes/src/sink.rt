@@ -6,8 +6,8 @@ ghost use Rattle.gimli_bytes.specs.declared.error.Error.{Error};
 
 /// What a [`Writer`](crate::Writer) means: its bytes, their order, and three facts of its type.
 ///
-/// It has no call, and nothing of it is left in a program. It stands apart from `Writer`, so that
-/// the clauses of its calls can name it whole.
+/// It has no call, and nothing of it is left in a program. It is separate from `Writer`, so that
+/// the clauses of `Writer`'s calls can name it as a whole.
 pub trait Sink {
     /// The bytes of the section.
     ghost contents: { Self → List ℕ };
@@ -32,9 +32,9 @@ pub trait Sink {
     /// `write_at` under it.
     ghost fails_for_memory_alone: { Bool };
 
-    /// Which errors a call may return at a state, where these bytes are wanted (or the refusal of
-    /// the value or the size), beside what is wanted and the bounds of a `write_at`. A call with a
-    /// body in `Writer` passes such an error on as it is.
+    /// Which errors a call may return at a state where these bytes are wanted, or the refusal of
+    /// the value or the size: those in addition to that refusal and to the bounds of a `write_at`.
+    /// A call with a body in `Writer` passes such an error on as it is.
     ghost refuses: { Self → Result (List ℕ) Error → Error → Type 0 };
 
     /// Whether no call was refused on the way to a state. A call that returns `Ok` keeps this, and

@@ -146,9 +146,10 @@ impl StringTable {
         }
     }
 
-    /// Appends a text, and returns its id; a text that is there has its old id, nothing changes,
-    /// and it is never refused. Others fail only with `OutOfMemory`, as is a table of more bytes
-    /// than `usize` can count; then the table is as it was. Requires a text without zero bytes.
+    /// Appends a text, and returns its id. A text that is there already keeps its id, changes
+    /// nothing and is never refused. Any other fails only with `OutOfMemory`, also where the table
+    /// would have more bytes than `usize` can count; then the table is as it was. Requires a text
+    /// without zero bytes.
     pub fn add(&mut self, text: &[u8]) -> Result<StringId>
         requires { All (λ b. b ≢ 0) text.now }
         ensures ok { OnOk result (self.new ≡ with_text self.old text.now) }
@@ -199,7 +200,7 @@ impl StringTable {
         DebugStrOffset(self.texts.offset_of(text))
     }
 
-    /// Appends each text and a zero byte. Refused as the section's `write`.
+    /// Appends each text and a zero byte. Refused as the section's `write` is.
     pub fn write<W: Writer>(&self, w: &mut DebugStr<W>) -> Result<()>
         ensures appends { IsAppendInParts W.Sink w.old.0 w.new.0 result (table_bytes self.now) }
         ensures texts { AreTexts self.now }
@@ -243,9 +244,10 @@ impl LineStringTable {
         self.texts.strings.allocator()
     }
 
-    /// Appends a text, and returns its id; a text that is there has its old id, nothing changes,
-    /// and it is never refused. Others fail only with `OutOfMemory`, as is a table of more bytes
-    /// than `usize` can count; then the table is as it was. Requires a text without zero bytes.
+    /// Appends a text, and returns its id. A text that is there already keeps its id, changes
+    /// nothing and is never refused. Any other fails only with `OutOfMemory`, also where the table
+    /// would have more bytes than `usize` can count; then the table is as it was. Requires a text
+    /// without zero bytes.
     pub fn add(&mut self, text: &[u8]) -> Result<LineStringId>
         requires { All (λ b. b ≢ 0) text.now }
         ensures ok { OnOk result (self.new ≡ with_text self.old text.now) }
@@ -296,7 +298,7 @@ impl LineStringTable {
         DebugLineStrOffset(self.texts.offset_of(text))
     }
 
-    /// Appends each text and a zero byte. Refused as the section's `write`.
+    /// Appends each text and a zero byte. Refused as the section's `write` is.
     pub fn write<W: Writer>(&self, w: &mut DebugLineStr<W>) -> Result<()>
         ensures appends { IsAppendInParts W.Sink w.old.0 w.new.0 result (table_bytes self.now) }
         ensures texts { AreTexts self.now }
