@@ -14,7 +14,7 @@ abbrev pub fault_of : Error → ElfError
 fault_of NoMemory = OutOfMemory
 fault_of fault = Decompression fault
 
--- memory is missing, or the limit forbids to take it
+-- memory is missing, or the limit forbids taking it
 abbrev pub is_for_memory : ElfError → Bool
 is_for_memory OutOfMemory = true
 is_for_memory (SectionTooLarge _) = true

@@ -1,4 +1,4 @@
--- What a call that takes memory answers.
+-- What a call that takes memory returns.
 use Rattle.std.specs.Prelude.{◌≡◌, ◌≢◌, ℕ, Result, Ok, Err}
 use Rattle.elf_sections.specs.declared.error.ElfError.{ElfError}
 use Rattle.elf_sections.specs.declared.error.ElfError.TheVariants.{OutOfMemory, SectionTooLarge}

@@ -22,8 +22,8 @@ const OLD_HEADER_SIZE: usize = 12;
 /// The most bytes that a byte of a stream makes: two bits may copy 258 (RFC 1951, section 3.2.5).
 const MOST_OF_A_BYTE: usize = 1032;
 
-/// A limit of what a compressed section of a file may hold, for those who know of no better one, in
-/// bytes: 256 times as many as the file has, and 64 MiB.
+/// A limit for what a compressed section of a file may hold, in bytes, for callers that know no
+/// better one: 256 times the size of the file, and 64 MiB more.
 pub fn usual_limit(file_size: u64) -> u64
     ensures { result ≡ usual_limit file_size }
 {

@@ -54,7 +54,8 @@ pub fn crc32(bytes: &[u8]) -> u32
     crc32_more(0, bytes)
 }
 
-/// The checksum of what a checksum is of, with more bytes after it. That of no bytes is 0.
+/// The checksum of the bytes whose checksum is `sum`, with more bytes after them. That of no bytes
+/// is 0.
 pub fn crc32_more(sum: u32, bytes: &[u8]) -> u32
     ensures { (before : List ℕ) → sum ≡ crc32 before → result ≡ crc32 (before ++ bytes.now) }
 {

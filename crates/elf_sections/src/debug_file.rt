@@ -26,7 +26,7 @@ use crate::note::{build_id_in, padded};
 pub struct DebugLink<'a> {
     /// The name of the file, without a zero byte.
     pub name: &'a [u8],
-    /// What [`crc32`](crate::crc32) of the bytes of that file is.
+    /// The [`crc32`](crate::crc32) of the bytes of that file.
     pub checksum: u32,
 }
 
@@ -58,8 +58,8 @@ impl<'a> Elf<'a> {
     /// of the first note of `.note.gnu.build-id` that has the name `GNU` and the type
     /// `NT_GNU_BUILD_ID`.
     ///
-    /// None where there is no such section or no such note in it. A note that the section ends
-    /// within is none, and nor is what comes after it. Refused as [`Elf::section`] is.
+    /// None where there is no such section or no such note in it. A note that the section's end
+    /// cuts is ignored. Refused as [`Elf::section`] is.
     pub fn build_id(&self) -> Result<Option<&'a [u8]>, ElfError>
         ensures { result_map option_copied result ≡ build_id_of (file_of self.now) }
     {
@@ -73,8 +73,8 @@ impl<'a> Elf<'a> {
     /// `.gnu_debuglink` has them.
     ///
     /// None where there is no such section, no zero byte ends the name, or the section ends before
-    /// the checksum does. What stands between the name and the checksum isn't asked, nor whether
-    /// the name has bytes. Refused as [`Elf::section`] is.
+    /// the checksum does. The bytes between the name and the checksum are ignored, and the name may
+    /// be empty. Refused as [`Elf::section`] is.
     pub fn debug_link(&self) -> Result<Option<DebugLink<'a>>, ElfError>
         ensures { result_map (option_map link_of) result ≡ debug_link_of (file_of self.now) }
     {

@@ -29,7 +29,7 @@ use std::alloc::{AllocError, Global};
 /// An object file whose sections aren't linked yet (`ET_REL`).
 const REL: u16 = 1;
 
-/// How the names of sections begin that have an older form.
+/// What the names of sections that have an older form begin with.
 const DEBUG: &[u8] = b".debug_";
 
 /// An ELF file, whose sections are looked up by their names.
@@ -121,15 +121,15 @@ impl<'a> Elf<'a> {
 
     /// What the first section of this name holds; None where there is none.
     ///
-    /// A compressed section (`SHF_COMPRESSED`) is made whole, as large as its header says and no
-    /// larger. Where no section has the name, and it begins with `.debug_`, what the section of the
-    /// older form holds is answered, `.zdebug_line` for `.debug_line`. Refuses a section whose
+    /// A compressed section (`SHF_COMPRESSED`) is decompressed to the size that its header says.
+    /// Where no section has the name, and it begins with `.debug_`, this returns what the section
+    /// of the older form holds, `.zdebug_line` for `.debug_line`. Refuses a section whose
     /// bytes aren't all in the file (`SectionCut`), one that ends within its header of compression
     /// (`CompressionHeaderCut`), another way of compression than zlib's (`Zstd`,
     /// `UnknownCompression`), a section of the older form without its first bytes (`NotZlib`) or
     /// with `SHF_COMPRESSED` (`Compressed`), a compressed one whose header says more bytes than the
     /// limit, before memory is taken for them (`SectionTooLarge`), and one that doesn't hold what
-    /// its header says (`Decompression`). `OutOfMemory` is answered where there is no memory for
+    /// its header says (`Decompression`). Fails with `OutOfMemory` where there is no memory for
     /// what it makes.
     pub fn section_data(
         &self,
@@ -158,15 +158,15 @@ impl<'a> Elf<'a> {
     /// What the first section of this name holds, relocated; None where there is none.
     ///
     /// In an object file (`ET_REL`) the relocations of the section (`SHT_REL`, `SHT_RELA`) are
-    /// applied to what `section_data` answers, in order; in any other file none are. `place` says
+    /// applied to what `section_data` returns, in order; in any other file none are. `place` says
     /// which addresses count. It takes memory for a copy of the section. Refuses what
-    /// `section_data` refuses, a machine or a kind of relocations that isn't known
+    /// `section_data` refuses, relocations that together have more bytes than the file
+    /// (`RelocationsTooLarge`), a machine or a kind of relocations that isn't known
     /// (`UnknownMachine`, `UnknownRelocation`), entries of relocations or symbols that are too
     /// short (`EntrySize`), relocations without a symbol table (`NoSymbols`), and one whose symbol
-    /// or place isn't there (`SymbolOutside`, `RelocationOutside`). Where one section's addresses
-    /// count, a symbol whose section's index is noted elsewhere is refused too (`SymbolSection`),
-    /// and relocations are that have more bytes together than the file (`RelocationsTooLarge`).
-    /// Relocations and symbols are refused as sections are by `section`.
+    /// or place isn't there (`SymbolOutside`, `RelocationOutside`). With `SectionPlace::Only` it
+    /// also refuses a symbol whose section's index is kept elsewhere (`SymbolSection`). Sections of
+    /// relocations and symbols are refused as `section` refuses sections.
     pub fn relocated(
         &self,
         alloc: Global,
@@ -249,7 +249,7 @@ impl<'a> Elf<'a> {
         Ok(SectionBytes::Lent(bytes))
     }
 
-    /// What the section holds that is the older form of a name's.
+    /// What the section of the older form of a name holds.
     fn old_section_data(
         &self,
         alloc: Global,
@@ -266,7 +266,7 @@ impl<'a> Elf<'a> {
         Ok(Some(data))
     }
 
-    /// The header of the section that is the older form of a name's.
+    /// The header of the section of the older form of a name.
     fn old_header(&self, alloc: Global, name: &[u8]) -> Result<Option<SectionHeader>, ElfError>
         ensures ok { IfOk result (λ found. found ≡
             section_named (file_of self.now) (old_name name.now)) }
@@ -316,7 +316,7 @@ impl<'a> Elf<'a> {
         }
     }
 
-    /// The end of each section, by its index, as `code_end` says; 0 where it is none of those.
+    /// The end of each section of code, by its index, as `code_end` counts it; 0 for any other.
     pub fn code_ends(&self, alloc: Global) -> Result<Vec<u64>, AllocError>
         ensures { IfOk result
             (λ ends. ends.items ≡ map code_end_of (file_of self.now).headers) }

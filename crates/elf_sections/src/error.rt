@@ -7,7 +7,7 @@ ghost use Rattle.elf_sections.specs.Fault.{fault_of, is_for_memory};
 use std::alloc::AllocError;
 use std::fmt;
 
-/// Why a file isn't read as an ELF file, or a section of it isn't answered.
+/// Why a file isn't read as an ELF file, or a section of it isn't returned.
 #[derive(Clone, Copy, Debug, PartialEq, Eq)]
 pub enum ElfError {
     /// The file doesn't begin with the bytes 7f 45 4c 46 (`EI_MAG0` to `EI_MAG3`).
@@ -42,11 +42,11 @@ pub enum ElfError {
     Zstd,
     /// A section `.zdebug_` doesn't begin with the bytes of `ZLIB`.
     NotZlib,
-    /// What the section holds would be larger than the caller's limit. It holds the size that the
-    /// header of compression says, in bytes.
+    /// What the section holds would be larger than the caller's limit. The error holds the size
+    /// that the header of compression says, in bytes.
     SectionTooLarge(u64),
-    /// What the section is compressed to isn't the zlib format, or doesn't hold as many bytes as
-    /// the header of compression says.
+    /// The compressed bytes of the section aren't in the zlib format, or don't hold as many bytes
+    /// as the header of compression says.
     Decompression(inflate::Error),
     /// There was no memory for what the section holds.
     OutOfMemory,
@@ -61,7 +61,7 @@ pub enum ElfError {
     NoSymbols,
     /// A symbol table has no symbol of this index.
     SymbolOutside(u32),
-    /// The section of a symbol is noted elsewhere (`SHN_XINDEX`).
+    /// The index of a symbol's section is kept elsewhere (`SHN_XINDEX`).
     SymbolSection,
     /// The place of a relocation isn't in the section.
     RelocationOutside,
@@ -70,7 +70,7 @@ pub enum ElfError {
     RelocationsTooLarge,
 }
 
-/// Why a section isn't made whole.
+/// Why a section isn't decompressed.
 pub(crate) fn fault_of(fault: inflate::Error) -> ElfError
     ensures { result ≡ fault_of fault }
 {
@@ -89,7 +89,7 @@ impl From<AllocError> for ElfError {
 }
 
 impl ElfError {
-    /// Whether memory is missing, or the limit forbids to take it (`OutOfMemory`,
+    /// Whether memory is missing, or the limit forbids taking it (`OutOfMemory`,
     /// `SectionTooLarge`).
     pub fn is_for_memory(self) -> bool
         ensures { result ≡ is_for_memory self }

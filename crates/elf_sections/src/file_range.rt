@@ -20,7 +20,7 @@ use crate::section_header::{COMPRESSED, NOBITS, SectionHeader};
 pub struct FileRange {
     /// How many bytes of the file come before it.
     pub offset: u64,
-    /// Its bytes.
+    /// How many bytes it has.
     pub size: u64,
 }
 

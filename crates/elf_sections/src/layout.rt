@@ -1,4 +1,4 @@
-//! How a file notes its numbers.
+//! How a file encodes its numbers.
 
 ghost use Rattle.std.specs.Prelude.{◌≡◌, ◌+◌, ◌≤◌, length};
 ghost use Rattle.elf_sections.specs.Layout.{address_size, number_at, with_number, class_of};
@@ -20,7 +20,7 @@ pub(crate) enum Class {
     Elf64,
 }
 
-/// How a file notes its numbers.
+/// How a file encodes its numbers.
 #[derive(Clone, Copy, Debug)]
 pub(crate) struct Layout {
     pub(crate) class: Class,
@@ -50,7 +50,7 @@ fn order_of(order: u8) -> Result<RunTimeEndian, ElfError>
 }
 
 impl Layout {
-    /// How the numbers of a file are noted, by its first 16 bytes (`e_ident`).
+    /// How the numbers of a file are encoded, by its first 16 bytes (`e_ident`).
     pub(crate) fn parse(bytes: &[u8]) -> Result<Layout, ElfError>
         ensures { result ≡ layout_at bytes.now }
     {

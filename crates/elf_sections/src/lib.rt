@@ -1,6 +1,6 @@
 //! The sections of an ELF file, by name: of 32 and of 64 bits, in both orders of bytes (System V
 //! Application Binary Interface, chapter 4), what compressed sections hold, and what relocations of
-//! object files change in them. It takes memory for what it makes alone, and returns on every
+//! object files change in them. It takes memory only for what it makes, and returns on every
 //! input.
 #![tactic(auto)]
 

@@ -81,7 +81,8 @@ pub(crate) enum Operation {
 }
 
 impl Operation {
-    /// The number that stands there afterwards, of which as much counts as there is room for.
+    /// The number at the place afterwards, of which only as many of the lowest bytes count as the
+    /// place has.
     pub(crate) fn number_after(self, old: u64, value: u64) -> u64
         ensures { result ≡ number_after self old value }
     {

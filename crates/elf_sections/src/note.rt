@@ -13,7 +13,7 @@ const BUILD_ID: u32 = 3;
 /// A note, and what comes after it.
 #[derive(Clone, Copy)]
 pub(crate) struct Note<'a> {
-    /// What the descriptor is, for who has the name (`type`).
+    /// What the descriptor is, as the owner of the name defines it (`type`).
     pub(crate) kind: u32,
     /// Who defines the type.
     pub(crate) name: &'a [u8],

@@ -26,7 +26,7 @@ use crate::section_header::SectionHeader;
 use crate::symbol::Symbol;
 use std::alloc::Global;
 
-/// An index that stands elsewhere (`SHN_XINDEX`).
+/// An index that is kept elsewhere (`SHN_XINDEX`).
 const XINDEX: u16 = 0xffff;
 
 /// The relocations of a file, and which addresses count.
@@ -36,7 +36,7 @@ pub(crate) struct Relocator<'a> {
     pub(crate) place: SectionPlace,
 }
 
-/// A number and the addend of an entry, modulo 2^64. Without an addend it is what stands at the
+/// A number and the addend of an entry, modulo 2^64. An entry without an addend has it at the
 /// place.
 fn with_addend(addend: Option<u64>, old: u64, number: u64) -> u64
     ensures { result ≡ with_addend addend old number }

@@ -28,7 +28,7 @@ impl SectionBytes<'_> {
         }
     }
 
-    /// The bytes, made anew where they are lent.
+    /// The bytes, copied where they are lent.
     pub(crate) fn into_vec(self, alloc: Global) -> Result<Vec<u8>, ElfError>
         ensures ok { IfOk result (λ made. made.items ≡ bytes_of self.entry) }
         ensures err { IfErr result (λ e. e ≡ OutOfMemory) }

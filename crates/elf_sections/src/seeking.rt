@@ -1,6 +1,6 @@
 //! What a program reads of a file to know its sections, where it doesn't read the file whole.
 //!
-//! It seeks the beginning of the file ([`FileHeader::SIZE`] bytes, or all where there are fewer)
+//! It reads the beginning of the file ([`FileHeader::SIZE`] bytes, or all where there are fewer)
 //! for a [`FileHeader`]; then the bytes of `first_entry` for a [`FileTable`]; then those of its
 //! `range`, and those of its `names`, for a [`SectionList`]; and at last those of the sections that
 //! it wants.
@@ -306,7 +306,7 @@ impl<'a> SectionList<'a> {
     }
 
     /// The lowest address of code, as [`Elf::lowest_code_address`](crate::Elf::lowest_code_address)
-    /// answers it.
+    /// returns it.
     pub fn lowest_code_address(&self) -> Option<u64>
         ensures { let addresses = listed_code (list_of self.now) in
             MatchOption result (addresses ≡ []) (IsLeast addresses) }
@@ -317,7 +317,7 @@ impl<'a> SectionList<'a> {
         }
     }
 
-    /// The end of code, as [`Elf::code_end`](crate::Elf::code_end) answers it.
+    /// The end of code, as [`Elf::code_end`](crate::Elf::code_end) returns it.
     pub fn code_end(&self) -> Option<u64>
         ensures { let ends = listed_ends (list_of self.now) in
             MatchOption result (ends ≡ []) (IsGreatest ends) }
@@ -328,7 +328,7 @@ impl<'a> SectionList<'a> {
         }
     }
 
-    /// The end of each section, as [`Elf::code_ends`](crate::Elf::code_ends) answers them.
+    /// The end of each section, as [`Elf::code_ends`](crate::Elf::code_ends) returns it.
     pub fn code_ends(&self, alloc: Global) -> Result<Vec<u64>, AllocError>
         ensures { IfOk result
             (λ ends. ends.items ≡ map code_end_of (list_of self.now).headers) }
@@ -337,7 +337,7 @@ impl<'a> SectionList<'a> {
     }
 
     /// The build id in the bytes of the section `.note.gnu.build-id`, as
-    /// [`Elf::build_id`](crate::Elf::build_id) answers it.
+    /// [`Elf::build_id`](crate::Elf::build_id) returns it.
     pub fn build_id<'s>(&self, section: &'s [u8]) -> Option<&'s [u8]>
         ensures { option_copied result ≡ build_id_in (list_of self.now).layout section.now }
     {
@@ -345,7 +345,7 @@ impl<'a> SectionList<'a> {
     }
 
     /// The link in the bytes of the section `.gnu_debuglink`, as
-    /// [`Elf::debug_link`](crate::Elf::debug_link) answers it.
+    /// [`Elf::debug_link`](crate::Elf::debug_link) returns it.
     pub fn debug_link<'s>(&self, section: &'s [u8]) -> Option<DebugLink<'s>>
         ensures { option_map link_of result ≡ link_in (list_of self.now).layout section.now }
     {

@@ -16,7 +16,7 @@ use crate::section_header::SectionHeader;
 use crate::seeking::SectionList;
 use std::alloc::Global;
 
-/// How the names of sections begin that have an older form.
+/// What the names of sections that have an older form begin with.
 const DEBUG: &[u8] = b".debug_";
 
 /// How what a section holds is stored.
@@ -55,9 +55,9 @@ impl StoredSection {
         self.range
     }
 
-    /// What it holds, by the bytes that are at its range. They are handed back where they aren't
-    /// compressed, whatever the limit is. Refused as
-    /// [`Elf::section_data`](crate::Elf::section_data) refuses what a section holds, and
+    /// What it holds, by the bytes that are at its range. They are returned as they are where they
+    /// aren't compressed, whatever the limit is. Refused as
+    /// [`Elf::section_data`](crate::Elf::section_data) refuses what a section holds, and by
     /// `OutOfMemory` where there is no memory for what it makes.
     pub fn section_data(
         &self,
@@ -86,7 +86,7 @@ impl SectionList<'_> {
     /// is none. Where no section has the name, and it begins with `.debug_`, it is the section of
     /// the older form, `.zdebug_line` for `.debug_line`. Refuses a section whose bytes aren't all
     /// in the file (`SectionCut`), and one of the older form with `SHF_COMPRESSED` (`Compressed`).
-    /// It takes memory for the name of the older form, and may answer `OutOfMemory`.
+    /// It takes memory for the name of the older form, and may fail with `OutOfMemory`.
     pub fn stored(&self, alloc: Global, name: &[u8]) -> Result<Option<StoredSection>, ElfError>
         ensures stored { Gives (λ found. found) result (stored_named (list_of self.now) name.now) }
 
@@ -126,7 +126,7 @@ impl SectionList<'_> {
         }
     }
 
-    /// The section that is the older form of a name's.
+    /// The section of the older form of a name.
     fn old_stored(&self, alloc: Global, name: &[u8]) -> Result<Option<StoredSection>, ElfError>
         ensures { let list = list_of self.now in Gives (λ found. found) result
             (old_stored list (header_named list (old_name name.now))) }
