@@ -206,8 +206,8 @@ impl LineRow {
         self.discriminator
     }
 
-    /// Whether the row is under a tombstone. `LineRows::next_row` skips such rows;
-    /// `LineRows::next_any_row` returns them, and `execute` makes them.
+    /// Whether the row is under a tombstone.
+    /// `LineRows::next_row` skips such rows; `LineRows::next_any_row` returns them.
     pub fn is_under_tombstone(&self) -> bool
         ensures { result ≡ self.now.tombstone }
     {
