@@ -59,7 +59,7 @@ impl<'a> Elf<'a> {
     /// `NT_GNU_BUILD_ID`.
     ///
     /// None where there is no such section or no such note in it. A note that the section's end
-    /// cuts is ignored. Refused as [`Elf::section`] is.
+    /// cuts is ignored, as is what comes after it. Refused as [`Elf::section`] is.
     pub fn build_id(&self) -> Result<Option<&'a [u8]>, ElfError>
         ensures { result_map option_copied result ≡ build_id_of (file_of self.now) }
     {
