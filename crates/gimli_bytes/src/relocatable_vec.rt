@@ -230,8 +230,8 @@ impl<E: Endianity> RelocatableVec<E> {
     }
 }
 
-/// Whether one of the places, which ascend, has one of so many bytes from an offset on. It looks at
-/// one place only, which it finds by binary search.
+/// Whether one of the places, which ascend, has one of so many bytes from an offset on. A binary
+/// search finds the only place to test.
 fn is_one_touched(places: &[Relocation], offset: usize, size: usize) -> bool
     requires { AreAscending places.now }
     ensures { result ≡ list_any (touches offset size) places.now }
