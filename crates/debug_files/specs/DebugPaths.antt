@@ -5,7 +5,7 @@ use Rattle.std.specs.List.{list_any, starts_with}
 use Rattle.std.specs.Option.{option_map_or}
 use Rattle.hex.specs.Hex.{encode_lower}
 
--- what parts a folder from what stands in it
+-- what separates a folder from what is in it
 abbrev pub slash : ℕ
 slash = 0x2f
 

@@ -31,7 +31,8 @@ fn folder(alloc: Global, path: &str) -> Result<String, AllocError>
     }
 }
 
-/// Where the debug file of a build id is in a directory, of which the first byte stands apart.
+/// Where the debug file of a build id is in a directory: the first byte of the id names a folder,
+/// and the rest names a file in it.
 fn build_id_path(
     alloc: Global,
     directory: &str,

@@ -1,5 +1,5 @@
-//! Which sections whole paths need: of `.debug_info`, which is most of a file's debug information,
-//! and of `.debug_str`, few programs do.
+//! Which sections whole paths need. Few programs need `.debug_info`, which is most of a file's
+//! debug information, or `.debug_str`.
 
 use gimli_core::{DW_FORM_strp, EndianSlice, Reader, RunTimeEndian};
 use gimli_line::{DebugLine, FileEntryFormat, IncompleteLineProgram, LineProgramHeader, LineUnits};
@@ -66,14 +66,14 @@ pub struct LinePrograms<'a> {
 }
 
 impl<'a> LinePrograms<'a> {
-    /// Whether paths need `.debug_str`: a header names texts there. It says so too if memory is
+    /// Whether paths need `.debug_str`: a header names strings there. Also true if memory is
     /// missing.
     pub fn need_strings(self) -> bool {
         some_is_named(self.units())
     }
 
     /// Whether paths need the units of `.debug_info`: some header has no directory of its
-    /// compilation, as `Paths::needs_directory` says. It says so too if memory is missing.
+    /// compilation, as `Paths::needs_directory` says. Also true if memory is missing.
     pub fn need_units(self, strings: &'a [u8]) -> bool {
         let sections = StringSections {
             debug_line_str: EndianSlice::new(self.line_str, order(self.is_big_endian)),

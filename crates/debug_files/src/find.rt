@@ -10,13 +10,13 @@ use std::fs;
 use std::io::{Read, Seek};
 use std::rt::Files;
 
-/// The sections of a program by its path. Where its own file has no line programs, its debug file
-/// is looked for, as [`debug_file_paths`] says with a directory of debug files, [`DEBUG_DIRECTORY`]
-/// unless there is another one: by the build id, and then by the name in the program's link. A file
-/// there with another build id, or another checksum, is passed over. Where code begins and ends is
-/// known of the file with the line programs, or else of the program. An object file is read whole.
-/// A compressed section that would have more bytes than the limit is refused; without a limit,
-/// [`elf_sections::usual_limit`] of the size of its file holds.
+/// Reads the sections of a program by its path. If its own file has no line programs, this looks
+/// for its debug file at the paths of [`debug_file_paths`], with [`DEBUG_DIRECTORY`] unless another
+/// directory of debug files is given: by the build id, and then by the name in the program's link.
+/// It skips a file there with another build id, or another checksum. The bounds of code come from
+/// the file with the line programs, or else from the program. An object file is read whole. A
+/// compressed section that would have more bytes than the limit is refused; without a limit,
+/// [`elf_sections::usual_limit`] of the size of its file is the limit.
 pub fn source_of<R: Files + AllocGlobal>(
     rt: &R,
     path: &str,
@@ -29,7 +29,7 @@ pub fn source_of<R: Files + AllocGlobal>(
 }
 
 /// The sections of a program by its path, as [`source_of`] finds them, and the file that they are
-/// in, of which those that were left can be read later.
+/// in, from which the sections that were left out can be read later.
 pub fn open_source<R: Files + AllocGlobal>(
     rt: &R,
     path: &str,
@@ -155,8 +155,9 @@ fn whole_path<R: Files + AllocGlobal>(rt: &R, path: &str) -> Result<String, Allo
     }
 }
 
-/// The sections at the first place where there is a debug file with them, and that file. Why each
-/// place before it isn't one goes to the end of a text, after the end of a line.
+/// The sections at the first place where there is a debug file with them, and that file. For each
+/// place before it, appends to `reasons` a line feed, and a line with the place and why it isn't
+/// one.
 fn try_each<R: Files + AllocGlobal>(
     rt: &R,
     places: &[String],

@@ -1,10 +1,10 @@
 //! The file with a program's debug information: where it may be, and what is read of it. A program
 //! that is stripped has its line programs there.
 //!
-//! [`source_of`] is the whole of it; [`open_source`] leaves some sections for later, which are read
+//! [`source_of`] does all of it; [`open_source`] leaves some sections for later, which are read
 //! from the open file only if the paths of found rows need them. [`debug_file_paths`] names the
-//! places; [`Outline`] reads what a file's sections are known by, and [`Outline::section`] one of
-//! them, so that a large file isn't read whole.
+//! places; [`Outline`] reads the section table of a file and the names in it, and
+//! [`Outline::section`] reads one section, so that a large file isn't read whole.
 #![tactic(auto)]
 
 mod debug_paths;

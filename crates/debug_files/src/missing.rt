@@ -19,7 +19,7 @@ pub enum Missing {
     Elf(ElfError),
     /// It can't be read, or memory is missing.
     Io(io::Error),
-    /// It isn't a file that sections can be sought in, as a folder, a pipe or a device.
+    /// It isn't a regular file: sections can't be sought in a folder, a pipe or a device.
     NotRegular,
     /// It is an object file, whose addresses aren't known yet.
     NotLinked,
@@ -33,8 +33,8 @@ pub enum Missing {
     OtherBuildId,
     /// Its checksum isn't the one in the program's link.
     OtherChecksum,
-    /// There is no section `.debug_line` in it, nor is there a debug file with one at these places:
-    /// a line for each, after the end of a line, with the reason.
+    /// There is no section `.debug_line` in it, nor is there a debug file with one at these places.
+    /// The string has a line feed and a line with the reason for each place.
     Everywhere(String),
 }
 

@@ -74,8 +74,8 @@ impl Outline {
         name: &[u8],
         limit: u64,
     ) -> Result<Option<Vec<u8>>, Refusal>
-        // None says that the sections have none of the name; what is there is what its bytes hold,
-        // as they were read.
+        // None means that no section has the name; else the result is what the section's bytes
+        // hold, as they were read.
         ensures { IfOk result (λ found.
             MatchOption found (section_in self.now name.now ≡ Ok None)
             (λ held. Holds self.now limit name.now held.items)) }

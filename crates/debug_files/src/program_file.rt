@@ -31,7 +31,7 @@ pub(crate) struct Link {
 pub struct ProgramFile<F> {
     file: F,
     outline: Outline,
-    /// The most bytes that a section of it may have, once it is made whole.
+    /// The most bytes that a section of it may have, once it is decompressed.
     limit: u64,
 }
 
@@ -116,8 +116,8 @@ impl<F: Read + Seek> ProgramFile<F> {
         }
     }
 
-    /// These texts and the others that line programs name, and where whole paths are wanted and
-    /// need them, the sections of units.
+    /// `.debug_line_str` and the other strings that line programs name, and where whole paths are
+    /// wanted and need them, the sections of units.
     fn needed_sections(
         &mut self,
         alloc: Global,
@@ -216,9 +216,9 @@ impl<F: Read + Seek> ProgramFile<F> {
         }
     }
 
-    /// The bytes of a section of units, none where there is no such section, or one that isn't one
-    /// that can be read: paths then stay as the line programs have them. What memory is missing
-    /// for, or the limit forbids, is refused.
+    /// The bytes of a section of units. No bytes if there is no such section, or if it can't be
+    /// read: paths then stay as the line programs have them. Refused if memory is missing, or if
+    /// the limit forbids it.
     fn readable(&mut self, alloc: Global, name: &[u8]) -> Result<Vec<u8>, Missing> {
         match self.texts(alloc, name) {
             Ok(bytes) => Ok(bytes),
@@ -239,7 +239,7 @@ impl<F: Read + Seek> ProgramFile<F> {
         }
     }
 
-    /// The name and the checksum of its debug file. A name that is no UTF-8 is passed over.
+    /// The name and the checksum of its debug file. Skips a name that isn't UTF-8.
     pub(crate) fn debug_link(&mut self, alloc: Global) -> Result<Option<Link>, Missing> {
         let Some(section) = self.section(alloc, b".gnu_debuglink")? else {
             return Ok(None);
@@ -270,7 +270,7 @@ pub(crate) fn open<R: Files + AllocGlobal>(
     path: &str,
     limit: Option<u64>,
 ) -> Result<ProgramFile<R::File>, Missing> {
-    // Asked before it is opened: to open a pipe may take for ever.
+    // Checked before the file is opened: opening a pipe may take for ever.
     let found = fs::metadata(rt, path)?;
     if !found.is_file() {
         return Err(Missing::NotRegular);
@@ -285,7 +285,7 @@ pub(crate) fn open<R: Files + AllocGlobal>(
     })
 }
 
-/// Refuses what is another file than a program by its first bytes.
+/// Refuses a file that by its first bytes is an archive, or the memory of a program that ended.
 fn check_start<F: Read>(file: &mut F) -> Result<(), Missing> {
     let mut start = [0; 18];
     let count = file.read(&mut start)?;

@@ -20,7 +20,7 @@ pub enum Wanted {
     /// The line programs and `.debug_line_str`. The others that whole paths need are read later, by
     /// `ProgramFile::strings` and `ProgramFile::units`.
     Rows,
-    /// The same, and those that the names of code need.
+    /// What `Rows` reads, and the sections that the names of code need.
     RowsAndSymbols,
     /// Those that whole paths need, too.
     Paths,
@@ -68,7 +68,7 @@ pub struct FoundSections {
     pub lowest: u64,
     /// The end of code, the greatest address where none is known.
     pub code_end: u64,
-    /// The most bytes that a section may have, once it is made whole.
+    /// The most bytes that a section may have, once it is decompressed.
     pub limit: u64,
     /// The line programs (`.debug_line`).
     pub lines: Vec<u8>,
