@@ -207,7 +207,7 @@ impl LineRow {
     }
 
     /// Whether the row is under a tombstone.
-    /// `LineRows::next_row` skips such rows; `LineRows::next_any_row` returns them.
+    /// `LineRows::next_row` skips such rows; `next_any_row` returns them, and `execute` makes them.
     pub fn is_under_tombstone(&self) -> bool
         ensures { result ≡ self.now.tombstone }
     {
