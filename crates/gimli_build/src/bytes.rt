@@ -7,7 +7,7 @@ ghost use Rattle.gimli_build.specs.inside.Writes.{Writes, always};
 use gimli_bytes::{Result, Writer};
 use gimli_core::{Format, SectionId};
 
-/// Appends a byte, which is the same in either order.
+/// Appends a byte, which is the same in either byte order.
 #[inline(always)]
 pub(crate) fn write_byte<W: Writer>(w: &mut W, byte: u8) -> Result<()>
     ensures { Writes W.Sink w.old w.new result (always (Ok (byte ∷ []))) }

@@ -76,9 +76,10 @@ pub use gimli_bytes::laws::{
 use std::alloc::AllocError;
 use std::hash::Hash;
 
-/// The instructions of built items, run from the registers after the row before them, give one row
-/// for each row and each end, in order, and no fault, and leave the registers after the items,
-/// whatever instructions follow: where addresses hold the items, and no set address is a tombstone.
+/// Where the address size can hold the addresses of built items, and no set address is a tombstone,
+/// their instructions, run from the registers after the row before them, give one row for each row
+/// and each end, in order, and no fault, and leave the registers after the items, whatever
+/// instructions follow.
 pub fn items_run()
     ensures { (here : Run) (items : List BuiltItem) → AreNext here items →
         Gives here (written_items here items) (given_items here items) (after_items items here) }
@@ -130,7 +131,7 @@ pub fn moving_rows_are_short()
 {}
 
 /// The instructions of a program, run from the registers of a start, give its rows and nothing
-/// else, on the same conditions.
+/// else, under the same conditions.
 pub fn program_runs()
     ensures { (p : Built) → CanRun p → run_of_program p ≡ map row (program_rows p) }
 {}
@@ -148,10 +149,10 @@ pub fn items_define_no_file()
         All (λ i. defines_file i ≡ false) (written_items here items) }
 {}
 
-/// So the rows of a written unit take no memory: where the program of a header is the instructions
-/// of a built one, as `ReadsBack` has it, nothing of it defines a file at its start; nor does what
-/// is left once the run has gone on; and `next_row` is refused by `AddressOverflow` alone then,
-/// never by `OutOfMemory`.
+/// So the rows of a written unit take no memory. Where the program of a header is the instructions
+/// of a built one, as `ReadsBack` has it, none of these defines a file, nor does any that is left
+/// once the run has gone on. Then `next_row` is refused by `AddressOverflow` alone, never by
+/// `OutOfMemory`.
 pub fn written_rows_take_no_memory()
     ensures start { (source : HeaderSource) (h : Header) (p : Built) → DecodesAs source.layout h p →
         (appends : Bool) → DefinesNoFile (program_started appends h source) }
@@ -161,8 +162,8 @@ pub fn written_rows_take_no_memory()
         FaultIs live_events (with_reset_row old) new e → e ≡ AddressOverflow }
 {}
 
-/// `==` holds of two texts, and of two ids, exactly where they are the same text and the same
-/// index; and of what is known of two files where they have the same timestamp, size and digest,
+/// `==` is true for two texts, and for two ids, exactly where they are the same text and the same
+/// index; and for what is known of two files where they have the same timestamp, size and digest,
 /// and the same text or none as source.
 pub fn equal_texts_and_files()
     ensures text { (s t : LineString) →
@@ -180,13 +181,13 @@ pub fn equal_ids_hash_alike()
     ensures file { HashAlike ⟦<FileId as PartialEq>⟧.eq ⟦<FileId as Hash>⟧.hash_input }
 {}
 
-/// `==` holds of two rows, and of two items, exactly where all their parts agree.
+/// `==` is true for two rows, and for two items, exactly where all their parts agree.
 pub fn equal_rows_and_items()
     ensures row { (a b : LineRow) → Decides (⟦<LineRow as PartialEq>⟧.eq a b) (a ≡ b) }
     ensures item { (a b : BuiltItem) → Decides (⟦<BuiltItem as PartialEq>⟧.eq a b) (a ≡ b) }
 {}
 
-/// `clone` of an id, a row or an item is never refused, and gives the same.
+/// `clone` of an id, a row or an item never fails, and returns the same.
 pub fn clones_are_the_same()
     ensures directory { ClonesGiveSame ⟦<DirectoryId as Clone>⟧ }
     ensures file { ClonesGiveSame ⟦<FileId as Clone>⟧ }
@@ -213,9 +214,9 @@ pub fn equal_texts_hash_alike()
         ⟦<LineString as Hash>⟧.hash_input s ≡ ⟦<LineString as Hash>⟧.hash_input t }
 {}
 
-/// Where each sum that a linker makes fits its size, a unit whose relocations are applied is what
-/// is written, as numbers, of the same program with its symbols replaced; an offset of a text is
-/// what the linker makes of it, and the number itself where its section begins at 0.
+/// Where each sum that a linker makes fits its size, a unit whose relocations are applied has the
+/// bytes that are written, as numbers, for the same program with its symbols replaced. An offset of
+/// a text is what the linker makes of it, and the number itself where its section begins at 0.
 pub fn placed_units_are_numbers()
     ensures counted { (at : Placement) (is_big : Bool) (unit : Encoding) (p : Built)
         (handed : StringTables) → SumsFit at p (texts_after p handed) →
@@ -227,9 +228,9 @@ pub fn placed_units_are_numbers()
         ≡ unit_bytes plain is_big unit (placed_program at p) handed }
 {}
 
-/// The texts that a program refers to are found, as `reads_back` of `write` asks, in sections that
-/// have the bytes of the tables after others, from where references are counted then; and in those
-/// that are just these bytes, by references as they are.
+/// The texts that a program refers to are found, as `reads_back` of `write` asks, in two kinds of
+/// sections: those that have the bytes of the tables after others, where references count from the
+/// start of these bytes; and those that are just these bytes, by references as they are.
 pub fn texts_are_found()
     ensures placed { (at : Placement) (sections : Sections) (texts : StringTables) →
         HasTable sections.strings (at.section DebugStr) texts.strings →
@@ -241,19 +242,18 @@ pub fn texts_are_found()
         (t : LineText) → IsFound sections unplaced texts t }
 {}
 
-/// What `write` is refused for, beside memory and its writer's own refusals, is the first cause, in
-/// the order of what is written, where addresses have 1, 2, 4 or 8 bytes, as those of each program
-/// have.
+/// Apart from memory and its writer's own refusals, `write` is refused for the first cause in the
+/// order of what is written, where addresses have 1, 2, 4 or 8 bytes, as those of each program do.
 pub fn first_cause_is_refusal()
     ensures { (is_big : Bool) (unit : Encoding) (p : Built) (handed : StringTables) →
         IsTrue (is_address_size p.encoding.address_size) →
         first_cause is_big unit p handed ≡ refusal (unit_bytes plain is_big unit p handed) }
 {}
 
-/// The error that `first_refusal` returns is the first cause of what `write` returns, of the
-/// program itself where symbols are refused, and where they are taken, of the program with the
-/// address 0 in place of each symbol. `write` into a vector is refused for that first cause, or for
-/// memory.
+/// The error that `first_refusal` returns is that of the first cause for which `write` is refused:
+/// of the program itself where symbols are refused; and where they are taken, of the program with
+/// the address 0 in place of each symbol. `write` into a vector is refused for that first cause, or
+/// for memory.
 pub fn first_refusal_is_first_cause()
     ensures { (symbols : Symbols) (is_big : Bool) (unit : Encoding) (p : Built)
         (handed : StringTables) → CanWrite p handed →

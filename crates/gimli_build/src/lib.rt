@@ -4,7 +4,7 @@
 //! order in which they were built. Nothing of their encoding is kept.
 //!
 //! Four layers, each on those before it: what builder calls build; directories and files as they
-//! are written, and rows and ends beside them; and the unit of both.
+//! are written; next to them, rows and ends as they are written; and the unit of both.
 #![tactic(auto)]
 
 mod built;

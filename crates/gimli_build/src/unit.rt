@@ -43,8 +43,8 @@ impl LineProgram {
     /// or a directory that isn't in the program itself, but for the working directory, which isn't
     /// written there; by `ValueTooLarge` for a length or an offset that its word can't hold and an
     /// address that is too wide, by `InvalidAddress` for a symbol, and by `InitialLengthOverflow`
-    /// for a unit length that is reserved; by `OutOfMemory`; or as the writer refuses. The old
-    /// bytes stay a beginning of the section then.
+    /// for a unit length that is reserved; by `OutOfMemory`; or as the writer refuses. The section
+    /// keeps its old bytes, and new ones may follow them then.
     pub fn write<W: Writer>(
         &self,
         w: &mut DebugLine<W>,

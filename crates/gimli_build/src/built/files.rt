@@ -59,9 +59,8 @@ impl Model for FileId {
 }
 
 impl FileId {
-    /// The file that rows are read with before any is set, whose number is 1: the first up to
-    /// version 4, and the second in version 5. A later version, which is never written, has the
-    /// first.
+    /// The file of a row before any other is set, whose number is 1: the first up to version 4, and
+    /// the second in version 5. A later version, which is never written, has the first.
     pub(crate) fn initial(version: u16) -> FileId
         ensures { result ≡ initial_file version }
     {
@@ -88,11 +87,10 @@ impl FileId {
     }
 }
 
-/// What is known of a file beside its path and its directory.
+/// What is known of a file besides its path and its directory.
 #[derive(Debug, PartialEq, Eq, Drop)]
 pub struct FileInfo {
-    /// When the file was last changed, in the producer's own way to count time; 0 where it isn't
-    /// known.
+    /// When the file was last changed, in units that the producer chooses; 0 where it isn't known.
     pub timestamp: u64,
     /// The number of bytes of the file; 0 where it isn't known.
     pub size: u64,
@@ -206,7 +204,7 @@ impl FileTable {
         Ok(())
     }
 
-    /// Appends a directory, and returns its id; one that is there has its old id, and nothing
+    /// Appends a directory, and returns its id; one that is already there keeps its id, and nothing
     /// changes. Fails only with `OutOfMemory`; then nothing changes either.
     pub(crate) fn add_directory(&mut self, directory: LineString) -> Result<DirectoryId>
         requires { HasNoZero (line_text directory) }
@@ -237,8 +235,9 @@ impl FileTable {
         self.directories.get_index(id.0).unwrap()
     }
 
-    /// Appends a file with what is known of it, and returns its id; one that is there has its old
-    /// id, and takes what is known now. Fails only with `OutOfMemory`; then nothing changes.
+    /// Appends a file with what is known of it, and returns its id; one that is already there keeps
+    /// its id, and what is known of it is replaced. Fails only with `OutOfMemory`; then nothing
+    /// changes.
     fn set_file(
         &mut self,
         path: LineString,
@@ -261,8 +260,8 @@ impl FileTable {
         Ok(FileId(index))
     }
 
-    /// Appends a file, and returns its id; one that is there has its old id, and nothing changes.
-    /// Fails only with `OutOfMemory`; then nothing changes either.
+    /// Appends a file, and returns its id; one that is already there keeps its id, and nothing
+    /// changes. Fails only with `OutOfMemory`; then nothing changes either.
     fn keep_file(&mut self, path: LineString, directory: DirectoryId) -> Result<FileId>
         requires text { HasNoZero (line_text path) }
         requires within { directory < length self.old.directories }
@@ -284,8 +283,8 @@ impl FileTable {
         Ok(FileId(index))
     }
 
-    /// Appends a file, and returns its id; one that is there has its old id, and takes what is
-    /// handed of it. Fails only with `OutOfMemory`; then nothing changes.
+    /// Appends a file, and returns its id; one that is already there keeps its id, and takes what
+    /// is handed of it. Fails only with `OutOfMemory`; then nothing changes.
     pub(crate) fn add_file(
         &mut self,
         path: LineString,
@@ -365,7 +364,7 @@ impl FileTable {
         self.files.get_index(id.0).unwrap().1
     }
 
-    /// The same, to be written.
+    /// The same, for the caller to change.
     pub(crate) fn get_file_info_mut(&mut self, id: FileId) -> &mut FileInfo
         requires { id < length self.old.files }
         ensures* lends { sem 𝓛 (lends_details self.entry id result) }

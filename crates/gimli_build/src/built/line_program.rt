@@ -220,7 +220,7 @@ impl LineProgram {
         FileId::source()
     }
 
-    /// Appends a directory, and returns its id; one that is there has its old id, and nothing
+    /// Appends a directory, and returns its id; one that is already there keeps its id, and nothing
     /// changes. Requires a program that isn't a placeholder, a text without a zero byte, and up to
     /// version 4 one that isn't empty. Fails only with `OutOfMemory`; then nothing changes either.
     pub fn add_directory(&mut self, directory: LineString) -> Result<DirectoryId>
@@ -256,8 +256,8 @@ impl LineProgram {
         self.tables.get_directory(id)
     }
 
-    /// Appends a file, and returns its id; one that is there has its old id, and takes what is
-    /// handed of it, if anything is. No other file changes. Requires a program that isn't a
+    /// Appends a file, and returns its id; one that is already there keeps its id, and takes what
+    /// is handed of it, if anything is. No other file changes. Requires a program that isn't a
     /// placeholder, a text without a zero byte, up to version 4 one that isn't empty, and the id of
     /// a directory that is there. Fails only with `OutOfMemory`; then nothing changes.
     pub fn add_file(
@@ -310,7 +310,7 @@ impl LineProgram {
         self.tables.get_file_info(id)
     }
 
-    /// The same, to be written. Requires an id below the number of files.
+    /// The same, for the caller to change. Requires an id below the number of files.
     pub fn get_file_info_mut(&mut self, id: FileId) -> &mut FileInfo
         requires { id < length self.old.files }
         ensures* lends { sem 𝓛 (lends_info self.entry id result) }
@@ -361,7 +361,7 @@ impl LineProgram {
         Ok(())
     }
 
-    /// The row that is generated next, to be written.
+    /// The row that is generated next, for the caller to change.
     pub fn row(&mut self) -> &mut LineRow
         ensures* lends { sem 𝓛 (lends_row self.entry result) }
         ensures value { result.now ≡ self.old.row }
@@ -386,10 +386,10 @@ impl LineProgram {
         ) && row.line <= i64::MAX as u64
     }
 
-    /// Builds the current row, and begins a sequence if none has. Then its discriminator,
+    /// Builds the current row, and begins a sequence if none has begun. Then its discriminator,
     /// `basic_block`, `prologue_end` and `epilogue_begin` are cleared. Requires a program that
-    /// isn't a placeholder, and what `can_generate_row` says. Fails only with `OutOfMemory`; then
-    /// nothing changes.
+    /// isn't a placeholder, and that `can_generate_row` returns true. Fails only with
+    /// `OutOfMemory`; then nothing changes.
     pub fn generate_row(&mut self) -> Result<()>
         requires program { self.old.is_none ≡ false }
         requires can { CanGenerateRow self.old }
@@ -401,8 +401,8 @@ impl LineProgram {
         Ok(())
     }
 
-    /// Whether a sequence can end at this offset, in bytes, and the current op_index: as with
-    /// `can_generate_row`, but for the line.
+    /// Whether a sequence can end at this offset, in bytes, and the current op_index: on the
+    /// conditions of `can_generate_row`, except the one on the line.
     pub fn can_end_sequence(&self, address_offset: u64) -> bool
         ensures { IsTrue result ↔ CanEndSequence self.now address_offset }
     {
@@ -417,8 +417,8 @@ impl LineProgram {
     }
 
     /// Ends a sequence at this offset, in bytes, and the current op_index; the current row becomes
-    /// the initial one. Requires a program that isn't a placeholder, and what `can_end_sequence`
-    /// says. Fails only with `OutOfMemory`; then nothing changes.
+    /// the initial one. Requires a program that isn't a placeholder, and that `can_end_sequence`
+    /// returns true. Fails only with `OutOfMemory`; then nothing changes.
     pub fn end_sequence(&mut self, address_offset: u64) -> Result<()>
         requires program { self.old.is_none ≡ false }
         requires can { CanEndSequence self.old address_offset }
@@ -540,7 +540,7 @@ fn can_follow(
 }
 
 /// Whether each byte can begin an instruction, each instruction is one operation, and this is it.
-/// All three are asked by one branch.
+/// One branch tests all three.
 fn is_plain_at(line_encoding: LineEncoding, op_index: u64) -> bool
     requires { CanEncode line_encoding }
     ensures { IsTrue result ↔ (line_encoding.minimum_instruction_length ≡ 1)
@@ -569,7 +569,7 @@ fn is_whole(line_encoding: LineEncoding, offset: u64) -> bool
     length == 1 || offset.is_multiple_of(u64::from(length))
 }
 
-/// How many shortest instructions so many bytes are. Where they have one byte each, nothing is
+/// How many shortest instructions this many bytes are. If each of them is one byte, nothing is
 /// divided.
 pub(crate) fn instruction_count(line_encoding: LineEncoding, bytes: u64) -> u64
     requires { CanEncode line_encoding }

@@ -97,7 +97,7 @@ impl LineString {
         }
     }
 
-    /// Whether a text in the program itself has a byte, as each text of a table counts to have.
+    /// Whether a text in the program itself isn't empty. Each text of a table counts as not empty.
     pub(crate) fn is_not_empty(&self) -> bool
         ensures { IsTrue result ↔ IsNotEmpty (line_text self.now) }
     {

@@ -54,7 +54,7 @@ impl LineRow {
         }
     }
 
-    /// Clears what stands for one row alone, once the row was built.
+    /// Clears what belongs to one row alone, once the row is built.
     pub(crate) fn clear(&mut self)
         ensures { self.new ≡ without_marks self.old }
     {
@@ -64,7 +64,7 @@ impl LineRow {
         self.epilogue_begin = false;
     }
 
-    /// The row where an address was set: in a sequence its offset and op_index count from there.
+    /// The row after an address is set: in a sequence its offset and op_index count from there.
     pub(crate) fn row_after_address(self, in_sequence: bool) -> LineRow
         ensures { result ≡ row_after_address in_sequence self }
     {

@@ -1,5 +1,5 @@
-//! Calls that build as those of the same name do, and ask nothing: each tests what the builder
-//! asks, and returns an error if that doesn't hold.
+//! Calls that build as those of the same name without `try_` do, but require nothing: each tests
+//! what that call requires, and returns an error if it doesn't hold.
 
 ghost use Rattle.std.specs.Prelude.{◌≡◌, ◌↔◌, false, IsTrue, IfOk, option_map};
 ghost use Rattle.gimli_build.specs.Calls.{after_begin, after_address, after_row, after_end, Tries};

@@ -22,7 +22,7 @@ use std::marker::Model;
 #[derive(Clone, Copy, Debug, PartialEq, Eq)]
 pub enum Trap {
     /// The last row, if no end is after it: rows up to the next end are one sequence, and readers
-    /// drop those of none (DWARF 5, section 6.2.5.3, DW_LNE_end_sequence).
+    /// drop rows of no sequence (DWARF 5, section 6.2.5.3, DW_LNE_end_sequence).
     OpenSequence,
     /// A row or an end past the greatest address of the address size: the register can't hold it,
     /// and readers stop there, or wrap (section 6.2.2, address). A symbol counts as 0.
@@ -30,9 +30,9 @@ pub enum Trap {
     /// A row of a file that isn't in the program's table: readers find no path for it (section
     /// 6.2.2, file).
     MissingFile,
-    /// A row of what a later version brought: in version 2 `prologue_end`, `epilogue_begin` or an
-    /// `isa`, and below version 4 a discriminator. Readers of the version skip such opcodes
-    /// (section 6.2.4, standard_opcode_lengths, and section 6.2.5.3).
+    /// A row with something that a later version added: in version 2 `prologue_end`,
+    /// `epilogue_begin` or an `isa`, and below version 4 a discriminator. Readers of the version
+    /// skip such opcodes (section 6.2.4, standard_opcode_lengths, and section 6.2.5.3).
     LaterOpcode,
     /// The first row of a sequence, if no address was set before it: offsets count from 0 then
     /// (section 6.2.2, the registers at the start of a sequence).
@@ -86,7 +86,8 @@ impl<'a> Iterator for Traps<'a> {
 
 impl LineProgram {
     /// The traps of all items, in order, each with the index of its item: one for an item, its
-    /// first. All of them are one walk over the items. Requires a program that isn't a placeholder.
+    /// first. It takes one walk over the items to read them all. Requires a program that isn't a
+    /// placeholder.
     pub fn traps(&self) -> Traps<'_>
         requires { self.now.is_none ≡ false }
         ensures { result ≡ traps_of self.now }
@@ -174,8 +175,8 @@ fn begins_after(item: &BuiltItem) -> bool
     matches!(item, BuiltItem::End { .. })
 }
 
-/// The first trap of an item before others, where offsets count from `base`; `begins` says that a
-/// row there begins a sequence whose address wasn't set.
+/// The first trap of an item that is followed by `others`, where offsets count from `base`;
+/// `begins` says that a row there begins a sequence whose address wasn't set.
 fn trap_of(
     program: &LineProgram,
     base: u64,
@@ -232,7 +233,7 @@ fn is_past_greatest(program: &LineProgram, base: u64, offset: u64) -> bool
     base.add_sized(offset, encoding.address_size).is_err()
 }
 
-/// Whether a row says what no opcode of the version does.
+/// Whether a row has something that no opcode of the version can express.
 fn has_later_opcode(version: u16, row: &LineRow) -> bool
     ensures { result ≡ has_later_opcode version row.now }
 {

@@ -29,12 +29,12 @@ use crate::rows::instruction::{LineInstruction, write_if, write_instruction, wri
 use gimli_bytes::{Result, Writer};
 use gimli_core::{Encoding, LineEncoding};
 
-/// The first special opcode: as many standard opcodes as DWARF names stand below it.
+/// The first special opcode: the twelve standard opcodes that DWARF names are below it.
 pub(crate) const OPCODE_BASE: u8 = 13;
 
-/// Appends the instructions of a program's items, each at once. A refusal is that of the first set
-/// address that has one, or the writer's. It stands apart, so that the loop has the registers to
-/// itself.
+/// Appends the instructions of a program's items, each at once. Refused for the first set address
+/// that is refused, or as the writer refuses. It isn't inlined, so that the loop has the registers
+/// to itself.
 #[inline(never)]
 pub(crate) fn write_items<W: Writer>(
     w: &mut W,
@@ -94,7 +94,8 @@ pub(crate) fn place_after<'a>(initial: &'a LineRow, item: &'a BuiltItem) -> &'a 
 }
 
 /// Appends the instructions of one item that follows `previous` at the position of `place`. None of
-/// its arms stands apart: the room for the result of such a call would be cleared for each row.
+/// its arms is a call out of line (`inline(never)`): the space for the result of such a call would
+/// be cleared for each row.
 #[inline(always)]
 fn write_item<W: Writer>(
     w: &mut W,
@@ -128,7 +129,7 @@ fn write_item<W: Writer>(
 }
 
 /// Appends the instructions of a row that follows `previous` at the position of `place`. At the
-/// start of a sequence, and after a set address in one, that is the initial row's.
+/// start of a sequence, and after a set address in one, this position is the initial row's.
 #[inline(always)]
 pub(crate) fn write_row<W: Writer>(
     w: &mut W,
@@ -167,7 +168,7 @@ pub(crate) fn write_end<W: Writer>(w: &mut W, count: u64) -> Result<()>
     write_instruction(w, LineInstruction::EndSequence)
 }
 
-/// Appends what stands for the row alone.
+/// Appends the marks of a row: what belongs to this row alone.
 #[inline(always)]
 fn write_marks<W: Writer>(w: &mut W, row: &LineRow) -> Result<()>
     ensures writes { Writes W.Sink w.old w.new result
@@ -181,7 +182,7 @@ fn write_marks<W: Writer>(w: &mut W, row: &LineRow) -> Result<()>
     }
 }
 
-/// Whether something stands for the row alone.
+/// Whether a row has marks.
 fn has_marks(row: &LineRow) -> bool
     ensures none { result ≡ false → marks row.now ≡ [] }
     ensures fit { row.now.discriminator < 2 ^ 64 }
@@ -189,7 +190,8 @@ fn has_marks(row: &LineRow) -> bool
     row.discriminator != 0 || row.basic_block | row.prologue_end | row.epilogue_begin
 }
 
-/// The same. It is in line, so that what the call leaves has its place in this branch alone.
+/// Appends the marks of a row. It is inlined, so that only this branch has space for what the call
+/// returns.
 #[inline(always)]
 fn write_some_marks<W: Writer>(w: &mut W, row: &LineRow) -> Result<()>
     ensures { Writes W.Sink w.old w.new result
@@ -198,7 +200,7 @@ fn write_some_marks<W: Writer>(w: &mut W, row: &LineRow) -> Result<()>
     write_each_mark(w, row)
 }
 
-/// The same. Few rows have marks, so it stands apart.
+/// The same. Few rows have marks, so it isn't inlined.
 #[inline(never)]
 fn write_each_mark<W: Writer>(w: &mut W, row: &LineRow) -> Result<()>
     ensures { Writes W.Sink w.old w.new result
@@ -293,7 +295,7 @@ fn write_operation_advance<W: Writer>(
 }
 
 /// The special opcode that advances by `count` operations more than `opcode` does; none where no
-/// byte has it. More than 255 are too many for each line range, so the product stays small.
+/// byte has it. More than 255 are too many for any line range, so the product stays small.
 pub(crate) fn special_opcode(opcode: u8, count: u64, range: u64) -> Option<u8>
     requires some { 1 ≤ range }
     requires few { range ≤ 127 }
@@ -306,7 +308,8 @@ pub(crate) fn special_opcode(opcode: u8, count: u64, range: u64) -> Option<u8>
     u8::try_from(u64::from(opcode) + count * range).ok()
 }
 
-/// What makes a row by this special opcode: copy where the opcode advances nothing.
+/// The instruction that makes a row for this special opcode: copy where the opcode advances
+/// nothing.
 fn maker(line_encoding: &LineEncoding, opcode: u8) -> LineInstruction
     requires { CanEncode line_encoding.now }
     ensures { read_as result ≡ row_maker line_encoding.now opcode }
@@ -318,8 +321,8 @@ fn maker(line_encoding: &LineEncoding, opcode: u8) -> LineInstruction
     }
 }
 
-/// How many operations an offset and an op_index are after the position of `place`. Where each
-/// byte is an operation, its bytes are counted.
+/// How many operations an offset and an op_index are after the position of `place`. If each byte is
+/// an operation, this is the number of bytes.
 pub(crate) fn operation_advance(
     line_encoding: &LineEncoding,
     place: &LineRow,

@@ -55,7 +55,7 @@ pub(crate) fn items_size(
     size
 }
 
-/// How many bytes one item takes that follows `previous` at the position of `place`.
+/// How many bytes an item that follows `previous` at the position of `place` takes.
 fn item_size(
     encoding: Encoding,
     line_encoding: LineEncoding,
@@ -84,7 +84,7 @@ fn item_size(
     }
 }
 
-/// How many bytes a row takes that follows `previous` at the position of `place`.
+/// How many bytes a row that follows `previous` at the position of `place` takes.
 fn row_size(
     encoding: Encoding,
     line_encoding: LineEncoding,
@@ -111,7 +111,7 @@ fn row_size(
         + operation_size(&line_encoding, opcode, count)
 }
 
-/// How many bytes an end takes that is `count` operations after the row before.
+/// How many bytes an end that is `count` operations after the row before takes.
 fn end_size(count: u64) -> u64
     ensures { result ≡ length (instructions_bytes
         (when (not (nat_eq count 0)) (AdvancePc count) ++ EndSequence ∷ [])) }
@@ -120,7 +120,7 @@ fn end_size(count: u64) -> u64
         + instruction_size(LineInstruction::EndSequence)
 }
 
-/// How many bytes what stands for the row alone takes.
+/// How many bytes the marks of a row take: what belongs to this row alone.
 fn marks_size(row: &LineRow) -> u64
     ensures size { result ≡ length (instructions_bytes (marks row.now)) }
     ensures short { result ≤ 60 }
@@ -132,7 +132,7 @@ fn marks_size(row: &LineRow) -> u64
         + size_if(row.epilogue_begin, LineInstruction::SetEpilogueBegin)
 }
 
-/// How many bytes what lasts from row to row takes, where it differs.
+/// How many bytes it takes to change what lasts from row to row, where it differs.
 fn changes_size(version: u16, previous: &LineRow, row: &LineRow) -> u64
     ensures size { result ≡ length (instructions_bytes (changes version previous.now row.now)) }
     ensures short { result ≤ 60 }

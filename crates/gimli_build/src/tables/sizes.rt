@@ -99,7 +99,7 @@ fn formats_size(program: &LineProgram) -> u64
         + due_size(program.file_has_source, 3)
 }
 
-/// So many bytes, where they are due.
+/// This many bytes where they are due, else 0.
 fn due_size(due: bool, size: u64) -> u64
     ensures size { result ≡ (if due then size else 0) }
     ensures short { result ≤ size }

@@ -59,7 +59,7 @@ fn write_line_encoding<W: Writer>(
     ])
 }
 
-/// Appends how many operations an instruction has, which before version 4 is one, and isn't said.
+/// Appends how many operations an instruction has; before version 4 it is one, and isn't written.
 fn write_operation_count<W: Writer>(w: &mut W, version: u16, operations: u8) -> Result<()>
     ensures { Writes W.Sink w.old w.new result (always (operations_bytes version operations)) }
 {

@@ -310,7 +310,7 @@ fn opening_size(encoding: Encoding) -> u64
     }
 }
 
-/// Whether a directory is the working directory, which isn't written up to version 4.
+/// Whether a directory is the working directory in a version up to 4, where it isn't written.
 fn is_handed(version: u16, index: usize) -> bool
     ensures { result ≡ (nat_le version 4 && nat_eq index 0) }
 {
