@@ -85,8 +85,7 @@ pub fn moved_rows_are_read_back()
 {}
 
 /// So a map that adds a number to each address adds it to the address of each row, where each row
-/// stands after a set address in its sequence and has space for the sum below the two greatest
-/// addresses.
+/// follows a set address in its sequence, and the sum is below the two greatest addresses.
 pub fn shifted_rows_are_read_back()
     ensures answered { (n : ℕ) (d : DoneConversion) (rows back : List ReadRow) → IsToBeShifted n d
         → SourceGives d rows → AreBuiltRows d.outcome.program back
@@ -96,8 +95,8 @@ pub fn shifted_rows_are_read_back()
         → GivesBack d (map (shifted n) rows) unit }
 {}
 
-/// And the files that it returns have the paths of those of the source, and what is known of them:
-/// each file number of the source has an id, which is the index of its file.
+/// And the files that it returns have the paths of those of the source, and what is known of them.
+/// Each file number of the source has an id, which is the index of its file.
 pub fn converted_files_are_read_back()
     ensures { (d : DoneConversion) (strings : List (List ℕ)) (files : List File)
         → SourceFilesAre d files → AreFilesReadBack d strings files }
@@ -112,8 +111,8 @@ pub fn written_numbers_are_of_ids()
         → (id : ℕ) × IsFileId source file_ids n id × (m ≡ file_number version id) }
 {}
 
-/// `round_trip` never refuses a program whose addresses fit by `Read`: what is written of it is
-/// read, unless memory is missing.
+/// `round_trip` never refuses a program whose addresses fit as `Read`: it reads what it wrote,
+/// unless memory is missing.
 pub fn fitting_programs_are_read()
     ensures { (is_big : Bool) (encoding : Encoding) (p : Built) (texts : StringTables)
         (old new : List ℕ) (e : ConvertError) → HasFittingAddresses p
@@ -121,9 +120,9 @@ pub fn fitting_programs_are_read()
         → IsCausedRefusal (first_cause is_big encoding p texts) e }
 {}
 
-/// `==` holds of what `read_row` gives, and of the ends of sequences, exactly where both are of one
-/// kind and agree in its parts; and of two sequences exactly where they have the same start or
-/// none, the same rows and the same end.
+/// `==` is true for two of what `read_row` gives, and for two ends of sequences, exactly where both
+/// are of one kind and agree in its parts; and for two sequences exactly where they have the same
+/// start or none, the same rows and the same end.
 pub fn equal_rows_and_sequences()
     ensures row { (a b : ConvertLineRow)
         → Decides (⟦<ConvertLineRow as PartialEq>⟧.eq a b) (a ≡ b) }
@@ -133,7 +132,7 @@ pub fn equal_rows_and_sequences()
         (⟦<ConvertLineSequence as PartialEq>⟧.eq a b) (sequence_read a ≡ sequence_read b) }
 {}
 
-/// `==` holds of two refusals exactly where they are of one kind and agree in the refusal of
+/// `==` is true for two refusals exactly where they are of one kind and agree in the refusal of
 /// reading or writing that they hold.
 pub fn equal_refusals()
     ensures { IsExact ⟦<ConvertError as PartialEq>⟧.eq }
@@ -142,8 +141,8 @@ pub fn equal_refusals()
     gimli_bytes::laws::equal_errors_are_same();
 }
 
-/// `clone` of what `read_row` gives, of the end of a sequence and of a refusal is never refused,
-/// and gives the same.
+/// `clone` of what `read_row` gives, of the end of a sequence and of a refusal never fails, and
+/// returns the same.
 pub fn clones_are_same()
     ensures row { ClonesGiveSame ⟦<ConvertLineRow as Clone>⟧ }
     ensures end { ClonesGiveSame ⟦<ConvertLineSequenceEnd as Clone>⟧ }

@@ -23,7 +23,7 @@ pub enum ConvertError {
     /// An offset in the section `.debug_info` where no entry begins.
     #[error("A `.debug_info` reference does not refer to a valid entry.")]
     InvalidDebugInfoOffset,
-    /// An address for which there is no other.
+    /// An address that is mapped to no other.
     #[error("An address could not be converted.")]
     InvalidAddress,
     /// An instruction that can't be built.
@@ -77,7 +77,7 @@ pub enum ConvertError {
     /// A unit of a kind that isn't written.
     #[error("Writing this unit type is not supported yet.")]
     UnsupportedUnitType,
-    /// A growth of memory was refused.
+    /// An allocation failed.
     #[error("Not enough memory.")]
     OutOfMemory,
 }
@@ -98,7 +98,7 @@ impl From<AllocError> for ConvertError {
     }
 }
 
-/// A refusal of reading. `OutOfMemory` has one name, whoever met it.
+/// A refusal of reading. `OutOfMemory` has one name, whichever half met it.
 pub(crate) fn from_read(error: ReadError) -> ConvertError
     ensures memory { error ≡ ReadError.OutOfMemory → result ≡ ConvertError.OutOfMemory }
     ensures other { error ≢ ReadError.OutOfMemory → result ≡ ConvertError.Read error }
@@ -109,7 +109,7 @@ pub(crate) fn from_read(error: ReadError) -> ConvertError
     }
 }
 
-/// A refusal of writing. `OutOfMemory` has one name, whoever met it.
+/// A refusal of writing. `OutOfMemory` has one name, whichever half met it.
 pub(crate) fn from_write(error: Error) -> ConvertError
     ensures memory { error ≡ Error.OutOfMemory → result ≡ ConvertError.OutOfMemory }
     ensures other { error ≢ Error.OutOfMemory → result ≡ ConvertError.Write error }

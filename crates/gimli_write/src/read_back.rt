@@ -375,18 +375,17 @@ fn read_unit<E: Endianity>(
 }
 
 /// Writes a program's unit, as `LineProgram::write` does, and reads it again: from the offset that
-/// was returned, in the same order, with the program's address size and its working directory, and
-/// beside the tables, each written to an empty section. Requires what `write` asks.
+/// was returned, in the same byte order, with the program's address size and its working directory,
+/// and with the tables, each written to an empty section. Requires what `write` asks.
 ///
-/// What is answered is what the unit says, and what the machine of its program gives: the built
-/// directories and files, and, where each address fits the address size, none is set below the one
-/// reached in its sequence, and none is set that stands for nothing, the built rows and ends one by
-/// one.
+/// Returns what the unit says, and what the machine of its program gives: the built directories and
+/// files; and the built rows and ends, one by one, where each address fits the address size, none
+/// is set below the one reached in its sequence, and none that is set is a tombstone.
 ///
 /// Refused by `Write` as `write` is: where the encoding can't have the program's, nothing is
 /// appended. Where nothing forbids to write it, the unit is appended, and refused by `Read` for the
 /// first fault of its program, which no program with such addresses has. Refused by `OutOfMemory`
-/// too. The old bytes stay a beginning of the section then.
+/// too. The section keeps its old bytes, and new ones may follow them then.
 pub fn round_trip<E: Endianity>(
     program: &LineProgram,
     w: &mut DebugLine<EndianVec<E>>,

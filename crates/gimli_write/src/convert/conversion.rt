@@ -275,7 +275,7 @@ impl<R: Reader> Conversion<R> {
         self.address = Some(address);
     }
 
-    /// Builds what was read. Refused as `InvalidAddress` where there is no other address, as
+    /// Builds what was read. Refused as `InvalidAddress` where an address is mapped to none, as
     /// `UnsupportedLineInstruction` where it can't be built, or by `OutOfMemory`.
     fn feed<F: Fn(u64) -> Option<Address>>(
         &mut self,
@@ -337,8 +337,8 @@ impl<R: Reader> Conversion<R> {
     }
 }
 
-/// Reads and builds all that is still to be read. Refused by the first of these: an address that
-/// has no other, as `InvalidAddress`; what can't be built, as `UnsupportedLineInstruction`; a
+/// Reads and builds all that is still to be read. Refused by the first of these: an address that is
+/// mapped to none, as `InvalidAddress`; what can't be built, as `UnsupportedLineInstruction`; a
 /// refusal of reading; a sequence that is left open, as `MissingLineEndSequence`; or by
 /// `OutOfMemory`. The line strings keep their texts, and what could be written still can be.
 pub(crate) fn convert_all<R: Reader, F: Fn(u64) -> Option<Address>>(

@@ -36,8 +36,8 @@ use std::alloc::Global;
 use std::marker::Model;
 
 /// The path of the source's directory 0 or file 0, for a program of this version. Up to version 4
-/// of the source it stands in none of its tables and is refused as `source_text` is; from version 5
-/// on as `source_path` is.
+/// of the source it is in none of its tables, and is refused as `source_text` is; from version 5
+/// on, as `source_path` is.
 fn first_path<R: Reader>(
     alloc: Global,
     version: u16,
@@ -100,7 +100,7 @@ impl Model for SourceFile {
     } };
 }
 
-/// The directory of a source file, which the working directory is at index 0. Refused as
+/// The directory of a source file; the working directory is the one at index 0. Refused as
 /// `InvalidDirectoryIndex` where the source has no directory of its index, and as `source_path` is.
 fn file_directory<R: Reader>(
     alloc: Global,
@@ -124,7 +124,7 @@ fn file_directory<R: Reader>(
     }
 }
 
-/// The source file, of the source's file 0. Refused as its directory and its path are.
+/// The source file, made from the source's file 0. Refused as its directory and its path are.
 fn own_source_file<R: Reader>(
     alloc: Global,
     version: u16,
@@ -145,7 +145,7 @@ fn own_source_file<R: Reader>(
     Ok(SourceFile { directory, path })
 }
 
-/// The source file, of the name that is handed in.
+/// The source file, made from the name that is handed in.
 fn named_source_file<R: Reader>(alloc: Global, name: R) -> ConvertResult<SourceFile>
     ensures ok { IfOk result (λ found. named_source_file (R.seen name).bytes ≡ Ok found) }
     ensures err { IfErr result (IsRefusedBy (named_source_file (R.seen name).bytes)) }
@@ -276,8 +276,8 @@ fn with_flags<R: Reader>(mut program: LineProgram, header: &LineProgramHeader<R>
     program
 }
 
-/// The id that stands at number 0 up to version 4, where no row names it. `gimli_build` makes ids
-/// for files that are added and for the first row of a program, so this is that of a placeholder's
+/// The id at number 0 up to version 4, where no row names it. `gimli_build` makes ids only for
+/// files that are added and for the first row of a program, so this is the id in a placeholder's
 /// row.
 fn unused_file(alloc: Global) -> FileId
     ensures { result ≡ 0 }
@@ -308,7 +308,7 @@ fn first_tables(
     Ok(tables)
 }
 
-/// Adds what stands at number 0 up to version 4. Requires tables of no directory or file. Refused
+/// Adds what is at number 0 up to version 4. Requires tables without directories and files. Refused
 /// by `OutOfMemory` alone.
 fn add_first(alloc: Global, tables: &mut SourceTables, source_version: u16) -> ConvertResult<()>
     requires program { tables.old.program.is_none ≡ false }

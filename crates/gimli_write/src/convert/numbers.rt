@@ -9,8 +9,8 @@ use gimli_build::{FileId, LineProgram};
 
 /// The number that a file of the source has in the rows of the program that was built of it, by the
 /// ids that a conversion returns: `None` where the source, which is of this version, has no file of
-/// its number. `DW_AT_decl_file` and `DW_AT_call_file` of the unit's entries have to be changed so
-/// (DWARF 5, section 2.14).
+/// its number. `DW_AT_decl_file` and `DW_AT_call_file` of the unit's entries have to be changed to
+/// it (DWARF 5, section 2.14).
 pub fn written_number(
     program: &LineProgram,
     files: &[FileId],

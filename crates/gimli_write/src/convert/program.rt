@@ -33,8 +33,8 @@ use std::marker::{Model, PhantomData};
 
 /// A line program that is read and built again.
 ///
-/// It holds the tables of strings until it is dropped. What owns memory stands at the last type
-/// parameter, which is never written.
+/// It holds the tables of strings until it is dropped. The last type parameter is what owns memory;
+/// a caller never writes it.
 #[derive(Debug)]
 pub struct ConvertLineProgram<'a, 'b, R: Reader, P = Conversion<R>> {
     line_strings: &'a mut LineStringTable,
@@ -298,8 +298,8 @@ impl<'a, 'b, R: Reader> ConvertLineProgram<'a, 'b, R, Conversion<R>> {
 
     /// Reads and builds all that is still to be read: what `read_row` gives is handed to the
     /// builder, each before the next is read. The map gives for each address of the source the one
-    /// that is set in its place. Refused by the first of these: an address that has no other, as
-    /// `InvalidAddress`; what can't be built, as `UnsupportedLineInstruction`; a refusal of
+    /// that is set in its place. Refused by the first of these: an address that is mapped to none,
+    /// as `InvalidAddress`; what can't be built, as `UnsupportedLineInstruction`; a refusal of
     /// reading; a sequence that is left open, as `MissingLineEndSequence`; or by `OutOfMemory`. The
     /// tables keep their texts. Where the program met what `write` asks, the new one does. Requires
     /// a map that may always be called.
@@ -329,11 +329,10 @@ impl<'a, 'b, R: Reader> ConvertLineProgram<'a, 'b, R, Conversion<R>> {
 
 /// A conversion that is begun and done in one call: `ConvertLineProgram::new`, and then its
 /// `convert`. Requires encodings that a program may have, where they are handed, and a map that may
-/// always be called. Refused as these are; the tables keep their texts, also then. The program
-/// meets what `write` asks. Where each
-/// address is mapped to itself, addresses are at least as wide as the source's, and no sequence
-/// that gave a row ends under a tombstone, the program says what its source says, and so do the
-/// rows that are read back of it.
+/// always be called. Refused as these calls are; the tables keep their texts, also then. The
+/// program meets what `write` asks. Where each address is mapped to itself, addresses are at least
+/// as wide as the source's, and no sequence that gave a row ends under a tombstone, the program
+/// says what its source says, and so do the rows that are read back of it.
 pub fn convert_program<R: Reader, F: Fn(u64) -> Option<Address>>(
     debug_str: R,
     debug_line_str: R,

@@ -203,7 +203,7 @@ impl<R: Reader> SourceRun<R> {
         }
     }
 
-    /// Sets the address, or is a tombstone for what follows.
+    /// Sets the address, which may be a tombstone for what follows.
     fn set_address(&mut self, address: u64)
         ensures { self.new ≡ state_after (LineInstruction.SetAddress address) self.old }
     {

@@ -219,7 +219,7 @@ impl SourceTables {
         }
     }
 
-    /// Adds directories in order. Refused as the first is that is refused. The line strings keep
+    /// Adds directories in order. Refused as the first one that is refused. The line strings keep
     /// their texts.
     pub(crate) fn add_directories<R: Reader>(
         &mut self,
@@ -242,7 +242,7 @@ impl SourceTables {
         Ok(())
     }
 
-    /// Adds files in order. Refused as the first is that is refused. The line strings keep their
+    /// Adds files in order. Refused as the first one that is refused. The line strings keep their
     /// texts.
     pub(crate) fn add_files<R: Reader>(
         &mut self,
@@ -311,7 +311,7 @@ impl SourceTables {
         generated
     }
 
-    /// The same, but that a refused row stays the current one.
+    /// The same, except that a refused row stays the current one.
     pub(crate) fn generate_or_keep(&mut self, row: LineRow) -> ConvertResult<()>
         ensures ok { OnOk result
             (self.new ≡ record self.old { program = after_row row self.old.program }) }

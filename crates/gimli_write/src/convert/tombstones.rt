@@ -145,11 +145,11 @@ fn execute_on<R: Reader>(
         .is_err()
 }
 
-/// Whether no sequence of a program that gave a row ends under a tombstone: a conversion drops what
-/// is under one, so such a sequence would lose its end, and rows of the next would run on in it.
-/// This is the condition on the source under which a conversion is faithful (`convert_program`,
-/// `convert_and_read_back`). Takes no memory, and is never refused: what can't be read of a program
-/// has no sequences.
+/// Whether no sequence of a program that gave a row ends under a tombstone. A conversion drops what
+/// is under one, so such a sequence would lose its end, and the rows of the next would run on in
+/// it. This is the condition on the source under which a conversion is faithful (`convert_program`,
+/// `convert_and_read_back`). Takes no memory, and never fails: what can't be read of a program has
+/// no sequences.
 pub fn no_sequence_ends_under_tombstone<R: Reader>(program: &IncompleteLineProgram<R>) -> bool
     ensures { IsTrue result ↔ NoSequenceEndsUnderTombstone program.now.layout program.now.meaning
         program.now.meaning.program }
