@@ -28,7 +28,7 @@ IsReadFrom seen limit input (Found addresses found) =
     (unit_entry seen (size_number input.notation.address_size) None None)
     input.notation.lowest addresses.items found.units.items found.rows.items
 
--- what was read tells of an address
+-- what was read says which rows cover an address, or that none do
 abbrev pub Knows : {R E O : Type 0} → Covering R E O → ℕ → Type 0
 Knows (Kept units) a = Unit {0}
 Knows (Found addresses found) a = Contains addresses.items a

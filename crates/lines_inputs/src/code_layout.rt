@@ -1,11 +1,11 @@
 //! The sections of code of an object file, one after the other: so each byte of code has an address
-//! of its own, which it has not before the object is linked.
+//! of its own, although the object isn't linked.
 
 use elf_sections::{ElfError, FileHeader, FileRange, SymbolTable};
 use gimli_core::{Endianity, RunTimeEndian};
 use std::alloc::{AllocError, Global};
 
-/// Where the first section starts: above what is no address in a section of code.
+/// Where the first section starts. Below it, no number is an address in a section of code.
 const FIRST: u64 = 1 << 24;
 
 /// How many bytes are left free after each section, so that its end is no address of the next one.
@@ -74,8 +74,8 @@ impl CodeLayout {
         *self.starts.get(usize::from(index)).unwrap_or(&0)
     }
 
-    /// The name of the section that has an address, or ends there, and the offset in it; None where
-    /// none is placed so.
+    /// The name of the section that has an address, or ends there, and the offset in it; None if no
+    /// section is placed there.
     pub(crate) fn place_of(&self, address: u64) -> Option<(&[u8], u64)> {
         let after = self
             .placed
@@ -112,8 +112,8 @@ impl<'f> SectionNames<'f> {
         })
     }
 
-    /// Where the name of a section is among those of sections, of which there are so many
-    /// (`sh_name`, the first four bytes of a header); 0 where that can't be known.
+    /// The offset of the name of the section at `index` among the names of `count` sections
+    /// (`sh_name`, the first four bytes of a header); 0 if it can't be known.
     fn offset_of(&self, index: usize, count: usize) -> u32 {
         let size = self.entries.len() / count.max(1);
         let entry = index

@@ -29,7 +29,7 @@ fn read_build_id<R: Files + AllocGlobal>(
     name: &str,
     limit: Option<u64>,
 ) -> Result<Option<Vec<u8>>, Refusal> {
-    // Asked before it is opened: to open a pipe may take for ever.
+    // Checked before the file is opened: opening a pipe may take for ever.
     let found = fs::metadata(rt, name)?;
     if !found.is_file() {
         return Ok(None);
@@ -48,8 +48,8 @@ fn read_build_id<R: Files + AllocGlobal>(
     }
 }
 
-/// Writes a file whole: it takes its name when all its bytes are written. What isn't a regular
-/// file, as a pipe, is written where it stands.
+/// Writes a file whole: it gets its name once all its bytes are written under another one. Anything
+/// but a regular file, such as a pipe, is written directly.
 pub fn write_file<R: Files + AllocGlobal>(rt: &R, path: &str, bytes: &[u8]) -> io::Result<()> {
     match fs::metadata(rt, path) {
         Ok(found) if !found.is_file() => return fs::write(rt, path, bytes),

@@ -50,9 +50,9 @@ pub struct Functions<'n> {
 }
 
 impl<'n> Functions<'n> {
-    /// The functions among symbols that stand in sections of code, of an object file where these
-    /// are placed, or those of one section alone. The end of the code of each section is known by
-    /// its index.
+    /// The functions among the symbols that are in sections of code: of all sections, each where an
+    /// object file's `layout` places it, or of one section only. `code_ends` has the end of the
+    /// code of each section, by its index.
     pub(crate) fn new(
         alloc: Global,
         table: SymbolTable<'n>,
@@ -90,8 +90,8 @@ impl<'n> Functions<'n> {
         })
     }
 
-    /// Sorts the functions by their names, for who asks for many: each is then found without a
-    /// search through all.
+    /// Sorts the functions by their names. Call it before you look up many: each is then found
+    /// without a search through all.
     pub fn sort_names(&mut self, alloc: Global) -> Result<(), AllocError> {
         let mut named = Vec::with_capacity(alloc, self.ranges.len())?;
         for (index, range) in self.ranges.iter().enumerate() {
@@ -167,8 +167,8 @@ impl<'n> Functions<'n> {
         Ok(starts)
     }
 
-    /// Whether a function has a name. For each place of the table of names it is known whether this
-    /// name stands there.
+    /// Whether a function has a name. `known` keeps the answer for each offset in the table of
+    /// names.
     fn has_name(
         &self,
         range: &CodeRange,

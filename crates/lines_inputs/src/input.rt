@@ -54,7 +54,7 @@ impl<R: Reader> Input<R> {
         self.lines.reader().len().into_u64()
     }
 
-    /// The bytes of all its sections, made whole.
+    /// The number of bytes of all its sections, decompressed.
     pub fn all_bytes(&self) -> u64 {
         let sections = [
             self.lines.reader(),
@@ -71,7 +71,7 @@ impl<R: Reader> Input<R> {
         all
     }
 
-    /// The same program with these texts in the place of `.debug_str`.
+    /// This program with these strings instead of its `.debug_str`.
     pub(crate) fn with_strings(&self, debug_str: R) -> Input<R> {
         let debug_line_str = self.strings.debug_line_str;
         Input {
@@ -87,7 +87,7 @@ impl<R: Reader> Input<R> {
         }
     }
 
-    /// The same program with these sections in the place of those that say where compilations ran.
+    /// This program with these sections instead of its own that say where compilations ran.
     pub(crate) fn with_units(
         &self,
         debug_info: R,
@@ -206,7 +206,7 @@ impl<'i> PathInputs<'i> {
     }
 }
 
-/// The sections beside the line programs, as `Files` has them.
+/// The sections other than the line programs, as `Files` has them.
 #[derive(Drop)]
 struct OtherSections<'i> {
     paths: PathInputs<'i>,
@@ -300,8 +300,8 @@ impl<'i> InputSections<'i> {
         Ok(Some(program))
     }
 
-    /// The sections of an object file, as the addresses of the section that has the first function
-    /// of a name count. None where there is no such function.
+    /// The sections of an object file, where the addresses in the section that has the first
+    /// function of a name count. None where there is no such function.
     pub fn of_function(
         alloc: Global,
         files: Files<'i>,
@@ -354,7 +354,7 @@ impl<'i> InputSections<'i> {
     }
 
     /// The sections of an object file, of which those of code are placed one after the other, so
-    /// that each has addresses of its own. None where an address can't be so great.
+    /// that each has addresses of its own. None if an address would be too great.
     pub fn laid_out(
         alloc: Global,
         files: Files<'i>,
@@ -369,7 +369,7 @@ impl<'i> InputSections<'i> {
     }
 
     /// Places the sections of code of an object file, and moves the addresses in line programs
-    /// there. False where an address can't be so great.
+    /// there. False if an address would be too great.
     fn lay_out(&mut self, elf: Elf<'i>, file: &'i [u8]) -> Result<bool, ElfError> {
         let order = self.notation.order;
         let is_64_bit = self.notation.address_size.bytes() == 8;
@@ -491,7 +491,7 @@ impl<'i> SectionSource<'i> {
         }
     }
 
-    /// The section of a name; other bytes where the file has none, or where these are not empty.
+    /// The section of a name; the bytes of `other` if the file has none, or if `other` isn't empty.
     fn texts(self, name: &[u8], other: &'i [u8]) -> Result<SectionBytes<'i>, ElfError> {
         if !other.is_empty() {
             return Ok(SectionBytes::Lent(other));
@@ -512,7 +512,7 @@ impl<'i> SectionSource<'i> {
         }
     }
 
-    /// The section of a name, whole and relocated; None where there is none.
+    /// The section of a name, decompressed and relocated; None where there is none.
     fn section(self, name: &[u8]) -> Result<Option<SectionBytes<'i>>, ElfError>
         ensures { Gives (option_map bytes_of) result (relocated_at (file_of self.entry.elf)
             self.entry.place self.entry.files.limit name.now) }

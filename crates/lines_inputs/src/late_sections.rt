@@ -10,8 +10,8 @@ use std::alloc::Global;
 use std::cell::OnceCell;
 use std::io::{Read, Seek};
 
-/// The sections that the paths of found rows need beside the line programs and `.debug_line_str`,
-/// each from when it is read.
+/// The sections that the paths of found rows need besides the line programs and `.debug_line_str`.
+/// Each is here once it has been read.
 ///
 /// <!-- part of crates/lines/src/places.rt -->
 /// ```rust
@@ -35,10 +35,10 @@ impl LateSections {
         }
     }
 
-    /// A program with the sections that the paths of rows need, which are read from the file that
-    /// the rows are of: `.debug_str` if a table of files names texts there, and it and those of
-    /// units if a directory may be in `.debug_info`, as `PlaceRows::need_strings` and `need_units`
-    /// say. Refused as `ProgramFile::strings` and `ProgramFile::units` are.
+    /// A program with the sections that the paths of rows need, which are read from the file of the
+    /// rows: `.debug_str` if a table of files names strings there, and both `.debug_str` and the
+    /// sections of units if a directory may be in `.debug_info`, as `PlaceRows::need_strings` and
+    /// `need_units` say. Refused as `ProgramFile::strings` and `ProgramFile::units` are.
     pub fn read<'i, F: Read + Seek>(
         &'i self,
         alloc: Global,

@@ -14,7 +14,7 @@ use gimli_lookup::{CoveringRows, ProgramPaths};
 use lines_words::{CodeAddress, Json, Output, Request};
 use std::alloc::Global;
 
-/// How many addresses are named at most without the functions being sorted by their names.
+/// Up to how many named addresses the functions aren't sorted by their names.
 const FEW: usize = 8;
 
 /// What came of a question.
@@ -22,7 +22,7 @@ const FEW: usize = 8;
 pub enum Answered {
     /// It is answered.
     Whole,
-    /// It is, and a line of source is to be printed below.
+    /// It is answered, and a line of source is to be printed below.
     Above(SourceLine),
     /// It is asked of another section.
     Elsewhere,
@@ -57,8 +57,8 @@ pub struct PlaceRows<'r, 'n, R: Reader> {
 }
 
 impl<'r, 'n, R: Reader> PlaceRows<'r, 'n, R> {
-    /// Reads the rows for the addresses of a linked program that are named, or where none is, for
-    /// any; in an object file those of one section.
+    /// Reads the rows for the named addresses of a linked program, or for any address if none is
+    /// named; in an object file, the rows of one section.
     pub fn new(
         alloc: Global,
         input: &Input<R>,
@@ -87,7 +87,7 @@ impl<'r, 'n, R: Reader> PlaceRows<'r, 'n, R> {
     }
 
     /// Whether the paths of these rows need the sections that say where compilations ran, by the
-    /// sections of texts of a program. It says so too if memory is missing.
+    /// sections of texts of a program. Also true if memory is missing.
     pub fn need_units(&self, input: &Input<R>) -> bool {
         match ProgramPaths::new(input.strings) {
             Ok(paths) => self.lookup.need_compilations(&paths),
@@ -228,8 +228,8 @@ impl<'r, 'n, R: Reader> Places<'r, 'n, R> {
     }
 }
 
-/// The rows for the addresses of a request, which are looked for as they were before the program
-/// was moved by a bias; or those for any address.
+/// The rows for the addresses of a request, as these were before the program was moved by a bias;
+/// or the rows for any address.
 fn rows_for<R: Reader>(
     alloc: Global,
     input: &Input<R>,

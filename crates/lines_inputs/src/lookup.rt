@@ -128,7 +128,7 @@ pub fn look_up_each<R: Reader>(
     }
 }
 
-/// Keeps the rows of all units. The fault of each unit is reported; what stands before it is kept
+/// Keeps the rows of all units. Reports the fault of each unit; the rows before the fault are kept
 /// all the same.
 fn look_up<R: Reader>(
     alloc: Global,

@@ -68,7 +68,7 @@ impl Relocations<'_> {
     }
 
     /// Where the number of a symbol is in a relocation of 64 bits: in the higher half of `r_info`,
-    /// and of MIPS in the first four bytes of it in both orders of bytes.
+    /// but on MIPS in its first four bytes, in either byte order.
     fn place_of_symbol(&self) -> usize {
         if self.order.is_big_endian() || self.machine() == Some(MIPS) {
             8

@@ -1,4 +1,4 @@
-//! Functions by their names, for who has no program at hand, or not the whole name.
+//! Functions by their names, for callers without the program, or with only a part of the name.
 
 use crate::functions::{CodeRange, Functions, key_of};
 use elf_sections::SymbolTable;
@@ -77,15 +77,15 @@ impl FunctionStarts {
 struct StringWith {
     /// Where it begins.
     start: usize,
-    /// Where the word stands last.
+    /// Where the last occurrence of the word begins.
     word: usize,
 }
 
 impl<'n> Functions<'n> {
     /// Names that may be meant by a name that no function has: up to five that have it in them, in
     /// the order of their addresses. If a name has it with its length before it, as compilers of
-    /// C++ and Rust write a part of a name, only such names are meant. Of `space::name(int)` the
-    /// last part counts.
+    /// C++ and Rust write a part of a name, only such names are meant. Of `space::name(int)` only
+    /// the last part, `name`, is looked for.
     pub fn hints(&self, alloc: Global, name: &str) -> Result<Vec<&'n [u8]>, AllocError> {
         let word = bytes_of_word(alloc, last_part_of(name))?;
         if word.is_empty() {
@@ -97,7 +97,7 @@ impl<'n> Functions<'n> {
         self.hints_by(alloc, &part, &word)
     }
 
-    /// Names with a word in them, or where there is none, with another one.
+    /// Names with a word in them, or if there are none, names with another word in them.
     fn hints_by(
         &self,
         alloc: Global,
@@ -178,7 +178,7 @@ fn strings_with(alloc: Global, names: &[u8], word: &[u8]) -> Result<Vec<StringWi
     Ok(strings)
 }
 
-/// Where a word stands last in a string.
+/// Where the last occurrence of a word in a string begins.
 fn last_place(string: &[u8], word: &[u8]) -> Option<usize> {
     if word.is_empty() {
         return None;

@@ -1,8 +1,8 @@
-//! The whole paths of files: what a relative one goes on from.
+//! The whole paths of files: what a relative path starts from.
 //!
-//! Up to version 4 the directory of a compilation stands in `.debug_info` alone (DWARF 4, sections
-//! 3.1.1 and 6.2.4). In version 5 a header has it as directory 0, and that of `.debug_info` counts
-//! only if this one is empty (DWARF 5, the same sections).
+//! Up to version 4 the directory of a compilation is only in `.debug_info` (DWARF 4, sections 3.1.1
+//! and 6.2.4). In version 5 a header has it as directory 0, and that of `.debug_info` counts only
+//! if this one is empty (DWARF 5, the same sections).
 
 ghost use Rattle.std.specs.Prelude.{◌≡◌, IfOk, option_map};
 ghost use Rattle.gimli_compilation.specs.Directories.{TellsDirectories, directory_for};
@@ -17,7 +17,7 @@ use gimli_lookup::{PathError, ProgramPaths, StringSections};
 use std::alloc::{AllocError, Global};
 use std::fmt;
 
-/// What whole paths are made of, beside the header of a unit.
+/// What whole paths are made of, besides the header of a unit.
 #[derive(Drop)]
 pub struct PathSources<R: Reader> {
     /// The sections of texts.
@@ -65,8 +65,8 @@ impl<R: Reader> PathSources<R> {
         &self.paths
     }
 
-    /// The whole path of the file of an index, whose bytes are counted; where
-    /// it can't be told, those that were read to find that.
+    /// The whole path of the file of an index, whose bytes are counted; if it isn't known, the
+    /// bytes that were read to find that are counted.
     pub fn counted(
         &self,
         alloc: Global,
@@ -115,7 +115,8 @@ impl<R: Reader> PathSources<R> {
         length.saturating_sub(offset.into_u64())
     }
 
-    /// The whole path of the file of an index; None where there is none, or it can't be told.
+    /// The whole path of the file of an index; None if there is no such file, or its path isn't
+    /// known.
     pub fn known_path(
         &self,
         alloc: Global,
@@ -153,7 +154,7 @@ impl fmt::Display for PathFault {
     }
 }
 
-/// A path, or why it can't be told. Missing memory is no such reason.
+/// A path, or why it isn't known. Missing memory is no such reason.
 pub fn path_or_fault<R: Reader>(
     sources: &PathSources<R>,
     path: Result<Vec<u8>, PathError>,

@@ -12,7 +12,7 @@ use std::fmt::{self, Display};
 pub enum Piece<'p> {
     /// A word.
     Word(&'p str),
-    /// A word, with blanks after it up to eighteen letters.
+    /// A word, padded with blanks to eighteen characters.
     WideWord(&'p str),
     /// A number in decimal digits.
     Number(u64),
@@ -20,15 +20,15 @@ pub enum Piece<'p> {
     WideNumber(u64, usize),
     /// An address in hexadecimal digits.
     Address(u64),
-    /// The offset of a unit, in eight of them at least.
+    /// The offset of a unit, in at least eight hexadecimal digits.
     Unit(u64),
     /// A path, `??` where there is none.
     Path(Option<&'p [u8]>),
     /// An offset in the section of a name.
     InSection(&'p [u8], u64),
-    /// A word of the program, of a long one the beginning.
+    /// A word of the program; only the beginning of a long one.
     Name(&'p str),
-    /// A word of standard input or of a program's symbols, of a long one the beginning.
+    /// A word of standard input or of a program's symbols; only the beginning of a long one.
     Asked(&'p [u8]),
     /// A line of source.
     Source(&'p [u8]),
@@ -40,12 +40,12 @@ pub enum Piece<'p> {
     Share(u64, u64),
     /// Why bytes can't be read.
     Error(Error),
-    /// Why a path can't be told.
+    /// Why a path isn't known.
     Fault(PathFault),
 }
 
 impl<'p> Piece<'p> {
-    /// It as a value of JSON, where it is the value of a field.
+    /// This piece as a JSON value of a field.
     pub(crate) fn json(self) -> Json<'p> {
         match self {
             Piece::Word(word) | Piece::WideWord(word) => Json::Word(word),

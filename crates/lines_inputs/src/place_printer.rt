@@ -21,7 +21,7 @@ pub enum Asked<'a> {
     Nothing,
 }
 
-/// What a line asks, with its line feed. None for no line alone, at the end.
+/// What a line asks, with its line feed. None only if there is no line, at the end of the input.
 pub fn asked_by(line: &[u8]) -> Option<Asked<'_>>
     ensures { IsNone result ↔ (line.now ≡ []) }
 {

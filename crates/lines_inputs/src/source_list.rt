@@ -41,8 +41,8 @@ fn line_at<'f>(lines: &[&'f [u8]], line: u64) -> Option<&'f [u8]> {
     Some(text.strip_suffix(b"\r").unwrap_or(text))
 }
 
-/// Prints the line of a place in its file, and below it a mark at the column, where that is no left
-/// edge. Prints nothing where the file has no such line.
+/// Prints the line of a place in its file, and below it a mark at the column, unless the column is
+/// the left edge. Prints nothing where the file has no such line.
 pub fn print_below(
     alloc: Global,
     place: &SourceLine,
@@ -62,9 +62,9 @@ pub fn print_below(
     Ok(())
 }
 
-/// Prints the lines of a file about one that is asked for, or else about its rows. Where the file
-/// can't be read, that is said, and the lines are printed without their texts. The functions know
-/// where the sections of an object file are placed.
+/// Prints the lines of a file about one that is asked for, or else about its rows. If the file
+/// can't be read, prints a note, and the lines without their text. The functions know where the
+/// sections of an object file are placed.
 pub fn print_lines<'x>(
     alloc: Global,
     path: &[u8],
@@ -196,7 +196,7 @@ impl<'l> SourceListing<'l> {
         }
     }
 
-    /// Prints a line beside its first row, and the other rows below it.
+    /// Prints a line next to its first row, and the other rows below it.
     fn print_text(self, line: u64, text: &[u8], rows: &[SourceRow], output: &mut Output<'_>) {
         let is_asked = self.asked == Some(line);
         let (mark, Style { begin, end }) = match is_asked {
@@ -245,7 +245,7 @@ impl<'l> SourceListing<'l> {
         output.print("]}");
     }
 
-    /// Prints the address of a row, and `s` for a statement or a stroke.
+    /// Prints the address of a row, and `s` for a statement or else a hyphen.
     fn add_row(self, row: &SourceRow, output: &mut Output<'_>) {
         let letter = if row.is_stmt { "s" } else { "-" };
         let (piece, width) = match self.functions.place_of(row.address) {

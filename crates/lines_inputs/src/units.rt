@@ -25,7 +25,7 @@ pub enum Printing {
     Rare,
 }
 
-/// Tells that a command reads a whole section before it prints anything, where a person waits for
+/// Shows that a command reads a whole section before it prints anything, where a person waits for
 /// it at a terminal.
 pub fn show_reading(length: u64, output: &mut Output<'_>) {
     if output.screen.is_err && length >= LONG {
@@ -47,9 +47,9 @@ pub struct Walk<R: Reader> {
     is_found: bool,
     /// The length of the section in bytes.
     length: u64,
-    /// Whether it is told how far the command is.
+    /// Whether to show how far the command is.
     is_told: bool,
-    /// The hundredths of the section that were told last.
+    /// The hundredths of the section that were shown last.
     told: Option<u64>,
 }
 
@@ -119,7 +119,7 @@ impl<R: Reader> Walk<R> {
         Ok(None)
     }
 
-    /// Tells how far a command is that begins with the unit at an offset, where that is new.
+    /// Shows how far a command is when it begins with the unit at an offset, if that has changed.
     fn show(&mut self, offset: u64, output: &mut Output<'_>) {
         let hundredth = (self.length / 100).max(1);
         let percent = (offset / hundredth).min(99);
@@ -279,8 +279,8 @@ pub fn flags_of(row: &LineRow) -> [(bool, &'static str, char); 5] {
     ]
 }
 
-/// The flags of a row, as letters, each in a place of its own, with a stroke in place of each that
-/// doesn't hold.
+/// The flags of a row, as letters, each in a place of its own, with a hyphen in place of each flag
+/// that isn't set.
 #[derive(Clone, Copy)]
 pub struct FlagLetters(pub LineRow);
 
