@@ -27,8 +27,8 @@ impl<'a> LineIndex<'a> {
         true
     }
 
-    /// Whether the path of each source is inside the part of paths with a zero byte after it, or
-    /// has a reason.
+    /// Whether each source has a path inside the part of paths with a zero byte after it, or a
+    /// reason why it has none.
     fn paths_are_inside(&self) -> bool
         ensures yes { result ≡ true → ArePathsInside (index_of self.now) }
         ensures no { result ≡ false → ArePathsInside (index_of self.now) → ⊥ }
@@ -41,7 +41,7 @@ impl<'a> LineIndex<'a> {
         true
     }
 
-    /// Whether a source has the number of its name.
+    /// Whether the number that a source has for its name is right.
     fn has_right_name(&self, source: usize) -> bool
         requires { source < self.now.sources }
         ensures yes { result ≡ true → HasRightName (index_of self.now) source }
@@ -50,7 +50,7 @@ impl<'a> LineIndex<'a> {
         self.name_at(source) == path_number(path_of(self.path_bytes, self.source(source)))
     }
 
-    /// Whether each source has the number of its name.
+    /// Whether the number that each source has for its name is right.
     fn names_are_right(&self) -> bool
         ensures yes { result ≡ true → AreNamesRight (index_of self.now) self.now.sources }
         ensures no { result ≡ false → AreNamesRight (index_of self.now) self.now.sources → ⊥ }
@@ -63,7 +63,7 @@ impl<'a> LineIndex<'a> {
         true
     }
 
-    /// Whether no statement comes before one that stands before it.
+    /// Whether no statement ranks below the one before it.
     fn statements_ascend(&self) -> bool
         ensures yes { result ≡ true → RanksRise (index_of self.now) self.now.statements }
         ensures no { result ≡ false → RanksRise (index_of self.now) self.now.statements → ⊥ }
@@ -92,8 +92,8 @@ impl<'a> LineIndex<'a> {
     /// vouches for. It takes no memory, and looks at each start, each source with its path, and
     /// each statement.
     ///
-    /// Refuses an index whose starts don't ascend (`NotAscending`), one with a path that isn't so
-    /// (`PathOutside`), and one whose statements aren't in order (`NotInOrder`).
+    /// Refuses an index whose starts don't ascend (`NotAscending`), one with a path that isn't
+    /// inside it (`PathOutside`), and one whose statements aren't in order (`NotInOrder`).
     pub fn check(&self) -> Result<(), IndexError>
         ensures ok { OnOk result (IsSound (index_of self.now)) }
         ensures err { IfErr result (IsFaultOf (index_of self.now)) }

@@ -49,8 +49,8 @@ pub struct Source {
     pub first: u32,
     /// The bytes of the path, without the zero byte that follows it.
     pub size: u32,
-    /// 0 where the path is known, else the number of why not (`docs/reference/INDEX.md`,
-    /// "Sources").
+    /// 0 where the path is known, else the number of the reason why it isn't
+    /// (`docs/reference/INDEX.md`, "Sources").
     pub reason: u32,
 }
 
@@ -200,8 +200,8 @@ fn put_sources(out: &mut Vec<u8>, sources: &[Source], names: &[u32]) -> Result<(
     Ok(())
 }
 
-/// Appends an address, as far as it is above the base. Requires a base that isn't above it, and
-/// that is near where starts have 4 bytes.
+/// Appends how far an address is above the base. Requires a base that isn't above it, and that is
+/// near it where starts have 4 bytes.
 fn put_address(
     out: &mut Vec<u8>,
     size: StartSize,

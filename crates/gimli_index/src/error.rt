@@ -21,7 +21,7 @@ pub enum IndexError {
     StartSize(u16),
     /// With this base, starts could be addresses of more than 64 bits.
     Base(u64),
-    /// They end before the parts that the header tells of do.
+    /// They end before the parts that the header describes do.
     Cut,
     /// The starts don't ascend.
     NotAscending,

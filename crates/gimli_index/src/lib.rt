@@ -1,9 +1,9 @@
-//! An index of the lines of a program that is bytes: made once, mapped from a file, shared by
-//! threads, and asked without memory. `docs/reference/INDEX.md` has its format.
+//! An index of the lines of a program, as plain bytes: made once, mapped from a file, shared by
+//! threads, and queried without taking memory. `docs/reference/INDEX.md` has its format.
 //!
-//! [`LineIndex::open`] takes the bytes as they lie there, in constant work. [`LineIndex::find`]
-//! tells where the code at an address comes from, and [`LineIndex::get`] gives what holds from each
-//! address on. [`LineIndex::check`] is for bytes that nobody vouches for.
+//! [`LineIndex::open`] takes the bytes where they are, in constant time. [`LineIndex::find`]
+//! returns where the code at an address comes from, and [`LineIndex::get`] gives what holds from
+//! each address on. [`LineIndex::check`] is for bytes that nobody vouches for.
 #![tactic(auto)]
 
 mod addresses;

@@ -25,7 +25,8 @@ pub(crate) const ENTRY_SIZE: usize = 12;
 /// The bytes of a source: the offset of its unit, where its path is, and why there is none.
 pub(crate) const SOURCE_SIZE: usize = 24;
 
-/// A search looks at a guess first, and then at a start that is this part of all starts away.
+/// A search looks at a guess first, and then at a start that is one in this many of all starts
+/// away.
 const NEAR: usize = 512;
 
 /// An index of the lines of a program, as it lies in its bytes. Any number of threads may ask one.
@@ -85,8 +86,8 @@ pub(crate) fn is_statement_in(word: u32) -> bool
     STATEMENT <= word
 }
 
-/// How many of so many numbers, which lie evenly in a whole, are in its first part; fewer than all.
-/// A guess: where the product passes 64 bits it is a bad one.
+/// Guesses how many of `count` numbers that are spread evenly over a whole are in its first part;
+/// fewer than all. Where the product passes 64 bits, the guess is a bad one.
 #[inline(always)]
 fn even_share(part: u64, whole: u64, count: usize) -> usize
     requires whole { 0 < whole }
@@ -121,7 +122,7 @@ pub(crate) fn path_in(paths: &[u8], first: u32, size: u32) -> Result<&[u8], NoPa
     Ok(&paths[first..end])
 }
 
-/// The path of a source, whose bytes stand there first.
+/// The path of the source that these bytes begin with.
 pub(crate) fn path_of<'a>(paths: &'a [u8], source: &[u8]) -> Result<&'a [u8], NoPath>
     requires { 24 ≤ length source.now }
     ensures { result_map (λ path. path.now) result ≡ path_of paths.now source.now }
@@ -212,7 +213,7 @@ impl<'a> LineIndex<'a> {
         self.starts == 0
     }
 
-    /// How far above the base the start of an index is.
+    /// How far above the base the start at an index is.
     pub(crate) fn start_number(&self, index: usize) -> u64
         requires { index < self.now.starts }
         ensures number { result ≡ start_number (index_of self.now) index }
@@ -224,7 +225,7 @@ impl<'a> LineIndex<'a> {
         }
     }
 
-    /// The address of the start of an index.
+    /// The address of the start at an index.
     pub(crate) fn address_at(&self, index: usize) -> u64
         requires { index < self.now.starts }
         ensures { result ≡ (start_at (index_of self.now) index).address }
@@ -241,7 +242,7 @@ impl<'a> LineIndex<'a> {
         &self.source_bytes[SOURCE_SIZE * index..]
     }
 
-    /// What the entry of an index says.
+    /// What the entry at an index says.
     pub(crate) fn entry_place(&self, index: usize) -> Option<Place<'a>>
         requires { index < self.now.starts }
         ensures { option_map place_of result
@@ -272,8 +273,8 @@ impl<'a> LineIndex<'a> {
         }
     }
 
-    /// What holds from the start of an index on, up to the next start; None where there is no such
-    /// start. The starts have the indices from 0 on.
+    /// What holds from the start at an index on, up to the next start; None where there is no such
+    /// start. The indices count from 0.
     pub fn get(&self, index: usize) -> Option<Start<'a>>
         ensures { option_map start_of result ≡ slice_get (starts_of (index_of self.now)) index }
     {
@@ -286,8 +287,8 @@ impl<'a> LineIndex<'a> {
         })
     }
 
-    /// Two counts between which the count of the starts up to a number is, if they ascend: those
-    /// given, or nearer ones, by a look at the start of an index between them.
+    /// Two bounds on how many starts are at most a number, if starts ascend: those given, or closer
+    /// ones, by a look at the start at an index between them.
     #[inline(always)]
     fn narrowed(&self, number: u64, low: usize, high: usize, at: usize) -> (usize, usize)
         requires between { CountIsBetween (index_of self.now) number low high }
@@ -303,8 +304,8 @@ impl<'a> LineIndex<'a> {
         }
     }
 
-    /// Two counts between which the count of the starts up to a number is, if they ascend. They are
-    /// near each other where the starts lie evenly.
+    /// Two bounds on how many starts are at most a number, if starts ascend. They are close to each
+    /// other where the starts are spread evenly.
     #[inline(always)]
     fn count_between(&self, number: u64) -> (usize, usize)
         ensures { CountIsBetween (index_of self.now) number result.0 result.1 }
@@ -325,7 +326,7 @@ impl<'a> LineIndex<'a> {
         }
     }
 
-    /// How many starts are at most so far above the base, where they ascend.
+    /// How many starts are at most this far above the base, if they ascend.
     #[inline(always)]
     pub(crate) fn starts_up_to(&self, number: u64) -> usize
         ensures { CountIsBetween (index_of self.now) number result result }
@@ -344,10 +345,9 @@ impl<'a> LineIndex<'a> {
 
     /// Where the code at an address comes from; None where the index says nothing of it.
     ///
-    /// Takes no memory, changes nothing, and looks at no more than three starts above as many as
-    /// their number has binary digits. It returns on any bytes; what it returns is known where the
-    /// starts ascend, which [`check`](LineIndex::check) tells, and which holds for each index that
-    /// this crate made.
+    /// Takes no memory, changes nothing, and looks at no more than b + 3 starts, if their number
+    /// has b binary digits. It returns on any bytes. What it returns is known if the starts ascend:
+    /// [`check`](LineIndex::check) tests this, and it holds for each index that this crate made.
     pub fn find(&self, address: u64) -> Option<Place<'a>>
         ensures { let starts = starts_of (index_of self.now) in
             AreAscending starts → option_map place_of result ≡ place_at address starts }

@@ -80,8 +80,8 @@ impl<'a> LineIndex<'a> {
         Some(line)
     }
 
-    /// The least line from the asked one on of which there is a statement in files that a path
-    /// names, whose name has this number.
+    /// The first line from the asked one on that has a statement in files that a path names, whose
+    /// name has this number.
     fn first_line(&self, path: &[u8], name: u64, asked: u64) -> Option<FirstLine>
         requires name { name ≡ last_number (components path.now) }
         requires few { name < 2 ^ 31 }
@@ -104,20 +104,20 @@ impl<'a> LineIndex<'a> {
     }
 
     /// The addresses for a breakpoint at a line of the files that a path names, in ascending order,
-    /// each once: of each run of rows of that line of one file that stand side by side in a
-    /// sequence, that of the first one that is a statement (DWARF 5, section 6.2.2). Where the line
-    /// has none, those of the next line that has; None where no line from it on has any.
+    /// each once. For each run of adjacent rows of that line of one file in a sequence, it is the
+    /// address of the first row that is a statement (DWARF 5, section 6.2.2). If the line has none,
+    /// those of the next line that has any; None if no line from it on has any.
     ///
     /// A path names a file where the file's path ends with its components (`stl_map.h`,
-    /// `bits/stl_map.h`); one from the root is a whole one, and one without a component names none.
-    /// `/` and backslashes part components, and `.`, `..` and doubled separators are resolved by
-    /// text.
+    /// `bits/stl_map.h`); one from the root is a whole path, and one without a component names
+    /// none. `/` and backslashes separate components, and `.`, `..` and doubled separators are
+    /// resolved by text.
     ///
     /// Takes no memory. It searches the statements by halves, and then looks at those of the line
-    /// in files of the same name. It returns on any bytes; what it returns is known where the
-    /// statements are in order, which [`check`](LineIndex::check) tells, and which holds for each
-    /// index that this crate made. The statements that [`write_index`](crate::write_index) makes
-    /// have the addresses that its lookup has.
+    /// in files of the same name. It returns on any bytes. What it returns is known if the
+    /// statements are in order: [`check`](LineIndex::check) tests this, and it holds for each index
+    /// that this crate made. The statements that [`write_index`](crate::write_index) makes have the
+    /// addresses that its lookup has.
     pub fn addresses_of<'p>(&self, path: &'p [u8], line: u64) -> Option<Addresses<'a, 'p>>
         ensures { IsOrdered (index_of self.now) → AreAddressesFrom
             (addresses_of path.now (statements_of (index_of self.now))) line result }
@@ -143,7 +143,7 @@ impl<'a, 'p> Addresses<'a, 'p> {
         self.line
     }
 
-    /// A number that no more addresses than it are left of.
+    /// An upper bound on how many addresses are left.
     pub fn most(&self) -> usize
         ensures { length (addresses_left self.now) ≤ result }
     {

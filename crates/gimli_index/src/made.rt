@@ -315,8 +315,8 @@ fn write_entries<R: Reader>(
 /// the rows give, whichever of their sequences overlap. The sources are those that an entry or a
 /// statement names, each the file of a row of code.
 ///
-/// Adjacent starts of one place are one. A path that can't be told is a source with the number of
-/// its reason (`docs/reference/INDEX.md`, "Sources"). Refuses lines, columns, and more entries,
+/// Adjacent starts of one place are one. A source whose path isn't known has the number of the
+/// reason (`docs/reference/INDEX.md`, "Sources"). Refuses lines, columns, and more entries,
 /// statements, sources or bytes of paths or of the identity than 32 bits count, by name, and
 /// appends nothing then; else it fails only with `OutOfMemory`, where a part of the bytes may be
 /// appended. Requires an address size of 1, 2, 4 or 8 bytes.

@@ -157,7 +157,7 @@ fn kept_sources(
     Ok(some)
 }
 
-/// The number that stands in the place of another one.
+/// The number that replaces another one.
 fn number_by(numbers: &[u32], number: u32) -> u32
     ensures { result ≡ number_by numbers.now number }
 {

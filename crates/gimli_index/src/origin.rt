@@ -26,7 +26,7 @@ pub(crate) struct Origin<'a, R: Reader> {
     pub(crate) limit: usize,
 }
 
-/// The number of the reason why a path can't be told; None where memory is missing.
+/// The number of the reason why a path isn't known; None where memory is missing.
 fn reason_of(error: PathError) -> Option<u32>
     ensures { MatchOption result (error ≡ OutOfMemory)
         (λ reason. (error ≢ OutOfMemory) × (reason ≢ 0) × (reason ≡ reason_of error)) }
@@ -44,7 +44,7 @@ fn reason_of(error: PathError) -> Option<u32>
 }
 
 impl<R: Reader> Origin<'_, R> {
-    /// The whole path of a row's file, or the number of the reason why it can't be told. Fails only
+    /// The whole path of a row's file, or the number of the reason why it isn't known. Fails only
     /// with `OutOfMemory`.
     pub(crate) fn path_of(
         &self,

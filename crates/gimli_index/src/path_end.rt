@@ -1,4 +1,4 @@
-//! The end of paths, made once and asked of many files.
+//! The end of paths, made once and tested against many files.
 
 ghost use Rattle.std.specs.Prelude.{◌≡◌, List, ℕ, ◌++◌, true, false};
 ghost use Rattle.std.specs.List.{starts_with};
@@ -11,10 +11,11 @@ use crate::path_ends::{ends_with, is_separator};
 use std::marker::Model;
 
 /// The end of paths, by which files are named: `stl_map.h`, `bits/stl_map.h`, or a whole path from
-/// the root. `/` and backslashes part components, and `.`, `..` and doubled separators are resolved
-/// by text.
+/// the root. `/` and backslashes separate components, and `.`, `..` and doubled separators are
+/// resolved by text.
 ///
-/// It is made once and asked of many files: of most that it doesn't name, the last bytes tell.
+/// Make it once and test many files with it: for most files that it doesn't name, the last bytes
+/// decide.
 #[derive(Clone, Debug, Drop)]
 pub struct PathEnd<'p> {
     path: &'p [u8],
@@ -64,7 +65,7 @@ fn ends_with_bytes(path: &[u8], end: &[u8]) -> bool
     last == end
 }
 
-/// Whether the last bytes of a path tell that its last component isn't this one.
+/// Whether the last bytes of a path show that its last component isn't this one.
 #[inline(always)]
 fn has_other_name(path: &[u8], name: &[u8]) -> bool
     ensures { result ≡ true → (end : List ℕ) → IsLastComponent end name.now

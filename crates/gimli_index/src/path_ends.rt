@@ -1,4 +1,4 @@
-//! Which paths end with the components of another, told without memory.
+//! Which paths end with the components of another, found without taking memory.
 
 ghost use Rattle.std.specs.Prelude.{◌≡◌, ◌≤◌, ◌<◌, ◌+◌, ◌-◌, ◌^◌, ◌∷◌, ℕ, List, [], length};
 ghost use Rattle.std.specs.Prelude.{take, drop, MatchOption, false};
@@ -12,7 +12,7 @@ ghost use Rattle.gimli_index.specs.inside.Components.{components_left};
 
 use crate::components::Components;
 
-/// Whether a byte parts components.
+/// Whether a byte separates components.
 pub(crate) fn is_separator(byte: u8) -> bool
     ensures { result ≡ is_separator byte }
 {

@@ -3,7 +3,7 @@
 /// Why a place has no path.
 #[derive(Clone, Copy, Debug, PartialEq, Eq)]
 pub enum NoPath {
-    /// It couldn't be told when the index was made, for the reason of this number, which isn't 0.
+    /// It wasn't known when the index was made, for the reason of this number, which isn't 0.
     Reason(u32),
     /// It isn't inside the part of paths, or no zero byte follows it: the index is damaged.
     Outside,

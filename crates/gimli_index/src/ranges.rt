@@ -32,7 +32,7 @@ impl<'a> LineIndex<'a> {
 
     /// The ranges of addresses of which the index says one thing, from the first start on: one
     /// after the other, up to the highest address. A gap is a range without a place. A start that
-    /// holds nowhere has no range.
+    /// covers no address has no range.
     pub fn ranges(&self) -> PlaceRanges<'a>
         ensures { ranges_left result ≡ ranges_of (starts_of (index_of self.now)) }
     {
@@ -42,7 +42,7 @@ impl<'a> LineIndex<'a> {
         }
     }
 
-    /// The address of the start of an index, if there is such a start.
+    /// The address of the start at an index, if there is such a start.
     pub(crate) fn address_from(&self, index: usize) -> Option<u64>
         ensures { result ≡ first_start (drop index (starts_of (index_of self.now))) }
     {
@@ -53,7 +53,7 @@ impl<'a> LineIndex<'a> {
         }
     }
 
-    /// Whether the start of an index holds nowhere, since the next one has its address.
+    /// Whether the start at an index covers no address, since the next one has its address.
     fn is_empty_at(&self, index: usize) -> bool
         requires { index < self.now.starts }
         ensures { result ≡ is_empty (start_at (index_of self.now) index)

@@ -143,7 +143,7 @@ impl SourceTable {
     }
 
     /// Appends the source of a row's file. Requires an index of a unit. Takes the rows by value, so
-    /// that whoever knows their source needn't have them in memory.
+    /// that a caller that knows their source needn't have them in memory.
     #[inline(never)]
     fn add<R: Reader>(
         &mut self,

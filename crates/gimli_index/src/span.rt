@@ -77,7 +77,7 @@ impl<'a> LineIndex<'a> {
         self.identity_offset
     }
 
-    /// Where the path of a source stands, whose bytes stand there first.
+    /// Where the path of the source that these bytes begin with is.
     fn path_span(&self, source: &[u8]) -> Result<Span, NoPath>
         requires { 24 ≤ length source.now }
         ensures path { result_map (path_at self.now.path_bytes.now) result
@@ -97,7 +97,7 @@ impl<'a> LineIndex<'a> {
         Ok(Span { first, size })
     }
 
-    /// The first address from the start of an index on, and that of the next start.
+    /// The first address from the start at an index on, and that of the next start.
     fn range_at(&self, index: usize) -> (u64, Option<u64>)
         requires { index < self.now.starts }
         ensures { IsRangeOf (index_of self.now) index result.0 result.1 }
@@ -111,7 +111,7 @@ impl<'a> LineIndex<'a> {
         (self.address_at(index), end)
     }
 
-    /// What the entry of an index says.
+    /// What the entry at an index says.
     #[inline(always)]
     fn entry_span(&self, index: usize) -> Option<PlaceSpan>
         requires { index < self.now.starts }

@@ -17,14 +17,15 @@ use std::alloc::{AllocError, Global};
 /// What is kept of a sequence, and its unit.
 #[derive(Clone, Copy)]
 pub(crate) struct Turn<'a> {
-    /// The first address, and below it the last one.
+    /// The first address in the high 64 bits, and the last one in the low 64 bits.
     key: u128,
     /// The index of the unit.
     pub(crate) unit: usize,
     pub(crate) rows: SequenceRows<'a>,
 }
 
-/// The first address of rows, and below it the last one; 0 where there are none.
+/// The first address of rows in the high 64 bits, and the last one in the low ones; 0 where there
+/// are none.
 fn key_of(rows: SequenceRows<'_>) -> u128
     ensures key { result ≡ key_of (rows_of rows.entry) }
     ensures few { IfSome (range (rows_of rows.entry)) (λ ends. ends.1 < 2 ^ 64) }
