@@ -21,10 +21,10 @@ use std::{fs, io, str};
 
 impl Run<'_> {
     /// Does what the request asks for over the bytes of files, and returns the status of the
-    /// program: 0, or 1 where something was refused, and reported on standard error, or found by a
-    /// check. On a terminal headings and faults are set off, and a long command prints how far it
-    /// is. Fails where memory is missing, where standard input can't be read, and where standard
-    /// output takes no more; what was printed before stands.
+    /// program: 0, or 1 if something was refused (and reported on standard error), or if a check
+    /// found something. On a terminal headings and faults are highlighted, and a long command shows
+    /// how far it is. Fails if memory is missing, if standard input can't be read, or if standard
+    /// output takes no more; what was printed before stays printed.
     pub fn perform(self, kind: InputKind, files: Files<'_>) -> io::Result<u8>
         ensures status { IfOk result (λ status. status ≤ 1) }
         ensures no_lines { kind ≡ InputKind.Elf
@@ -226,8 +226,8 @@ impl<'r> Session<'r> {
         }
     }
 
-    /// Prints the places of the addresses that follow each other in the section or in the function
-    /// of a name, or that the one that is asked now has none.
+    /// Prints the places of the current address and of those that follow it in the section or in
+    /// the function of a name, or that the current one has no place.
     fn locate_named(
         &mut self,
         files: Files<'_>,
@@ -276,7 +276,8 @@ impl<'r> Session<'r> {
     }
 
     /// Prints the places of the addresses that follow each other in a section of an object file.
-    /// False where none can be printed, which is reported: then the file has nothing of the name.
+    /// False if none can be printed, which is reported: the limit forbids it, or the file has
+    /// nothing of the name.
     fn locate_in(
         &mut self,
         program: &InputSections<'_>,
@@ -303,7 +304,7 @@ impl<'r> Session<'r> {
     }
 
     /// Prints the places of addresses by the rows of a program, or of the section of a name.
-    /// Returns whether there was one.
+    /// Returns whether there was an address to answer.
     fn locate<R: Reader>(
         &mut self,
         program: &InputSections<'_>,
@@ -319,8 +320,8 @@ impl<'r> Session<'r> {
         self.answer_all(&places, questions)
     }
 
-    /// Answers questions up to the first that is asked of another section. Returns whether there
-    /// was one that wasn't.
+    /// Answers questions up to the first one about another section. Returns whether it answered
+    /// any.
     pub(crate) fn answer_all<R: Reader>(
         &mut self,
         places: &Places<'_, '_, R>,
@@ -336,8 +337,7 @@ impl<'r> Session<'r> {
         Ok(is_any)
     }
 
-    /// Answers the question that is asked now. False where none is, or it is asked of another
-    /// section.
+    /// Answers the current question. False if there is none, or if it is about another section.
     fn answer_next<R: Reader>(
         &mut self,
         places: &Places<'_, '_, R>,

@@ -100,8 +100,8 @@ pub(crate) fn ask(run: Run<'_>, index: &str) -> io::Result<u8> {
 }
 
 /// Prints the places of the addresses that the request names, or of those of standard input, by the
-/// bytes of an index of a name, and returns the status: 0, or 1 where something was reported. An
-/// index that isn't that of the program with this identity, where one is known, is refused.
+/// bytes of an index of a name, and returns the status: 0, or 1 where something was reported.
+/// Refuses an index of another program than the one with this identity, if an identity is known.
 fn answer_by(run: Run<'_>, name: &str, index: &[u8], identity: Option<&[u8]>) -> io::Result<u8>
     ensures status { IfOk result (λ status. status ≤ 1) }
     ensures stale { (found : Index) → index_at index.now ≡ Ok found
@@ -187,8 +187,8 @@ fn index_and_starts(
     Ok((bytes, starts))
 }
 
-/// The bytes of the index of a program that is read; None where there is none, which is reported. A
-/// fault of a unit is reported; what stands before it is in the index all the same.
+/// The bytes of the index of a program that is read; None where there is none, which is reported.
+/// Reports the fault of a unit; the rows before the fault are in the index all the same.
 fn index_program(
     session: &mut Session<'_>,
     program: &InputSections<'_>,

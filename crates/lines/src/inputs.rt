@@ -19,7 +19,7 @@ pub(crate) const STANDARD_INPUT: &str = "-";
 /// The bytes that an ELF file begins with (System V ABI, chapter 4).
 const ELF: &[u8] = b"\x7fELF";
 
-/// How many bytes say what a file is: those of an archive are the most.
+/// How many bytes tell the kind of a file: an archive takes the most.
 const START: u64 = 8;
 
 /// The bytes of the files that a request names, and how they are read.
@@ -41,8 +41,8 @@ pub(crate) struct OpenInputs {
     pub(crate) file: Option<ProgramFile<File>>,
 }
 
-/// Reads a file, and those that the request names beside it; None where there is one that can't be
-/// read, which is reported.
+/// Reads a file, and those that the request names besides it; None if one of them can't be read,
+/// which is reported.
 pub(crate) fn inputs_of(run: Run<'_>, name: &str) -> io::Result<Option<Inputs>> {
     match open_inputs(run, name)? {
         Some(opened) => Ok(Some(opened.inputs)),
@@ -50,7 +50,8 @@ pub(crate) fn inputs_of(run: Run<'_>, name: &str) -> io::Result<Option<Inputs>> 
     }
 }
 
-/// The same, and the file itself, of which the sections that `reads_later` speaks of are left.
+/// Reads what `inputs_of` reads, and keeps the file itself for the sections that are read later
+/// (see `reads_later`).
 pub(crate) fn open_inputs(run: Run<'_>, name: &str) -> io::Result<Option<OpenInputs>> {
     let Run { rt, request } = run;
     let source = match request.kind {
@@ -78,8 +79,8 @@ fn read_whole(bytes: Vec<u8>) -> OpenSource<File> {
     }
 }
 
-/// Whether the sections that whole paths need are read once rows are found, as far as these need
-/// them: where places are asked, and no section of texts is named that takes the place of the
+/// Whether the sections that whole paths need are read only once rows are found, and only as far as
+/// these need them: if the command asks for places, and names no section of strings to replace the
 /// program's own.
 pub(crate) fn reads_later(request: &Request<'_>) -> bool {
     let is_where = matches!(request.command, Command::Where { .. });
@@ -118,8 +119,8 @@ fn sections_of(run: Run<'_>, name: &str) -> io::Result<Option<OpenSource<File>>>
 }
 
 impl Inputs {
-    /// What was read of a file and of those that are named beside it. Sections that were found say
-    /// how they are read.
+    /// What was read of a file and of those that are named besides it. If sections were found, they
+    /// say how they are read.
     fn new(request: &Request<'_>, found: Found, line_str: Vec<u8>, strings: Vec<u8>) -> Inputs {
         let kind = match &found {
             Found::Whole(_) => request.kind,
@@ -134,7 +135,7 @@ impl Inputs {
         }
     }
 
-    /// The bytes of the files. Sections of texts that are named apart take the place of a program's
+    /// The bytes of the files. Sections of strings that are named separately replace a program's
     /// own.
     pub(crate) fn files(&self) -> Files<'_> {
         match &self.found {
@@ -239,7 +240,7 @@ pub(crate) fn read(rt: &HostRuntime, name: &str) -> io::Result<Option<Vec<u8>>> 
     }
 }
 
-/// The bytes of standard input; the first ones alone where these aren't an ELF file's.
+/// The bytes of standard input; only the first ones if these aren't an ELF file's.
 fn read_elf(rt: &HostRuntime) -> io::Result<Vec<u8>> {
     let mut bytes = Vec::new(rt.alloc());
     rt.stdin().take(START).read_to_end(&mut bytes)?;

@@ -63,7 +63,7 @@ fn words_of_program(rt: &HostRuntime) -> io::Result<Vec<String>> {
     Ok(words)
 }
 
-/// Prints what is said of words that ask for nothing, or of help, and returns the status.
+/// Prints the message for words that can't be parsed, or the help, and returns the status.
 fn explain(rt: &HostRuntime, error: &Error) -> io::Result<u8> {
     if error.kind() == WordsError::OutOfMemory {
         return Err(io::Error::from(ErrorKind::OutOfMemory));

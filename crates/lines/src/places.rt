@@ -15,8 +15,8 @@ use std::io::{Read, Seek};
 type Slice<'s> = EndianSlice<'s, RunTimeEndian>;
 
 /// Prints the places of the addresses that a request asks, and returns the status of the program as
-/// `Run::perform` does. An object file, and what isn't a file that sections can be sought in, is
-/// read whole before.
+/// `Run::perform` does. Reads an object file whole first, and so any file that sections can't be
+/// sought in.
 pub(crate) fn locate(run: Run<'_>) -> io::Result<u8>
     ensures { IfOk result (λ status. status ≤ 1) }
 {
@@ -26,7 +26,7 @@ pub(crate) fn locate(run: Run<'_>) -> io::Result<u8>
     }
 }
 
-/// The same over the bytes of a file, or over its sections.
+/// Does what `locate` does, over the bytes of a file, or over its sections.
 fn locate_in(run: Run<'_>, opened: OpenInputs) -> io::Result<u8>
     ensures { IfOk result (λ status. status ≤ 1) }
 {
@@ -40,8 +40,8 @@ fn locate_in(run: Run<'_>, opened: OpenInputs) -> io::Result<u8>
     }
 }
 
-/// The same over sections of a linked program, of which others are still in its file. One of these
-/// that is needed and can't be read is reported, and nothing else is then printed.
+/// Does what `locate` does, over sections of a linked program whose other sections are still in its
+/// file. If one of these is needed and can't be read, reports that and prints nothing else.
 fn locate_by<F: Read + Seek>(
     run: Run<'_>,
     inputs: &Inputs,
@@ -61,8 +61,8 @@ fn locate_by<F: Read + Seek>(
 }
 
 impl Session<'_> {
-    /// Prints the places of addresses, or reports why none is printed. Returns why a section isn't
-    /// read that paths need, before anything is printed.
+    /// Prints the places of addresses, or reports why none is printed. If a section that paths need
+    /// isn't read, returns why, before anything is printed.
     fn locate_in_program<F: Read + Seek>(
         &mut self,
         inputs: &Inputs,

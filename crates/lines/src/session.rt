@@ -71,9 +71,9 @@ impl<'r> Session<'r> {
         Ok(())
     }
 
-    /// Whether the rows of a section of so many bytes may be kept; that they may not is reported.
-    /// The limit is that of compressed sections, or where it is the usual one, several times that.
-    /// Tells at a terminal that a whole section is read, where that is long.
+    /// Whether the rows of a section of so many bytes may be kept; reports it if they may not. The
+    /// limit is that of compressed sections, or several times that if it is the usual one. Shows on
+    /// a terminal that a whole section is read, if that is long.
     pub fn begin_lookup(&mut self, length: u64, limit: u64) -> io::Result<bool> {
         let limit = self
             .run
