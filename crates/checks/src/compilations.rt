@@ -67,7 +67,7 @@ const SAID_LITTLE: [(u64, Said); 11] = [
     (201, Err(Refusal::Bytes(Error::UnknownForm(DwForm(2))))),
 ];
 
-/// The same, the most significant byte first; the first unit is of the 64-bit format.
+/// Sections like `LITTLE`, the most significant byte first; the first unit is of the 64-bit format.
 const BIG: [&[u8]; 3] = [
     ABBREVIATIONS,
     b"\xff\xff\xff\xff\0\0\0\0\0\0\0\x20\0\x03\0\0\0\0\0\0\0\x0c\x08\x01\
@@ -108,7 +108,7 @@ const TABLES: [&[u8]; 3] = [
     b"",
 ];
 
-/// A table that is cut refuses each code that doesn't stand before the cut, where no byte is left.
+/// A table that is cut refuses each code that isn't before the cut, where no byte is left.
 const CUT: Said = Err(Refusal::Bytes(Error::UnexpectedEof(ReaderOffsetId(0))));
 
 /// Of two declarations of one code the first counts.

@@ -1,4 +1,4 @@
-//! Conversions and their tables of texts, and what stands there after a start that is refused.
+//! Conversions and their tables of strings, and what is in these after a start that is refused.
 
 ghost use Rattle.std.specs.Prelude.{IfSome, IsTrue};
 ghost use Rattle.gimli_core.specs.Numbers.{is_address_size};
@@ -51,8 +51,8 @@ pub fn conversion<R: Reader>(
     ConvertLineProgram::new(none, none, program, name, encoding, None, lines, strings)
 }
 
-/// Whether a start without a name, which is refused, leaves the old texts the first in both tables.
-/// No clause says it.
+/// Whether a start without a name, which is refused, leaves the old strings first in both tables.
+/// No clause says so.
 fn keeps_texts<R: Reader>(program: IncompleteLineProgram<R>, texts: &mut Texts) -> Found {
     texts.line_strings.add(b"old")?;
     texts.strings.add(b"old")?;
@@ -66,12 +66,12 @@ fn keeps_texts<R: Reader>(program: IncompleteLineProgram<R>, texts: &mut Texts) 
     ]))
 }
 
-/// The same of a unit.
+/// What `keeps_texts` checks, for a unit.
 fn keeps_texts_of<R: Reader>(alloc: Global, unit: R, directory: R, texts: &mut Texts) -> Found {
     keeps_texts(program(alloc, unit, Some(directory))?, texts)
 }
 
-/// The same of the unit with two addresses.
+/// What `keeps_texts` checks, for the unit with two addresses.
 pub fn refused(alloc: Global) -> Found {
     keeps_texts_of(
         alloc,

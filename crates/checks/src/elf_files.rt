@@ -10,8 +10,8 @@ use std::alloc::Global;
 use std::io::Cursor;
 
 /// An object file of 32-bit RISC-V, put together by hand. Its `.debug_line` is compressed by zlib
-/// (`SHF_COMPRESSED`): 01 00 00 00, 10 00, 2c, 00 00 00 00, 07. At 0 `.text.b` + 3 is to be, at 4
-/// the difference of two symbols of `.text`, 6, is added, and at 7 `.debug_str` + 5 is to be.
+/// (`SHF_COMPRESSED`): 01 00 00 00, 10 00, 2c, 00 00 00 00, 07. Its relocations put `.text.b` + 3
+/// at 0, add 6, the difference of two symbols of `.text`, at 4, and put `.debug_str` + 5 at 7.
 /// `.text` is section 1, and `.text.b` section 2.
 const RISCV: &[u8] =
     b"\x7fELF\x01\x01\x01\0\0\0\0\0\0\0\0\0\x01\0\xf3\0\x01\0\0\0\0\0\0\0\0\0\0\00\x01\0\0\0\0\
@@ -48,7 +48,7 @@ const ARM: &[u8] =
 /// The name of the section of line programs.
 const LINES: &[u8] = b".debug_line";
 
-/// A file, where its sections are to stand, and its `.debug_line` so: each section at 0; only
+/// A file, where its sections are to be, and its `.debug_line` then: each section at 0; only
 /// `.text`, so that the address in `.text.b` is all ones, and what isn't code stays at 0; and the
 /// older form, whose addends stand at their places.
 const RELOCATED: [(&[u8], SectionPlace, &[u8]); 3] = [
@@ -83,7 +83,7 @@ pub fn relocated(alloc: Global) -> Found {
 /// A file, the name of a section, and what it holds.
 type Sought = (&'static [u8], &'static [u8], Option<&'static [u8]>);
 
-/// One section as it stands, one that is compressed, one of the older form, and none.
+/// One section that is stored as it is, one that is compressed, one of the older form, and none.
 const SOUGHT: [Sought; 4] = [
     (RISCV, b".debug_str", Some(b"\0a.c\0b.c\0")),
     (RISCV, LINES, Some(b"\x01\0\0\0\x10\0\x2c\0\0\0\0\x07")),
@@ -138,7 +138,7 @@ fn refusal(alloc: Global, file: &[u8]) -> Option<ElfError> {
     }
 }
 
-/// The first length at which a file that ends before its end is refused otherwise: the magic number
+/// The first length at which a file that is cut there isn't refused as expected: the magic number
 /// has 4 bytes, the header 52, and the section table ends the file.
 pub fn cut(alloc: Global) -> Found {
     for count in 0..RISCV.len() {
@@ -154,10 +154,9 @@ pub fn cut(alloc: Global) -> Found {
     Ok(None)
 }
 
-/// Sizes and offsets that are put in place of others, greater than the file, and the refusals: of
-/// the section table (`e_shoff`), of the names (`sh_size` of section 7), of the section
-/// (`sh_offset`, `sh_size` of section 4), and of what it is compressed to (`ch_size`). None is
-/// allocated.
+/// Where a size or an offset is replaced by one greater than the file, and the refusal: of the
+/// section table (`e_shoff`), of the names (`sh_size` of section 7), of the section (`sh_offset`,
+/// `sh_size` of section 4), and of what it is compressed to (`ch_size`). None is allocated.
 const HUGE: [(usize, ElfError); 5] = [
     (32, ElfError::SectionTableCut),
     (0x130 + 7 * 40 + 20, ElfError::NamesCut),
@@ -180,9 +179,9 @@ pub fn huge(alloc: Global) -> Found {
     Ok(HUGE.iter().position(|(offset, wanted)| refusal_with(alloc, *offset) != Some(*wanted)))
 }
 
-/// A file, the name of a section, the limit, and why it isn't made whole, where it isn't: what
-/// `.debug_line` says that it holds has as many bytes as the limit, or one more, in both forms.
-/// What isn't compressed has no limit.
+/// A file, the name of a section, the limit, and why it isn't decompressed, if it isn't:
+/// `.debug_line` says that it holds as many bytes as the limit, or one more, in both forms. What
+/// isn't compressed has no limit.
 const LIMITS: [(&[u8], &[u8], u64, Option<ElfError>); 5] = [
     (RISCV, LINES, 12, None),
     (RISCV, LINES, 11, Some(ElfError::SectionTooLarge(12))),
@@ -191,7 +190,7 @@ const LIMITS: [(&[u8], &[u8], u64, Option<ElfError>); 5] = [
     (RISCV, b".debug_str", 0, None),
 ];
 
-/// Why a section isn't made whole by a limit, of a file that is read whole.
+/// Why a limit keeps a section from being decompressed, in a file that is read whole.
 fn whole_refusal(alloc: Global, file: &[u8], name: &[u8], limit: u64) -> Option<ElfError> {
     match Elf::parse(file) {
         Ok(elf) => elf.section_data(alloc, name, limit).err(),
@@ -220,7 +219,7 @@ pub fn limits(alloc: Global) -> Found {
 // ---- debug files
 
 /// How many bytes `a` a file has, and its checksum: files of less than a piece, of a piece, and of
-/// more. zlib's `crc32` answers the same.
+/// more. zlib's `crc32` returns the same.
 const CHECKSUMS: [(usize, u32); 4] = [
     (0, 0),
     (65_536, 0xc320_91ff),

@@ -1,5 +1,5 @@
-//! What the errors of writing and converting print, which the stored output of the program has as
-//! gimli's texts are, and how one error becomes another. No contract tells it.
+//! What the errors of writing and converting print, and how one error becomes another. No contract
+//! says it: the stored output of the program has the texts, which are gimli's.
 
 use crate::{Found, first_false};
 use gimli_core::{DwEhPe, Error as ReadError};

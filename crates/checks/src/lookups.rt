@@ -1,5 +1,5 @@
-//! Lookups over a reader of one's own, and copies and lookups of many of each thing. Memory for
-//! them is there, so a refusal by `OutOfMemory` would be wrong, which no contract tells.
+//! Lookups over a reader of one's own, and copies and lookups of many of each thing. There is
+//! memory for them, so a refusal by `OutOfMemory` would be wrong; no contract says so.
 
 ghost use Rattle.std.specs.Prelude.{◌<◌, IsTrue, length};
 

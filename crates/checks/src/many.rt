@@ -1,5 +1,5 @@
-//! Many of each thing that is written, built or converted. Memory for them is there, so a refusal
-//! by `OutOfMemory` would be wrong, which no contract tells.
+//! Many of each thing that is written, built or converted. There is memory for them, so a refusal
+//! by `OutOfMemory` would be wrong; no contract says so.
 
 ghost use Rattle.std.specs.Prelude.{IfSome, IsTrue};
 ghost use Rattle.gimli_core.specs.Numbers.{is_address_size};
@@ -31,7 +31,7 @@ fn fill<W: Writer>(w: &mut W) -> Result<()> {
     Ok(())
 }
 
-/// Whether a text is its copy, and so are the details of a file with it.
+/// Whether a string equals its copy, and so do the details of a file with it.
 fn is_copied(text: LineString) -> Result<bool> {
     let same = text.clone()? == text;
     let mut info = FileInfo::default();
@@ -88,7 +88,7 @@ fn build_item<R: Reader>(
     }
 }
 
-/// How many rows the first sequence has that is read; half of the items after it are built.
+/// Reads the first sequence and returns how many rows it has; builds half of the items after it.
 fn build_half<R: Reader>(conversion: &mut ConvertLineProgram<'_, '_, R>) -> ConvertResult<usize> {
     let sequence = conversion.read_sequence()?;
     for _ in 0..ITEMS / 2 {
@@ -100,7 +100,7 @@ fn build_half<R: Reader>(conversion: &mut ConvertLineProgram<'_, '_, R>) -> Conv
 }
 
 /// Whether a program is written behind three bytes, and read back. The working directory comes
-/// first; in version 5 the name is a file more than those of the source.
+/// first; in version 5 the name is one file more than the source has.
 fn is_read_back<E: Endianity>(
     program: &LineProgram,
     unit: &mut DebugLine<EndianVec<E>>,

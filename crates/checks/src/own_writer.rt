@@ -209,8 +209,8 @@ fn add_file(program: &mut LineProgram, encoding: Encoding, texts: &mut Texts) ->
     Ok(())
 }
 
-/// Whether the tables have the texts of the program alone, or the empty text more, which a refused
-/// call may have added and any other has to; up to version 4 there is none.
+/// Whether the tables have only the strings of the program, or also the empty string: a refused
+/// call may have added it, and any other call must have; up to version 4 there is none.
 fn are_kept(texts: &mut Texts, version: u16, is_refused: bool) -> Result<bool> {
     let (count, lines) = (texts.strings.count(), texts.line_strings.count());
     if version == 4 {
@@ -228,8 +228,8 @@ fn are_kept(texts: &mut Texts, version: u16, is_refused: bool) -> Result<bool> {
     )
 }
 
-/// Writes a program to a section that takes so many calls: whether the writer's error came of it,
-/// and whether all is as it has to be.
+/// Writes a program to a section that takes so many calls: whether this returned the writer's
+/// error, and whether all is as it has to be.
 fn write_after(
     program: &LineProgram,
     due: &'static [u8],
@@ -259,7 +259,7 @@ fn write_after(
     }
 }
 
-/// The same of a new program with new tables.
+/// What `write_after` returns for a new program with new tables.
 fn write_new(
     alloc: Global,
     encoding: Encoding,
@@ -270,7 +270,7 @@ fn write_new(
     write_with(alloc, encoding, due, calls, &mut texts)
 }
 
-/// The same of a new program, whose texts go to these tables.
+/// What `write_after` returns for a new program, whose strings go to these tables.
 fn write_with(
     alloc: Global,
     encoding: Encoding,

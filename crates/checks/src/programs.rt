@@ -1,5 +1,5 @@
-//! Places of a program, and the lines of its files, before and after directories are handed in; and
-//! which of these the paths of found rows need.
+//! Places of a program, and the lines of its files, before and after directories are set; and which
+//! of these the paths of found rows need.
 
 use crate::lookups::DEMO;
 use crate::units::slice;
@@ -20,7 +20,8 @@ const ABBREV: &[u8] = b"\x01\x11\0\x10\x17\x1b\x08\0\0\0";
 const WITH_DIRECTORY: &[u8] =
     b"\x19\0\0\0\x05\0\x04\0\x11\0\0\0\x01\x01\x01\0\x01\x01\x01\x01\x08\x01/w\0\x01\x01\x08\0";
 
-/// The same with rows of the file `/w/a.c` from 0x2000 to 0x2008.
+/// A unit of version 5 whose directory 0 is `/w`, with rows of the file `/w/a.c` from 0x2000 to
+/// 0x2008.
 const WITH_ROWS: &[u8] =
     b"\x2e\0\0\0\x05\0\x04\0\x19\0\0\0\x01\x01\x01\0\x01\x01\x01\x01\x08\x01/w\0\x01\x01\x08\x02\
       b.c\0a.c\0\0\x05\x02\0\x20\0\0\x01\x05\x05\0\x01\x01";
@@ -67,8 +68,8 @@ fn has_path<R: Reader>(alloc: Global, program: &Program<R>, path: &[u8]) -> bool
         && begin.addresses.as_slice() == [0x1000].as_slice()
 }
 
-/// What a program has otherwise that needs the directory of a compilation, before it is handed in
-/// and after it.
+/// What is wrong with a program that needs the directory of a compilation, before and after that is
+/// set.
 fn first_wrong<R: Reader>(
     alloc: Global,
     program: &mut Program<R>,
@@ -87,7 +88,7 @@ fn first_wrong<R: Reader>(
     ])
 }
 
-/// The same, where the directory is `/w`.
+/// What `first_wrong` finds if the directory is `/w`.
 fn first_wrong_with_directory(
     alloc: Global,
     program: &mut Program<EndianSlice<'_, LittleEndian>>,

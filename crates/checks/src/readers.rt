@@ -1,5 +1,5 @@
-//! A reader of one's own, whose offsets have 32 bits. It has none of the bodies that a reader may
-//! leave out.
+//! A reader of one's own, whose offsets have 32 bits. It defines none of the methods that a reader
+//! may leave out.
 
 ghost use Rattle.std.specs.Prelude.{◌<◌, ◌^◌, length};
 ghost use Rattle.std.proofs.Common.{rules};

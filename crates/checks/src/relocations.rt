@@ -101,7 +101,7 @@ fn first_wrong_in(
     ]))
 }
 
-/// The same in an empty section.
+/// What `first_wrong_in` finds in an empty section.
 fn first_wrong(program: &LineProgram, texts: &mut Texts) -> Found {
     let alloc = *texts.line_strings.allocator();
     // Its texts aren't in other tables.
@@ -128,13 +128,13 @@ fn first_wrong_of<R: Reader>(
     first_wrong(&program, texts)
 }
 
-/// The same of a unit, its directory and its name.
+/// What `first_wrong_of` finds for a unit, its directory and its name.
 fn first_wrong_of_unit<R: Reader>(alloc: Global, slices: [R; 3], texts: &mut Texts) -> Found {
     let [unit, directory, name] = slices;
     first_wrong_of(program(alloc, unit, Some(directory))?, name, texts)
 }
 
-/// The same of the unit with two addresses.
+/// What `first_wrong_of` finds for the unit with two addresses.
 pub fn unit(alloc: Global) -> Found {
     let slices = [slice(TWO_ADDRESSES), slice(b"/w"), slice(b"q")];
     first_wrong_of_unit(alloc, slices, &mut Texts::new(alloc))

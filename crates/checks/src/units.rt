@@ -28,7 +28,7 @@ pub fn program<R: Reader>(
     DebugLine::from(section).program(alloc, offset, 4, directory, None)
 }
 
-/// The text of a number, each of another.
+/// The string of a number, a different one for each number.
 pub fn text_of(number: usize) -> [u8; 3]
     ensures { All (λ b. b ≢ 0) result }
 {
@@ -69,7 +69,8 @@ fn put_rows(unit: &mut Vec<u8>, count: usize) -> ConvertResult<()> {
 
 /// A unit of version 4 with so many directories, files of the first one, whose times are 7 and
 /// sizes 9, rows of a sequence, sequences with a file of the second one, and rows of a sequence.
-/// The lengths are those of the unit and of its header: 50 and 44 for each, and 20 and 11 for each.
+/// The lengths are those of the unit, 50 and 44 for each of the `count`, and of its header, 20 and
+/// 11 for each.
 pub fn many_entries(alloc: Global, count: usize, lengths: [u32; 2]) -> ConvertResult<Vec<u8>> {
     let mut unit = Vec::from_slice(alloc, &lengths[0].to_le_bytes())?;
     unit.extend_from_slice(b"\x04\0")?;
