@@ -34,8 +34,7 @@ pub(crate) fn as_fault(e: Error) -> Result<Option<Error>>
 }
 
 /// Takes in the rows to come, those under a tombstone too, up to the first fault, which it returns.
-/// Fails only with
-/// `OutOfMemory`.
+/// Fails only with `OutOfMemory`.
 fn take_rows<R: Reader>(
     run: &mut OneShotLineRows<R>,
     cut: &mut SequenceCut,
