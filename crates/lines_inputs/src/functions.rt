@@ -167,8 +167,8 @@ impl<'n> Functions<'n> {
         Ok(starts)
     }
 
-    /// Whether a function has a name. `known` keeps the answer for each offset in the table of
-    /// names.
+    /// Whether a function has a name. `known` keeps the answers so far, by the offset in the table
+    /// of names.
     fn has_name(
         &self,
         range: &CodeRange,

@@ -43,7 +43,7 @@ impl<R: Reader> PathSources<R> {
         Ok(PathSources { strings, paths })
     }
 
-    /// Why a path can't be told, as it is printed.
+    /// Why a path isn't known, as it is printed.
     pub fn fault(&self, error: PathError) -> PathFault {
         PathFault {
             error,
@@ -134,7 +134,7 @@ impl<R: Reader> PathSources<R> {
     }
 }
 
-/// Why a path can't be told, as it is printed.
+/// Why a path isn't known, as it is printed.
 #[derive(Clone, Copy)]
 pub struct PathFault {
     /// Why.
