@@ -210,7 +210,8 @@ pub(crate) fn report(rt: &HostRuntime, name: &str, reason: impl fmt::Display + D
     let _ = writeln!(rt.stderr(), "lines: {name}: {reason}");
 }
 
-/// Whether a name can be opened: the files of the kit take text alone. One that can't is reported.
+/// Whether a name can be opened: the kit opens files only by UTF-8 names. Reports a name that can't
+/// be opened.
 pub(crate) fn can_be_opened(rt: &HostRuntime, name: &str) -> io::Result<bool> {
     let bytes = lines_words::bytes_of_word(rt.alloc(), name)?;
     if bytes.as_slice() == name.as_bytes() {
