@@ -1,5 +1,5 @@
-//! Lines and words of the programs: rows, sequences and bytes as they are printed, and the order of
-//! bytes, the size of an address and the digits of a number as they are read.
+//! Lines and words of the programs: rows, sequences and bytes as they are printed, and the byte
+//! order, the size of an address and the digits of a number as they are read.
 #![tactic(auto)]
 
 mod digits;

@@ -1,4 +1,4 @@
-//! The order of bytes and the size of an address, by which the numbers of a section are read.
+//! The byte order and the size of an address, by which the numbers of a section are read.
 
 ghost use Rattle.std.specs.Prelude.{◌≡◌, ◌↔◌, IsTrue, Some, codes};
 ghost use Rattle.gimli_core.specs.Numbers.{is_address_size};
@@ -31,7 +31,7 @@ impl AddressSize {
     }
 }
 
-/// An order of bytes.
+/// The byte order that a word names.
 pub fn parse_order(word: &str) -> Option<RunTimeEndian>
     ensures little { (result ≡ Some RunTimeEndian.Little) ↔ (word.now ≡ codes "little") }
     ensures big { (result ≡ Some RunTimeEndian.Big) ↔ (word.now ≡ codes "big") }

@@ -61,7 +61,7 @@ fn line_number(row: &LineRow) -> u64 {
     }
 }
 
-/// The words of flags: of each that holds, or another word for none.
+/// The words of the flags that are set, or another word where none is.
 #[derive(Clone, Copy)]
 pub struct Words<'f>(pub &'f [(bool, &'static str)], pub &'static str);
 

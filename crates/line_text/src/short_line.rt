@@ -6,8 +6,8 @@ use std::marker::Model;
 /// The most bytes of a line.
 const LONGEST: usize = 160;
 
-/// The end of a line: its bytes from some place on, in room of its own. Numbers are written from
-/// their last digit to their first, so a line that is put together in the same order moves no
+/// The end of a line: its bytes from some place on, in a buffer of its own. Numbers are written
+/// from their last digit to their first, so a line that is put together in the same order moves no
 /// digits.
 #[derive(Drop)]
 pub struct ShortLine {

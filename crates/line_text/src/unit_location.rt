@@ -9,7 +9,7 @@ pub type Slice<'i> = EndianSlice<'i, RunTimeEndian>;
 /// Where a unit is in a section, and how its numbers are read.
 #[derive(Clone, Copy, Debug, PartialEq, Eq)]
 pub struct UnitLocation {
-    /// The order of bytes.
+    /// The byte order.
     pub order: RunTimeEndian,
     /// How wide an address is.
     pub address_size: AddressSize,
