@@ -4,8 +4,8 @@ use crate::refusal::Refusal;
 use gimli_core::Reader;
 use gimli_line::{LineProgram, LineRows};
 
-/// Counts the rows that are still to come, ends among them. Refused by the first fault, as what
-/// rows are read for.
+/// Counts the rows that are still to come, ends among them. Refused by the first fault, which is
+/// one of rows.
 pub(crate) fn count_rows<R: Reader, P: LineProgram<R> + Drop>(
     rows: LineRows<R, P>,
 ) -> Result<u64, Refusal> {

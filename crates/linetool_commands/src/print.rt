@@ -56,7 +56,7 @@ pub(crate) fn write_line<O: Write>(bytes: &[u8], out: &mut O) -> Result<(), Refu
     }
 }
 
-/// What became of a command whose output is complete.
+/// Flushes the output of a command that has printed all, and returns what became of the command.
 pub(crate) fn finish<O: Write>(outcome: Result<(), Refusal>, out: &mut O) -> Result<(), Refusal> {
     match out.flush() {
         Ok(()) => outcome,

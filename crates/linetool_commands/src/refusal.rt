@@ -1,4 +1,4 @@
-//! Why a command ends before its end, and what it says then.
+//! Why a command stops early, and what it reports then.
 
 ghost use Rattle.std.specs.Prelude.{◌≡◌, ◌≢◌};
 ghost use Rattle.std.specs.IoError.{error_kind};
@@ -11,7 +11,7 @@ use std::io::{ErrorKind, Write};
 /// The status where a command is refused.
 const REFUSED: u8 = 1;
 
-/// Why a command ends before its end.
+/// Why a command stops early.
 #[derive(Clone, Copy)]
 pub enum Refusal {
     /// The file can't be read.
@@ -62,8 +62,8 @@ impl Refusal {
         }
     }
 
-    /// Says on standard error why the command ends, and returns the status of the program. Nothing
-    /// is said where standard output takes no more.
+    /// Reports on standard error why the command stops, and returns the status of the program.
+    /// Nothing is reported where standard output takes no more.
     pub fn report<E: Write>(self, err: &mut E) -> u8
         ensures { result ≡ 1 }
     {

@@ -34,7 +34,7 @@ pub(crate) fn program_at<'i>(
     program_of(alloc, &section, offset, location.address_size)
 }
 
-/// The same of any reader.
+/// The same for any reader.
 fn program_of<R: Reader>(
     alloc: Global,
     section: &DebugLine<R>,

@@ -63,7 +63,7 @@ pub(crate) fn print_units<F: Read + Drop, O: Write>(
     print_units_of(alloc, &section, numbers, out)
 }
 
-/// The same of a section.
+/// The same for a section.
 fn print_units_of<O: Write>(
     alloc: Global,
     section: &[u8],
@@ -76,7 +76,7 @@ fn print_units_of<O: Write>(
     finish(outcome, out)
 }
 
-/// The same for units of any reader, without what is in the writer's own memory.
+/// The same for units of any reader, without flushing the writer.
 fn print_each<R: Reader, O: Write>(units: LineUnits<R>, out: &mut O) -> Result<(), Refusal> {
     let mut units = units;
     'units: loop {

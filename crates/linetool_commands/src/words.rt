@@ -37,7 +37,7 @@ pub struct Query {
 /// How the numbers of a section are read.
 #[derive(Clone, Copy)]
 pub struct Numbers {
-    /// The order of bytes.
+    /// The byte order.
     pub order: RunTimeEndian,
     /// How wide an address is.
     pub address_size: AddressSize,
