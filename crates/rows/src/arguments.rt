@@ -36,8 +36,8 @@ pub enum Form {
     LineStrings,
 }
 
-/// The words of a line that are left, and why its call isn't made: of words that are missing, or
-/// aren't what they are taken for, something stands in the place of each.
+/// The words of a line that are left, and why its call isn't made. A default replaces each word
+/// that is missing, or isn't what it is taken for.
 #[derive(Clone, Copy)]
 pub struct Arguments<'a> {
     alloc: Global,
@@ -55,8 +55,8 @@ impl<'a> Arguments<'a> {
         }
     }
 
-    /// Keeps why the call isn't made. The first cause counts, but words that are no call come
-    /// before any.
+    /// Keeps why the call isn't made. The first cause counts, but `Stop::Bad`, for words that are
+    /// no call, comes before any other.
     pub fn refuse(&mut self, stop: Stop) {
         if self.stop.is_none() || matches!(stop, Stop::Bad) {
             self.stop = Some(stop);
@@ -117,7 +117,7 @@ impl<'a> Arguments<'a> {
         }
     }
 
-    /// A number, the greatest of which is given.
+    /// A number that is at most the given one.
     pub fn number(&mut self, greatest: u64) -> u64
         ensures { result ≤ greatest }
     {
@@ -141,7 +141,8 @@ impl<'a> Arguments<'a> {
         }
     }
 
-    /// All words that are left. Where numbers are asked for, they must be that, and are taken.
+    /// All words that are left. Where numbers are asked for, each word must be one, and all are
+    /// taken.
     pub fn numbers(&mut self, is_asked: bool) -> &'a [&'a str] {
         let numbers = self.rest;
         if is_asked {
@@ -168,7 +169,7 @@ impl<'a> Arguments<'a> {
         self.found(number, 0)
     }
 
-    /// An order of bytes.
+    /// A byte order.
     pub fn order(&mut self) -> RunTimeEndian {
         let order = parse_order(self.word());
         self.found(order, RunTimeEndian::Little)
@@ -232,8 +233,8 @@ impl<'a> Arguments<'a> {
         }
     }
 
-    /// A text and where it is kept: in this form, or where that is the usual one, as letters before
-    /// it say.
+    /// A text and where it is kept: in this form, or where that is the usual one, in the form that
+    /// letters before the text name, if there are any.
     pub fn text_in(&mut self, form: Form) -> (Form, Vec<u8>) {
         let all = self.word();
         let (form, word) = match (form, all.split_at_checked(2)) {
@@ -249,7 +250,8 @@ impl<'a> Arguments<'a> {
         (form, text)
     }
 
-    /// A text, or none for the word `-`; none without a word too, where none is asked for.
+    /// A text, or none for the word `-`. Where none is asked for, no word is taken, and there is
+    /// none.
     pub fn optional_text(&mut self, is_asked: bool) -> Option<Vec<u8>> {
         if !is_asked || self.takes("-") {
             return None;

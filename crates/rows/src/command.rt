@@ -28,8 +28,8 @@ pub enum Command {
     Addresses,
     /// The whole paths of the files of a unit.
     Paths,
-    /// No command of a row: where something doesn't stand as it must after memory is refused to
-    /// the rows of a unit.
+    /// No command of a row: prints where the state of the rows of a unit isn't as it must be after
+    /// memory is refused to them.
     Watch,
 }
 
@@ -82,7 +82,7 @@ pub(crate) struct Asked<'w, R: Reader> {
 }
 
 impl<R: Reader> Asked<'_, R> {
-    /// The program of the unit. Where memory was refused it is made once more, if attempts are two.
+    /// The program of the unit. If memory is refused and attempts are two, it is made once more.
     pub fn program(&self) -> gimli_core::Result<IncompleteLineProgram<R>> {
         let offset = DebugLineOffset(R::Offset::from_u64(self.offset)?);
         let (section, size) = (self.section, self.address_size.bytes());
@@ -96,7 +96,7 @@ impl<R: Reader> Asked<'_, R> {
 }
 
 /// Does what a command asks for, by the words after its name, of the sections `.debug_line`,
-/// `.debug_str` and `.debug_line_str`. Refused where the words are none of it.
+/// `.debug_str` and `.debug_line_str`. Refused where the words don't fit the command.
 pub fn print(
     command: Command,
     alloc: Global,

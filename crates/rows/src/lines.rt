@@ -12,7 +12,7 @@ use std::io::Write;
 pub enum Piece<'a> {
     /// Letters.
     Word(&'a str),
-    /// The letters of each that holds, or others for none.
+    /// The letters of the flags that are set, or others where none is.
     Flags(&'a [(bool, &'static str)], &'static str),
     /// A number in decimal digits.
     Number(u64),
@@ -116,7 +116,7 @@ impl Lines {
         self.is_refused = true;
     }
 
-    /// How many bytes stand there.
+    /// How many bytes were printed so far.
     pub fn len(&self) -> usize {
         self.bytes.len()
     }
@@ -126,7 +126,7 @@ impl Lines {
         self.bytes.truncate(len);
     }
 
-    /// The bytes. Refused where memory was to a line.
+    /// The bytes. Refused where memory was refused to a line.
     pub fn finish(self) -> Result<Vec<u8>, AllocError> {
         if self.is_refused {
             Err(AllocError)

@@ -110,8 +110,8 @@ pub(crate) fn print_paths<R: Reader>(
     }
 }
 
-/// Prints the count of the call that memory was refused to, where something doesn't stand as it
-/// must after it.
+/// Prints the number of the call that memory was refused to, where the state after it isn't as it
+/// must be.
 pub(crate) fn watch_rows<R: Reader, P: LineProgram<R> + Drop>(
     mut rows: LineRows<R, P>,
     lines: &mut Lines,

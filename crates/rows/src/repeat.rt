@@ -36,7 +36,7 @@ fn push_lines(all: &mut String, line: &str) -> Result<(), Stop> {
     Ok(())
 }
 
-/// Appends a text with the numbers of one time.
+/// Appends a text with the numbers of one repetition.
 fn push_line(all: &mut String, turn: u64, line: &str) -> Result<(), Stop> {
     for piece in line.split('{') {
         match piece.split_once('}') {
@@ -50,7 +50,7 @@ fn push_line(all: &mut String, turn: u64, line: &str) -> Result<(), Stop> {
     Ok(())
 }
 
-/// Appends a number as it is at one time, or where there is none the end of a line.
+/// Appends a number as it is in one repetition, or the end of a line where there is none.
 fn push_number(all: &mut String, turn: u64, number: &str) -> Result<(), Stop> {
     let (start, step) = number.split_once('+').unwrap_or((number, "1"));
     let (sign, digits, radix) = match start.split_at_checked(1) {

@@ -18,7 +18,7 @@ pub struct TestRow<'t> {
     pub commands: Vec<RowCommand<'t>>,
     /// The lines of the output.
     pub expected: Vec<u8>,
-    /// Whether the output must be another one than this.
+    /// Whether the output must differ from these lines.
     pub must_differ: bool,
 }
 
@@ -209,8 +209,8 @@ fn input_of(alloc: Global, parts: &Parts<'_>, words: &str, text: &str) -> Result
     Ok(Input::Section(section, named))
 }
 
-/// How many words of a command with texts stand before the parts that hold them, itself among
-/// these. None where the command has no texts.
+/// How many words of a command with texts stand before the parts that hold them, its name included.
+/// None where the command has no texts.
 pub fn words_before_parts(name: &str) -> Option<usize> {
     match name {
         "convert" | "convert_sequences" => Some(CONVERSION_WORDS + 1),
@@ -219,7 +219,7 @@ pub fn words_before_parts(name: &str) -> Option<usize> {
     }
 }
 
-/// The order of bytes that the word after a command names; little if none.
+/// The byte order that the word after a command names; little-endian if none.
 fn order_of(words: &str) -> RunTimeEndian {
     match words.split_whitespace().nth(1) {
         Some("big") => RunTimeEndian::Big,

@@ -18,8 +18,8 @@ pub fn reader(text: &Option<Vec<u8>>, order: RunTimeEndian) -> Option<Slice<'_>>
     text.as_deref().map(|text| EndianSlice::new(text, order))
 }
 
-/// Appends a text: `%` and two hexadecimal digits are a byte, and `%` alone is the empty text. No
-/// word that is empty, or has other letters after a `%`, is one.
+/// Appends a text: `%` and two hexadecimal digits are a byte, and `%` alone is the empty text. A
+/// word that is empty, or has other letters after a `%`, is no text.
 pub fn push_text(text: &mut Vec<u8>, word: &str) -> Result<(), Stop> {
     match word {
         "" => return Err(Stop::Bad),
