@@ -1,4 +1,4 @@
-//! The index of the lines of a program: made, opened, checked, and asked.
+//! The index of the lines of a program: made, opened, checked, and queried.
 #![tactic(auto)]
 
 use crate::where_is::program_of;

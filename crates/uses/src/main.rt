@@ -1,5 +1,6 @@
 //! The programs that the CALLING pages quote, each in a file of its own, which says what it does.
-//! After the word `then` another command may follow; the next one is run where one is refused too.
+//! After the word `then` another command may follow; it also runs where the one before it is
+//! refused.
 #![tactic(auto)]
 
 mod line_index;

@@ -1,5 +1,5 @@
 //! An object file of x86-64 with a line program whose addresses are symbols: it is built, written
-//! with relocations, and put beside them for a linker (System V ABI, chapter 4).
+//! with relocations, and put next to them for a linker (System V ABI, chapter 4).
 #![tactic(auto)]
 
 use crate::make_unit::{print_bytes, write_unit};
@@ -16,7 +16,7 @@ const CODE: [&[u8]; 2] = [
     b"\xf3\x0f\x1e\xfa\xb8\x02\0\0\0\xc3",
 ];
 
-/// The names of sections and symbols; one that ends another one stands within it.
+/// The names of sections and symbols; a name with which another one ends is stored inside it.
 const NAMES: &[u8] = b"\0.text.first\0.text.second\0.rela.debug_line\0.debug_line_str\0\
     .rela.debug_info\0.debug_abbrev\0.symtab\0.strtab\0.rela.debug_aranges\0\
     .rela.debug_rnglists\0.note.GNU-stack\0";
@@ -63,8 +63,8 @@ const RANGES: &[u8] = b"\x1d\0\0\0\x05\0\x08\0\0\0\0\0\
 const RANGE_RELOCATIONS: &[u8] = b"\x0d\0\0\0\0\0\0\0\x01\0\0\0\x06\0\0\0\0\0\0\0\0\0\0\0\
     \x17\0\0\0\0\0\0\0\x01\0\0\0\x07\0\0\0\0\0\0\0\0\0\0\0";
 
-/// The header of a relocatable file of x86-64 with sixteen sections, of which that of names is the
-/// tenth; the headers of the sections begin after it.
+/// The header of a relocatable file of x86-64 with sixteen sections, the tenth of which has their
+/// names; the headers of the sections begin after it.
 const START: &[u8] = b"\x7fELF\x02\x01\x01\0\0\0\0\0\0\0\0\0\x01\0\x3e\0\x01\0\0\0\
     \0\0\0\0\0\0\0\0\0\0\0\0\0\0\0\0\x40\0\0\0\0\0\0\0\0\0\0\0\x40\0\0\0\0\0\x40\0\x10\0\x0a\0";
 
@@ -97,9 +97,9 @@ fn make_with(
     add_sections(lines.0.slice(), texts.0.slice(), &relocations, object)
 }
 
-/// Appends the sections of the object file, three of which are handed. Beside the bytes of a
-/// section stand where its name is, with its kind; its flags; its link, with its info; and the size
-/// of an entry.
+/// Appends the sections of the object file, three of which are handed in. Four numbers come before
+/// the bytes of a section: where its name is, with its kind; its flags; its link, with its info;
+/// and the size of an entry.
 fn add_sections<'s>(
     lines: &'s [u8],
     texts: &'s [u8],
@@ -131,8 +131,8 @@ fn symbol(symbol: usize) -> Address {
     Address::Symbol { symbol, addend: 0 }
 }
 
-/// Relocations with their addends. Refused for a size that none of x86-64 has, and for a section
-/// that the file hasn't.
+/// Relocations with their addends. Refused for a size that no relocation of x86-64 has, and for a
+/// section that the file doesn't have.
 fn add_relocations(bytes: &mut Vec<u8>, list: &[Relocation]) -> Result<()> {
     for relocation in list {
         let symbol = match relocation.target {

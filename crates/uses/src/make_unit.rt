@@ -130,8 +130,8 @@ fn with_source(alloc: Global, line_strings: &mut LineStringTable) -> Result<Line
     Ok(program)
 }
 
-/// Gives the source file the MD5 digest of `abc`, and returns its id: a file that is there takes
-/// what is handed of it.
+/// Gives the source file the MD5 digest of `abc`, and returns its id: a file that is already there
+/// takes what is handed of it.
 fn with_digest(program: &mut LineProgram, line_strings: &mut LineStringTable) -> Result<FileId> {
     let path = line_strings.add(b"a.c")?;
     let directory = program.default_directory();

@@ -1,4 +1,4 @@
-//! A reader of one's own, which writes what it has to; all else has a body.
+//! A reader of your own: it implements the required methods, and all others have a body.
 #![tactic(auto)]
 
 ghost use Rattle.std.specs.Prelude.{◌≡◌, false, nat_eq, position};
@@ -29,7 +29,7 @@ fn print_written(
     Ok(print_units(alloc, OwnReader { slice }, text)?)
 }
 
-/// Bytes that are read from the front, and their least significant byte first.
+/// Bytes that are read from the front, and as numbers in little-endian order.
 #[derive(Clone, Copy)]
 struct OwnReader<'i> {
     slice: &'i [u8],

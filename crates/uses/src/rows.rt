@@ -63,7 +63,7 @@ pub fn print_row(row: &LineRow, text: &mut String) -> std::result::Result<(), Al
     writeln!(text, "{address:#x} file {file} line {line}{end}")
 }
 
-/// What became of a text that was added.
+/// The outcome of adding to a text, as a result of the library.
 pub fn told(outcome: std::result::Result<(), AllocError>) -> Result<()> {
     match outcome {
         Ok(()) => Ok(()),

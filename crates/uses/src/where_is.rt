@@ -18,7 +18,7 @@ use std::fs;
 
 type Result<T, E = ElfError> = std::result::Result<T, E>;
 
-/// Reads an ELF file, and prints a line for each address, which has hexadecimal digits.
+/// Reads an ELF file, and prints a line for each address, which is given in hexadecimal digits.
 pub fn start(rt: &HostRuntime, words: &[String], text: &mut String) -> anyhow::Result<()> {
     let [file, addresses @ ..] = words else {
         bail!("usage: where_is FILE ADDRESS..");
@@ -42,8 +42,8 @@ fn print_places<R: Reader>(
     Ok(())
 }
 
-/// What is kept of an ELF file whose addresses have 8 bytes. Below the lowest address of its code a
-/// linker leaves what it dropped.
+/// What is kept of an ELF file whose addresses have 8 bytes. Addresses below the lowest one of its
+/// code are those of code that a linker dropped.
 pub fn program_of<'a>(
     alloc: Global,
     file: &'a [u8],
