@@ -1,6 +1,6 @@
-//! A unit up to version 4, written in version 5; a section whose rows are written anew; or a unit
-//! that is converted by its own encodings. After the word `then` another command may follow; it is
-//! run where one is refused too.
+//! A unit up to version 4, written in version 5; a section whose rows are rewritten; or a unit that
+//! is converted by its own encodings. After the word `then` another command may follow; it also
+//! runs where the one before it is refused.
 #![tactic(auto)]
 
 mod rewrite;

@@ -68,7 +68,7 @@ fn add_header<R: Reader<Offset = usize>>(
     Ok(end.0)
 }
 
-/// Fills a unit up to its end. DW_LNS_set_basic_block says nothing if no row comes after it.
+/// Fills a unit up to its end. DW_LNS_set_basic_block has no effect if no row comes after it.
 fn pad(lines: &mut Vec<u8>, end: usize) -> ConvertResult<()> {
     if lines.len() > end {
         return Err(ConvertError::UnsupportedUnitType);
