@@ -25,8 +25,8 @@ impl<const N: usize> Section for PieceVec<RunTimeEndian, N> {
     }
 }
 
-/// A section in an array, which takes no memory: what passes its end is `LengthOutOfBounds`. That
-/// it keeps the bytes given to it isn't claimed.
+/// A section in an array, which takes no memory: what passes its end is refused as
+/// `LengthOutOfBounds`. No contract says that it keeps the bytes given to it.
 #[derive(Drop)]
 pub(crate) struct ArraySection {
     bytes: Vec<u8>,

@@ -15,8 +15,8 @@ use std::fmt::Write;
 /// The greatest number of a file.
 const LAST_FILE: u64 = 999;
 
-/// A digest of what was written to it, by which what stands before a call and after it is compared
-/// without memory.
+/// A digest of what was written to it: it compares the state before a call with the one after it,
+/// without taking memory.
 #[derive(Drop)]
 struct Digest(u64);
 
@@ -46,14 +46,14 @@ impl Script {
         write!(out, "{program:?} {strings:?} {line_strings:?}")
     }
 
-    /// Keeps what stands before a call of the library.
+    /// Keeps the digest of the state before a call of the library.
     fn keep_before(&mut self) {
         if self.attempts == Attempts::Two {
             self.before = self.digest();
         }
     }
 
-    /// Whether all stands as it was before the last call of the library.
+    /// Whether the state is as it was before the last call of the library.
     pub fn stands(&self) -> bool {
         self.digest() == self.before
     }
@@ -73,8 +73,8 @@ impl Script {
         words.end()
     }
 
-    /// Makes a text, and adds it to its table. Where it isn't made, or one before wasn't, an empty
-    /// one stands in its place.
+    /// Makes a text, and adds it to its table. Where it isn't made, or one before wasn't, it
+    /// returns an empty one instead.
     fn text(&mut self, form: Form, encoding: Encoding, words: &mut Arguments<'_>) -> LineString {
         let (form, bytes) = words.text_in(form);
         if matches!(form, Form::Inside) || !words.is_fine() {
@@ -268,7 +268,7 @@ fn set_row(alloc: Global, program: &mut LineProgram, words: &mut Arguments<'_>) 
     row.isa = words.number(u64::MAX);
 }
 
-/// The id of the file of a number, if need be of a program that has so many and is thrown away.
+/// The id of the file with a number, if need be from a copy of the program that gets enough files.
 fn file_id(alloc: Global, program: &LineProgram, words: &mut Arguments<'_>) -> Option<FileId> {
     let number = words.number(LAST_FILE);
     if let Some((id, _, _)) = program.files().nth(number as usize) {

@@ -1,4 +1,5 @@
-//! The tables of texts of a program that is built, and as text its rows and what is read back.
+//! The tables of texts of a program that is built, and how its rows and what is read back are
+//! printed.
 
 use gimli_core::LittleEndian;
 use gimli_write::{

@@ -24,7 +24,7 @@ pub fn check_rows<O: Write>(
 }
 
 /// Runs the commands of a row, and prints each whose output isn't the expected one, or is it where
-/// it must differ. Whether there is none.
+/// it must differ. Returns whether there is none.
 fn check_row<O: Write>(
     alloc: Global,
     row: &TestRow<'_>,
@@ -42,8 +42,8 @@ fn check_row<O: Write>(
     Ok(is_as_stated)
 }
 
-/// Prints a command of a row, what is expected of it and what it gave. Its words stand there where
-/// the row has others.
+/// Prints a command of a row, what is expected of it and what it gave. Its words are printed where
+/// the row has other commands too.
 fn print_command<O: Write>(
     row: &TestRow<'_>,
     command: &RowCommand<'_>,

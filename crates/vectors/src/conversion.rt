@@ -93,8 +93,7 @@ impl Target {
         target
     }
 
-    /// Whether a conversion takes it. Without numbers of lines it is judged with those that are
-    /// usual.
+    /// Whether a conversion takes it. Without a line encoding it is tested with the usual one.
     fn is_taken(self) -> bool
         ensures { IsTrue result → IsTaken self }
     {
@@ -114,7 +113,7 @@ struct Ending {
     is_begun: bool,
     /// Why it is refused.
     refusal: Option<ConvertError>,
-    /// Whether after a refusal for memory what must stand does.
+    /// Whether the state after a refusal for memory is as it must be.
     stands: bool,
 }
 
@@ -141,7 +140,7 @@ struct Conversion<R: Reader> {
 }
 
 impl<R: Reader> Conversion<R> {
-    /// The program of the unit. Where memory was refused it is made once more, if attempts are two.
+    /// The program of the unit. If memory is refused and attempts are two, it is made once more.
     fn program(&self) -> gimli_core::Result<IncompleteLineProgram<R>> {
         let offset = DebugLineOffset(R::Offset::from_u64(self.offset)?);
         let (section, size) = (self.section, self.address_size.bytes());
@@ -153,7 +152,7 @@ impl<R: Reader> Conversion<R> {
         }
     }
 
-    /// Prints it by a script that reads back what it writes in this order of bytes.
+    /// Prints it by a script that reads back what it writes in this byte order.
     fn print_in_script(&self, order: RunTimeEndian, lines: &mut Lines) {
         let mut script = Script::new(self.alloc, self.attempts);
         script.order = order;
@@ -209,8 +208,8 @@ impl<R: Reader> Conversion<R> {
         ending
     }
 
-    /// Prints what a second conversion builds; a third one, where memory is refused to it and
-    /// attempts are two.
+    /// Prints what a second conversion builds; or a third one, where memory is refused to the
+    /// second and attempts are two.
     fn print_built(&self, script: &mut Script, lines: &mut Lines)
         requires { IsTaken self.now.target }
     {

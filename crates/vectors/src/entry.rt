@@ -37,7 +37,7 @@ pub fn start<R: Env + Files, I: Read + Drop, O: Write + Drop, E: Write>(
     }
 }
 
-/// Tells something on standard error, and returns a status.
+/// Prints a line on standard error, and returns a status.
 fn tell<E: Write>(err: &mut E, text: &str, status: u8) -> u8 {
     // Where standard error can't be written to, the status still says it.
     let _ = writeln!(err, "vectors: {text}");

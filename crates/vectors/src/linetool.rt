@@ -46,9 +46,10 @@ impl Write for Room {
     }
 }
 
-/// Runs a command of `linetool`, a second time from the start where memory is refused it and
-/// attempts are two, and returns its status. Before it may stand `room N`, where its output has
-/// room for N bytes, `missing`, where its file isn't there, or `broken`, where reading that fails.
+/// Runs a command of `linetool`, and returns its status. If memory is refused to it and attempts
+/// are two, it runs a second time from the start. A word before the command may limit it: `room N`,
+/// where its output takes only N bytes; `missing`, where its file isn't there; or `broken`, where
+/// reading the file fails.
 pub fn run_linetool(
     alloc: Global,
     words: &[&str],
@@ -86,7 +87,7 @@ pub fn run_linetool(
     Ok(status)
 }
 
-/// Runs the words of `linetool` over a file, and prints what stands on its outputs.
+/// Runs the words of `linetool` over a file, and prints what they write to its outputs.
 fn run_words(
     alloc: Global,
     words: &[&str],

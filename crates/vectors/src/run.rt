@@ -26,7 +26,7 @@ pub fn run_command(
     lines.finish()
 }
 
-/// Runs a command on what it is given, and returns its status. Of a command with texts the words
+/// Runs a command on what it is given, and returns its status. If a command has texts, the words
 /// after its own ones name the parts that hold them.
 pub fn run(
     alloc: Global,

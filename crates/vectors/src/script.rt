@@ -22,7 +22,7 @@ pub enum Told {
     Refusals,
 }
 
-/// Builds the programs of a text's scripts, and prints what is told of them. Returns the status: 1
+/// Builds the programs of a text's scripts, and prints what is asked of each. Returns the status: 1
 /// where a program is refused or a condition isn't met. Of a bad script nothing is printed.
 pub fn write(
     alloc: Global,
@@ -52,11 +52,11 @@ pub(crate) struct Script {
     pub directories: Vec<LineString>,
     /// The digest of the program and its tables before the last call of the library.
     pub before: u64,
-    /// The order of bytes.
+    /// The byte order.
     pub order: RunTimeEndian,
     /// Whether it is read back.
     pub reads_back: bool,
-    /// What is told of it; it isn't written unless its bytes are.
+    /// What is printed of it; it isn't written unless that is its bytes.
     told: Told,
     /// What it is written into.
     target: Target,
@@ -164,8 +164,8 @@ impl Script {
         }
     }
 
-    /// Makes a call, and tells how it ends the script, if it does. The program is begun once, and
-    /// before each other call but those of the tables.
+    /// Makes a call, and returns how it ends the script, if it does. The call that begins the
+    /// program comes once, and before all others except those of the tables.
     fn take_call(
         &mut self,
         name: &str,
@@ -196,7 +196,7 @@ impl Script {
     }
 
     /// Whether a call that ends so is made once more. Where memory is refused to the script itself
-    /// on its way to a call, that stands for the call's own `OutOfMemory`.
+    /// on its way to a call, that counts as the call's own `OutOfMemory`.
     fn is_made_again(&self, end: Option<Stop>) -> bool {
         let is_refused = matches!(end, Some(Stop::Memory | Stop::Refused(Error::OutOfMemory)));
         is_refused && self.attempts == Attempts::Two
@@ -313,8 +313,8 @@ impl Script {
         if !self.is_made_again(end) {
             return (bytes, end);
         }
-        // The old bytes are a beginning of the section, or where they weren't all written the
-        // section one of them. An array takes no memory.
+        // The section begins with the old bytes, or, where not all of these were written, they
+        // begin with the section. An array takes no memory.
         let begins = bytes.starts_with(&self.prefix) || self.prefix.starts_with(&bytes);
         let stand = match (&before, &self.table_bytes()) {
             (Ok([lines, strings]), Ok([lines_now, strings_now])) => {
