@@ -81,7 +81,7 @@ fn do_work<R: Reader>(
     Ok(tally)
 }
 
-/// The units of a lookup over a section that is made.
+/// Makes a lookup over a section, and counts its units.
 fn tally_of_section<R: Reader>(alloc: Global, section: &DebugLine<R>) -> Result<Tally> {
     let lookup = SectionLookup::new(section, alloc, 8, 0)?;
     let mut tally = Tally::default();
@@ -131,7 +131,7 @@ fn address(lowest: u64, length: u64, place: u64) -> u64 {
     lowest.wrapping_add(length.wrapping_mul(place) / ADDRESSES)
 }
 
-/// Finds addresses at even distances so many times. The probes are counted in one more time.
+/// Finds addresses at even distances so many times. One more pass counts the probes.
 fn find_times<R: Reader>(lookup: &Lookup<R>, times: u64) -> Tally {
     let (lowest, length) = span(lookup.sequences());
     let mut tally = Tally::default();

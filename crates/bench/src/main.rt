@@ -1,4 +1,5 @@
-//! The program `bench`: does some work so many times, for its instructions to be counted.
+//! The program `bench`: does some work a given number of times, so that its instructions can be
+//! counted.
 //!
 //! - `read FILE TIMES [sequences]` runs the rows of all units of a section, or cuts these units
 //!   into their sequences.
@@ -11,8 +12,8 @@
 //! - `stored` does each of these once, on the files of the stored run.
 //!
 //! Sections are in little-endian order, with addresses of eight bytes. Standard output has what was
-//! counted and a sum over it, so that no work is left out. The instructions of a work are those of
-//! more times less those of fewer: the rest drops out.
+//! counted and a sum over it, so that no work is left out. To count the instructions of a work,
+//! subtract those of fewer times from those of more: the rest drops out.
 #![tactic(auto)]
 
 mod build;
@@ -34,8 +35,8 @@ fn main(rt: HostRuntime) -> ExitCode {
     }
 }
 
-/// Does the work that the words after the program's name tell; for `stored` each kind of work, on
-/// the files of the stored run.
+/// Does the work that the words after the program's name ask for; for `stored` each kind of work,
+/// on the files of the stored run.
 fn start(rt: &HostRuntime) -> io::Result<()> {
     let arguments: Vec<String> = env::args(rt)?.collect(rt.alloc())?;
     let mut words = Vec::new(rt.alloc());
@@ -58,7 +59,7 @@ fn start(rt: &HostRuntime) -> io::Result<()> {
     perform(rt, &["index", "demo.section", "find", "1"])
 }
 
-/// Does the work that words tell.
+/// Does the work that words ask for.
 fn perform(rt: &HostRuntime, words: &[&str]) -> io::Result<()> {
     match words {
         ["read", path, times] => read::run(rt, path, times, read::What::Rows),

@@ -1,12 +1,13 @@
-//! An order of bytes for each work: so the compiler makes the library's calls for each of them
-//! apart, as in a program that does no other work, and what one work costs doesn't hang on the
-//! others.
+//! A byte order for each work: so the compiler generates the library's calls for each of them
+//! separately, as in a program that does no other work, and what one work costs doesn't depend on
+//! the others.
 
 ghost use Rattle.std.specs.Prelude.{false};
 
 use gimli_core::Endianity;
 
-/// The works: to read a section, to convert a unit, to look addresses up, to make and ask an index.
+/// The works: to read a section, to convert a unit, to look addresses up, to make and query an
+/// index.
 pub(crate) const READ: u8 = 0;
 
 pub(crate) const CONVERT: u8 = 1;
