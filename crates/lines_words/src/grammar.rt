@@ -6,9 +6,9 @@ use std::alloc::{AllocError, Global};
 /// The version of the program.
 const VERSION: &str = "0.1.0";
 
-/// The commands: the name of each and what is said of it, then a line for each thing that it takes
-/// beside its file and `json`, and last what is said at the end. Such a line has a name; a letter,
-/// or a stroke for none; how it is written, which `argument` reads; and help.
+/// The commands: the name of each and what it does, then a line for each argument that it takes
+/// besides its file and `json`, and last what is said at the end. Such a line has a name; a letter,
+/// or a hyphen for none; how it is written, which `argument` reads; and help.
 const COMMANDS: [&str; 10] = [
     "where Prints path:line:column of each address, ??:0:0 where there is none
 ADDRESS - words An address in hexadecimal digits, FUNCTION+OFFSET, FUNCTION, or a line of a \
@@ -70,7 +70,7 @@ map - OLD=NEW Compares paths below the directory OLD as paths below NEW
 >Example: lines diff a.out.old a.out",
 ];
 
-/// What each command takes but for `index`, after all else.
+/// What each command except `index` takes, after all else.
 const JSON: &str = "json - flag Prints a JSON object a line";
 
 /// What every command takes first: its file, and how that is read.
@@ -84,7 +84,7 @@ debug-dir - DIR Looks for debug files in this directory (/usr/lib/debug if unsai
 memory-limit - BYTES Refuses a compressed section of more bytes; K, M or G may follow them (256 \
     times the file and 64M if unsaid)";
 
-/// What has no place beside the option of a name.
+/// The options that conflict with the option of a name.
 fn conflicts_of(name: &str) -> &'static [&'static str] {
     match name {
         "pretty" => &["json"],
@@ -145,8 +145,8 @@ fn command_of<'a>(alloc: Global, text: &'static str) -> Result<Command<'a>, Allo
         .args(arguments)
 }
 
-/// What a line says that a command takes. The file of the command `where` may be left out where
-/// something stands in its place.
+/// The argument that a line describes. The file of the command `where` may be left out where
+/// another argument replaces it.
 fn argument<'a>(alloc: Global, command: &str, row: &'static str) -> Result<Arg<'a>, AllocError> {
     let (name, row) = first_word(row);
     let (letter, row) = first_word(row);

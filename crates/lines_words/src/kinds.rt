@@ -23,7 +23,7 @@ pub enum FindingKind {
     Header,
     /// An instruction is refused.
     Program,
-    /// The path of a file can't be told.
+    /// The path of a file isn't known.
     NoPath,
     /// A row names a file that the header doesn't have.
     NoFile,
@@ -108,7 +108,7 @@ impl Severity {
     }
 }
 
-/// Adds to these the kinds that a word names: one, or each that is so grave. False where it names
+/// Adds to these the kinds that a word names: one, or all kinds of a severity. False where it names
 /// none.
 pub(crate) fn add_kinds(kinds: &mut [bool; 13], word: &str) -> bool {
     let mut is_known = false;
@@ -129,14 +129,14 @@ fn holds(kinds: [bool; 13], kind: FindingKind) -> bool
     kinds[kind.entry().0]
 }
 
-/// What a check tells, and what makes its status 1.
+/// What a check reports, and what makes its status 1.
 #[derive(Clone, Copy)]
 pub struct CheckChoice {
-    /// The kinds that make it 1 beside faults and lost rows.
+    /// The kinds that make it 1 besides faults and lost rows.
     pub denied: [bool; 13],
     /// Those that are only counted, whatever else is said of them.
     pub allowed: [bool; 13],
-    /// Whether what is only counted is told too.
+    /// Whether what is only counted is reported too.
     pub is_all: bool,
 }
 

@@ -1,7 +1,7 @@
 //! Names of files, which are bytes, in the words of the program, which are text.
 //!
-//! A byte of a word that is no UTF-8 stands in the text as a character of a private area, by its
-//! number, and so does each byte of such a character. So each word of bytes has a text of its own.
+//! In the text, a byte of a word that isn't UTF-8 is a character of a private-use area, by its
+//! number, and so is each byte of such a character. So each word of bytes has a text of its own.
 
 use std::alloc::{AllocError, Global};
 

@@ -68,7 +68,8 @@ pub fn parse_place(word: &str) -> Option<(&str, u64)>
 
 /// Where a word says that code is: at an address; at an offset in a function or in a section, or at
 /// the beginning of one, by its name; or at what a line of a backtrace names, as the Linux kernel
-/// and glibc print it. None for no word alone. What is an address is no name.
+/// and glibc print it. None where it names nothing. A word that is an address isn't taken for a
+/// name.
 pub fn parse_code_address(word: &str) -> Option<CodeAddress<'_>> {
     if let Some((place, address)) = parse_frame(word) {
         return match place.is_empty() {
@@ -140,8 +141,8 @@ fn without_prefix(word: &str) -> Option<&str>
 }
 
 /// What a line names, and the address after it, with a tab between them, or where the line has
-/// none, a blank. Where several are there, the last one parts them. None for another line, and for
-/// an empty name.
+/// none, a blank. Where several are there, the last one separates them. None for another line, and
+/// for an empty name.
 pub fn parse_line_question(line: &str) -> Option<(&str, u64)>
     ensures named { IfSome result (λ asked. AsksFor line.now asked.0.now asked.1) }
     ensures only { (name : List ℕ) (address : ℕ) → AsksFor line.now name address
@@ -155,7 +156,7 @@ pub fn parse_line_question(line: &str) -> Option<(&str, u64)>
     Some((name, address))
 }
 
-/// What a line names, and where code is in it, parted as `parse_line_question` parts them. None for
+/// What a line names, and where code is in it, separated as in `parse_line_question`. None for
 /// another line, and for an empty name.
 pub fn parse_code_question(line: &str) -> Option<(&str, CodeAddress<'_>)> {
     let (name, word) = parts(line)?;
@@ -192,7 +193,7 @@ pub fn build_id_of(alloc: Global, word: &str) -> Result<Option<Vec<u8>>, AllocEr
     }
 }
 
-/// Where the index of a build id is, of which the first byte stands apart.
+/// The path of the index of a build id, the first byte of which names a folder of its own.
 pub fn map_path(alloc: Global, folder: &str, first: u8, rest: &[u8]) -> Result<String, AllocError>
     ensures { IfOk result (λ path. string_bytes path ≡ map_path folder.now first rest.now) }
 {

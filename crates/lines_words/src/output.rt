@@ -24,7 +24,7 @@ pub enum Json<'v> {
     Range(u64, u64),
     /// Whether something holds.
     Holds(bool),
-    /// The words that hold.
+    /// The words of the flags that are set.
     Flags(&'v [(bool, &'static str, char)]),
     /// A word that has nothing to escape.
     Word(&'v str),
@@ -64,7 +64,7 @@ impl Style {
     /// Nothing is set off.
     pub const PLAIN: Style = Style { begin: "", end: "" };
 
-    /// What begins so on a terminal with colours, and nothing elsewhere.
+    /// The style that begins with this on a terminal with colours, and plain elsewhere.
     fn new(is_coloured: bool, begin: &'static str) -> Style {
         let end = "\u{1b}[0m";
         if is_coloured {
@@ -76,7 +76,8 @@ impl Style {
 }
 
 /// What a command prints on standard output and on standard error, kept until it is handed on: only
-/// what hands it on knows the writers. And what came of the command over the file of a name.
+/// `hand_on` and `finish` know the writers. It also keeps what came of the command over the file of
+/// a name.
 #[derive(Drop)]
 pub struct Output<'o> {
     request: &'o Request<'o>,
@@ -131,7 +132,7 @@ impl<'o> Output<'o> {
         matches!(self.request.form, Form::Json)
     }
 
-    /// What a check tells.
+    /// What a check reports.
     pub fn check(&self) -> CheckChoice {
         self.request.check
     }
@@ -202,7 +203,7 @@ impl<'o> Output<'o> {
         }
     }
 
-    /// Prints the words that hold.
+    /// Prints the words of the flags that are set.
     fn add_flags(&mut self, flags: &[(bool, &str, char)]) {
         let mut before = "[";
         for (holds, name, _) in flags {
@@ -214,12 +215,12 @@ impl<'o> Output<'o> {
         self.add(if before == "[" { "[]" } else { "]" });
     }
 
-    /// Says a sentence on the file on standard error, which is no fault of it.
+    /// Prints a sentence about the file on standard error, which is no fault of the file.
     pub fn note(&mut self, sentence: impl fmt::Display + Drop) {
         self.note_of(self.name, sentence);
     }
 
-    /// Says a sentence on a file on standard error: red on a terminal.
+    /// Prints a sentence about a file on standard error: red on a terminal.
     fn note_of(&mut self, name: &str, sentence: impl fmt::Display + Drop) {
         let name = NameText(name);
         let Style { begin, end } = Style::new(
@@ -231,7 +232,7 @@ impl<'o> Output<'o> {
         }
     }
 
-    /// Reports a sentence on the file.
+    /// Reports a sentence about the file.
     pub fn tell(&mut self, sentence: impl fmt::Display + Drop)
         ensures { self.new.is_faulty ≡ true }
     {
@@ -239,7 +240,7 @@ impl<'o> Output<'o> {
         self.refuse();
     }
 
-    /// Reports a sentence on another file.
+    /// Reports a sentence about another file.
     pub fn tell_of(&mut self, name: &str, sentence: impl fmt::Display + Drop)
         ensures { self.new.is_faulty ≡ true }
     {
@@ -247,7 +248,7 @@ impl<'o> Output<'o> {
         self.refuse();
     }
 
-    /// Reports a sentence on the unit at an offset.
+    /// Reports a sentence about the unit at an offset.
     pub fn tell_of_unit(&mut self, unit: u64, sentence: impl fmt::Display + Drop)
         ensures { self.new.is_faulty ≡ true }
     {
@@ -273,7 +274,7 @@ impl<'o> Output<'o> {
         }
     }
 
-    /// Shows how far the command is, in a line of standard error that the next one is written over.
+    /// Shows how far the command is, in a line of standard error that the next one overwrites.
     pub fn show(&mut self, progress: impl fmt::Display + Drop) {
         self.progress.clear();
         self.is_shown = true;

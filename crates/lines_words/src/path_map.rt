@@ -3,7 +3,7 @@
 use crate::names::bytes_of_word;
 use std::alloc::{AllocError, Global};
 
-/// A directory, and the one whose paths its own count as.
+/// A directory, and the one that replaces it in paths.
 #[derive(Drop)]
 pub struct PathMap {
     old: Vec<u8>,
@@ -19,7 +19,7 @@ impl PathMap {
         })
     }
 
-    /// What a path counts as: it begins with the new directory in the place of the old one.
+    /// What a path counts as: it begins with the new directory instead of the old one.
     pub fn mapped(&self, alloc: Global, path: Vec<u8>) -> Result<Vec<u8>, AllocError> {
         match self.rest_of(&path) {
             Some(rest) => joined(alloc, &self.new, rest),

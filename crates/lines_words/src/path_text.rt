@@ -6,16 +6,16 @@ use line_text::Digits;
 use std::fmt;
 use std::fmt::{Display, Formatter, Write};
 
-/// How the characters of a text are written. A text that isn't UTF-8 has bytes in the place of
-/// those that aren't ASCII.
+/// How the characters of a text are written. A text that isn't UTF-8 consists of bytes where it
+/// isn't ASCII.
 #[derive(Clone, Copy)]
 pub(crate) enum Writing {
-    /// As they are, but what could change a terminal, a control character other than this one and a
+    /// As they are; but what could change a terminal, a control character other than this one and a
     /// byte, as `\x` and two hexadecimal digits.
     Shown(char),
     /// As in a string of JSON (RFC 8259, section 7), and a byte as U+FFFD.
     Json,
-    /// As blanks that are as wide, but for tabs.
+    /// As blanks that are as wide; tabs stay.
     Blank,
 }
 
@@ -165,8 +165,8 @@ impl Display for MessageText<'_> {
     }
 }
 
-/// A line of source as it is printed: tabs stay, and what else could change a terminal stands as in
-/// a path.
+/// A line of source as it is printed: tabs stay, and anything else that could change a terminal is
+/// printed as in a path.
 #[derive(Clone, Copy)]
 pub struct SourceText<'t>(pub &'t [u8]);
 
@@ -264,7 +264,7 @@ pub fn last_part(path: &[u8]) -> &[u8] {
     }
 }
 
-/// Whether a byte parts the components of a path: `/`, or as in Windows a backslash.
+/// Whether a byte separates the components of a path: `/`, or as in Windows a backslash.
 fn is_separator(byte: u8) -> bool {
     byte == b'/' || byte == b'\\'
 }

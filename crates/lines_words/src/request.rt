@@ -8,7 +8,7 @@ use line_text::AddressSize;
 use std::alloc::{AllocError, Global};
 
 /// What the words ask for: a command over a file, and how it is done. What a command doesn't take
-/// is as if it weren't said.
+/// is as if it weren't given.
 #[derive(Drop)]
 pub struct Request<'w> {
     /// What is done.
@@ -21,14 +21,14 @@ pub struct Request<'w> {
     pub line_str: Option<&'w str>,
     /// The file with the section `.debug_str`, for a raw section.
     pub strings: Option<&'w str>,
-    /// The most bytes of a compressed section once it is made whole; None where it goes by the
+    /// The most bytes of a compressed section once it is decompressed; None where it goes by the
     /// size of its file.
     pub memory_limit: Option<u64>,
     /// The directory where debug files are looked for; None where it is the usual one.
     pub debug_directory: Option<&'w str>,
     /// Where source files are.
     pub source: SourceFiles<'w>,
-    /// The addresses that are asked; those of standard input where there is none.
+    /// The addresses that are asked for; where none is given, they come from standard input.
     pub addresses: Vec<CodeAddress<'w>>,
     /// What is subtracted from each address.
     pub bias: u64,
@@ -52,23 +52,23 @@ pub struct Request<'w> {
     pub context: u64,
     /// Which units are printed.
     pub units: UnitChoice,
-    /// What a check tells.
+    /// What a check reports.
     pub check: CheckChoice,
 }
 
 /// Where the source files are that paths name.
 #[derive(Clone, Copy)]
 pub struct SourceFiles<'w> {
-    /// The file that is read in the place of all.
+    /// The file that is read instead of all others.
     pub file: Option<&'w str>,
-    /// A directory, and the one that stands in its place. The command `diff` compares paths so.
+    /// A directory, and the one that replaces it. The command `diff` compares paths so.
     pub map: Option<(&'w str, &'w str)>,
     /// The directory below which relative paths are.
     pub directory: Option<&'w str>,
 }
 
 impl SourceFiles<'_> {
-    /// The name of the file that is read for a path, unless one is read in the place of all.
+    /// The name of the file that is read for a path, unless one is read instead of all others.
     pub fn name_of(&self, alloc: Global, path: &str) -> Result<String, AllocError> {
         let name = self.mapped(alloc, path)?;
         match self.directory {
@@ -94,11 +94,13 @@ impl SourceFiles<'_> {
 /// What is done over a file.
 #[derive(Clone, Copy)]
 pub enum Command<'w> {
-    /// Prints the places in the source of addresses. Functions may be named in it.
+    /// Prints the places of addresses in the source. Names of functions may be printed or asked
+    /// for.
+    /// functions.
     Where { has_names: bool },
-    /// The same by an index, a file that is named.
+    /// The same by an index, the file of which is named.
     Ask(&'w str),
-    /// The same of lines of standard input, which say what they ask.
+    /// The same for lines of standard input, each of which names what it asks.
     AskLines(LineNames<'w>),
     /// Writes the index of the lines, into a file that may be named.
     Index(Option<&'w str>),
@@ -217,7 +219,7 @@ impl UnitChoice {
 /// How the bytes of a file are read.
 #[derive(Clone, Copy)]
 pub enum InputKind {
-    /// An ELF file, which says its order of bytes and its address size.
+    /// An ELF file, which gives its byte order and its address size.
     Elf,
     /// Sections by themselves: `.debug_line`, and those that it goes with.
     Raw(Notation),
@@ -226,7 +228,7 @@ pub enum InputKind {
 /// How the numbers of a section are read.
 #[derive(Clone, Copy)]
 pub struct Notation {
-    /// The order of bytes.
+    /// The byte order.
     pub order: RunTimeEndian,
     /// How wide an address is, where the unit doesn't say.
     pub address_size: AddressSize,
@@ -242,7 +244,7 @@ pub struct Notation {
 pub struct Files<'i> {
     /// The file.
     pub file: &'i [u8],
-    /// The most bytes of a compressed section of it, once it is made whole.
+    /// The most bytes of a compressed section of it, once it is decompressed.
     pub limit: u64,
     /// The section `.debug_line_str`.
     pub line_str: &'i [u8],

@@ -1,7 +1,7 @@
 //! The words of the program, and what they ask for.
 //!
-//! [`parse`] reads them by `clap`. What isn't words of the program, and a question for help or the
-//! version, is an error of `clap`, whose text and status are for the user.
+//! [`parse`] reads them by `clap`. Words that the program doesn't know, and a request for help or
+//! the version, are an error of `clap`, whose text and status are for the user.
 
 use crate::grammar::{command, program};
 use crate::kinds::{CheckChoice, add_kinds};
@@ -16,7 +16,7 @@ use clap::{ArgMatches, Error};
 use line_text::{AddressSize, parse_digits, parse_order, parse_size};
 use std::alloc::{AllocError, Global};
 
-/// How many lines the command `source` prints before a place and after it, where nothing is said.
+/// How many lines the command `source` prints before a place and after it, by default.
 const CONTEXT: u64 = 3;
 
 /// The most lines that it prints there.
@@ -83,8 +83,8 @@ pub fn parse<'w>(alloc: Global, words: &'w [String]) -> Result<Request<'w>, Erro
     }
 }
 
-/// An error in words. Of an unknown option of `where` it says too which ones of addr2line's there
-/// are.
+/// An error in words. For an unknown option of `where` it also says which options of addr2line
+/// there are.
 fn with_hint(alloc: Global, words: &[String], error: Error) -> Result<Error, AllocError> {
     let is_where = words.get(1).is_some_and(|word| word.as_str() == "where");
     if !is_where || error.kind() != ErrorKind::UnknownArgument {
@@ -168,7 +168,7 @@ fn request_of<'w>(alloc: Global, matches: &ArgMatches<'w>) -> Result<Request<'w>
     })
 }
 
-/// The address that the first word is, where it isn't the file: it may be one beside an index, and
+/// The address that the first word is, where it isn't the file: it may be one next to an index, and
 /// is one where the option -e names the file.
 fn first_address<'w>(matches: &ArgMatches<'w>, word: &'w str) -> Option<CodeAddress<'w>> {
     if matches.get_str("exe").is_some() {
@@ -178,7 +178,7 @@ fn first_address<'w>(matches: &ArgMatches<'w>, word: &'w str) -> Option<CodeAddr
     Some(CodeAddress::Linked(address))
 }
 
-/// How the file is read: an address of a raw section is so wide where its unit doesn't say.
+/// How the file is read. For a raw section, also how wide an address is where its unit doesn't say.
 fn kind_of<'w>(matches: &ArgMatches<'w>) -> Result<InputKind, Mistake<'w>> {
     let order = said!(matches, "raw", parse_order);
     let size = said!(matches, "address-size", parse_size);
@@ -292,7 +292,7 @@ fn parse_bytes(word: &str) -> Option<u64> {
     parse_digits(word, 10)
 }
 
-/// A directory, `=`, and the one that stands in its place.
+/// A directory, `=`, and the one that replaces it.
 fn parse_map(word: &str) -> Option<(&str, &str)> {
     match word.split_once('=') {
         Some(("", _)) => None,
