@@ -96,7 +96,6 @@ impl SourceFiles<'_> {
 pub enum Command<'w> {
     /// Prints the places of addresses in the source. Names of functions may be printed or asked
     /// for.
-    /// functions.
     Where { has_names: bool },
     /// The same by an index, the file of which is named.
     Ask(&'w str),
