@@ -54,7 +54,7 @@ impl FileCheck {
         Ok(self.print_duplicates(findings, output))
     }
 
-    /// Keeps the path of the file of an index, or prints why it has none.
+    /// Keeps the path of the file at an index, or prints why it has none.
     fn look_at<R: Reader>(
         &mut self,
         index: u64,

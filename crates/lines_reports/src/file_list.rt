@@ -83,7 +83,7 @@ impl<R: Reader> Reading<R> {
         }
     }
 
-    /// Prints the directory of an index, where there is one.
+    /// Prints the directory at an index, where there is one.
     fn print_directory(
         &mut self,
         unit: &UnitRows<R>,
@@ -104,7 +104,7 @@ impl<R: Reader> Reading<R> {
         Ok(())
     }
 
-    /// Prints the file of an index, where there is one.
+    /// Prints the file at an index, where there is one.
     fn print_file(
         &mut self,
         unit: &UnitRows<R>,
@@ -131,8 +131,8 @@ impl<R: Reader> Reading<R> {
         Ok(Vec::from_slice(self.alloc, &path)?)
     }
 
-    /// Prints what a header says of a file beside its path. For people a time and a size of 0 are
-    /// left out, which say nothing (DWARF 5, section 6.2.4).
+    /// Prints what a header says of a file besides its path. For people a time and a size of 0 are
+    /// left out, since they say nothing (DWARF 5, section 6.2.4).
     fn add_details(
         &self,
         header: &LineProgramHeader<R>,

@@ -1,4 +1,4 @@
-//! What a check has found, and what of it is told.
+//! What a check has found, and what of it is reported.
 
 use lines_inputs::{Piece, add, print, print_fields};
 use lines_words::{FindingKind, Json, Output, Style};
@@ -21,9 +21,9 @@ impl Findings {
         }
     }
 
-    /// Counts a finding in the unit, and prints the sentence where it is told, with the byte of the
-    /// section that a fault stands at. In sentences rows are counted from 1, those that are left
-    /// out not among them, and no character is one that JSON escapes.
+    /// Counts a finding in the unit, and prints the sentence where such a finding is reported, with
+    /// the byte of the section where a fault is. Sentences count rows from 1, without those that
+    /// are left out, and have no character that JSON escapes.
     pub(crate) fn find(
         &mut self,
         kind: FindingKind,

@@ -1,4 +1,4 @@
-//! The commands of `lines` that tell what line programs hold: `units`, `files`, `rows`, `check`,
+//! The commands of `lines` that report what line programs hold: `units`, `files`, `rows`, `check`,
 //! `stat` and `diff`.
 //!
 //! [`Tally`] counts what the bytes of a section are spent on, [`Coverage`] which bytes of code each

@@ -59,7 +59,7 @@ impl<R: Reader> PathNumbers<R> {
     }
 
     /// The number of the path of a file of the unit, in the first or the second of two programs.
-    /// Files without a path have one together. The bytes of the path count.
+    /// Files without a path share one number. The bytes of the path count toward the budget.
     pub(crate) fn number_of(
         &mut self,
         header: &LineProgramHeader<R>,

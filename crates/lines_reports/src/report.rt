@@ -43,8 +43,8 @@ impl<R: Reader> Reading<R> {
         })
     }
 
-    /// The whole path of the file of an index, or why it can't be told. Its bytes count, unless it
-    /// is printed.
+    /// The whole path of the file at an index, or why it isn't known. Its bytes count toward the
+    /// budget, unless it is printed.
     pub(crate) fn path_of(
         &mut self,
         header: &LineProgramHeader<R>,

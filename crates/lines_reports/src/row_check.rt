@@ -18,7 +18,7 @@ pub(crate) struct Sequence {
     pub(crate) unit: u64,
 }
 
-/// The rows of a unit up to one of them, those that are left out not among them.
+/// The rows of a unit up to one of them, without those that are left out.
 #[derive(Clone, Copy)]
 pub(crate) struct RowCheck {
     /// What was found, in units before this one too.
@@ -58,7 +58,7 @@ impl RowCheck {
 
     /// Looks at an address that was set, and is a tombstone for the rows that follow. They are left
     /// out: then code was dropped, or addresses go down from the one before. In an object file each
-    /// section stands at 0, so that they may.
+    /// section begins at 0, so addresses may go down there.
     pub(crate) fn look_at_address(&mut self, address: u64, before: u64, output: &mut Output<'_>) {
         let rows = Piece::Rows(self.rows);
         let (from, to) = (Piece::Address(before), Piece::Address(address));
@@ -104,7 +104,7 @@ impl RowCheck {
 
     /// Looks at a row that ends a sequence, and returns the sequence. One that begins below the
     /// lowest address of code or past the end of code is dead, and one without an address between
-    /// overlaps nothing.
+    /// its start and its end overlaps nothing.
     pub(crate) fn end_sequence(
         &mut self,
         end: u64,

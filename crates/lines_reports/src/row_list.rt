@@ -16,7 +16,7 @@ const SOME: u64 = 1024;
 /// How many bytes of texts are kept of the files of a unit.
 const KEPT: usize = 1 << 20;
 
-/// The bytes that a text takes beside its own.
+/// The bytes that a text takes besides its own.
 const BESIDE: usize = 128;
 
 /// How the rows of units are printed.
@@ -211,7 +211,7 @@ fn print_text(row: &LineRow, path: &str, output: &mut Output<'_>) {
     let isa = row.isa();
     let flags = FlagLetters(*row);
     if discriminator == 0 && isa == 0 {
-        // As most rows have them: two numbers less to be written.
+        // Most rows have these values, so two numbers fewer are written.
         return output.print(format_args!(
             "0x{address:016x}  {line:>7}  {column:>6}      0    0  {flags}  {path}"
         ));

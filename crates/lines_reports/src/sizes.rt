@@ -20,8 +20,8 @@ pub(crate) struct InstructionBytes {
     pub(crate) operands: u64,
 }
 
-/// Takes the bytes of an instruction away, after which so many are left, and counts them. Refused
-/// only where other bytes stand there.
+/// Takes the bytes of an instruction off the front, so that `left` bytes remain, and counts them.
+/// Refused only where the bytes aren't those of an instruction.
 pub(crate) fn instruction_bytes<R: Reader>(rest: &mut R, left: u64) -> Result<InstructionBytes>
     ensures sizes { (layout : OrderAndLimit) (h : Header) (i : Ins) (front after : List ℕ)
         → (R.seen rest.old).bytes ≡ front ++ after → left ≡ length after
@@ -38,7 +38,7 @@ pub(crate) fn instruction_bytes<R: Reader>(rest: &mut R, left: u64) -> Result<In
     count_bytes(rest, left)
 }
 
-/// Takes all but so many bytes away, and counts them.
+/// Takes all but the last `left` bytes off the front, and counts them.
 fn count_bytes<R: Reader>(rest: &mut R, left: u64) -> Result<InstructionBytes>
     ensures read { (result, (R.seen rest.new).bytes) ≡ size_at left (R.seen rest.old).bytes }
     ensures order { (R.seen rest.new).is_big ≡ (R.seen rest.old).is_big }
@@ -54,7 +54,7 @@ fn count_bytes<R: Reader>(rest: &mut R, left: u64) -> Result<InstructionBytes>
     })
 }
 
-/// Takes away the bytes that say which instruction it is.
+/// Takes off the bytes that say which instruction it is.
 fn skip_opcode<R: Reader>(rest: &mut R) -> Result<()>
     ensures read { (result, (R.seen rest.new).bytes) ≡ opcode_at (R.seen rest.old).bytes }
     ensures order { (R.seen rest.new).is_big ≡ (R.seen rest.old).is_big }
@@ -66,7 +66,7 @@ fn skip_opcode<R: Reader>(rest: &mut R) -> Result<()>
     Ok(())
 }
 
-/// Takes so many bytes away.
+/// Takes so many bytes off the front.
 fn skip_bytes<R: Reader>(count: u64, rest: &mut R) -> Result<()>
     ensures read { (result, (R.seen rest.new).bytes) ≡ bytes_after count (R.seen rest.old).bytes }
     ensures order { (R.seen rest.new).is_big ≡ (R.seen rest.old).is_big }

@@ -58,7 +58,7 @@ pub enum Spent {
 }
 
 impl Spent {
-    /// Their names, in the same order: of an instruction that of its opcode.
+    /// Their names, in the same order. The name of an instruction is that of its opcode.
     pub const NAMES: &'static str = "header tables special copy advance_pc advance_line set_file \
         set_column negate_stmt set_basic_block const_add_pc fixed_advance_pc set_prologue_end \
         set_epilogue_begin set_isa unknown_standard end_sequence set_address define_file \

@@ -121,7 +121,7 @@ impl Tally {
     }
 
     /// Counts the instructions of a program up to its end or its first fault, which is returned,
-    /// and takes their bytes away.
+    /// and takes their bytes off the front.
     fn add_instructions<R: Reader>(
         &mut self,
         header: &LineProgramHeader<R>,
