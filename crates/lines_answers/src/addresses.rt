@@ -15,7 +15,7 @@ use lines_words::{Json, Output, Request, SourcePlace, bytes_of_word};
 use std::alloc::Global;
 use std::collections::BTreeSet;
 
-/// Of how many functions the rows are looked for without keeping all rows.
+/// Up to how many functions the rows are looked for without keeping all rows.
 const FEW: usize = 8;
 
 /// The addresses to break at for a line, in each file whose whole path ends with the components
@@ -39,7 +39,7 @@ pub struct Addresses<'s, R: Reader> {
     last: Option<u64>,
     /// The addresses of statements that were printed.
     printed: BTreeSet<u64>,
-    /// Where the functions begin that are asked for.
+    /// Where the functions that are asked for begin.
     starts: Vec<u64>,
     /// Whether a path had addresses.
     is_found: bool,
@@ -116,7 +116,7 @@ impl<'s, R: Reader> Addresses<'s, R> {
     }
 
     /// Prints where the next function begins; false where there is none left. One whose code no row
-    /// covers is passed over.
+    /// covers is skipped.
     fn print_start(&mut self, output: &mut Output<'_>) -> Result<bool> {
         let Some(start) = self.starts.get(self.seen).copied() else {
             return Ok(false);
@@ -126,15 +126,15 @@ impl<'s, R: Reader> Addresses<'s, R> {
         Ok(true)
     }
 
-    /// The addresses of which it is asked which rows cover them.
+    /// The addresses whose covering rows are looked up.
     fn asked_addresses(&self, output: &Output<'_>) -> Result<Vec<u64>> {
         let mut addresses = Vec::new(self.search.reading.alloc);
         self.add_addresses(&mut addresses, output)?;
         Ok(addresses)
     }
 
-    /// Adds the addresses of which it is asked which rows cover them: none where that is known of
-    /// any address.
+    /// Adds the addresses whose covering rows are looked up: none where those of any address are
+    /// known.
     fn add_addresses(&self, addresses: &mut Vec<u64>, output: &Output<'_>) -> Result<()> {
         let request = self.search.reading.request;
         if request.is_after_prologue {
@@ -198,7 +198,7 @@ impl<'s, R: Reader> Addresses<'s, R> {
         self.stage = Stage::Path;
     }
 
-    /// Makes the path whole, unless it was made.
+    /// Puts the path together, unless it was put together before.
     fn make_path(&mut self) -> Result<()> {
         match self.search.files.paths.get(self.number) {
             Some(written) if self.path.is_empty() => written.write_to(&mut self.path),
@@ -299,7 +299,7 @@ impl<'s, R: Reader> Reading<'s, R> {
         let (alloc, input) = (self.alloc, self.input);
         let written = WrittenPaths::new(alloc, input)?;
         let budget = PathBudget::new(input, output.memory_limit());
-        // Past a prologue may be a row of another file, which is printed instead.
+        // A row of another file may follow a prologue, and is printed instead.
         let are_printed = !self.request.is_after_prologue;
         Ok(Search {
             reading: *self,
@@ -310,7 +310,7 @@ impl<'s, R: Reader> Reading<'s, R> {
         })
     }
 
-    /// Says which names may be meant by one that no function has.
+    /// Prints which names may be meant by a name that no function has.
     fn note_hints(&self, name: &str, output: &mut Output<'_>) -> Result<()> {
         note_hints(self.alloc, self.functions, name, output)
     }
@@ -354,7 +354,7 @@ struct Search<'s, R: Reader> {
     files: MeantFiles<R>,
     counts: RowCounts,
     covering: Covering<R>,
-    /// The statements where functions begin, where they aren't known of the rows that cover these.
+    /// The statements where functions begin, where the rows that cover these don't have them.
     statements: Covering<R>,
 }
 
@@ -497,9 +497,9 @@ impl<'s, R: Reader> Search<'s, R> {
         self.print_row(start, output)
     }
 
-    /// An address, or that after the prologue where it is the beginning of a function, if that is
-    /// asked for: the first one whose row is marked as the end of the prologue (DWARF 5, section
-    /// 6.2.2), and where none is, that of the second row, as debuggers have it.
+    /// An address; or if it is the beginning of a function, and this is asked for, the address
+    /// after the prologue: the first one whose row is marked as the end of the prologue (DWARF 5,
+    /// section 6.2.2), and where none is, that of the second row, as debuggers have it.
     fn breakpoint(&self, address: u64) -> u64 {
         if !self.reading.request.is_after_prologue {
             return address;
@@ -535,8 +535,8 @@ impl<'s, R: Reader> Search<'s, R> {
         Ok(true)
     }
 
-    /// The whole path of the file of a row that covers an address; None where it can't be told.
-    /// Where no rows are kept, its unit is run again.
+    /// The whole path of the file of a row that covers an address; None where it isn't known. Where
+    /// no rows are kept, its unit is run again.
     fn path_of(&mut self, found: &CoveringRow) -> Result<Option<Vec<u8>>> {
         let Covering::Kept(lookup) = &self.covering else {
             return self.path_in_run(found);
@@ -623,7 +623,8 @@ impl<'s, R: Reader> Search<'s, R> {
         output.print(if is_stmt { "" } else { "  not a statement" });
     }
 
-    /// Where the row ends that covers the addresses from one on; there where none does.
+    /// Where the row that covers an address and begins there ends; the address itself where there
+    /// is none.
     fn end_of_row(&self, address: u64) -> u64 {
         match self.covering.find(address) {
             Some(found) if found.row.address() == address => found.end,

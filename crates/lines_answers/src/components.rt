@@ -1,7 +1,7 @@
 //! The components of paths, compared from the last one on.
 //!
-//! `/` and backslashes part them; an empty one and `.` are dropped; `..` drops the one before it,
-//! but nothing above the root. Where it has none before it, it stays. The root is a component
+//! `/` and backslashes separate them; an empty one and `.` are dropped; `..` drops the one before
+//! it, but nothing above the root, and stays where there is none before it. The root is a component
 //! without bytes.
 
 use crate::written_path::is_separator;
@@ -60,12 +60,12 @@ fn without_last(text: &[u8]) -> &[u8] {
     }
 }
 
-/// What is left of a path in three pieces, of which its last components were passed.
+/// What is left of a path in three pieces, once its last components were passed.
 #[derive(Clone, Copy)]
 pub(crate) struct PathLeft<'p> {
     /// What is left of the piece that was begun.
     text: &'p [u8],
-    /// The pieces before it: the one that it goes on from first.
+    /// The pieces before it: the one that it is relative to comes first.
     rest: [&'p [u8]; 2],
     /// How many components are dropped of those that are left.
     ups: u64,
@@ -76,7 +76,7 @@ pub(crate) struct PathLeft<'p> {
 }
 
 impl<'p> PathLeft<'p> {
-    /// A whole path of pieces, each of which goes on from the one after it.
+    /// A whole path of pieces, each of which is relative to the one after it.
     pub(crate) fn new(pieces: [&'p [u8]; 3]) -> PathLeft<'p> {
         let [text, directory, base] = pieces;
         let mut first = base;

@@ -34,12 +34,13 @@ pub(crate) struct FoundRows {
     /// The addresses in ascending order, each once.
     addresses: Vec<u64>,
     rows: Vec<Option<CoveringRow>>,
-    /// For each address the index of one from it on up to which each has a row.
+    /// For each address an index, its own or a later one: the addresses from its own up to that
+    /// one, which doesn't count, have a row each.
     next: Vec<usize>,
 }
 
 impl FoundRows {
-    /// No row is found, of no address.
+    /// No addresses, and so no rows.
     fn nothing(alloc: Global) -> FoundRows {
         FoundRows {
             addresses: Vec::new(alloc),
@@ -48,7 +49,7 @@ impl FoundRows {
         }
     }
 
-    /// No row is found of these addresses.
+    /// No row is found for these addresses yet.
     fn new(alloc: Global, addresses: Vec<u64>) -> Result<FoundRows> {
         let mut found = FoundRows {
             addresses,
@@ -59,7 +60,7 @@ impl FoundRows {
         Ok(found)
     }
 
-    /// Puts the addresses in order. No row is found of them.
+    /// Puts the addresses in order. No row is found for them yet.
     fn begin(&mut self) -> Result<()> {
         self.addresses.sort_unstable();
         self.addresses.dedup();
@@ -71,7 +72,7 @@ impl FoundRows {
         Ok(())
     }
 
-    /// The index of the first address from that of an index on that has no row.
+    /// The index of the first address without a row, from an index on.
     fn first_free(&mut self, index: usize) -> usize {
         let mut free = index;
         for _ in 0..usize::MAX {
@@ -159,7 +160,7 @@ impl FoundRows {
     }
 }
 
-/// The last statement up to a row at its address, by that at the address of the row before it.
+/// The last statement up to a row at its address, from the last one up to the row before it.
 fn statement_at(
     row: &LineRow,
     before: Option<LineRow>,

@@ -1,4 +1,4 @@
-//! What is said of names that may be meant by one that no function has.
+//! What is said of a name that no function has: which names may be meant by it.
 
 use lines_inputs::{Functions, Piece, Result, note};
 use lines_words::Output;
@@ -14,7 +14,7 @@ const TEXTS: [&str; 6] = [
     "functions have it in their names: %, %, %, %, %",
 ];
 
-/// Says which names may be meant by one that no function has, where there are any.
+/// Prints which names may be meant by a name that no function has, where there are any.
 pub(crate) fn note_hints(
     alloc: Global,
     functions: &Functions<'_>,

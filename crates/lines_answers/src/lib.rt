@@ -1,5 +1,5 @@
-//! The commands of `lines` that tell where code comes from: `at`, `source`, and `index`, whose file
-//! `where` asks too.
+//! The commands of `lines` that report where code comes from: `at`, `source`, and `index`, whose
+//! file `where` queries too.
 #![tactic(auto)]
 
 mod addresses;

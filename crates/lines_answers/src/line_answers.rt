@@ -1,4 +1,4 @@
-//! The command `where` over lines that name what they ask.
+//! The command `where` over lines of input, each of which names what it asks.
 
 use crate::made_index::MadeIndex;
 use crate::opened_index::{open_index, print_place};
@@ -55,8 +55,8 @@ impl<'n> LineAnswers<'n> {
     }
 
     /// What a line without its ends asks for: of a program also code by the name of its function.
-    /// None where it asks for nothing, which is answered, or isn't a name and an address, which is
-    /// reported too.
+    /// None for an empty line, which is printed as an address without a place; and for one that
+    /// isn't a name and an address, which is also reported.
     pub fn question<'l>(
         &self,
         line: &'l [u8],

@@ -105,7 +105,8 @@ pub(crate) struct LineRows {
     pub(crate) addresses: PathRows,
     /// The columns of its statements, where they are asked for.
     pub(crate) columns: PathRows,
-    /// The rows of the asked line that are no statements, of paths in which none of that line is.
+    /// The rows of the asked line that are no statements, of paths in which no row of that line is
+    /// one.
     pub(crate) others: PathRows,
 }
 
@@ -200,7 +201,7 @@ impl LineRows {
         asked: u64,
         has_column: bool,
     ) -> Result<()> {
-        // The group whose rows of the line stand side by side, and have an address already.
+        // The group whose rows of the line are adjacent, and have an address already.
         let mut begun: Option<usize> = None;
         for _ in 0..u64::MAX {
             let Some(counted) = rows.next_row()? else {

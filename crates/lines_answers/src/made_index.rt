@@ -49,7 +49,7 @@ pub fn program_identity(
     Ok(identity_of(alloc, None, program.lines()).map_err(ElfError::from)?)
 }
 
-/// The build id that is told, or else that of an ELF file.
+/// The build id that is given, or else that of an ELF file.
 fn own_build_id<'i>(
     kind: InputKind,
     files: Files<'i>,

@@ -1,4 +1,4 @@
-//! The index that is asked, what names it, and how its places are printed.
+//! The index that is queried, what names it, and how its places are printed.
 
 ghost use Rattle.std.specs.Prelude.{◌≡◌, ◌≤◌, ◌<◌, ◌-◌, ◌↔◌};
 ghost use Rattle.std.specs.Prelude.{IfOk, IfErr, IsTrue, None};
@@ -15,7 +15,7 @@ use sha2::{Digest, Sha256};
 use std::alloc::Global;
 use std::fmt;
 
-/// Why an index isn't asked.
+/// Why an index isn't queried.
 #[derive(Clone, Copy)]
 pub enum IndexFault {
     /// The bytes are no index, or one that isn't sound.
@@ -98,7 +98,7 @@ fn place_asked<'i>(index: LineIndex<'i>, bias: u64, address: u64) -> Option<Plac
     index.find(own)
 }
 
-/// What an index is asked by, and how its places are printed.
+/// An index that is queried, and how its places are printed.
 #[derive(Drop)]
 pub struct IndexPlaces<'i, 'r> {
     /// The index.

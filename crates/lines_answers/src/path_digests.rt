@@ -12,7 +12,8 @@ use lines_inputs::{PathBudget, Result};
 use sha2::{Digest, Sha256};
 use std::alloc::Global;
 
-/// As many bytes count as one when they are compared, which takes less time than to make one.
+/// This many bytes that are compared count as one, since comparing takes less time than making
+/// them.
 const COMPARED: u64 = 32;
 
 /// A SHA-256 digest.
@@ -188,7 +189,7 @@ impl<R: Reader> PathDigests<R> {
     }
 
     /// Goes on to paths in the directory of a path of a unit, if it has one: that of all paths of
-    /// the unit. A part of its bytes counts, which are compared.
+    /// the unit. A part of its bytes counts toward the budget, since they are compared.
     pub(crate) fn begin(
         &mut self,
         unit: u64,

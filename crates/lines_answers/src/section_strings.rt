@@ -76,7 +76,7 @@ impl<R: Reader> SectionStrings<R> {
         if start <= *end { Some(*end) } else { None }
     }
 
-    /// Where the first bytes begin from an offset on whose end is known, and that end.
+    /// Where the first bytes whose end is known begin, from an offset on, and that end.
     fn next_known(&self, start: u64) -> Option<(u64, u64)> {
         let (first, end) = self.ends.range(start..).next()?;
         Some((*first, *end))

@@ -1,4 +1,4 @@
-//! The command `source`: lines of source, with the addresses of their code beside them.
+//! The command `source`: lines of source, with the addresses of their code next to them.
 
 use crate::components::components_of;
 use crate::hints::note_hints;
@@ -96,7 +96,7 @@ impl<'w, R: Reader> SourceRows<'w, R> {
         }))
     }
 
-    /// The path of a number, and its rows; None past the last one. Asked after the last unit.
+    /// The path of a number, and its rows; None past the last one. Call it after the last unit.
     pub fn get(&mut self, number: usize) -> Option<(&[u8], &[SourceRow])> {
         let written = *self.paths.get(number)?;
         // There is room for it.
@@ -161,8 +161,8 @@ impl<'w, R: Reader> SourceRows<'w, R> {
         }
     }
 
-    /// Adds a row, where those of its file are wanted. Those that stand twice are dropped whenever
-    /// there are twice as many as before.
+    /// Adds a row, where those of its file are wanted. Duplicates are dropped whenever there are
+    /// twice as many rows as before.
     fn add_row(&mut self, header: &LineProgramHeader<R>, row: &LineRow) -> Result<()> {
         let Some(path) = self.number_of(header, row.file_index())? else {
             return Ok(());
@@ -239,7 +239,7 @@ impl<'w, R: Reader> SourceRows<'w, R> {
     }
 
     /// The number of a path in the directory that was begun last, or in none. It is appended where
-    /// it is new; its bytes count where it isn't.
+    /// it is new; where it isn't, its bytes count toward the budget.
     fn number_of_path(&mut self, path: WrittenPath<R>) -> Result<usize> {
         let sum = self.digests.of_bytes(&path)?;
         if let Some(number) = self.numbers.get(&sum).copied() {

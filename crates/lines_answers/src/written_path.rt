@@ -1,6 +1,6 @@
 //! Paths in the pieces that they are written in.
 //!
-//! `gimli_lookup::Paths` puts a whole path together of the name of a file, its directory and the
+//! `gimli_lookup::Paths` puts a whole path together from the name of a file, its directory and the
 //! directory of its compilation. Each of them may be as long as the section, and many files may
 //! share it, so paths are compared and kept in these pieces here, and put together to be printed.
 
@@ -12,12 +12,12 @@ use lines_inputs::{Input, PathBudget, PathSources, Result};
 use std::alloc::{AllocError, Global};
 use std::borrow::CowSlice;
 
-/// Whether a byte parts the components of a path.
+/// Whether a byte separates the components of a path.
 pub(crate) fn is_separator(byte: u8) -> bool {
     byte == b'/' || byte == b'\\'
 }
 
-/// Whether a path goes on from no directory, by the rules of POSIX or of Windows.
+/// Whether a path isn't relative to any directory, by the rules of POSIX or of Windows.
 fn is_absolute<R: Reader>(path: R) -> bool {
     let mut rest = path;
     match rest.read_u8() {
@@ -39,8 +39,8 @@ pub(crate) fn bytes_in<R: Reader>(reader: &R) -> Result<CowSlice<'_, u8>> {
     }
 }
 
-/// A path in three pieces, each of which goes on from the one after it: the name of a file, its
-/// directory, and the directory of its compilation. A piece that the path doesn't go on from has no
+/// A path in three pieces, each of which is relative to the one after it: the name of a file, its
+/// directory, and the directory of its compilation. A piece that the path doesn't need has no
 /// bytes.
 #[derive(Clone, Copy)]
 pub(crate) struct WrittenPath<R: Reader> {
@@ -59,7 +59,7 @@ pub(crate) fn append_piece<R: Reader>(path: &mut Vec<u8>, piece: &R) -> Result<(
 }
 
 impl<R: Reader> WrittenPath<R> {
-    /// Makes the path whole, in the place of what is in the buffer.
+    /// Writes the whole path to the buffer, instead of what is there.
     pub(crate) fn write_to(&self, path: &mut Vec<u8>) -> Result<()> {
         path.clear();
         append_piece(path, &self.base)?;
@@ -84,8 +84,8 @@ impl<R: Reader> WrittenPath<R> {
         name.saturating_add(self.directory.len().into_u64())
     }
 
-    /// Whether these are the last components of the path. The bytes count that are read after these
-    /// and are no part of them.
+    /// Whether these are the last components of the path. The bytes that are read after these and
+    /// are no part of them count toward the budget.
     pub(crate) fn ends_with(&self, components: &[&[u8]], budget: &mut PathBudget) -> Result<bool> {
         let name = bytes_in(&self.name)?;
         let directory = bytes_in(&self.directory)?;
@@ -139,8 +139,8 @@ impl<R: Reader> WrittenPaths<R> {
         }
     }
 
-    /// The directory of an index, as it is written. None where the header has none, but for no
-    /// bytes at index 0 up to version 4.
+    /// The directory at an index, as it is written. None where the header has none; but up to
+    /// version 4 the one at index 0 then has no bytes.
     fn directory(
         &mut self,
         header: &LineProgramHeader<R>,
@@ -155,7 +155,7 @@ impl<R: Reader> WrittenPaths<R> {
     }
 
     /// The directory of the compilation, without bytes where nobody knows it. None where that of
-    /// the header can't be told.
+    /// the header can't be determined.
     fn base(&mut self, header: &LineProgramHeader<R>, nothing: R) -> Result<Option<R>> {
         let Some(zero) = self.directory(header, 0, nothing)? else {
             return Ok(None);
@@ -168,7 +168,7 @@ impl<R: Reader> WrittenPaths<R> {
         Ok(Some(known.unwrap_or(nothing)))
     }
 
-    /// The path of the file of an index; None where there is none, or it can't be told.
+    /// The path of the file at an index; None where there is none, or it isn't known.
     pub(crate) fn of_file(
         &mut self,
         header: &LineProgramHeader<R>,
@@ -206,7 +206,7 @@ impl<R: Reader> WrittenPaths<R> {
         path.base = base;
         Ok(Some(path))
     }
-    /// The whole path of the file of an index; None where there is none, or it can't be told.
+    /// The whole path of the file at an index; None where there is none, or it isn't known.
     pub(crate) fn whole_path(
         &mut self,
         alloc: Global,
