@@ -59,8 +59,9 @@ impl Model for FileId {
 }
 
 impl FileId {
-    /// The file of a row before any other is set, whose number is 1: the first up to version 4, and
-    /// the second in version 5. A later version, which is never written, has the first.
+    /// The file that rows have until one is set; its number is 1. It is the first file up to
+    /// version 4, and the second in version 5. A later version, which is never written, has the
+    /// first.
     pub(crate) fn initial(version: u16) -> FileId
         ensures { result ≡ initial_file version }
     {

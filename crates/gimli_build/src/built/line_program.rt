@@ -401,7 +401,7 @@ impl LineProgram {
         Ok(())
     }
 
-    /// Whether a sequence can end at this offset, in bytes, and the current op_index: on the
+    /// Whether a sequence can end at this offset, in bytes, and the current op_index: under the
     /// conditions of `can_generate_row`, except the one on the line.
     pub fn can_end_sequence(&self, address_offset: u64) -> bool
         ensures { IsTrue result ↔ CanEndSequence self.now address_offset }
