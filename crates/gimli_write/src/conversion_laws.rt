@@ -111,7 +111,7 @@ pub fn written_numbers_are_of_ids()
         → (id : ℕ) × IsFileId source file_ids n id × (m ≡ file_number version id) }
 {}
 
-/// `round_trip` never refuses a program whose addresses fit as `Read`: it reads what it wrote,
+/// `round_trip` never refuses with `Read` a program whose addresses fit: it reads what it wrote,
 /// unless memory is missing.
 pub fn fitting_programs_are_read()
     ensures { (is_big : Bool) (encoding : Encoding) (p : Built) (texts : StringTables)
