@@ -93,7 +93,8 @@ impl<'a> LineIndex<'a> {
     /// each statement.
     ///
     /// Refuses an index whose starts don't ascend (`NotAscending`), one with a path that isn't
-    /// inside it (`PathOutside`), and one whose statements aren't in order (`NotInOrder`).
+    /// inside it or has no zero byte after it (`PathOutside`), and one whose statements aren't in
+    /// order (`NotInOrder`).
     pub fn check(&self) -> Result<(), IndexError>
         ensures ok { OnOk result (IsSound (index_of self.now)) }
         ensures err { IfErr result (IsFaultOf (index_of self.now)) }

@@ -287,8 +287,8 @@ impl<'a> LineIndex<'a> {
         })
     }
 
-    /// Two bounds on how many starts are at most a number, if starts ascend: those given, or closer
-    /// ones, by a look at the start at an index between them.
+    /// Two bounds on how many starts aren't above a number, if starts ascend: those given, or
+    /// closer ones, by a look at the start at an index between them.
     #[inline(always)]
     fn narrowed(&self, number: u64, low: usize, high: usize, at: usize) -> (usize, usize)
         requires between { CountIsBetween (index_of self.now) number low high }
@@ -304,8 +304,8 @@ impl<'a> LineIndex<'a> {
         }
     }
 
-    /// Two bounds on how many starts are at most a number, if starts ascend. They are close to each
-    /// other where the starts are spread evenly.
+    /// Two bounds on how many starts aren't above a number, if starts ascend. They are close to
+    /// each other where the starts are spread evenly.
     #[inline(always)]
     fn count_between(&self, number: u64) -> (usize, usize)
         ensures { CountIsBetween (index_of self.now) number result.0 result.1 }

@@ -8,7 +8,7 @@ use std::collections::BTreeMap;
 use std::marker::Model;
 
 /// Paths, each once, in the order in which they came. A map in the order of the paths finds their
-/// numbers: no choice of paths makes it slow, as one could make a hash map.
+/// numbers: no choice of paths makes it slow, as one could with a hash map.
 #[derive(Drop)]
 pub(crate) struct PathSet {
     numbers: BTreeMap<Vec<u8>, usize>,

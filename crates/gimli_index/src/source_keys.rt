@@ -15,7 +15,7 @@ pub(crate) struct SourceKey {
 }
 
 /// Files of units, each once, in the order in which they came. A map in the order of the files
-/// finds their numbers: no choice of numbers makes it slow, as one could make a hash map.
+/// finds their numbers: no choice of numbers makes it slow, as one could with a hash map.
 #[derive(Drop)]
 pub(crate) struct SourceKeys {
     keys: Vec<SourceKey>,
