@@ -28,8 +28,8 @@ struct NarrowRow {
     epilogue_begin: bool,
 }
 
-/// Whether all numbers of a row fit a narrow one. Five of them are tested at once: what has the bits
-/// of all of them is below 2^32 where each of them is.
+/// Whether all numbers of a row fit a narrow one. Five of them are tested at once: a number that
+/// has the bits of all five is below 2^32 where each of the five is.
 fn is_narrow(row: &LineRow) -> bool
     ensures { IsTrue result ↔ IsNarrow row.now }
 {
