@@ -50,8 +50,8 @@ same_one t other f (Some u) none = same_header t other f u.offset u.header none
 
 -- what is not true is false
 not_yes : (b : Bool) → (b ≡ true → ⊥) → b ≡ false
-not_yes true no = absurd (no refl)
-not_yes false no = refl
+not_yes true not_true = absurd (not_true refl)
+not_yes false not_true = refl
 
 -- if some paths need none, each of them doesn't
 pub none_at : (texts : Strings) (units : List ListedUnit) (rows : List (Option CoveringRows)) (f : CoveringRows)
@@ -66,14 +66,10 @@ neither : (b c : Bool) → (b || c) ≡ false → (b ≡ false) × (c ≡ false)
 neither true c e = absurd cc
 neither false c e = (refl, e)
 
--- a path is the same with the directories of other compilations
-pub same_found : (t : Texts) (other : ℕ → Option (List ℕ)) (f : CoveringRows) (units : List ListedUnit) (i : ℕ)
-    → list_any (unit_needs t.strings) units ≡ false
-    → option_map_or (found_in (others t other) f) (slice_get units i) (Err (InvalidFileIndex f.row.file))
-    ≡ option_map_or (found_in t f) (slice_get units i) (Err (InvalidFileIndex f.row.file))
-same_found t other f [] i none = refl
-same_found t other f (u ∷ units) zero none =
-    same_header t other f u.offset u.header
-    (neither (unit_needs t.strings u) (list_any (unit_needs t.strings) units) none).0
-same_found t other f (u ∷ units) (suc i) none =
-    same_found t other f units i (neither (unit_needs t.strings u) (list_any (unit_needs t.strings) units) none).1
+-- if no unit needs the directory of its compilation, the rows of none of them do
+pub none_of : (texts : Strings) (units : List ListedUnit) (i : ℕ)
+    → list_any (unit_needs texts) units ≡ false → option_map_or (unit_needs texts) (slice_get units i) false ≡ false
+none_of texts [] i none = refl
+none_of texts (u ∷ units) zero none = (neither (unit_needs texts u) (list_any (unit_needs texts) units) none).0
+none_of texts (u ∷ units) (suc i) none =
+    none_of texts units i (neither (unit_needs texts u) (list_any (unit_needs texts) units) none).1

@@ -24,7 +24,7 @@ ghost use Rattle.gimli_lookup.specs.declared.path_error.PathError.TheVariants.{
   StringOffsetOutOfBounds,
   UnterminatedString,
 };
-ghost use Rattle.gimli_lookup.specs.Strings.{string_at, HasNoStringEnd, IsStringAt};
+ghost use Rattle.gimli_lookup.specs.Strings.{Strings, string_at, HasNoStringEnd, IsStringAt};
 
 use crate::path_error::PathError;
 use crate::section_lookup::SectionLookup;
@@ -65,23 +65,20 @@ pub fn directories_are_needed()
         → compilation_directory paths ≡ Ok (unwrap_or paths.comp_dir []) }
 {}
 
-/// Where `Program::needs_compilations` is false, each path that a place has is the same whatever
-/// compilations are set. So is the path of found rows where `ProgramPaths::found_needs` is false,
-/// and that of each where `FoundRows::need_compilations` is.
+/// The path of found rows is the same whatever compilations are set, where
+/// `ProgramPaths::found_needs` is false. It is false for all rows of a program where
+/// `Program::needs_compilations` is, and for each of the rows of which
+/// `FoundRows::need_compilations` is.
 pub fn compilations_are_needed()
-    ensures section { (texts : Texts) (units : List KeptUnit) (found : CoveringRows)
-        (other : ℕ → Option (List ℕ)) → some_need texts.strings units ≡ false
-        → found_path (record texts { directory = other }) (listed units) found
-        ≡ found_path texts (listed units) found }
-    ensures one { (texts : Texts) (units : List ListedUnit) (found : CoveringRows)
+    ensures path { (texts : Texts) (units : List ListedUnit) (found : CoveringRows)
         (other : ℕ → Option (List ℕ)) → found_needs texts.strings units found ≡ false
         → found_path (record texts { directory = other }) units found
         ≡ found_path texts units found }
-    ensures each { (texts : Texts) (units : List ListedUnit) (rows : List (Option CoveringRows))
-        (found : CoveringRows) (other : ℕ → Option (List ℕ)) → Contains rows (Some found)
-        → some_found_need texts.strings units rows ≡ false
-        → found_path (record texts { directory = other }) units found
-        ≡ found_path texts units found }
+    ensures section { (texts : Strings) (units : List KeptUnit) (found : CoveringRows)
+        → some_need texts units ≡ false → found_needs texts (listed units) found ≡ false }
+    ensures each { (texts : Strings) (units : List ListedUnit) (rows : List (Option CoveringRows))
+        (found : CoveringRows) → Contains rows (Some found)
+        → some_found_need texts units rows ≡ false → found_needs texts units found ≡ false }
 {}
 
 /// Whole paths are absolute where the directory of the compilation is, as it is where directory 0
