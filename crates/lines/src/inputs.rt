@@ -217,7 +217,7 @@ pub(crate) fn can_be_opened(rt: &HostRuntime, name: &str) -> io::Result<bool> {
     if bytes.as_slice() == name.as_bytes() {
         return Ok(true);
     }
-    let way = "a name that isn't UTF-8 can't be opened; write - in its place, and hand it in by <";
+    let way = "a name that isn't UTF-8 can't be opened; use - and redirect the file with <";
     report(rt, name, way);
     Ok(false)
 }

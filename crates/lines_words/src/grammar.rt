@@ -17,16 +17,16 @@ exe e FILE Takes this as FILE, so that every other word is an address
 addresses a flag Prints the address before the answer
 functions f flag Prints the name of the function that holds the address, before the path
 pretty - flag Prints the line of source below each answer, with a mark at the column
-source - SOURCE Reads this source file in the place of those that paths name
+source - SOURCE Reads this source file instead of those that paths name
 source-dir - DIR Reads source files of relative paths below this directory
 map - OLD=NEW Reads source files below the directory OLD in NEW
 basenames s flag Prints the last component of each path
 relative-to - DIR Prints paths that begin with this directory without it
 bias - ADDRESS Subtracts this from each address, for a program that was loaded elsewhere
-index - INDEX Asks an index in the place of FILE, which may be left out; where it is named, the \
-    index has to be its own
-indexes - DIR Reads lines of a build id and an address, and asks DIR/xx/rest.lines of each
-files - flag Reads lines of a file and an address, in the place of FILE
+index - INDEX Looks addresses up in an index, and not in FILE, which may be left out; if FILE is \
+    named, the index must have been made of it
+indexes - DIR Reads lines of a build ID and an address, and looks each up in DIR/xx/rest.lines
+files - flag Reads lines of a file and an address, without FILE
 >Example: lines where a.out 401136 0x40113D",
     "index Writes an index of the lines, for where --index and where --indexes
 output o OUT Where the index goes; without it to FILE with .lines after it, and - is standard output
@@ -34,15 +34,15 @@ output o OUT Where the index goes; without it to FILE with .lines after it, and 
     "at Prints the addresses to break at for a line, or the next that has code, or for a function
 PLACE - needed A line of each file whose path ends so, PATH:LINE, or else the name of a function, \
     as its symbol has it
-after-prologue - flag Goes past the prologue where an address is the beginning of a function
+after-prologue - flag Skips the prologue if an address is the beginning of a function
 columns - flag Prints the column after the line
 range - flag Prints where the row of each address ends, after its beginning
 >Example: lines at a.out src/main.c:12",
     "source Prints the source of a line or of a function, with the addresses of each line
 PLACE - needed A line of each file whose path ends so, PATH:LINE, or else the name of a function, \
     as its symbol has it
-context C N Prints so many lines before it and after it (3 if unsaid)
-source - SOURCE Reads this source file in the place of those that paths name
+context C N Prints so many lines before it and after it (default 3)
+source - SOURCE Reads this source file instead of those that paths name
 source-dir - DIR Reads source files of relative paths below this directory
 map - OLD=NEW Reads source files below the directory OLD in NEW
 >Example: lines source -C 5 a.out src/main.c:12",
@@ -58,7 +58,7 @@ whole-paths - flag Prints whole paths
     "check Prints what is wrong, lost or odd; the status is 1 for faults and lost rows
 deny - KIND Makes the status 1 for these too: a kind, or fault, lost, odd or usual
 allow - KIND Only counts these, whatever --deny says: a kind, or fault, lost or odd
-all - flag Tells what is usual or allowed too
+all - flag Also prints what is usual or allowed
 >Kinds: header, program, no-path, no-file (fault); goes-down, below-code, past-code, \
     no-end (lost); same-path, overlap (odd); file-0, merged, dropped (usual)
 Example: lines check --deny odd --allow overlap a.out",
@@ -76,13 +76,13 @@ const JSON: &str = "json - flag Prints a JSON object a line";
 /// What every command takes first: its file, and how that is read.
 const OF_FILE: &str = "\
 FILE - needed An ELF file, or with --raw a section .debug_line; - is standard input
-raw - little|big FILE is a section .debug_line alone, in this order of bytes
-address-size - N With --raw: the bytes of an address up to version 4: 1, 2, 4 or 8 (8 if unsaid)
+raw - little|big FILE is a section .debug_line alone, in this byte order
+address-size - N With --raw: the bytes of an address up to version 4: 1, 2, 4 or 8 (default 8)
 line-str - FILE The section .debug_line_str
 str - FILE The section .debug_str
-debug-dir - DIR Looks for debug files in this directory (/usr/lib/debug if unsaid)
-memory-limit - BYTES Refuses a compressed section of more bytes; K, M or G may follow them (256 \
-    times the file and 64M if unsaid)";
+debug-dir - DIR Looks for debug files in this directory (default /usr/lib/debug)
+memory-limit - BYTES Refuses a compressed section of more bytes; K, M or G may follow them \
+    (default 256 times the file plus 64M)";
 
 /// The options that conflict with the option of a name.
 fn conflicts_of(name: &str) -> &'static [&'static str] {

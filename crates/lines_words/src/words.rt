@@ -47,7 +47,7 @@ const OF_ADDR2LINE: &str = "of addr2line's options, where takes -a, -e, -f and -
 /// What must stand in the place of a wrong word, by the name of that place.
 fn wanted_of(name: &str) -> &'static str {
     match name {
-        "raw" => "an order of bytes, little or big",
+        "raw" => "a byte order, little or big",
         "address-size" => "an address size: 1, 2, 4 or 8",
         "bias" => "an address, up to 16 hexadecimal digits with or without 0x",
         "ADDRESS" => {
