@@ -34,7 +34,7 @@ def rows_of(name):
 
 
 def ways():
-    """Each way with what it takes to open, of the first lookup, of each of 10,000, and of each one more; seconds and MB of a million."""
+    """Each way with what it takes to open, of the first lookup, of one of 10,000 on the mean, and of each after these; seconds and MB of a million."""
     return {name: (*map(int, counts[:4]), *counts[4:]) for name, *counts in rows_of("peers.tsv")}
 
 
@@ -72,7 +72,7 @@ def operations():
 
 
 def lookups():
-    head = ["Way", "Open", "First", "Each of 10,000", "Each of more", "A million"]
+    head = ["Way", "Open", "First", "Mean of 10,000", "Each after that", "A million"]
     found = [[WAYS[name], *map(number, it[:4]), f"{it[4]} s, {it[5]} MB"] for name, it in ways().items()]
     return table(head, found)
 
