@@ -121,7 +121,8 @@ uint32_t gimli_line_version(void);
     X(NO_ROW, 18, "no row covers the address, or an index says nothing of it") \
     X(UNSUPPORTED_OFFSET_SIZE, 19, "the size of offsets isn't 4 or 8") \
     X(UNSUPPORTED_LINE_ENCODING, 20, "rows can't be written by the line encoding") \
-    X(TEXT_OUT_OF_BOUNDS, 21, "a text isn't within the texts") \
+    X(TEXT_OUT_OF_BOUNDS, 21, \
+      "a text isn't within the texts, or in .debug_line_str no zero byte follows it") \
     X(ZERO_IN_TEXT, 22, "a text has a zero byte") \
     X(EMPTY_TEXT, 23, "a text is empty, up to version 4") \
     X(NO_SOURCE_FILE, 24, "no directory or no file, in version 5") \
@@ -686,10 +687,11 @@ typedef struct gimli_line_name {
 /* A file to write. */
 typedef struct gimli_line_file_name {
     gimli_line_name path;
-    uint64_t directory; /* up to version 4 from 1 on, where 0 is DW_AT_comp_dir; else from 0 on */
-    uint64_t timestamp; /* 0 if unknown */
-    uint64_t size;      /* in bytes; 0 if unknown */
-    uint8_t md5[16];    /* zeros if unknown */
+    uint64_t directory;     /* from 0 on; up to version 4 from 1 on, and 0 is DW_AT_comp_dir */
+    uint64_t timestamp;     /* 0 if unknown */
+    uint64_t size;          /* in bytes; 0 if unknown */
+    uint8_t md5[16];        /* zeros if unknown */
+    gimli_line_name source; /* its text; of no bytes if unknown */
 } gimli_line_file_name;
 
 /* A symbol that a sequence begins at. */
@@ -698,15 +700,20 @@ typedef struct gimli_line_symbol {
     int64_t addend; /* what is added to its address */
 } gimli_line_symbol;
 
+/* What the addend of a relocation is added to. */
+enum gimli_line_target {
+    GIMLI_LINE_OF_SYMBOL = 0,        /* the address of the symbol */
+    GIMLI_LINE_OF_DEBUG_LINE_STR = 4 /* that of the section .debug_line_str */
+};
+
 /* A place of a unit that a linker fills in: the address of its target, and the addend (System V
  * ABI, chapter 4). */
 typedef struct gimli_line_relocation {
     size_t offset;    /* of the place in the unit, in bytes */
     size_t symbol;    /* the number of the symbol; 0 if the target is a section */
     int64_t addend;   /* 0 if addends stand at the places */
-    uint32_t size;    /* of the place, in bytes: the size of addresses */
-    uint32_t section; /* 0: the target is the symbol. In these units it always is, since they have
-                       * all of their strings in them, and no .debug_line_str is written */
+    uint32_t size;    /* of the place, in bytes: the size of addresses, or of offsets */
+    uint32_t target;  /* one of gimli_line_target */
 } gimli_line_relocation;
 
 /* The element that a write was refused for. */
@@ -728,9 +735,11 @@ typedef struct gimli_line_contents {
     gimli_line_encoding encoding;
     bool big;          /* big-endian */
     bool in_place;     /* addends stand at the places of relocations */
-    uint64_t details;  /* which details version 5 has of files: a sum of GIMLI_LINE_HAS_TIMESTAMP,
-                        * GIMLI_LINE_HAS_SIZE and GIMLI_LINE_HAS_MD5; other bits are ignored. Up to
-                        * version 4 it is always the first two. The text of a file isn't written */
+    bool line_strings; /* `texts` is .debug_line_str, to which a unit of version 5 refers; for
+                        * gimli_line_write_relocatable */
+    uint64_t details;  /* which details version 5 has of files: a sum of gimli_line_file_detail;
+                        * other bits are ignored. Up to version 4 it is always the first two. GNU
+                        * binutils 2.40 read no unit with GIMLI_LINE_HAS_SOURCE */
     const char *texts; /* the bytes that names are among */
     size_t text_length;
     const gimli_line_name *directories;
@@ -776,7 +785,8 @@ gimli_line_status gimli_line_write(const gimli_line_contents *contents, uint8_t 
  *
  * Returns:
  *   GIMLI_LINE_NO_ROOM           *size is its size
- *   GIMLI_LINE_UNKNOWN_OPTIONS   struct_size is not that of this header; *contents->refused stays
+ *   GIMLI_LINE_UNKNOWN_OPTIONS   struct_size is not that of this header, or `line_strings` is set,
+ *                                which asks for relocations; *contents->refused stays
  *   GIMLI_LINE_OUT_OF_MEMORY
  *   another status: what is wrong with the encoding, or else with the first element that is wrong,
  *   of the directories, then the files, then the rows. *contents->refused gets that element:
@@ -796,8 +806,20 @@ gimli_line_status gimli_line_write_relocatable(const gimli_line_contents *conten
  * are 0, as for SHT_RELA; or, if `in_place`, the addends stand at the places and those there are 0,
  * as for SHT_REL.
  *
+ * To share strings among units, keep the bytes of .debug_line_str: append each directory, path and
+ * source to it once, with a zero byte after it, and remember where it begins. Pass these bytes as
+ * `texts`, and set `line_strings`. Each string of a unit of version 5 is then an offset into them
+ * (DW_FORM_line_strp), and has a relocation whose target is GIMLI_LINE_OF_DEBUG_LINE_STR and
+ * whose addend is the name's `first`, or that of the first name with the same string. The call
+ * leaves `texts` as it is: append more to it, and write the next unit. The cost of a call doesn't
+ * grow with `texts`. Give the section the flags SHF_MERGE and SHF_STRINGS, and an entry size of 1:
+ * a linker then keeps each string once. Up to version 4 the unit has its strings itself.
+ *
  * Returns as gimli_line_write does, and
- *   GIMLI_LINE_NO_ROOM   `room` or `relocation_room` is too small; *size and *count are needed
+ *   GIMLI_LINE_NO_ROOM              `room` or `relocation_room` is too small; *size and *count are
+ *                                   needed
+ *   GIMLI_LINE_TEXT_OUT_OF_BOUNDS   also if no zero byte follows a name in `line_strings`
+ *   GIMLI_LINE_UNIT_TOO_LONG        also if offsets have 4 bytes, and that of a string needs more
  * On the others *count is 0 too. */
 
 #ifdef __cplusplus

@@ -47,7 +47,7 @@ pub const NO_ROW: u32 = 18;
 pub const UNSUPPORTED_OFFSET_SIZE: u32 = 19;
 /// Rows can't be written by this line encoding.
 pub const UNSUPPORTED_LINE_ENCODING: u32 = 20;
-/// A text stands past the end of the texts.
+/// A text stands past the end of the texts, or in `.debug_line_str` no zero byte follows it.
 pub const TEXT_OUT_OF_BOUNDS: u32 = 21;
 /// A text has a zero byte.
 pub const ZERO_IN_TEXT: u32 = 22;
