@@ -85,7 +85,7 @@ impl Error {
     pub const INDEX_PATH_OUTSIDE: Error = Error(39);
     /// No line from the one asked for on has code.
     pub const NO_CODE: Error = Error(41);
-    /// No unit of .debug_info tells the directory of the compilation.
+    /// No unit of .debug_info has the directory of the compilation.
     pub const NO_COMP_DIR: Error = Error(42);
     /// Options have a size that this library doesn't know.
     pub const UNKNOWN_OPTIONS: Error = Error(43);
@@ -171,7 +171,7 @@ const SENTENCES: [&str; 49] = [
     "a path isn't inside its index",
     NONE,
     "no line from the one asked for on has code",
-    "no unit of .debug_info tells the directory of the compilation",
+    "no unit of .debug_info has the directory of the compilation",
     "options have a size that this library doesn't know",
     "the bytes are no ELF file that can be read",
     "the ELF file has no .debug_line, build ID or .gnu_debuglink",

@@ -1,9 +1,11 @@
 -- Strings in a section of the caller, and where a table has them.
-use Rattle.std.proofs.Common.{◌≡◌, ℕ, zero, suc, ◌+◌, ◌-◌, ◌≤◌, ◌<◌, ℤ, pos, Bool, true, false, if◌then◌else◌}
-use Rattle.std.proofs.Common.{List, [], ◌∷◌, ◌++◌, length, map, drop, slice_get, get_or, Some, refl, sym, ap, subst, ◌∙◌, arith}
+use Rattle.std.proofs.Common.{◌≡◌, ℕ, zero, suc, ◌+◌, ◌-◌, ◌≤◌, ◌<◌, ℤ, pos, Bool, true, false, nat_eq}
+use Rattle.std.specs.Prelude.{if◌then◌else◌}
+use Rattle.std.proofs.Common.{List, [], ◌∷◌, ◌++◌, length, map, take, drop, slice_get, get_or, Some, refl, sym, ap, subst, ◌∙◌, arith}
 use Rattle.std.specs.Prelude.{bytes_eq, IfSome}
 use Rattle.std.specs.List.{list_any, slice_range}
 use Rattle.std.proofs.lemmas.List.{length-map}
+use Rattle.std.proofs.lemmas.List.Sums.{sum_by-cons}
 use Rattle.std.proofs.lemmas.List.Folds.{drop_split}
 use Rattle.std.proofs.lemmas.Option.{get_or_from_slice_get, slice_get_within}
 use Rattle.std.proofs.Math.Seq.{drop-cons}
@@ -74,10 +76,14 @@ as_many section (t ∷ table) (f ∷ firsts) all = ap suc (as_many section table
 
 later : (t : List ℕ) (table : List (List ℕ)) (f : ℕ) (firsts : List ℕ) (i : ℕ)
     → moved (t ∷ table) (f ∷ firsts) (offset_of (t ∷ table) (suc i)) ≡ moved table firsts (offset_of table i)
-later t table f firsts i = by (offset_of table i) (length t)
+later t table f firsts i =
+    ap (moved (t ∷ table) (f ∷ firsts)) (sum_by-cons (λ x. length x + 1) t (take i table))
+    ∙ past (length t) (offset_of table i)
   where
-    by : (n size : ℕ) → moved (t ∷ table) (f ∷ firsts) (size + 1 + n) ≡ moved table firsts n
-    by n size = grind arith
+    past : (size n : ℕ)
+        → (if nat_eq (size + 1 + n) 0 then f else moved table firsts (size + 1 + n - (size + 1)))
+        ≡ moved table firsts n
+    past size n = grind arith
 
 pub lead_to : (section : List ℕ) (table : List (List ℕ)) (firsts : List ℕ) → StandAt section table firsts
     → LeadToTexts section table firsts

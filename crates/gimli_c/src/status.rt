@@ -85,7 +85,7 @@ pub const INDEX_DISORDERED: u32 = 38;
 pub const INDEX_PATH_OUTSIDE: u32 = 39;
 /// No line from the one that is asked for on has code.
 pub const NO_CODE: u32 = 41;
-/// No unit of `.debug_info` that can be read tells the directory of the compilation.
+/// No unit of `.debug_info` that can be read has the directory of the compilation.
 pub const NO_COMP_DIR: u32 = 42;
 /// Options have a size that this library doesn't know.
 pub const UNKNOWN_OPTIONS: u32 = 43;
