@@ -53,7 +53,7 @@ pub struct FileDetails<'a> {
     pub size: Option<u64>,
     /// The MD5 digest, from version 5 on.
     pub md5: Option<[u8; 16]>,
-    /// The text of the file, from version 5 on. GNU binutils 2.40 read no unit that has sources.
+    /// The text of the file, from version 5 on. GNU binutils 2.40 can't read a unit that has sources.
     pub source: Option<&'a [u8]>,
 }
 
@@ -214,7 +214,7 @@ impl Contents {
 
     /// The bytes of the unit where the first sequences begin at symbols: the first at `symbols[0]`, the next at `symbols[1]`, and so
     /// on; one that has none begins at the address of its first row. The addresses of the rows of a sequence at a symbol are counted
-    /// from that of its first row, which is mostly 0.
+    /// from that of its first row, which is usually 0.
     ///
     /// # Errors
     ///
