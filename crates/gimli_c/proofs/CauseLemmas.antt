@@ -183,6 +183,15 @@ in_array array Fault r other s given is fault =
       | inr same ↦ inr (same.0 ∙ sym is, same.1)
     ]
 
+-- missing memory is a refusal that comes before the elements of any array
+pub memory_first : (array : ℕ) (Fault : ℕ → ℕ → Type 0) → IsFirstOf array Fault (record { status = 17; at = nowhere })
+memory_first array Fault = record {
+  number = (omega arith, omega arith);
+  cause = λ other. absurd (other refl);
+  memory = λ _. refl;
+  first = λ i _ _. nowhere_first (record { array = array; index = i });
+}
+
 -- ---- tables
 
 module _ (names : Names) (directories : List GimliName) (files : List GimliFileName) where

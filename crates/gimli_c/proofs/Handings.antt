@@ -18,7 +18,11 @@ use Rattle.gimli_core.specs.declared.common.LineEncoding.{LineEncoding}
 use Rattle.gimli_build.specs.declared.built.items.BuiltItem.{BuiltItem}
 use Rattle.gimli_c.specs.Handed.{AddsDirectories, AddsFiles, Names, encoding_of, items_handed, line_encoding_of}
 use Rattle.gimli_c.specs.Handed.{text_of}
-use Rattle.gimli_c.specs.inside.Handed.{AddsItems}
+use Rattle.gimli_c.specs.inside.Handed.{AddsItems, Fills}
+use Rattle.gimli_c.specs.declared.items.GimliSymbol.{GimliSymbol}
+use Rattle.gimli_c.specs.declared.row.GimliRow.{GimliRow}
+use Rattle.gimli_c.specs.declared.tables.GimliFileName.{GimliFileName}
+use Rattle.gimli_c.specs.declared.text.GimliName.{GimliName}
 use Rattle.gimli_c.specs.Handing.{Handed, IsBuiltWith, names_handed, program_with}
 use Rattle.gimli_c.specs.Start.{start_program}
 
@@ -89,53 +93,77 @@ items_built h sources names table start between after p texts ids given file_ids
     ∙ ap (λ (v : ℕ). all v now) version
     ∙ ap (all h.encoding.version) same
 
+-- a program that is filled by calls that keep the table
+pub fills : (names : Names) (table second third : List (List ℕ)) (old between after p : Built)
+    (directories : List GimliName) (files : List GimliFileName) (rows : List GimliRow) (symbols : List GimliSymbol)
+    (ids given file_ids now : List ℕ) → second ≡ table → third ≡ second
+    → AddsDirectories old between (map (text_of names table) directories) ids
+    → given ≡ ids → AddsFiles between after names second given files file_ids → now ≡ file_ids
+    → AddsItems after p (items_handed after.encoding.version now symbols 0 None rows)
+    → CanWrite p (texts_in [] third) → Fills old p names table directories files rows symbols file_ids
+fills names table second third old between after p directories files rows symbols ids given file_ids now two three d
+    ids_are f same a can =
+    record {
+      directory_ids = ids;
+      between = between;
+      after = after;
+      adds_directories = d;
+      adds_files =
+          subst (λ (t : List (List ℕ)). AddsFiles between after names t ids files file_ids) two
+          (subst (λ (xs : List ℕ). AddsFiles between after names second xs files file_ids) ids_are f);
+      adds_items =
+          subst (λ (xs : List ℕ). AddsItems after p (items_handed after.encoding.version xs symbols 0 None rows)) same a;
+      can = subst (λ (t : List (List ℕ)). CanWrite p (texts_in [] t)) (three ∙ two) can;
+    }
+
 -- the names, the encodings and the table that the calls get are those that are handed over, and the table stays
-pub built_of : (h : Handed) (names : Names) (first second third table : List (List ℕ)) (e : Encoding)
-    (l : LineEncoding) (start between after p : Built) (ids given file_ids now : List ℕ) → names ≡ names_handed h
-    → second ≡ first → third ≡ second → table ≡ third → e ≡ encoding_of h.encoding
-    → l ≡ line_encoding_of h.encoding
+pub built_of : (h : Handed) (names : Names) (first second table : List (List ℕ)) (e : Encoding) (l : LineEncoding)
+    (start p : Built) (file_ids : List ℕ) → names ≡ names_handed h → second ≡ first → table ≡ second
+    → e ≡ encoding_of h.encoding → l ≡ line_encoding_of h.encoding
     → start ≡ start_program names first e l h.directories h.files
-    → AddsDirectories (program_with h.details names.sources start) between (map (text_of names second) h.directories)
-    ids
-    → given ≡ ids → AddsFiles between after names third given h.files file_ids → now ≡ file_ids
-    → AddsItems after p (items_handed after.encoding.version now h.symbols 0 None h.rows)
-    → CanWrite p (texts_in [] table) → IsBuiltWith h table p file_ids
-built_of h names first second third table e l start between after p ids given file_ids now names_are two three four e_is
-    l_is s d ids_are f same a can =
-    let second_is : second ≡ table = sym (four ∙ three) in
+    → Fills (program_with h.details names.sources start) p names second h.directories h.files h.rows h.symbols file_ids
+    → IsBuiltWith h table p file_ids
+built_of h names first second table e l start p file_ids names_are two three e_is l_is s given =
     let named = names_handed h in
-    let directories =
+    let filled : Fills (program_with h.details named.sources start) p named table h.directories h.files h.rows
+    h.symbols file_ids =
     subst
-    (λ (n : Names). AddsDirectories (program_with h.details n.sources start) between
-    (map (text_of n table) h.directories) ids)
+    (λ (n : Names). Fills (program_with h.details n.sources start) p n table h.directories h.files h.rows h.symbols
+    file_ids)
     names_are
     (subst
-    (λ (t : List (List ℕ)). AddsDirectories (program_with h.details names.sources start) between
-    (map (text_of names t) h.directories) ids)
-    second_is d) in
-    let files =
-    subst (λ (n : Names). AddsFiles between after n table ids h.files file_ids) names_are
-    (subst (λ (t : List (List ℕ)). AddsFiles between after names t ids h.files file_ids) (sym four)
-    (subst (λ (xs : List ℕ). AddsFiles between after names third xs h.files file_ids) ids_are f)) in
+    (λ (t : List (List ℕ)). Fills (program_with h.details names.sources start) p names t h.directories h.files h.rows
+    h.symbols file_ids)
+    (sym three) given) in
     record {
       built = record {
         start = start;
         start_is = s
             ∙ ap (λ (n : Names). start_program n first e l h.directories h.files) names_are
-            ∙ ap (λ (t : List (List ℕ)). start_program named t e l h.directories h.files) (sym two ∙ second_is)
+            ∙ ap (λ (t : List (List ℕ)). start_program named t e l h.directories h.files) (sym (three ∙ two))
             ∙ ap (λ (x : Encoding). start_program named table x l h.directories h.files) e_is
             ∙ ap (λ (x : LineEncoding). start_program named table (encoding_of h.encoding) x h.directories h.files) l_is;
-        directory_ids = ids;
+        directory_ids = filled.directory_ids;
         file_ids = file_ids;
-        between = between;
-        after = after;
-        directories = directories;
-        files = files;
+        between = filled.between;
+        after = filled.after;
+        directories = filled.adds_directories;
+        files = filled.adds_files;
         items =
-            items_built h named.sources named table start between after p _ ids ids file_ids now
-            (ap (λ (q : Built). q.items) s) (ap (λ (q : Built). q.encoding) s ∙ e_is) directories files same a;
-        others = a.others;
-        can = can;
+            items_built h named.sources named table start filled.between filled.after p _ filled.directory_ids
+            filled.directory_ids file_ids file_ids (ap (λ (q : Built). q.items) s)
+            (ap (λ (q : Built). q.encoding) s ∙ e_is) filled.adds_directories filled.adds_files refl filled.adds_items;
+        others = filled.adds_items.others;
+        can = filled.can;
       };
       ids_are = refl;
     }
+
+-- ---- rows that are refused
+
+-- what holds by the encodings of a program and a number of files holds by equal ones
+pub by_equal : (P : LineEncoding → Encoding → ℕ → Type 0) (l k : LineEncoding) (e f : Encoding) (n m : ℕ) → l ≡ k
+    → e ≡ f → n ≡ m → P l e n → P k f m
+by_equal P l k e f n m lines encoding count given =
+    subst (P k f) count
+    (subst (λ (x : Encoding). P k x n) encoding (subst (λ (x : LineEncoding). P x e n) lines given))

@@ -1,19 +1,19 @@
 //! A unit of directories, files and rows that are handed over.
 
 ghost use Rattle.std.specs.Prelude.{◌≡◌, ◌⊎◌, ℕ, [], Bool, Err, IfErr, IfOk, None, OnOk, Some};
-ghost use Rattle.std.specs.Prelude.{false};
+ghost use Rattle.std.specs.Prelude.{false, length, true};
 ghost use Rattle.gimli_bytes.specs.Hand.{plain};
-ghost use Rattle.gimli_bytes.specs.Texts.{no_texts};
+ghost use Rattle.gimli_bytes.specs.Texts.{no_texts, texts_in};
 ghost use Rattle.gimli_build.specs.Cause.{first_cause};
 ghost use Rattle.gimli_build.specs.ReadsBack.{ReadsBackAs};
 ghost use Rattle.gimli_build.specs.Conditions.{CanWrite};
 ghost use Rattle.gimli_bytes.specs.Written.{Appends};
 ghost use Rattle.gimli_build.specs.Unit.{unit_bytes};
 ghost use Rattle.gimli_c.specs.declared.check.GimliElement.{GimliElement};
-ghost use Rattle.gimli_c.specs.Causes.{HasHandedFault, WritesUnit};
-ghost use Rattle.gimli_c.specs.inside.Causes.{HasNone, IsRefusedOf, refusal_of};
+ghost use Rattle.gimli_c.specs.Causes.{HasHandedFault, HasRowsFault, WritesUnit};
+ghost use Rattle.gimli_c.specs.inside.Causes.{HasNone, IsFirstOf, IsRefusedOf, refusal_of};
 ghost use Rattle.gimli_c.specs.Handed.{IsRefusal};
-ghost use Rattle.gimli_c.specs.inside.Handed.{StandAt};
+ghost use Rattle.gimli_c.specs.inside.Handed.{Fills, StandAt, names_seen};
 ghost use Rattle.gimli_c.specs.Refused.{encoding_fault, HasBadLines};
 ghost use Rattle.gimli_c.specs.Handing.{IsBuiltWith, handed_of, numbers_of, program_with};
 ghost use Rattle.gimli_c.specs.Handing.{write_status};
@@ -144,26 +144,65 @@ pub(crate) fn built(
         None => return Err(refusal_of(OUT_OF_MEMORY)),
     };
     let mut program = with_details(start, details, names.sources);
-    let ids = match add_directories(alloc, &names, &mut table, &mut program, directories) {
-        Some(ids) => ids,
-        None => return Err(refusal_of(OUT_OF_MEMORY)),
-    };
-    let file_ids = match add_files(
+    let file_ids = match fill(
         alloc,
         &names,
         &mut table,
         &mut program,
-        ids.as_slice(),
+        directories,
         files,
+        rows,
+        symbols,
     ) {
+        Ok(file_ids) => file_ids,
+        Err(why) => return Err(why),
+    };
+    Ok((program, file_ids, table, firsts))
+}
+
+/// Adds directories, files and rows to a program without rows, and returns the ids of the files.
+/// Requires a program that isn't a placeholder.
+fn fill(
+    alloc: Global,
+    names: &Names<'_>,
+    table: &mut LineStringTable,
+    program: &mut LineProgram,
+    directories: &[GimliName],
+    files: &[GimliFileName],
+    rows: &[GimliRow],
+    symbols: &[GimliSymbol],
+) -> Result<Vec<FileId>, Refusal>
+    requires program { program.old.is_none ≡ false }
+    requires rows { program.old.items ≡ [] }
+    ensures ok { IfOk result (λ ids. Fills program.old program.new (names_seen names.now) table.old
+        directories.now files.now rows.now symbols.now ids.items) }
+    ensures kept { OnOk result (table.new ≡ table.old) }
+    ensures well { OnOk result ((i : ℕ) → HasNone (HasRowsFault program.old.line_encoding
+        program.old.encoding.version (length files.now) None (0, 0) rows.now i)) }
+    ensures err { IfErr result (IsFirstOf 3 (HasRowsFault program.old.line_encoding
+        program.old.encoding.version (length files.now) None (0, 0) rows.now)) }
+{
+    let ids = match add_directories(alloc, names, table, program, directories) {
+        Some(ids) => ids,
+        None => return Err(refusal_of(OUT_OF_MEMORY)),
+    };
+    let file_ids = match add_files(alloc, names, table, program, ids.as_slice(), files) {
         Some(file_ids) => file_ids,
         None => return Err(refusal_of(OUT_OF_MEMORY)),
     };
-    add_rows(&mut program, file_ids.as_slice(), symbols, rows)?;
-    if !program.can_write(&table, &StringTable::default(alloc)) {
-        return Err(refusal_of(OUT_OF_MEMORY));
+    add_rows(program, file_ids.as_slice(), symbols, rows)?;
+    if is_writable(alloc, program, table) {
+        return Ok(file_ids);
     }
-    Ok((program, file_ids, table, firsts))
+    Err(refusal_of(OUT_OF_MEMORY))
+}
+
+/// Whether a program can be written with the texts of a table.
+fn is_writable(alloc: Global, program: &LineProgram, table: &LineStringTable) -> bool
+    ensures { result ≡ true → CanWrite program.now (texts_in [] table.now) }
+{
+    let strings = StringTable::default(alloc);
+    program.can_write(table, &strings)
 }
 
 /// The program, which writes these details of files from version 5 on.

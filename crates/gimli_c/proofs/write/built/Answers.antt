@@ -1,16 +1,16 @@
 use Rattle.std.proofs.Common.{◌≡◌, Bool, true, false, List, ℕ, length, map, if◌then◌else◌, nat_le, refl, sym, ap, subst, ◌∙◌}
 use Rattle.std.proofs.lemmas.Result.{err_from_is_err_and}
 use Rattle.gimli_build.specs.Advance.{CanEncode}
-use Rattle.gimli_build.specs.Built.{Built, previous_position}
+use Rattle.gimli_build.specs.Built.{Built}
 use Rattle.gimli_c.specs.declared.check.GimliElement.{GimliElement}
 use Rattle.gimli_c.specs.declared.tables.GimliFileName.{GimliFileName}
 use Rattle.gimli_c.specs.declared.text.GimliName.{GimliName}
 use Rattle.gimli_c.specs.Causes.{HasTableFault, IsRefusedFor}
 use Rattle.gimli_c.specs.Handing.{handed_of}
-use Rattle.gimli_c.specs.Handed.{AddsDirectories, Names, text_of}
+use Rattle.gimli_c.specs.Handed.{Names}
 use Rattle.gimli_c.specs.inside.Causes.{HasNone}
-use Rattle.gimli_c.specs.inside.Handed.{StandAt, names_seen}
-use Rattle.gimli_c.proofs.CauseLemmas.{encoding_refused, file_ids, handed_is_well, memory_refused, rows_refused}
+use Rattle.gimli_c.specs.inside.Handed.{Fills, StandAt, names_seen}
+use Rattle.gimli_c.proofs.CauseLemmas.{encoding_refused, handed_is_well, memory_refused, rows_refused}
 use Rattle.gimli_c.proofs.CauseLemmas.{rows_well, tables_refused}
 use Rattle.gimli_c.proofs.Handings.{built_of}
 use Rattle.gimli_c.proofs.write.built.Goals as goal
@@ -33,35 +33,28 @@ same_refusal names given directories files status at is refused =
 
 pub returns-clause-ok : goal.returns-clause-ok
 returns-clause-ok c = λ is_big.
-    let h =
-    handed_of c.args.encoding.now is_big c.args.details c.args.line_strings c.args.texts.now c.args.directories.now
-    c.args.files.now c.args.rows.now c.args.symbols.now in
-    let directories =
-    subst
-    (λ (q : Built). AddsDirectories q c.add_directories.new.program
-    (map (text_of (names_seen c.new-names.result) c.empty_built.new.table) c.args.directories.now)
-    c.in-Some-add_directories.ids.items)
-    c.with_details-program.ensures c.in-Some-add_directories.ensures.ok in
-    built_of h (names_seen c.new-names.result) c.in-Some.strings.0 c.empty_built.new.table c.add_directories.new.table
-    c.add_files.new.table c.in_ok-units.units c.in_ok-units.lines c.in-Some-empty_built.start
-    c.add_directories.new.program c.add_files.new.program c.add_rows.new.program c.in-Some-add_directories.ids.items
-    c.as_slice.result.now c.in-Some-add_files.file_ids.items c.as_slice-2.result.now c.new-names.ensures
-    c.in-Some-empty_built.ensures.kept c.in-Some-add_directories.ensures.kept c.in-Some-add_files.ensures.kept
-    c.in_ok-units.ensures.encoding c.in_ok-units.ensures.lines c.in-Some-empty_built.ensures.start directories
-    c.as_slice.ensures.value c.in-Some-add_files.ensures.ok c.as_slice-2.ensures.value c.in_ok-add_rows.ensures.ok
-    (rw c.default.ensures at (c.can_write.ensures.0 c.if-can_write.false))
+    built_of
+    (handed_of c.args.encoding.now is_big c.args.details c.args.line_strings c.args.texts.now c.args.directories.now
+    c.args.files.now c.args.rows.now c.args.symbols.now)
+    (names_seen c.new-names.result) c.in-Some.strings.0 c.empty_built.new.table c.fill.new.table c.in_ok-units.units
+    c.in_ok-units.lines c.in-Some-empty_built.start c.fill.new.program c.in-Ok.file_ids.items c.new-names.ensures
+    c.in-Some-empty_built.ensures.kept c.in-Ok.ensures.kept c.in_ok-units.ensures.encoding c.in_ok-units.ensures.lines
+    c.in-Some-empty_built.ensures.start
+    (subst
+    (λ (q : Built). Fills q c.fill.new.program (names_seen c.new-names.result) c.empty_built.new.table
+    c.args.directories.now c.args.files.now c.args.rows.now c.args.symbols.now c.in-Ok.file_ids.items)
+    c.with_details-program.ensures c.in-Ok.ensures.ok)
 
 pub returns-clause-stand : goal.returns-clause-stand
 returns-clause-stand c =
-    let kept = c.in-Some-add_files.ensures.kept ∙ c.in-Some-add_directories.ensures.kept
-    ∙ c.in-Some-empty_built.ensures.kept in
+    let kept = c.in-Ok.ensures.kept ∙ c.in-Some-empty_built.ensures.kept in
     subst (λ (t : List (List ℕ)). StandAt c.args.texts.now t c.in-Some.strings.1.items) (sym kept)
     (subst (λ (n : Names). StandAt n.texts c.in-Some.strings.0 c.in-Some.strings.1.items) c.new-names.ensures
     c.in-Some.ensures.stand)
 
 pub returns-clause-alone : goal.returns-clause-alone
 returns-clause-alone c = λ alone.
-    c.in-Some-add_files.ensures.kept ∙ c.in-Some-add_directories.ensures.kept ∙ c.in-Some-empty_built.ensures.kept
+    c.in-Ok.ensures.kept ∙ c.in-Some-empty_built.ensures.kept
     ∙ c.in-Some.ensures.none
     (ap (λ (n : Names). n.shared) c.new-names.ensures
     ∙ ap (λ (b : Bool). if nat_le c.args.encoding.now.version 4 then false else b) alone
@@ -89,38 +82,19 @@ returns-in_err-check_tables-clause-refusal c = λ is_big.
 pub returns-in-None-clause-refusal : goal.returns-in-None-clause-refusal
 returns-in-None-clause-refusal c = λ is_big. rw c.refusal_of.ensures (memory_refused _)
 
-pub returns-in-None-add_directories-clause-refusal : goal.returns-in-None-add_directories-clause-refusal
-returns-in-None-add_directories-clause-refusal c = λ is_big.
-    rw c.refusal_of-in-None-add_directories.ensures (memory_refused _)
+pub returns-in-Err-clause-err : goal.returns-in-Err-clause-err
+returns-in-Err-clause-err c = c.in-Err.ensures.err.number
 
-pub returns-in-None-add_files-clause-refusal : goal.returns-in-None-add_files-clause-refusal
-returns-in-None-add_files-clause-refusal c = λ is_big. rw c.refusal_of-in-None-add_files.ensures (memory_refused _)
-
-pub returns-in_err-add_rows-clause-refusal : goal.returns-in_err-add_rows-clause-refusal
-returns-in_err-add_rows-clause-refusal c = λ is_big.
-    let p = err_from_is_err_and c.from_residual-in_err-add_rows.result c.from_residual-in_err-add_rows.ensures.1 in
+pub returns-in-Err-clause-refusal : goal.returns-in-Err-clause-refusal
+returns-in-Err-clause-refusal c = λ is_big.
     let e = c.in_ok-units.ensures in
-    let directories = c.in-Some-add_directories.ensures.ok.others in
-    let files = c.in-Some-add_files.ensures.ok.others in
     let details = c.with_details-program.ensures in
     let start = c.in-Some-empty_built.ensures.start in
-    let lines =
-    ap (λ (q : Built). q.line_encoding) files ∙ ap (λ (q : Built). q.line_encoding) directories
-    ∙ ap (λ (q : Built). q.line_encoding) details
-    ∙ ap (λ (q : Built). q.line_encoding) start ∙ e.lines in
-    let encoding =
-    ap (λ (q : Built). q.encoding) files ∙ ap (λ (q : Built). q.encoding) directories
-    ∙ ap (λ (q : Built). q.encoding) details
-    ∙ ap (λ (q : Built). q.encoding) start ∙ e.encoding in
-    let none =
-    ap (λ (q : Built). q.items) files ∙ ap (λ (q : Built). q.items) directories ∙ ap (λ (q : Built). q.items) details
-    ∙ ap (λ (q : Built). q.items) start in
-    let ids =
-    ap (λ (xs : List ℕ). length xs) c.as_slice-2.ensures.value
-    ∙ file_ids _ _ _ _ _ _ _ c.in-Some-add_files.ensures.ok in
-    rw (p.1, p.2)
-    (rows_refused _ _ c.add_files.new.program _ lines encoding ids e.well (subst CanEncode e.lines e.accepts.lines)
-    (same_tables _ _ _ _ c.new-names.ensures c.in_ok-check_tables.ensures.well) (c.in_err-add_rows.ensures.cause (ap previous_position none)))
+    rows_refused _ _ c.with_details-program.result _
+    (ap (λ (q : Built). q.line_encoding) details ∙ ap (λ (q : Built). q.line_encoding) start ∙ e.lines)
+    (ap (λ (q : Built). q.encoding) details ∙ ap (λ (q : Built). q.encoding) start ∙ e.encoding)
+    refl e.well (subst CanEncode e.lines e.accepts.lines)
+    (same_tables _ _ _ _ c.new-names.ensures c.in_ok-check_tables.ensures.well) c.in-Err.ensures.err
 
 pub returns-clause-well : goal.returns-clause-well
 returns-clause-well c = λ is_big at.
@@ -128,24 +102,11 @@ returns-clause-well c = λ is_big at.
     handed_of c.args.encoding.now is_big c.args.details c.args.line_strings c.args.texts.now c.args.directories.now
     c.args.files.now c.args.rows.now c.args.symbols.now in
     let e = c.in_ok-units.ensures in
-    let directories = c.in-Some-add_directories.ensures.ok.others in
-    let files = c.in-Some-add_files.ensures.ok.others in
     let details = c.with_details-program.ensures in
     let start = c.in-Some-empty_built.ensures.start in
-    let lines =
-    ap (λ (q : Built). q.line_encoding) files ∙ ap (λ (q : Built). q.line_encoding) directories
-    ∙ ap (λ (q : Built). q.line_encoding) details
-    ∙ ap (λ (q : Built). q.line_encoding) start ∙ e.lines in
-    let encoding =
-    ap (λ (q : Built). q.encoding) files ∙ ap (λ (q : Built). q.encoding) directories
-    ∙ ap (λ (q : Built). q.encoding) details
-    ∙ ap (λ (q : Built). q.encoding) start ∙ e.encoding in
-    let none =
-    ap (λ (q : Built). q.items) files ∙ ap (λ (q : Built). q.items) directories ∙ ap (λ (q : Built). q.items) details
-    ∙ ap (λ (q : Built). q.items) start in
-    let ids =
-    ap (λ (xs : List ℕ). length xs) c.as_slice-2.ensures.value
-    ∙ file_ids _ _ _ _ _ _ _ c.in-Some-add_files.ensures.ok in
-    handed_is_well h e.well (subst CanEncode e.lines e.accepts.lines) (same_tables _ _ _ _ c.new-names.ensures c.in_ok-check_tables.ensures.well)
-    (rows_well h c.add_files.new.program _ lines encoding ids
-    (c.in_ok-add_rows.ensures.well (ap previous_position none))) at
+    handed_is_well h e.well (subst CanEncode e.lines e.accepts.lines)
+    (same_tables _ _ _ _ c.new-names.ensures c.in_ok-check_tables.ensures.well)
+    (rows_well h c.with_details-program.result _
+    (ap (λ (q : Built). q.line_encoding) details ∙ ap (λ (q : Built). q.line_encoding) start ∙ e.lines)
+    (ap (λ (q : Built). q.encoding) details ∙ ap (λ (q : Built). q.encoding) start ∙ e.encoding)
+    refl c.in-Ok.ensures.well) at
