@@ -38,7 +38,9 @@ returns-in_err-add_rows-clause-err c =
     let files = c.in-Some-add_files.ensures.ok.others in
     let directories = c.in-Some.ensures.ok.others in
     rw (p.1, p.2)
-    (by_equal (λ l e n. IsFirstOf 3 (HasRowsFault l e.version n None (0, 0) c.args.rows.now) _) _ _ _ _ _ _
+    (by_equal
+    (λ l e n. IsFirstOf 3 (HasRowsFault l e.version n None (0, 0) c.args.rows.now) c.in_err-add_rows.field-0.0)
+    _ _ _ _ _ _
     (ap (λ (q : Built). q.line_encoding) files ∙ ap (λ (q : Built). q.line_encoding) directories)
     (ap (λ (q : Built). q.encoding) files ∙ ap (λ (q : Built). q.encoding) directories)
     (ap (λ (xs : List ℕ). length xs) c.as_slice-2.ensures.value
@@ -54,4 +56,4 @@ pub returns-in-None-add_files-clause-err : goal.returns-in-None-add_files-clause
 returns-in-None-add_files-clause-err c = rw c.refusal_of-in-None-add_files.ensures (memory_first 3 _)
 
 pub returns-clause-err : goal.returns-clause-err
-returns-clause-err c = ?
+returns-clause-err c = rw c.refusal_of-2.ensures (memory_first 3 _)
