@@ -252,7 +252,8 @@ module _ (names : Names) (directories : List GimliName) (files : List GimliFileN
       first other s (directory_fault is fault) = absurd (none other.index s fault)
       first other s (file_fault is fault) = in_array 2 OfFile r other s given is fault
 
-  pub no_source_refused : 5 ≤ names.version → (directories ≡ []) ⊎ (files ≡ []) → IsRefusedFor OfTables OfTables 24 nowhere
+  pub no_source_refused : 5 ≤ names.version → (directories ≡ []) ⊎ (files ≡ [])
+      → IsRefusedFor OfTables OfTables 24 nowhere
   no_source_refused late none = record {
     number = (omega arith, omega arith);
     cause = λ _. no_source refl refl late none;

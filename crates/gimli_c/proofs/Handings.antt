@@ -1,5 +1,6 @@
 -- What is handed over, as it is built.
-use Rattle.std.proofs.Common.{◌≡◌, ℕ, ◌≤◌, Bool, true, false, ◌&&◌, ◌⊎◌, inl, inr, nat_eq, List, [], ◌∷◌, ◌++◌, length, map, refl, sym, ap, subst, ◌∙◌}
+use Rattle.std.proofs.Common.{◌≡◌, ℕ, ◌≤◌, Bool, true, false, ◌&&◌, ◌⊎◌, inl, inr, nat_eq, List, [], ◌∷◌, ◌++◌, length}
+use Rattle.std.proofs.Common.{map, refl, sym, ap, subst, ◌∙◌}
 use Rattle.std.proofs.Common.{arith, None}
 use Rattle.std.specs.Prelude.{Result, Ok, Err, bytes_eq, if◌then◌else◌}
 use Rattle.std.specs.List.{list_any}
@@ -112,7 +113,8 @@ fills names table second third old between after p directories files rows symbol
           subst (λ (t : List (List ℕ)). AddsFiles between after names t ids files file_ids) two
           (subst (λ (xs : List ℕ). AddsFiles between after names second xs files file_ids) ids_are f);
       adds_items =
-          subst (λ (xs : List ℕ). AddsItems after p (items_handed after.encoding.version xs symbols 0 None rows)) same a;
+          subst (λ (xs : List ℕ). AddsItems after p (items_handed after.encoding.version xs symbols 0 None rows)) same
+          a;
       can = subst (λ (t : List (List ℕ)). CanWrite p (texts_in [] t)) (three ∙ two) can;
     }
 
@@ -142,7 +144,8 @@ built_of h names first second table e l start p file_ids names_are two three e_i
             ∙ ap (λ (n : Names). start_program n first e l h.directories h.files) names_are
             ∙ ap (λ (t : List (List ℕ)). start_program named t e l h.directories h.files) (sym (three ∙ two))
             ∙ ap (λ (x : Encoding). start_program named table x l h.directories h.files) e_is
-            ∙ ap (λ (x : LineEncoding). start_program named table (encoding_of h.encoding) x h.directories h.files) l_is;
+            ∙ ap (λ (x : LineEncoding). start_program named table (encoding_of h.encoding) x h.directories h.files)
+            l_is;
         directory_ids = filled.directory_ids;
         file_ids = file_ids;
         between = filled.between;

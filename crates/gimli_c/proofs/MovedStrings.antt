@@ -1,9 +1,10 @@
 -- Strings in a section of the caller, and where a table has them.
 use Rattle.std.proofs.Common.{◌≡◌, ℕ, zero, suc, ◌+◌, ◌-◌, ◌≤◌, ◌<◌, ℤ, pos, Bool, true, false, nat_eq}
 use Rattle.std.specs.Prelude.{if◌then◌else◌}
-use Rattle.std.proofs.Common.{List, [], ◌∷◌, ◌++◌, length, map, take, drop, slice_get, get_or, Some, refl, sym, ap, subst, ◌∙◌, arith}
+use Rattle.std.proofs.Common.{List, [], ◌∷◌, ◌++◌, length, map, take, drop, slice_get, get_or, Some, refl, sym, ap}
+use Rattle.std.proofs.Common.{subst, ◌∙◌, arith}
 use Rattle.std.specs.Prelude.{bytes_eq, IfSome}
-use Rattle.std.specs.List.{list_any, slice_range}
+use Rattle.std.specs.List.{list_any}
 use Rattle.std.proofs.lemmas.List.{length-map}
 use Rattle.std.proofs.lemmas.List.Sums.{sum_by-cons}
 use Rattle.std.proofs.lemmas.List.Folds.{drop_split}
@@ -12,9 +13,8 @@ use Rattle.std.proofs.Math.Seq.{drop-cons}
 use Rattle.gimli_bytes.specs.Texts.{offset_of, with_text}
 use Rattle.gimli_bytes.specs.declared.relocation.Relocation.{Relocation}
 use Rattle.gimli_bytes.specs.declared.relocation.RelocationTarget.{RelocationTarget}
-use Rattle.gimli_bytes.specs.declared.relocation.RelocationTarget.TheVariants.{OfSection, OfSymbol}
+use Rattle.gimli_bytes.specs.declared.relocation.RelocationTarget.TheVariants.{OfSection}
 use Rattle.gimli_build.specs.Texts.{OneByOne, StandsAt}
-use Rattle.gimli_core.specs.declared.common.SectionId.{SectionId}
 use Rattle.gimli_core.specs.declared.common.SectionId.TheVariants.{DebugLineStr}
 use Rattle.gimli_c.specs.Causes.{StandsAmong}
 use Rattle.gimli_c.specs.Handed.{text_handed}

@@ -50,17 +50,20 @@ program_of h row in_sequence =
 is_program_of : (h : Handed) (p : Built) → IsBuiltOf h [] p → p ≡ program_of h p.row p.in_sequence
 is_program_of h p b =
     let d =
-    subst (λ (s : Built). AddsDirectories (program_with h.details (names_handed h).sources s) b.between (names h) b.directory_ids)
+    subst (λ (s : Built).
+    AddsDirectories (program_with h.details (names_handed h).sources s) b.between (names h) b.directory_ids)
     b.start_is b.directories in
     let between =
     d.others
     ∙ ap (λ (ds : List LineText). let q : Built = record (start h) { directories = ds } in q) d.directories_are in
     let files_between = ap (λ (q : Built). q.files) d.others in
-    let files = b.files.files_are ∙ ap (λ (xs : List ℕ). files_handed (names_handed h) [] xs b.between.files h.files) d.ids_are
+    let files =
+    b.files.files_are ∙ ap (λ (xs : List ℕ). files_handed (names_handed h) [] xs b.between.files h.files) d.ids_are
     ∙ ap (λ (fs : List File). files_handed (names_handed h) [] (ids h) fs h.files) files_between in
     let after = b.files.others ∙ ap (λ (q : Built). let r : Built = record q { files = b.after.files } in r) between
     ∙ ap (λ (fs : List File). let q : Built = record (with_tables h) { files = fs } in q) files in
-    let given = b.files.ids_are ∙ ap (λ (xs : List ℕ). ids_of_files (names_handed h) [] xs b.between.files h.files) d.ids_are
+    let given =
+    b.files.ids_are ∙ ap (λ (xs : List ℕ). ids_of_files (names_handed h) [] xs b.between.files h.files) d.ids_are
     ∙ ap (λ (fs : List File). ids_of_files (names_handed h) [] (ids h) fs h.files) files_between in
     let items = b.items ∙ ap (λ (xs : List ℕ). items_handed h.encoding.version xs h.symbols 0 None h.rows) given in
     b.others

@@ -26,7 +26,7 @@ use Rattle.gimli_c.specs.Handing.{Handed, GivesUnitOf, IsBuiltOf, NeedsRoom, nam
 use Rattle.gimli_c.specs.Handing.{write_status}
 use Rattle.gimli_c.specs.Refused.{encoding_fault, HasBadLines}
 
--- ---- what a refusal speaks of
+-- ---- the element of a refusal
 
 -- no element
 abbrev pub nowhere : GimliElement
@@ -41,8 +41,8 @@ IsNotAfter a b = (a.array < b.array) ⊎ ((a.array ≡ b.array) × (a.index ≤ 
 abbrev pub HoldsAt : {X : Type 0} → (X → Type 0) → List X → ℕ → Type 0
 HoldsAt {X} P xs i = (x : X) × (slice_get xs i ≡ Some x) × P x
 
--- this number says that memory lacks, or has its cause at this element, and none before it has a
--- fault
+-- this number says that memory is missing, or has its cause at this element, and none before it has
+-- a fault
 pub record IsRefusedFor (Cause Fault : GimliElement → ℕ → Type 0) (status : ℕ) (at : GimliElement)
     : Type 0 where
   pub number : IsRefusal status
@@ -166,15 +166,15 @@ pub data HasCause (h : Handed) (at : GimliElement) (status : ℕ) : Type 0 where
   of_handed : HasHandedFault h at status → HasCause h at status
   of_unit : at ≡ nowhere → HasUnitFault h status → HasCause h at status
 
--- this number says that memory lacks, or has such a cause at this element, and no element before
--- it has a fault
+-- this number says that memory is missing, or has such a cause at this element, and no element
+-- before it has a fault
 abbrev pub IsRefused : Handed → ℕ → GimliElement → Type 0
 IsRefused h = IsRefusedFor (HasCause h) (HasHandedFault h)
 
 -- ---- the call
 
 -- what a call does that copies the unit of what is handed over, and the numbers of its files, to
--- arrays of the caller, by its status; it tells the element that a refusal speaks of
+-- arrays of the caller, by its status; it stores the element that a refusal names
 pub record WritesUnit (h : Handed) (status : ℕ) (old new : List ℕ) (size : ℕ)
     (numbers_old numbers_new : List ℕ) (element : GimliElement) : Type 0 where
   pub ok : status ≡ OK → GivesUnitOf h old new size numbers_old numbers_new

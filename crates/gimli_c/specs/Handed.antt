@@ -56,7 +56,7 @@ text_handed texts name = slice_range texts name.first (name.first + name.size)
 abbrev pub has_flag : ℕ → ℕ → Bool
 has_flag bit flags = nat_eq (flags / bit % 2) 1
 
--- the names of a unit, and how they stand in it
+-- the names of a unit, and how the unit stores them
 pub record Names : Type 0 where
   pub version : ℕ
   -- the bytes that the names stand among
@@ -66,7 +66,7 @@ pub record Names : Type 0 where
   -- the unit has the sources of files
   pub sources : Bool
 
--- the unit has the strings themselves, and no sources, up to version 4
+-- up to version 4 the unit itself has its strings, and no sources
 abbrev pub names_of : ℕ → ℕ → Bool → List ℕ → Names
 names_of version details line_strings texts = record {
   version = version;

@@ -1,6 +1,6 @@
--- A unit whose sequences begin at symbols, and whose strings may stand in a section of the caller;
--- and the places of it that a linker fills in.
-use Rattle.std.specs.Prelude.{◌≡◌, ◌≢◌, ◌≤◌, ◌<◌, ◌+◌, ◌-◌, ◌⊎◌, ℕ, ℤ, pos, negsuc, Bool, nat_eq}
+-- A unit whose sequences begin at symbols, and whose strings may be in a section of the caller; and
+-- the places in it that a linker fills in.
+use Rattle.std.specs.Prelude.{◌≡◌, ◌≢◌, ◌≤◌, ◌<◌, ◌+◌, ◌-◌, ◌⊎◌, ℕ, ℤ, pos, Bool, nat_eq}
 use Rattle.std.specs.Prelude.{if◌then◌else◌, List, [], ◌∷◌, length, map, IsTrue, Some}
 use Rattle.gimli_core.specs.declared.common.SectionId.{SectionId}
 use Rattle.gimli_core.specs.declared.common.SectionId.TheVariants.{DebugInfo, DebugLine, DebugStr}
@@ -54,15 +54,15 @@ relocation_seen r = record {
 
 -- ---- strings in a section of the caller
 
--- an offset into a table of texts, as that of the same text elsewhere: these are the offsets there,
--- in the order of the texts
+-- the offset of a text in a table, replaced by that of the same text elsewhere: `firsts` has the
+-- offsets there, in the order of the table
 abbrev pub moved : List (List ℕ) → List ℕ → ℕ → ℕ
 moved [] firsts n = n
 moved (t ∷ table) [] n = n
 moved (t ∷ table) (first ∷ firsts) n =
     if nat_eq n 0 then first else moved table firsts (n - (length t + 1))
 
--- the addend of an offset into `.debug_line_str`, so moved; another stays
+-- the addend of a relocation: an offset into `.debug_line_str` is moved, and another addend stays
 abbrev pub addend_moved : List (List ℕ) → List ℕ → RelocationTarget → ℤ → ℤ
 addend_moved table firsts (OfSection DebugLineStr) (pos n) = pos (moved table firsts n)
 addend_moved table firsts target addend = addend
@@ -72,8 +72,8 @@ abbrev pub relocation_moved : List (List ℕ) → List ℕ → Relocation → Re
 relocation_moved table firsts r =
     record r { addend = addend_moved table firsts r.target r.addend }
 
--- each offset of a text of a table leads to that text in a section, once it is moved; a zero byte
--- ends the text there
+-- the moved offset of each text of a table leads to that text in a section, and a zero byte ends it
+-- there
 abbrev pub LeadToTexts : List ℕ → List (List ℕ) → List ℕ → Type 0
 LeadToTexts section table firsts = (i : ℕ) → IsTextFound section (moved table firsts) table i
 
@@ -89,8 +89,8 @@ HasRelocatableCause h at status =
     HasHandedFault h at status
     ⊎ ((at ≡ nowhere) × (error : Error) × (status ≡ write_status error))
 
--- this number says that memory lacks, or has such a cause at this element, and no element before
--- it has a fault
+-- this number says that memory is missing, or has such a cause at this element, and no element
+-- before it has a fault
 abbrev pub IsRefusedRelocatable : Handed → ℕ → GimliElement → Type 0
 IsRefusedRelocatable h = IsRefusedFor (HasRelocatableCause h) (HasHandedFault h)
 
@@ -147,7 +147,7 @@ pub record NeedsRelocatableRoom (h : Handed) (old : List ℕ) (size : ℕ)
   pub count_is : count ≡ length section.relocations
 
 -- what a call does that copies the unit of what is handed over, its relocations and the numbers of
--- its files to arrays of the caller, by its status; it tells the element that a refusal speaks of
+-- its files to arrays of the caller, by its status; it stores the element that a refusal names
 pub record WritesRelocatable (h : Handed) (status : ℕ) (old new : List ℕ) (size : ℕ)
     (slots_old slots_new : List GimliRelocation) (count : ℕ) (numbers_old numbers_new : List ℕ)
     (element : GimliElement) : Type 0 where

@@ -12,11 +12,11 @@ use crate::status::{NO_SOURCE_FILE, NO_SUCH_DIRECTORY, OUT_OF_MEMORY};
 use crate::tables::GimliFileName;
 use crate::text::{GimliName, Names, text_fault};
 
-/// The element that a refusal speaks of.
+/// The element that a refusal names.
 #[repr(C)]
 #[derive(Clone, Copy)]
 pub struct GimliElement {
-    /// `NO_ARRAY`, where it is no element, `DIRECTORIES`, `FILES` or `ROWS`.
+    /// `DIRECTORIES`, `FILES` or `ROWS`; `NO_ARRAY` if there is no element.
     pub array: u64,
     /// Its index in the array.
     pub index: u64,
@@ -41,11 +41,11 @@ pub(crate) const NOWHERE: GimliElement = GimliElement {
 pub(crate) struct Refusal {
     /// The number.
     pub status: u32,
-    /// What it speaks of.
+    /// The element that it names.
     pub at: GimliElement,
 }
 
-/// A refusal that speaks of no element.
+/// A refusal that names no element.
 pub(crate) fn refusal_of(status: u32) -> Refusal
     ensures { result ≡ refusal_of status }
 {
@@ -55,7 +55,7 @@ pub(crate) fn refusal_of(status: u32) -> Refusal
     }
 }
 
-/// A refusal for an element; one for lack of memory speaks of none.
+/// A refusal that names an element; if memory is missing, it names none.
 pub(crate) fn refusal_at(status: u32, array: u64, index: usize) -> Refusal
     ensures status { result.status ≡ status }
     ensures memory { status ≡ OUT_OF_MEMORY → result.at ≡ nowhere }
@@ -117,7 +117,7 @@ fn check_directories(names: &Names<'_>, directories: &[GimliName]) -> Result<(),
     Ok(())
 }
 
-/// Refuses files by the first that has a fault. There are so many directories.
+/// Refuses files by the first that has a fault. The unit has `count` directories.
 fn check_files(names: &Names<'_>, count: usize, files: &[GimliFileName]) -> Result<(), Refusal>
     ensures well { (i s : ℕ) → OnOk result (HoldsAt (λ f. HasFileFault (names_seen names.now)
         (first_index (names_seen names.now).version + count) f s) files.now i → ⊥) }
@@ -154,7 +154,7 @@ fn file_fault(names: &Names<'_>, count: usize, file: &GimliFileName) -> Option<u
     None
 }
 
-/// Whether no directory has an index, where there are so many.
+/// Whether no directory has an index, in a unit with `count` directories.
 fn is_past(version: u16, count: u64, index: u64) -> bool
     ensures yes { result ≡ true → first_index version + count ≤ index }
     ensures no { result ≡ false → index < first_index version + count }

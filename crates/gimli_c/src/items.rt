@@ -31,8 +31,8 @@ pub struct GimliSymbol {
     pub addend: i64,
 }
 
-/// Adds rows in order. Each sequence begins at its symbol, and where it has none at the address of
-/// its first row. Requires a program that isn't a placeholder.
+/// Adds rows in order. Each sequence begins at its symbol, or if it has none at the address of its
+/// first row. Requires a program that isn't a placeholder.
 pub(crate) fn add_rows(
     program: &mut LineProgram,
     ids: &[FileId],
@@ -61,7 +61,7 @@ pub(crate) fn add_rows(
     Ok(())
 }
 
-/// The symbol of a sequence, where it has one.
+/// The symbol of a sequence, if it has one.
 fn symbol_at(symbols: &[GimliSymbol], sequence: usize) -> Option<GimliSymbol>
     ensures { result ≡ slice_get symbols.now sequence }
 {
@@ -118,8 +118,9 @@ fn add_row(
     }
 }
 
-/// The address that rows of the sequence are counted from: that of its first row. Where it begins,
-/// its symbol is set, or that address where it has none. Requires a program that isn't a placeholder.
+/// The address that rows of the sequence count from: that of its first row. If the sequence begins
+/// here, sets its symbol, or that address if it has none. Requires a program that isn't a
+/// placeholder.
 fn begin(
     program: &mut LineProgram,
     symbol: Option<GimliSymbol>,

@@ -1,7 +1,7 @@
 //! Line number programs of DWARF, versions 2 to 5, for programs in C and in Rust.
 //!
 //! Each call takes the bytes of a section or of an index, and numbers, and returns a number of
-//! [`status`]; what it found goes into places of the caller. Nothing is kept after a call.
+//! [`status`]; it stores what it found in variables of the caller. It keeps nothing.
 //! `include/gimli_line.h` declares all of it.
 #![tactic(auto)]
 

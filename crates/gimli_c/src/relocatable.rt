@@ -46,7 +46,7 @@ pub struct GimliRelocation {
 
 /// The address of the symbol.
 pub const OF_SYMBOL: u32 = 0;
-/// That of the section `.debug_line_str`.
+/// The address of the section `.debug_line_str`.
 pub const OF_DEBUG_LINE_STR: u32 = 4;
 
 /// The number of a section.
@@ -157,7 +157,8 @@ pub extern "C" fn gimli_line_proved_write_relocatable(
     element: &mut GimliElement,
 ) -> u32
     ensures { WritesRelocatable (handed_of encoding.now is_big details line_strings texts.now
-        directories.now files.now rows.now symbols.now) result unit.old unit.new size.new relocations.old
+        directories.now files.now rows.now symbols.now) result unit.old unit.new size.new
+        relocations.old
         relocations.new count.new numbers.old numbers.new element.new }
 {
     *size = 0;

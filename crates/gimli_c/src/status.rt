@@ -69,7 +69,7 @@ pub const NEED_VERSION_4: u32 = 29;
 pub const UNIT_TOO_LONG: u32 = 30;
 /// What is written is longer than the room for it.
 pub const NO_ROOM: u32 = 31;
-/// A string of a path can't be told, or a file's directory isn't there.
+/// A string of a path can't be read, or a file's directory isn't there.
 pub const UNKNOWN_PATH: u32 = 33;
 /// The bytes don't begin as an index does.
 pub const NO_INDEX: u32 = 34;

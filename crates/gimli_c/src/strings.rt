@@ -1,4 +1,4 @@
-//! The strings of a unit that stand in a section `.debug_line_str` of the caller.
+//! The strings of a unit that are in the caller's section `.debug_line_str`.
 
 ghost use Rattle.std.specs.Prelude.{◌≡◌, ◌<◌, ◌∷◌, ◌++◌, [], false, true, IfOk, IfSome};
 ghost use Rattle.std.specs.Prelude.{length, map};
@@ -14,8 +14,8 @@ use gimli_bytes::{Error, LineStringId, LineStringTable, Relocation, RelocationTa
 use gimli_core::SectionId;
 use std::alloc::Global;
 
-/// The strings of directories and files, each once, and where each stands in the section; none for
-/// a unit that has them itself. None where memory lacks, or a name is refused.
+/// The strings of directories and files, each once, and the offset of each in the section; no
+/// strings for a unit that has its strings itself. None if memory is missing or a name is refused.
 pub(crate) fn strings_of(
     alloc: Global,
     names: &Names<'_>,
@@ -74,7 +74,7 @@ fn add_files(
     Some(())
 }
 
-/// Adds a string, and where it stands, unless it is there.
+/// Adds a string and its offset, unless the table has the string.
 fn add_name(
     names: &Names<'_>,
     table: &mut LineStringTable,
@@ -102,7 +102,7 @@ fn add_name(
     Some(())
 }
 
-/// Adds where a string stands; none where memory lacks.
+/// Adds the offset of a string; none if memory is missing.
 fn add_first(firsts: &mut Vec<u64>, first: u64) -> Option<()>
     ensures { IfSome result (λ _. firsts.new.items ≡ firsts.old.items ++ first ∷ []) }
 {
@@ -112,7 +112,7 @@ fn add_first(firsts: &mut Vec<u64>, first: u64) -> Option<()>
     }
 }
 
-/// The relocations of a unit, each offset of a string moved to where it stands in the section.
+/// The relocations of a unit, in which each offset of a string becomes its offset in the section.
 /// Refused by `ValueTooLarge` if such an offset doesn't fit its place, and by `OutOfMemory`.
 pub(crate) fn moved_places(
     alloc: Global,
@@ -134,7 +134,7 @@ pub(crate) fn moved_places(
     Ok(moved)
 }
 
-/// A relocation, so moved.
+/// A relocation, with the offset of a string moved.
 fn place_moved(table: &LineStringTable, firsts: &[u64], place: &Relocation) -> Result<Relocation>
     requires { length table.now ≡ length firsts.now }
     ensures { IfOk result (λ moved. moved ≡ relocation_moved table.now firsts.now place.now) }
@@ -150,7 +150,7 @@ fn place_moved(table: &LineStringTable, firsts: &[u64], place: &Relocation) -> R
     }
 }
 
-/// The relocation of a string, so moved.
+/// The relocation of a string, with its offset moved.
 fn string_moved(table: &LineStringTable, firsts: &[u64], place: &Relocation) -> Result<Relocation>
     requires count { length table.now ≡ length firsts.now }
     requires target { place.now.target ≡ OfSection DebugLineStr }
@@ -172,7 +172,7 @@ fn string_moved(table: &LineStringTable, firsts: &[u64], place: &Relocation) -> 
     Ok(Relocation { addend, ..*place })
 }
 
-/// The text of a table that begins at an offset, by halves.
+/// The text of a table that begins at an offset, by binary search.
 fn text_at(table: &LineStringTable, offset: usize) -> Option<usize>
     ensures within { IfSome result (λ index. index < length table.now) }
     ensures offset { IfSome result (λ index. offset_of table.now index ≡ offset) }

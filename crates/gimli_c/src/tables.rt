@@ -1,6 +1,6 @@
 //! The directories and the files of a unit that is written.
 
-ghost use Rattle.std.specs.Prelude.{◌≡◌, [], IfSome, OnOk, None, Some, false, map, option_map};
+ghost use Rattle.std.specs.Prelude.{◌≡◌, [], IfSome, None, Some, false, map, option_map};
 ghost use Rattle.std.specs.Prelude.{slice_get};
 ghost use Rattle.gimli_build.specs.Conditions.{Accepts};
 ghost use Rattle.gimli_build.specs.Built.{empty_built};
@@ -28,7 +28,7 @@ pub struct GimliFileName {
     /// The index of the directory: up to version 4 from 1 on, where 0 is the directory of the
     /// compilation; in version 5 from 0 on.
     pub directory: u64,
-    /// When the file was last changed, in a measure of the producer's own; 0 where it isn't known.
+    /// When the file was last changed, as the producer counts; 0 if unknown.
     pub timestamp: u64,
     /// The size in bytes; 0 where it isn't known.
     pub size: u64,

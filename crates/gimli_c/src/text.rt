@@ -26,7 +26,7 @@ pub struct GimliName {
     pub size: u64,
 }
 
-/// The names of a unit, and how they stand in it.
+/// The names of a unit, and how the unit stores them.
 #[derive(Clone, Copy)]
 pub(crate) struct Names<'a> {
     /// The version of the unit.
@@ -63,8 +63,8 @@ impl<'a> Names<'a> {
     }
 }
 
-/// Why a name is refused, by its number; none where it isn't. No text has a zero byte, but one
-/// follows it in `.debug_line_str`; and up to version 4 none is empty.
+/// The number of the reason why a name is refused; none if it isn't. No text has a zero byte, but
+/// in `.debug_line_str` one follows it; and up to version 4 none is empty.
 pub(crate) fn text_fault(names: &Names<'_>, name: GimliName) -> Option<u32>
     ensures some { IfSome result (HasTextFault (names_seen names.now) name) }
     ensures number { IfSome result IsRefusal }
@@ -92,8 +92,8 @@ pub(crate) fn text_fault(names: &Names<'_>, name: GimliName) -> Option<u32>
     None
 }
 
-/// A text of a program; none where memory lacks, or the name is refused. One of `.debug_line_str`
-/// is in the table.
+/// A text of a program; none if memory is missing, if the name is refused, or if the table lacks a
+/// text of `.debug_line_str`.
 #[tactic(auto, unfolding(crate::specs::Handed::text_of))]
 pub(crate) fn text_of(
     alloc: Global,
@@ -119,7 +119,7 @@ pub(crate) fn text_of(
     }
 }
 
-/// The text of a table, by its id; none where it isn't there.
+/// The text of a table, by its id; none if it isn't there.
 fn shared_text(table: &mut LineStringTable, text: &[u8]) -> Option<LineString>
     requires { All (λ b. b ≢ 0) text.now }
     ensures ok { IfSome result (λ made.
@@ -137,7 +137,7 @@ fn shared_text(table: &mut LineStringTable, text: &[u8]) -> Option<LineString>
     Some(LineString::LineStringRef(id))
 }
 
-/// Whether the byte at an offset is there, and zero.
+/// Whether there is a zero byte at an offset.
 fn is_zero_at(bytes: &[u8], offset: usize) -> bool
     ensures { MatchBool result (slice_get bytes.now offset ≡ Some 0)
         (slice_get bytes.now offset ≢ Some 0) }

@@ -102,8 +102,8 @@ pub(crate) fn copy_numbers(version: u16, files: &[FileId], room: &mut [u64])
     }
 }
 
-/// The program that is built of what is handed over, the ids of its files, and its strings in
-/// `.debug_line_str`, with where each stands there.
+/// The program that is built of what is handed over, the ids of its files, its strings in
+/// `.debug_line_str`, and the offset of each there.
 pub(crate) fn built(
     alloc: Global,
     encoding: &GimliEncoding,
@@ -216,7 +216,8 @@ fn with_details(mut program: LineProgram, details: u64, sources: bool) -> LinePr
     program
 }
 
-/// The unit of a program whose texts all stand in it. Requires one that can be written. Refused by the first cause that the program has, or by `OutOfMemory`.
+/// The unit of a program that contains all of its texts. Requires one that can be written. Refused
+/// by the first cause that the program has, or by `OutOfMemory`.
 fn section_of(
     alloc: Global,
     program: &LineProgram,

@@ -1,4 +1,4 @@
-use Rattle.std.proofs.Common.{◌≡◌, ℕ, List, sym, ap, subst, ◌∙◌, arith}
+use Rattle.std.proofs.Common.{ℕ, List, sym, ap, subst, ◌∙◌, arith}
 use Rattle.gimli_bytes.specs.Texts.{with_text}
 use Rattle.gimli_c.specs.inside.Handed.{StandAt}
 use Rattle.gimli_c.proofs.MovedStrings.{name_stands, stand_more, stand_same}

@@ -1,7 +1,5 @@
-use Rattle.std.proofs.Common.{◌≡◌, ℕ, List, [], None, length, refl, ap, ◌∙◌}
+use Rattle.std.proofs.Common.{ℕ, List, None, length, ap, ◌∙◌}
 use Rattle.std.proofs.lemmas.Result.{err_from_is_err_and}
-use Rattle.gimli_core.specs.declared.common.Encoding.{Encoding}
-use Rattle.gimli_core.specs.declared.common.LineEncoding.{LineEncoding}
 use Rattle.gimli_build.specs.Built.{Built, previous_position}
 use Rattle.gimli_c.specs.Causes.{HasRowsFault}
 use Rattle.gimli_c.specs.inside.Causes.{HasNone, IsFirstOf}

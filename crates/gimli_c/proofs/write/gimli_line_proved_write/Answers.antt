@@ -91,7 +91,8 @@ returns-then-bytes-unit c =
       cause = λ _ small. absurd (small refl);
       refused = λ at s cause.
           absurd (no_cause _ c.in-Ok.made.0 at s (c.in-Ok.ensures.well c.args.is_big)
-          (built _ _ _ _ (c.in-Ok.ensures.alone refl) (c.in-Ok.ensures.ok c.args.is_big)).built c.in-Ok-section_of.ensures.no_cause cause);
+          (built _ _ _ _ (c.in-Ok.ensures.alone refl) (c.in-Ok.ensures.ok c.args.is_big)).built
+          c.in-Ok-section_of.ensures.no_cause cause);
       no_element = λ _. refl;
       kept = λ _. (refl, refl);
       none = λ _ small. absurd (small refl);
@@ -116,7 +117,8 @@ returns c =
         numbers_are =
             c.copy_numbers.ensures
             ∙ ap (λ (xs : List ℕ). slots_with (numbers_of c.args.encoding.now.version xs) c.args.numbers.now)
-            (c.as_slice.ensures.value ∙ sym (built _ _ _ _ (c.in-Ok.ensures.alone refl) (c.in-Ok.ensures.ok c.args.is_big)).ids_are);
+            (c.as_slice.ensures.value
+            ∙ sym (built _ _ _ _ (c.in-Ok.ensures.alone refl) (c.in-Ok.ensures.ok c.args.is_big)).ids_are);
       };
       room = λ no_room. absurd (apart OK NO_ROOM refl no_room);
       fault = first_of (search rules, grind (arith, common_steps));
@@ -124,7 +126,8 @@ returns c =
       cause = λ some _. absurd (some refl);
       refused = λ at s cause.
           absurd (no_cause _ c.in-Ok.made.0 at s (c.in-Ok.ensures.well c.args.is_big)
-          (built _ _ _ _ (c.in-Ok.ensures.alone refl) (c.in-Ok.ensures.ok c.args.is_big)).built c.in-Ok-section_of.ensures.no_cause cause);
+          (built _ _ _ _ (c.in-Ok.ensures.alone refl) (c.in-Ok.ensures.ok c.args.is_big)).built
+          c.in-Ok-section_of.ensures.no_cause cause);
       no_element = λ _. refl;
       kept = λ some. absurd (some refl);
       none = λ some _. absurd (some refl);
