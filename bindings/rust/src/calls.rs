@@ -164,6 +164,7 @@ pub struct FileName {
     pub timestamp: u64,
     pub size: u64,
     pub md5: [u8; 16],
+    pub source: Name,
 }
 
 #[repr(C)]
@@ -206,7 +207,19 @@ pub struct Relocation {
     pub symbol: usize,
     pub addend: i64,
     pub size: u32,
-    pub section: u32,
+    pub target: u32,
+}
+
+impl Relocation {
+    /// Puts the addend at the place.
+    pub fn put_addend(&mut self, unit: &mut [u8], big_endian: bool) {
+        let place = &mut unit[self.offset..][..self.size as usize];
+        place.copy_from_slice(&self.addend.to_le_bytes()[..self.size as usize]);
+        if big_endian {
+            place.reverse();
+        }
+        self.addend = 0;
+    }
 }
 
 #[repr(C)]
@@ -258,8 +271,8 @@ declared! {
         [rows: Row], [mut unit: u8], size: *mut usize, [mut numbers: u64], element: *mut Element
     );
     gimli_line_proved_write_relocatable(
-        encoding: *const Encoding, big: bool, details: u64, in_place: bool, [texts: u8], [directories: Name],
-        [files: FileName], [rows: Row], [symbols: Symbol], [mut unit: u8], size: *mut usize,
+        encoding: *const Encoding, big: bool, details: u64, in_place: bool, shared: bool, [texts: u8],
+        [directories: Name], [files: FileName], [rows: Row], [symbols: Symbol], [mut unit: u8], size: *mut usize,
         [mut relocations: Relocation], count: *mut usize, [mut numbers: u64], element: *mut Element
     );
 }

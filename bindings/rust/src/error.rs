@@ -47,7 +47,7 @@ impl Error {
     pub const UNSUPPORTED_OFFSET_SIZE: Error = Error(19);
     /// Rows can't be written by the line encoding.
     pub const UNSUPPORTED_LINE_ENCODING: Error = Error(20);
-    /// A text isn't within the texts.
+    /// A text isn't within the texts, or in `.debug_line_str` no zero byte follows it.
     pub const TEXT_OUT_OF_BOUNDS: Error = Error(21);
     /// A text has a zero byte.
     pub const ZERO_IN_TEXT: Error = Error(22);
@@ -85,7 +85,7 @@ impl Error {
     pub const INDEX_PATH_OUTSIDE: Error = Error(39);
     /// No line from the one asked for on has code.
     pub const NO_CODE: Error = Error(41);
-    /// No unit of .debug_info tells the directory of the compilation.
+    /// No unit of .debug_info has the directory of the compilation.
     pub const NO_COMP_DIR: Error = Error(42);
     /// Options have a size that this library doesn't know.
     pub const UNKNOWN_OPTIONS: Error = Error(43);
@@ -150,7 +150,7 @@ const SENTENCES: [&str; 49] = [
     "no row covers the address, or an index says nothing of it",
     "the size of offsets isn't 4 or 8",
     "rows can't be written by the line encoding",
-    "a text isn't within the texts",
+    "a text isn't within the texts, or in .debug_line_str no zero byte follows it",
     "a text has a zero byte",
     "a text is empty, up to version 4",
     "no directory or no file, in version 5",
@@ -171,7 +171,7 @@ const SENTENCES: [&str; 49] = [
     "a path isn't inside its index",
     NONE,
     "no line from the one asked for on has code",
-    "no unit of .debug_info tells the directory of the compilation",
+    "no unit of .debug_info has the directory of the compilation",
     "options have a size that this library doesn't know",
     "the bytes are no ELF file that can be read",
     "the ELF file has no .debug_line, build ID or .gnu_debuglink",

@@ -103,7 +103,7 @@ pub struct Index<'a> {
 impl<'a> Index<'a> {
     /// The bytes of the index of a program, which [`Index::open`] takes: of each address what a lookup over all units finds there, with the
     /// whole path over the directory of the compilation. Rows below the address `lowest` are left out, since a linker leaves code that
-    /// it drops at low addresses, mostly at 0: so 1 is the least that answers right there, and 0 leaves none out. A unit that can't be
+    /// it drops at low addresses, usually at 0: so 1 is the least that answers right there, and 0 leaves none out. A unit that can't be
     /// read has no rows. `identity` names what the index is made of. The order of bytes is that of `sections`.
     ///
     /// # Errors

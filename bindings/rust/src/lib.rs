@@ -26,7 +26,9 @@ pub use error::Error;
 pub use file::{File, Text};
 pub use index::{Addresses, Index, NoPath, Place, Range, Ranges};
 pub use row::{ColumnType, LineRow, Unit, Units};
-pub use write::{Addends, Contents, Element, Encoding, FileDetails, Refusal, RelocatableUnit, Relocation, Symbol};
+pub use write::{
+    Addends, Contents, Element, Encoding, FileDetails, LineStrings, Refusal, RelocatableUnit, Relocation, Symbol, Target,
+};
 
 /// The sections of a linked program that lines are read from. One that a program lacks is of no bytes.
 #[derive(Clone, Copy, Debug)]

@@ -3,6 +3,7 @@
 use crate::calls::{self, call, whole};
 use crate::error::Error;
 use crate::row::LineRow;
+use std::collections::HashMap;
 use std::fmt;
 
 /// What a unit is encoded by.
@@ -45,13 +46,15 @@ impl Encoding {
 
 /// What a unit has of a file besides its path.
 #[derive(Clone, Copy, Debug, Default, PartialEq, Eq, Hash)]
-pub struct FileDetails {
+pub struct FileDetails<'a> {
     /// When the file was last changed, in a measure of the producer's own.
     pub timestamp: Option<u64>,
     /// The size in bytes.
     pub size: Option<u64>,
     /// The MD5 digest, from version 5 on.
     pub md5: Option<[u8; 16]>,
+    /// The text of the file, from version 5 on. GNU binutils 2.40 can't read a unit that has sources.
+    pub source: Option<&'a [u8]>,
 }
 
 /// What a unit has: directories, files and rows. Numbers are those of rows: up to version 4 from 1 on, in version 5 from 0 on.
@@ -76,7 +79,7 @@ pub struct FileDetails {
 /// A compiler, which doesn't know its addresses, hands symbols over, and gets the places that a linker fills in:
 ///
 /// ```
-/// use gimli_line_proved::{Addends, Contents, Encoding, LineRow, Relocation, Symbol};
+/// use gimli_line_proved::{Addends, Contents, Encoding, LineRow, Symbol, Target};
 ///
 /// let mut contents = Contents::new(Encoding::new(4));
 /// contents.file(b"main.c", 0);
@@ -85,7 +88,7 @@ pub struct FileDetails {
 /// let written = contents.write_relocatable(&[Symbol { symbol: 3, addend: 16 }], Addends::Listed)?;
 ///
 /// let place = written.relocations[0];
-/// assert_eq!((written.relocations.len(), place.symbol, place.addend, place.size), (1, 3, 16, 8));
+/// assert_eq!((written.relocations.len(), place.target, place.addend, place.size), (1, Target::Symbol(3), 16, 8));
 /// // The address stands there as 0 behind the three bytes of its instruction: an extended one of 9 bytes, DW_LNE_set_address.
 /// assert_eq!(written.unit[place.offset - 3..place.offset + 8], [0, 9, 2, 0, 0, 0, 0, 0, 0, 0, 0]);
 /// # Ok::<(), gimli_line_proved::Error>(())
@@ -94,7 +97,7 @@ pub struct FileDetails {
 pub struct Contents {
     encoding: Encoding,
     big_endian: bool,
-    /// What a file of the unit has: its time is 1, its size 2, its MD5 digest 4.
+    /// What a file of the unit has: its time is 1, its size 2, its MD5 digest 4, its source 8.
     details: u64,
     texts: Vec<u8>,
     directories: Vec<calls::Name>,
@@ -127,6 +130,22 @@ impl Contents {
         calls::Name { first, size: text.len() as u64 }
     }
 
+    /// The same contents, with their names in a table: their texts are its bytes.
+    fn in_table(&self, table: &mut LineStrings) -> Contents {
+        let mut name = |it: calls::Name| {
+            let text = &self.texts[it.first as usize..][..it.size as usize];
+            calls::Name { first: table.add(text), size: it.size }
+        };
+        let directories = self.directories.iter().map(|it| name(*it)).collect();
+        let sources = self.details & 8 != 0;
+        let files = self.files.iter().map(|it| {
+            let source = if sources { name(it.source) } else { calls::Name::default() };
+            calls::FileName { path: name(it.path), source, ..*it }
+        });
+        let files = files.collect();
+        Contents { texts: Vec::new(), directories, files, rows: self.rows.clone(), ..*self }
+    }
+
     /// Adds a directory.
     pub fn directory(&mut self, path: &[u8]) {
         let name = self.name(path);
@@ -139,13 +158,15 @@ impl Contents {
     }
 
     /// Adds a file with what is known of it. Version 5 has for all files what one of them has, and zeros where it isn't known; each
-    /// version before has a time and a size for each file, and no MD5 digest.
-    pub fn file_with(&mut self, path: &[u8], directory: u64, details: FileDetails) {
+    /// version before has a time and a size for each file, and neither an MD5 digest nor a source.
+    pub fn file_with(&mut self, path: &[u8], directory: u64, details: FileDetails<'_>) {
         let path = self.name(path);
-        let FileDetails { timestamp, size, md5 } = details;
+        let FileDetails { timestamp, size, md5, source } = details;
         self.details |= u64::from(timestamp.is_some()) | u64::from(size.is_some()) << 1 | u64::from(md5.is_some()) << 2;
+        self.details |= u64::from(source.is_some()) << 3;
         let (timestamp, size, md5) = (timestamp.unwrap_or(0), size.unwrap_or(0), md5.unwrap_or_default());
-        self.files.push(calls::FileName { path, directory, timestamp, size, md5 });
+        let source = self.name(source.unwrap_or_default());
+        self.files.push(calls::FileName { path, directory, timestamp, size, md5, source });
     }
 
     /// Adds a row. A sequence begins with the first row, and after each that ends one.
@@ -193,15 +214,49 @@ impl Contents {
 
     /// The bytes of the unit where the first sequences begin at symbols: the first at `symbols[0]`, the next at `symbols[1]`, and so
     /// on; one that has none begins at the address of its first row. The addresses of the rows of a sequence at a symbol are counted
-    /// from that of its first row, which is mostly 0.
+    /// from that of its first row, which is usually 0.
     ///
     /// # Errors
     ///
     /// Those of [`Contents::write`].
     pub fn write_relocatable(&self, symbols: &[Symbol], addends: Addends) -> Result<RelocatableUnit, Refusal> {
+        self.relocatable(symbols, addends, None)
+    }
+
+    /// The same, with the strings of the unit in a table that units share, from version 5 on: each string is an offset into the table's
+    /// bytes, the section `.debug_line_str`, and a relocation has it as its addend. Strings that the table lacks are added to it.
+    ///
+    /// # Errors
+    ///
+    /// Those of [`Contents::write`]; [`Error::UNIT_TOO_LONG`] also if an offset doesn't fit. The table is as before then.
+    pub fn write_with_strings(
+        &self,
+        table: &mut LineStrings,
+        symbols: &[Symbol],
+        addends: Addends,
+    ) -> Result<RelocatableUnit, Refusal> {
+        if self.encoding.version < 5 {
+            return self.write_relocatable(symbols, addends);
+        }
+        let before = table.bytes.len();
+        let written = self.in_table(table).relocatable(symbols, addends, Some(&table.bytes));
+        if written.is_err() {
+            table.truncate(before);
+        }
+        written
+    }
+
+    /// The unit of symbols, whose names are among its own texts, or in a section `.debug_line_str`.
+    fn relocatable(
+        &self,
+        symbols: &[Symbol],
+        addends: Addends,
+        line_strings: Option<&[u8]>,
+    ) -> Result<RelocatableUnit, Refusal> {
         let symbols: Vec<_> =
             symbols.iter().map(|it| calls::Symbol { symbol: it.symbol, addend: it.addend }).collect();
         let in_place = addends == Addends::InPlace;
+        let (texts, shared) = (line_strings.unwrap_or(&self.texts), line_strings.is_some());
         let mut relocations = vec![calls::Relocation::default(); symbols.len()];
         let mut numbers: [u64; 0] = [];
         let mut element = calls::Element::default();
@@ -210,14 +265,18 @@ impl Contents {
             // The pointers are those of slices and of locals.
             let answer = Error::of(unsafe {
                 call!(gimli_line_proved_write_relocatable(
-                    &self.encoding, self.big_endian, self.details, in_place, [self.texts], [self.directories], [self.files], [self.rows],
-                    [symbols], [mut unit], size, [mut relocations], &mut count, [mut numbers], &mut element
+                    &self.encoding, self.big_endian, self.details, in_place, shared, [texts], [self.directories], [self.files],
+                    [self.rows], [symbols], [mut unit], size, [mut relocations], &mut count, [mut numbers], &mut element
                 ))
             });
             relocations.resize(count, calls::Relocation::default());
             answer
         });
-        let unit = unit.map_err(|error| Refusal::new(error, element))?;
+        let mut unit = unit.map_err(|error| Refusal::new(error, element))?;
+        // The call lists the addends of such units in any case.
+        if in_place && shared {
+            relocations.iter_mut().for_each(|it| it.put_addend(&mut unit, self.big_endian));
+        }
         Ok(RelocatableUnit { unit, relocations: relocations.iter().map(Relocation::new).collect() })
     }
 
@@ -295,28 +354,87 @@ pub enum Addends {
     InPlace,
 }
 
-/// A place of a unit that a linker fills in: with the address of a symbol, and the addend.
+/// What the addend of a relocation is added to.
+#[derive(Clone, Copy, Debug, PartialEq, Eq, Hash)]
+pub enum Target {
+    /// The address of the symbol of this number.
+    Symbol(usize),
+    /// That of the section `.debug_line_str`.
+    LineStrings,
+}
+
+/// A place of a unit that a linker fills in: with the address of its target, and the addend.
 #[derive(Clone, Copy, Debug, PartialEq, Eq, Hash)]
 pub struct Relocation {
     /// The offset of the place in the unit, in bytes.
     pub offset: usize,
-    /// The number of the symbol.
-    pub symbol: usize,
-    /// What is added to its address; 0 where addends stand at the places.
+    /// What the addend is added to.
+    pub target: Target,
+    /// What is added to it; 0 where addends stand at the places.
     pub addend: i64,
     /// The number of bytes of the place.
     pub size: u32,
 }
 
 impl Relocation {
-    // All texts of a unit stand in it, so no target is a section.
     fn new(relocation: &calls::Relocation) -> Relocation {
         Relocation {
             offset: relocation.offset,
-            symbol: relocation.symbol,
+            target: if relocation.target == 0 { Target::Symbol(relocation.symbol) } else { Target::LineStrings },
             addend: relocation.addend,
             size: relocation.size,
         }
+    }
+}
+
+/// The strings of a section `.debug_line_str` that units share: each stands there once, with a zero byte after it.
+///
+/// ```
+/// use gimli_line_proved::{Addends, Contents, Encoding, LineRow, LineStrings, Target};
+///
+/// let mut table = LineStrings::default();
+/// for path in [b"a.c", b"b.c"] {
+///     let mut contents = Contents::new(Encoding::new(5));
+///     contents.directory(b"/w");
+///     contents.file(path, 0);
+///     contents.row(LineRow::at(0).with_line(1));
+///     contents.row(LineRow::at(4).with_end());
+///     let written = contents.write_with_strings(&mut table, &[], Addends::Listed)?;
+///     assert!(written.relocations.iter().all(|place| place.target == Target::LineStrings));
+/// }
+/// assert_eq!(table.section(), b"/w\0a.c\0b.c\0");
+/// # Ok::<(), gimli_line_proved::Error>(())
+/// ```
+#[derive(Clone, Debug, Default)]
+pub struct LineStrings {
+    bytes: Vec<u8>,
+    /// Where each string begins.
+    offsets: HashMap<Vec<u8>, u64>,
+}
+
+impl LineStrings {
+    /// The bytes of the section. A linker keeps each string once if it has the flags `SHF_MERGE` and `SHF_STRINGS`, and an entry size
+    /// of 1.
+    pub fn section(&self) -> &[u8] {
+        &self.bytes
+    }
+
+    /// Where a string begins, which is added if it isn't there.
+    fn add(&mut self, text: &[u8]) -> u64 {
+        if let Some(offset) = self.offsets.get(text) {
+            return *offset;
+        }
+        let offset = self.bytes.len() as u64;
+        self.bytes.extend_from_slice(text);
+        self.bytes.push(0);
+        self.offsets.insert(text.to_vec(), offset);
+        offset
+    }
+
+    /// Removes the strings from an offset on.
+    fn truncate(&mut self, length: usize) {
+        self.bytes.truncate(length);
+        self.offsets.retain(|_, offset| *offset < length as u64);
     }
 }
 

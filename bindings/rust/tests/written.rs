@@ -2,8 +2,8 @@
 //! ends well.
 
 use gimli_line_proved::{
-    Addends, CompilationSections, Contents, Element, Encoding, Error, FileDetails, Index, LineRow, Refusal, Relocation, Sections,
-    Symbol,
+    Addends, CompilationSections, Contents, Element, Encoding, Error, FileDetails, Index, LineRow, LineStrings, Refusal, Relocation,
+    Sections, Symbol, Target,
 };
 use std::fs;
 use std::path::{Path, PathBuf};
@@ -65,7 +65,7 @@ fn a_unit_is_read_back() {
 
 #[test]
 fn details_of_files_are_read_back() {
-    let first = FileDetails { timestamp: None, size: Some(9), md5: Some([7; 16]) };
+    let first = FileDetails { size: Some(9), md5: Some([7; 16]), ..FileDetails::default() };
     // Up to version 4 each file has a time and a size, and none has a digest; in version 5 each has what the first has.
     for (version, timestamp, md5) in [(2, Some(0), None), (4, Some(0), None), (5, None, Some([7; 16]))] {
         let mut contents = contents(version);
@@ -108,7 +108,8 @@ fn link(unit: &mut [u8], places: &[Relocation]) {
     for place in places {
         let word = &mut unit[place.offset..place.offset + place.size as usize];
         let there = u64::from_le_bytes(word.try_into().expect("eight bytes"));
-        let symbol = 0x40_0000 + 0x100 * place.symbol as u64;
+        let Target::Symbol(symbol) = place.target else { panic!("{place:?}") };
+        let symbol = 0x40_0000 + 0x100 * symbol as u64;
         word.copy_from_slice(&symbol.wrapping_add(place.addend as u64).wrapping_add(there).to_le_bytes());
     }
 }
@@ -121,7 +122,7 @@ fn symbols_are_placed() {
             let contents = contents(version);
             let written = contents.write_relocatable(&symbols, addends).expect("it is written");
             let mut unit = written.unit.clone();
-            assert_eq!(written.relocations.iter().map(|it| (it.symbol, it.size)).collect::<Vec<_>>(), [(2, 8), (7, 8)]);
+            assert_eq!(written.relocations.iter().map(|it| (it.target, it.size)).collect::<Vec<_>>(), [2, 7].map(|it| (Target::Symbol(it), 8)));
             let listed: Vec<_> = written.relocations.iter().map(|it| it.addend).collect();
             assert_eq!(listed, if addends == Addends::Listed { [0x10, -8] } else { [0, 0] });
             link(&mut unit, &written.relocations);
@@ -137,6 +138,62 @@ fn symbols_are_placed() {
     }
     let refused = Contents::new(Encoding::new(6)).write_relocatable(&symbols, Addends::Listed);
     assert_eq!(refused, Err(Refusal { error: Error::UNKNOWN_VERSION, element: None }));
+}
+
+/// The place of an offset into `.debug_line_str`, in a unit of one directory, one file and no details.
+fn string_at(offset: usize, addend: i64) -> Relocation {
+    Relocation { offset, target: Target::LineStrings, addend, size: 4 }
+}
+
+#[test]
+fn units_share_strings() {
+    let unit = |table: &mut LineStrings, path: &[u8], big_endian, addends| {
+        let mut contents = Contents::new(Encoding::new(5));
+        contents.set_big_endian(big_endian);
+        contents.directory(b"/w");
+        contents.file(path, 0);
+        contents.row(LineRow::at(0x1000).with_line(7));
+        contents.row(LineRow::at(0x1004).with_end());
+        contents.write_with_strings(table, &[], addends)
+    };
+    let mut table = LineStrings::default();
+    let first = unit(&mut table, b"a.c", false, Addends::Listed).expect("it is written");
+    // The directory's offset follows the unit's 34 bytes of header, formats and count, and the file's nine bytes later, after its own.
+    assert_eq!(first.relocations, [string_at(34, 0), string_at(44, 3)]);
+    assert_eq!(table.section(), b"/w\0a.c\0");
+    let second = unit(&mut table, b"b.c", false, Addends::Listed).expect("it is written");
+    assert_eq!(second.relocations, [string_at(34, 0), string_at(44, 7)]);
+    assert_eq!((table.section(), &first.unit), (&b"/w\0a.c\0b.c\0"[..], &second.unit));
+    // A string that is there isn't added, and a refused one leaves the table as it was.
+    assert!(unit(&mut table, b"a.c", false, Addends::Listed).is_ok());
+    assert!(unit(&mut table, b"a\0c", false, Addends::Listed).is_err());
+    assert_eq!(table.section(), b"/w\0a.c\0b.c\0");
+    // With the addends at the places, the unit is read beside the table's bytes as they are.
+    for big_endian in [false, true] {
+        let written = unit(&mut table, b"b.c", big_endian, Addends::InPlace).expect("it is written");
+        assert_eq!(written.relocations, [string_at(34, 0), string_at(44, 0)]);
+        let sections = Sections {
+            debug_line: &written.unit,
+            debug_line_str: table.section(),
+            debug_str: &[],
+            big_endian,
+            address_size: 8,
+        };
+        assert_eq!(sections.path(0, 0, b""), Ok(b"/w/b.c".to_vec()));
+    }
+    // Up to version 4 a unit has its strings itself.
+    let written = contents(4).write_with_strings(&mut table, &[], Addends::Listed).expect("it is written");
+    assert_eq!((Ok(written.unit), table.section()), (contents(4).write(), &b"/w\0a.c\0b.c\0"[..]));
+}
+
+#[test]
+fn sources_are_written() {
+    let mut contents = contents(5);
+    contents.file_with(b"with.c", 0, FileDetails { source: Some(b"int x;\n"), ..FileDetails::default() });
+    let unit = contents.write().expect("it is written");
+    // Two files of three formats each: the path, the directory 0 and the source (0x2001 as ULEB128), which the first one lacks.
+    let files = b"\x03\x01\x08\x02\x0f\x81\x40\x08\x02two.c\0\0\0with.c\0\0int x;\n\0";
+    assert!(unit.windows(files.len()).any(|it| it == files), "{unit:?}");
 }
 
 #[test]

@@ -14,10 +14,10 @@ here=$(cd "$(dirname "$0")" && pwd)
 crate=$(dirname "$here")
 top=$(cd "$crate/../.." && pwd)
 # Each number of the header is that of the constant of the same name: a law ties those of status.rt, the others stand in row.rt,
-# file.rt and check.rt.
+# file.rt, relocatable.rt and check.rt.
 diff <(sed '/define GIMLI_LINE_NO_PATHS/,/^$/d' "$crate/include/gimli_line.h" | grep -oE '^ +X\([A-Z0-9_]+, [0-9]+|GIMLI_LINE_[A-Z0-9_]+ = [0-9]+' |
     sed -E 's/^ *(GIMLI_LINE_|X\()([A-Z0-9_]+)( =|,) ([0-9]+)/\2 \4/') \
-    <(cd "$crate/src" && sed -nE 's/^pub const ([A-Z0-9_]+): u[0-9]+ = ([0-9]+);/\1 \2/p' status.rt row.rt file.rt check.rt)
+    <(cd "$crate/src" && sed -nE 's/^pub const ([A-Z0-9_]+): u[0-9]+ = ([0-9]+);/\1 \2/p' status.rt row.rt file.rt relocatable.rt check.rt)
 # Those of the reasons why a place has no path, and what they say, are those of docs/reference/INDEX.md.
 diff <(sed -nE '/define GIMLI_LINE_NO_PATHS/,/^$/s/^ +X\([A-Z_]+, ([0-9]+), "(.*)"\).*/| \1 | \2 |/p' "$crate/include/gimli_line.h") \
     <(sed -nE '/^\| Number \| Why \|/,/^$/s/^(\| [0-9]+ \| [^(|]*[^(| ]).* \|$/\1 |/p' "$top/docs/reference/INDEX.md")

@@ -121,7 +121,8 @@ uint32_t gimli_line_version(void);
     X(NO_ROW, 18, "no row covers the address, or an index says nothing of it") \
     X(UNSUPPORTED_OFFSET_SIZE, 19, "the size of offsets isn't 4 or 8") \
     X(UNSUPPORTED_LINE_ENCODING, 20, "rows can't be written by the line encoding") \
-    X(TEXT_OUT_OF_BOUNDS, 21, "a text isn't within the texts") \
+    X(TEXT_OUT_OF_BOUNDS, 21, \
+      "a text isn't within the texts, or in .debug_line_str no zero byte follows it") \
     X(ZERO_IN_TEXT, 22, "a text has a zero byte") \
     X(EMPTY_TEXT, 23, "a text is empty, up to version 4") \
     X(NO_SOURCE_FILE, 24, "no directory or no file, in version 5") \
@@ -142,7 +143,7 @@ uint32_t gimli_line_version(void);
       "the ranges of an index don't ascend, or its statements aren't in order") \
     X(INDEX_PATH_OUTSIDE, 39, "a path isn't inside its index") \
     X(NO_CODE, 41, "no line from the one asked for on has code") \
-    X(NO_COMP_DIR, 42, "no unit of .debug_info tells the directory of the compilation") \
+    X(NO_COMP_DIR, 42, "no unit of .debug_info has the directory of the compilation") \
     X(UNKNOWN_OPTIONS, 43, "options have a size that this library doesn't know") \
     X(NO_ELF, 44, "the bytes are no ELF file that can be read") \
     X(NO_SECTION, 45, "the ELF file has no .debug_line, build ID or .gnu_debuglink") \
@@ -178,8 +179,8 @@ typedef struct gimli_line_sections {
     size_t line_size, line_strings_size, strings_size, info_size, abbreviations_size,
         string_offsets_size; /* in bytes */
     uint64_t lowest;         /* the lowest address of code. An index leaves out what begins below
-                              * it, since a linker leaves dropped code at low addresses, mostly at
-                              * 0. Use at least 1, but 0 for a program whose code begins at 0 */
+                              * it, since a linker gives dropped code a low address, usually 0.
+                              * Use at least 1, but 0 for a program whose code begins at 0 */
     uint8_t address_size;    /* in bytes: 1, 2, 4 or 8. It counts up to version 4; version 5 has
                               * its own */
     bool big;                /* big-endian */
@@ -213,8 +214,9 @@ void gimli_line_sections_free(gimli_line_sections *sections);
 
 gimli_line_status gimli_line_build_id(const void *file, size_t length, uint8_t *id, size_t room,
                                       size_t *size) GIMLI_LINE_CALL;
-/* Copies the build ID of an ELF file (NT_GNU_BUILD_ID, mostly 20 bytes). It is looked for in the
- * sections of notes: a file without section headers has none here. Allocates nothing.
+/* Copies the build ID of an ELF file (NT_GNU_BUILD_ID, usually 20 bytes). The call looks for
+ * it in the note sections only, so it finds none in a file without section headers. Allocates
+ * nothing.
  *
  * Returns:
  *   GIMLI_LINE_NO_ROOM       *size is its size
@@ -269,7 +271,7 @@ gimli_line_status gimli_line_index_of_elf(const void *file, size_t length, uint8
  *   GIMLI_LINE_BAD_SECTION       gimli_line_sections_of_elf names the section
  *   GIMLI_LINE_INDEX_TOO_LARGE   also if .debug_line decompresses to more bytes than
  *                                4 * length + 1 MiB
- * `length` takes the place of the sizes of the sections in the limit of paths. On an error *index
+ * The limit of the paths counts `length` instead of the sizes of the sections. On an error *index
  * is null and *size is 0. */
 
 gimli_line_status gimli_line_index_of_sections(const gimli_line_sections *sections,
@@ -281,10 +283,11 @@ gimli_line_status gimli_line_index_of_sections(const gimli_line_sections *sectio
  * no sequence, and that is no fault. If a path can't be made, the index has the reason.
  *
  * Returns GIMLI_LINE_OK for any bytes of these sections, or
- *   GIMLI_LINE_INDEX_TOO_LARGE   it would be too large: at most 48 bytes, and 36 for each byte of
- *                                .debug_line, beside its identity and paths; or its paths, each
- *                                once with a zero byte, have more bytes than 256 times those of the
- *                                sections and 64 MiB (a directory stands in the path of each file)
+ *   GIMLI_LINE_INDEX_TOO_LARGE   it would be too large (without its identity and paths it has at
+ *                                most 48 bytes, and 36 more for each byte of .debug_line); or its
+ *                                paths, each once with a zero byte, have more bytes than 256 times
+ *                                those of the sections and 64 MiB (the path of each file repeats
+ *                                its directory)
  *   GIMLI_LINE_PLACE_TOO_LARGE   a line or a column doesn't fit 32 bits
  * On an error *index is null and *size is 0. */
 
@@ -457,7 +460,7 @@ typedef struct gimli_line_row {
     uint64_t line;          /* from 1 on; 0 if the instruction belongs to no line */
     uint64_t column;        /* from 1 on; 0 for the left edge of the line */
     uint64_t isa;           /* the instruction set, by the machine's own numbers */
-    uint64_t discriminator; /* tells blocks of one source place apart */
+    uint64_t discriminator; /* distinguishes blocks of one source position */
     uint64_t flags;         /* the sum of those of gimli_line_row_flag that hold */
 } gimli_line_row;
 
@@ -686,10 +689,11 @@ typedef struct gimli_line_name {
 /* A file to write. */
 typedef struct gimli_line_file_name {
     gimli_line_name path;
-    uint64_t directory; /* up to version 4 from 1 on, where 0 is DW_AT_comp_dir; else from 0 on */
-    uint64_t timestamp; /* 0 if unknown */
-    uint64_t size;      /* in bytes; 0 if unknown */
-    uint8_t md5[16];    /* zeros if unknown */
+    uint64_t directory;     /* from 0 on; up to version 4 from 1 on, and 0 is DW_AT_comp_dir */
+    uint64_t timestamp;     /* 0 if unknown */
+    uint64_t size;          /* in bytes; 0 if unknown */
+    uint8_t md5[16];        /* zeros if unknown */
+    gimli_line_name source; /* its text; of no bytes if unknown */
 } gimli_line_file_name;
 
 /* A symbol that a sequence begins at. */
@@ -698,15 +702,20 @@ typedef struct gimli_line_symbol {
     int64_t addend; /* what is added to its address */
 } gimli_line_symbol;
 
+/* What the addend of a relocation is added to. */
+enum gimli_line_target {
+    GIMLI_LINE_OF_SYMBOL = 0,        /* the address of the symbol */
+    GIMLI_LINE_OF_DEBUG_LINE_STR = 4 /* the address of the section .debug_line_str */
+};
+
 /* A place of a unit that a linker fills in: the address of its target, and the addend (System V
  * ABI, chapter 4). */
 typedef struct gimli_line_relocation {
-    size_t offset;    /* of the place in the unit, in bytes */
-    size_t symbol;    /* the number of the symbol; 0 if the target is a section */
-    int64_t addend;   /* 0 if addends stand at the places */
-    uint32_t size;    /* of the place, in bytes: the size of addresses */
-    uint32_t section; /* 0: the target is the symbol. In these units it always is, since they have
-                       * all of their strings in them, and no .debug_line_str is written */
+    size_t offset;   /* of the place in the unit, in bytes */
+    size_t symbol;   /* the number of the symbol; 0 if the target is a section */
+    int64_t addend;  /* 0 if addends stand at the places */
+    uint32_t size;   /* of the place, in bytes: the size of addresses, or of offsets */
+    uint32_t target; /* one of gimli_line_target */
 } gimli_line_relocation;
 
 /* The element that a write was refused for. */
@@ -728,9 +737,11 @@ typedef struct gimli_line_contents {
     gimli_line_encoding encoding;
     bool big;          /* big-endian */
     bool in_place;     /* addends stand at the places of relocations */
-    uint64_t details;  /* which details version 5 has of files: a sum of GIMLI_LINE_HAS_TIMESTAMP,
-                        * GIMLI_LINE_HAS_SIZE and GIMLI_LINE_HAS_MD5; other bits are ignored. Up to
-                        * version 4 it is always the first two. The text of a file isn't written */
+    bool line_strings; /* `texts` is .debug_line_str, to which a unit of version 5 refers; only for
+                        * gimli_line_write_relocatable */
+    uint64_t details;  /* which details version 5 has of files: a sum of gimli_line_file_detail;
+                        * other bits are ignored. Up to version 4 it is always the first two. GNU
+                        * binutils 2.40 can't read a unit with GIMLI_LINE_HAS_SOURCE */
     const char *texts; /* the bytes that names are among */
     size_t text_length;
     const gimli_line_name *directories;
@@ -776,7 +787,8 @@ gimli_line_status gimli_line_write(const gimli_line_contents *contents, uint8_t 
  *
  * Returns:
  *   GIMLI_LINE_NO_ROOM           *size is its size
- *   GIMLI_LINE_UNKNOWN_OPTIONS   struct_size is not that of this header; *contents->refused stays
+ *   GIMLI_LINE_UNKNOWN_OPTIONS   struct_size is not that of this header, or `line_strings` is set,
+ *                                which needs relocations; *contents->refused stays
  *   GIMLI_LINE_OUT_OF_MEMORY
  *   another status: what is wrong with the encoding, or else with the first element that is wrong,
  *   of the directories, then the files, then the rows. *contents->refused gets that element:
@@ -791,13 +803,25 @@ gimli_line_status gimli_line_write_relocatable(const gimli_line_contents *conten
 /* Does what gimli_line_write does, for a compiler that doesn't know its addresses: the first
  * sequence begins at symbols[0], the next at symbols[1], and so on; one without a symbol begins at
  * the address of its first row. The address of the first row stands for the symbol and its addend,
- * and those of the other rows count from it: mostly it is 0. relocations[0] and so on get the
+ * and those of the other rows count from it: usually it is 0. relocations[0] and so on get the
  * places of the symbols, and *count is how many there are. The addends stand there and the places
  * are 0, as for SHT_RELA; or, if `in_place`, the addends stand at the places and those there are 0,
  * as for SHT_REL.
  *
+ * To share strings among units, keep the bytes of .debug_line_str: append each directory, path and
+ * source to it once, with a zero byte after it, and remember where it begins. Pass these bytes as
+ * `texts`, and set `line_strings`. Each string of a unit of version 5 is then an offset into them
+ * (DW_FORM_line_strp), and has a relocation whose target is GIMLI_LINE_OF_DEBUG_LINE_STR and
+ * whose addend is the name's `first`, or that of the first name with the same string. The call
+ * doesn't change `texts`: append more to it, and write the next unit. The cost of a call doesn't
+ * grow with `texts`. Give the section the flags SHF_MERGE and SHF_STRINGS, and an entry size of 1:
+ * a linker then keeps each string once. Up to version 4 the unit itself has its strings.
+ *
  * Returns as gimli_line_write does, and
- *   GIMLI_LINE_NO_ROOM   `room` or `relocation_room` is too small; *size and *count are needed
+ *   GIMLI_LINE_NO_ROOM              `room` or `relocation_room` is too small; *size and *count are
+ *                                   needed
+ *   GIMLI_LINE_TEXT_OUT_OF_BOUNDS   also if no zero byte follows a name in `line_strings`
+ *   GIMLI_LINE_UNIT_TOO_LONG        also if offsets have 4 bytes, and that of a string needs more
  * On the others *count is 0 too. */
 
 #ifdef __cplusplus

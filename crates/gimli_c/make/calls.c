@@ -269,20 +269,35 @@ gimli_line_status gimli_line_debug_link(const void *file, size_t length, char *n
 gimli_line_status gimli_line_write(const gimli_line_contents *in, uint8_t *unit, size_t room, size_t *size) {
     gimli_line_element element;
     *size = 0;
-    if (in->struct_size != sizeof *in) return GIMLI_LINE_UNKNOWN_OPTIONS;
+    if (in->struct_size != sizeof *in || in->line_strings) return GIMLI_LINE_UNKNOWN_OPTIONS;
     return status_of(gimli_line_proved_write(&in->encoding, in->big, in->details, READ(in->texts), in->text_length, READ(in->directories),
                                              in->directory_count, READ(in->files), in->file_count, READ(in->rows), in->row_count,
                                              AT((void *)unit), room, size, AT(in->numbers), in->number_room,
                                              in->refused != NULL ? in->refused : &element));
 }
 
+/* Puts the addends of relocations at their places. */
+static void put_addends(bool big, uint8_t *unit, gimli_line_relocation *relocations, size_t count) {
+    for (size_t i = 0; i < count; i++) {
+        uint64_t addend = (uint64_t)relocations[i].addend;
+        for (uint32_t byte = 0; byte < relocations[i].size; byte++, addend >>= 8)
+            unit[relocations[i].offset + (big ? relocations[i].size - 1 - byte : byte)] = (uint8_t)addend;
+        relocations[i].addend = 0;
+    }
+}
+
 gimli_line_status gimli_line_write_relocatable(const gimli_line_contents *in, uint8_t *unit, size_t room, size_t *size,
                                                gimli_line_relocation *relocations, size_t relocation_room, size_t *count) {
     gimli_line_element element;
+    uint32_t status;
     *size = *count = 0;
     if (in->struct_size != sizeof *in) return GIMLI_LINE_UNKNOWN_OPTIONS;
-    return status_of(gimli_line_proved_write_relocatable(
-        &in->encoding, in->big, in->details, in->in_place, READ(in->texts), in->text_length, READ(in->directories), in->directory_count,
-        READ(in->files), in->file_count, READ(in->rows), in->row_count, READ(in->symbols), in->symbol_count, AT((void *)unit), room, size,
-        AT(relocations), relocation_room, count, AT(in->numbers), in->number_room, in->refused != NULL ? in->refused : &element));
+    status = gimli_line_proved_write_relocatable(
+        &in->encoding, in->big, in->details, in->in_place, in->line_strings, READ(in->texts), in->text_length, READ(in->directories),
+        in->directory_count, READ(in->files), in->file_count, READ(in->rows), in->row_count, READ(in->symbols), in->symbol_count,
+        AT((void *)unit), room, size, AT(relocations), relocation_room, count, AT(in->numbers), in->number_room,
+        in->refused != NULL ? in->refused : &element);
+    /* With strings in a section of the caller the proved call lists addends, also for `in_place`. */
+    if (status == GIMLI_LINE_OK && in->in_place && in->line_strings) put_addends(in->big, unit, relocations, *count);
+    return status_of(status);
 }

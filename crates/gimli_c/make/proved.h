@@ -49,7 +49,7 @@ uint32_t gimli_line_proved_elf_debug_link(const uint8_t *, size_t, uint8_t *, si
 uint32_t gimli_line_proved_write(const gimli_line_encoding *, bool, uint64_t, const uint8_t *, size_t, const gimli_line_name *, size_t,
                                  const gimli_line_file_name *, size_t, const gimli_line_row *, size_t, uint8_t *, size_t, size_t *,
                                  uint64_t *, size_t, gimli_line_element *);
-uint32_t gimli_line_proved_write_relocatable(const gimli_line_encoding *, bool, uint64_t, bool, const uint8_t *, size_t,
+uint32_t gimli_line_proved_write_relocatable(const gimli_line_encoding *, bool, uint64_t, bool, bool, const uint8_t *, size_t,
                                              const gimli_line_name *, size_t, const gimli_line_file_name *, size_t, const gimli_line_row *,
                                              size_t, const gimli_line_symbol *, size_t, uint8_t *, size_t, size_t *,
                                              gimli_line_relocation *, size_t, size_t *, uint64_t *, size_t, gimli_line_element *);

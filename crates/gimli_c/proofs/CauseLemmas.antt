@@ -24,11 +24,11 @@ use Rattle.gimli_c.specs.Causes.HasHandedFault.{of_encoding, of_tables, of_rows}
 use Rattle.gimli_c.specs.Refused.{encoding_fault}
 use Rattle.gimli_build.specs.Advance.{CanEncode}
 use Rattle.gimli_c.specs.Causes.HasTableFault.{no_source, directory_fault, file_fault}
-use Rattle.gimli_c.specs.Handed.{AddsFiles, IsRefusal, base_after, base_of, details_handed}
+use Rattle.gimli_c.specs.Handed.{AddsFiles, IsRefusal, Names, base_after, base_of, details_handed}
 use Rattle.gimli_c.specs.Handed.{encoding_of}
 use Rattle.gimli_c.specs.Handed.{ids_of_files}
 use Rattle.gimli_c.specs.Handed.{key_handed, line_encoding_of}
-use Rattle.gimli_c.specs.Handing.{Handed}
+use Rattle.gimli_c.specs.Handing.{Handed, names_handed}
 
 -- ---- elements
 
@@ -146,20 +146,20 @@ no_rows_left e version files base position rows i k status past fault =
 
 -- ---- how many ids there are
 
-count_of_files : (texts ids : List ℕ) (files : List File) (more : List GimliFileName)
-    → length (ids_of_files texts ids files more) ≡ length more
-count_of_files texts ids files [] = refl
-count_of_files texts ids files (f ∷ more) =
+count_of_files : (names : Names) (table : List (List ℕ)) (ids : List ℕ) (files : List File) (more : List GimliFileName)
+    → length (ids_of_files names table ids files more) ≡ length more
+count_of_files names table ids files [] = refl
+count_of_files names table ids files (f ∷ more) =
     let rest =
-    count_of_files texts ids (with_file files (key_handed texts ids f) (Some (details_handed f))) more in omega
-    arith
+    count_of_files names table ids
+    (with_file files (key_handed names table ids f) (Some (details_handed names table f))) more in omega arith
 
 -- each file has an id
-pub file_ids : (old new : Built) (texts ids : List ℕ) (files : List GimliFileName) (given : List ℕ)
-    → AddsFiles old new texts ids files given
+pub file_ids : (old new : Built) (names : Names) (table : List (List ℕ)) (ids : List ℕ) (files : List GimliFileName)
+    (given : List ℕ) → AddsFiles old new names table ids files given
     → length given ≡ length files
-file_ids old new texts ids files given adds =
-    ap (λ (xs : List ℕ). length xs) adds.ids_are ∙ count_of_files texts ids old.files files
+file_ids old new names table ids files given adds =
+    ap (λ (xs : List ℕ). length xs) adds.ids_are ∙ count_of_files names table ids old.files files
 
 -- ---- which comes first
 
@@ -183,20 +183,29 @@ in_array array Fault r other s given is fault =
       | inr same ↦ inr (same.0 ∙ sym is, same.1)
     ]
 
+-- missing memory is a refusal that comes before the elements of any array
+pub memory_first : (array : ℕ) (Fault : ℕ → ℕ → Type 0) → IsFirstOf array Fault (record { status = 17; at = nowhere })
+memory_first array Fault = record {
+  number = (omega arith, omega arith);
+  cause = λ other. absurd (other refl);
+  memory = λ _. refl;
+  first = λ i _ _. nowhere_first (record { array = array; index = i });
+}
+
 -- ---- tables
 
-module _ (version : ℕ) (texts : List ℕ) (directories : List GimliName) (files : List GimliFileName) where
+module _ (names : Names) (directories : List GimliName) (files : List GimliFileName) where
   -- what refuses a directory, a file or tables
   abbrev Directory : ℕ → ℕ → Type 0
-  Directory i s = HoldsAt (λ n. HasTextFault version texts n s) directories i
+  Directory i s = HoldsAt (λ n. HasTextFault names n s) directories i
 
   abbrev OfFile : ℕ → ℕ → Type 0
-  OfFile i s = HoldsAt (λ f. HasFileFault version texts (first_index version + length directories) f s) files i
+  OfFile i s = HoldsAt (λ f. HasFileFault names (first_index names.version + length directories) f s) files i
 
   abbrev OfTables : GimliElement → ℕ → Type 0
-  OfTables = HasTableFault version texts directories files
+  OfTables = HasTableFault names directories files
 
-  sourced : (5 ≤ version → (0 < length directories) × (0 < length files)) → 5 ≤ version
+  sourced : (5 ≤ names.version → (0 < length directories) × (0 < length files)) → 5 ≤ names.version
       → (directories ≡ []) ⊎ (files ≡ []) → ⊥
   sourced source late none =
       let some = source late in
@@ -205,14 +214,14 @@ module _ (version : ℕ) (texts : List ℕ) (directories : List GimliName) (file
         | inr no_files ↦ absurd (omega (arith, some.1, ap (λ (xs : List GimliFileName). length xs) no_files))
       ]
 
-  pub tables_are_well : (5 ≤ version → (0 < length directories) × (0 < length files))
+  pub tables_are_well : (5 ≤ names.version → (0 < length directories) × (0 < length files))
       → ((i s : ℕ) → Directory i s → ⊥) → ((i s : ℕ) → OfFile i s → ⊥) → (at : GimliElement) → HasNone (OfTables at)
   tables_are_well source no_directory no_file at s (no_source is speaks late none) = sourced source late none
   tables_are_well source no_directory no_file at s (directory_fault is fault) = no_directory at.index s fault
   tables_are_well source no_directory no_file at s (file_fault is fault) = no_file at.index s fault
 
   -- where the tables have a source, a refusal for the first directory with a fault is one of the tables
-  pub directories_refused : (r : Refusal) → (5 ≤ version → (0 < length directories) × (0 < length files))
+  pub directories_refused : (r : Refusal) → (5 ≤ names.version → (0 < length directories) × (0 < length files))
       → IsFirstOf 1 Directory r → IsRefusedFor OfTables OfTables r.status r.at
   directories_refused r source given =
       record {
@@ -228,7 +237,7 @@ module _ (version : ℕ) (texts : List ℕ) (directories : List GimliName) (file
       first other s (file_fault is fault) = earlier 1 Directory r other given (omega (arith, is))
 
   -- where no directory has a fault either, so is one for the first file
-  pub files_refused : (r : Refusal) → (5 ≤ version → (0 < length directories) × (0 < length files))
+  pub files_refused : (r : Refusal) → (5 ≤ names.version → (0 < length directories) × (0 < length files))
       → ((i s : ℕ) → Directory i s → ⊥) → IsFirstOf 2 OfFile r → IsRefusedFor OfTables OfTables r.status r.at
   files_refused r source none given =
       record {
@@ -243,7 +252,8 @@ module _ (version : ℕ) (texts : List ℕ) (directories : List GimliName) (file
       first other s (directory_fault is fault) = absurd (none other.index s fault)
       first other s (file_fault is fault) = in_array 2 OfFile r other s given is fault
 
-  pub no_source_refused : 5 ≤ version → (directories ≡ []) ⊎ (files ≡ []) → IsRefusedFor OfTables OfTables 24 nowhere
+  pub no_source_refused : 5 ≤ names.version → (directories ≡ []) ⊎ (files ≡ [])
+      → IsRefusedFor OfTables OfTables 24 nowhere
   no_source_refused late none = record {
     number = (omega arith, omega arith);
     cause = λ _. no_source refl refl late none;
@@ -263,7 +273,7 @@ module _ (h : Handed) where
   encoding_is_well well can s (bad_lines is bad) = bad.cannot can
 
   pub handed_is_well : encoding_fault h.encoding ≡ None → CanEncode (line_encoding_of h.encoding)
-      → ((at : GimliElement) → HasNone (OfTables h.encoding.version h.texts h.directories h.files at))
+      → ((at : GimliElement) → HasNone (OfTables (names_handed h) h.directories h.files at))
       → ((i : ℕ) → HasNone (OfRows i)) → (at : GimliElement) → HasNone (HasHandedFault h at)
   handed_is_well well can tables rows at s (of_encoding is fault) = encoding_is_well well can s fault
   handed_is_well well can tables rows at s (of_tables fault) = tables at s fault
@@ -289,8 +299,8 @@ module _ (h : Handed) where
   -- where the encoding is well, a refusal of the tables is one of what is handed over
   pub tables_refused : (status : ℕ) (at : GimliElement) → encoding_fault h.encoding ≡ None
       → CanEncode (line_encoding_of h.encoding)
-      → IsRefusedFor (OfTables h.encoding.version h.texts h.directories h.files)
-      (OfTables h.encoding.version h.texts h.directories h.files) status at
+      → IsRefusedFor (OfTables (names_handed h) h.directories h.files)
+      (OfTables (names_handed h) h.directories h.files) status at
       → IsRefusedOf h status at
   tables_refused status at well can given =
       record {
@@ -300,7 +310,7 @@ module _ (h : Handed) where
         first = first;
       }
     where
-      few : OfTables h.encoding.version h.texts h.directories h.files at status → at.array < 3
+      few : OfTables (names_handed h) h.directories h.files at status → at.array < 3
       few (no_source is speaks late none) =
           let same = ap (λ (e : GimliElement). e.array) speaks in omega (arith, same)
       few (directory_fault is fault) = omega (arith, is)
@@ -320,7 +330,7 @@ module _ (h : Handed) where
   pub rows_refused : (r : Refusal) (p : Built) (files : ℕ) → p.line_encoding ≡ line_encoding_of h.encoding
       → p.encoding ≡ encoding_of h.encoding → files ≡ length h.files
       → encoding_fault h.encoding ≡ None → CanEncode (line_encoding_of h.encoding)
-      → ((at : GimliElement) → HasNone (OfTables h.encoding.version h.texts h.directories h.files at))
+      → ((at : GimliElement) → HasNone (OfTables (names_handed h) h.directories h.files at))
       → IsFirstOf 3 (HasRowsFault p.line_encoding p.encoding.version files None (0, 0) h.rows) r
       → IsRefusedOf h r.status r.at
   rows_refused r p files lines same count well can tables in_program =

@@ -5,6 +5,7 @@ pub mod Files
 pub mod Runs
 pub mod Units
 pub mod Handings
+pub mod MovedStrings
 pub mod Sequences
 pub mod CauseLemmas
 pub mod SamePrograms

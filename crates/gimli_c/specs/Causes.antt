@@ -1,6 +1,7 @@
 -- Why what is handed over to be written is refused, number by number (DWARF 5, sections 6.2.2 and
 -- 6.2.4).
-use Rattle.std.specs.Prelude.{◌≡◌, ◌≢◌, ◌⊎◌, ◌≤◌, ◌<◌, ℕ, zero, suc, ◌+◌, ◌-◌, ◌^◌, false, nat_le}
+use Rattle.std.specs.Prelude.{◌≡◌, ◌≢◌, ◌⊎◌, ◌≤◌, ◌<◌, ℕ, zero, suc, ◌+◌, ◌-◌, ◌^◌, false, true}
+use Rattle.std.specs.Prelude.{nat_le}
 use Rattle.std.specs.Prelude.{if◌then◌else◌, List, [], ◌∷◌, length, Any, Option, Some, None}
 use Rattle.std.specs.Prelude.{slice_get}
 use Rattle.gimli_core.specs.declared.common.LineEncoding.{LineEncoding}
@@ -19,12 +20,13 @@ use Rattle.gimli_c.specs.declared.status.TheConstants.{TEXT_OUT_OF_BOUNDS, ZERO_
 use Rattle.gimli_c.specs.declared.status.TheConstants.{NO_SOURCE_FILE, NO_SUCH_DIRECTORY}
 use Rattle.gimli_c.specs.declared.status.TheConstants.{NO_SUCH_FILE, ROW_OUT_OF_ORDER, UNKNOWN_FLAG}
 use Rattle.gimli_c.specs.declared.status.TheConstants.{NO_ROOM, OK, OUT_OF_MEMORY}
-use Rattle.gimli_c.specs.Handed.{IsRefusal, text_handed, line_encoding_of, ends, base_of}
+use Rattle.gimli_c.specs.Handed.{IsRefusal, Names, text_handed, line_encoding_of, ends, base_of}
 use Rattle.gimli_c.specs.Handed.{base_after}
-use Rattle.gimli_c.specs.Handing.{Handed, GivesUnitOf, IsBuiltOf, NeedsRoom, write_status}
+use Rattle.gimli_c.specs.Handing.{Handed, GivesUnitOf, IsBuiltOf, NeedsRoom, names_handed}
+use Rattle.gimli_c.specs.Handing.{write_status}
 use Rattle.gimli_c.specs.Refused.{encoding_fault, HasBadLines}
 
--- ---- what a refusal speaks of
+-- ---- the element of a refusal
 
 -- no element
 abbrev pub nowhere : GimliElement
@@ -39,8 +41,8 @@ IsNotAfter a b = (a.array < b.array) ⊎ ((a.array ≡ b.array) × (a.index ≤ 
 abbrev pub HoldsAt : {X : Type 0} → (X → Type 0) → List X → ℕ → Type 0
 HoldsAt {X} P xs i = (x : X) × (slice_get xs i ≡ Some x) × P x
 
--- this number says that memory lacks, or has its cause at this element, and none before it has a
--- fault
+-- this number says that memory is missing, or has its cause at this element, and none before it has
+-- a fault
 pub record IsRefusedFor (Cause Fault : GimliElement → ℕ → Type 0) (status : ℕ) (at : GimliElement)
     : Type 0 where
   pub number : IsRefusal status
@@ -57,15 +59,18 @@ pub data HasEncodingFault (e : GimliEncoding) (status : ℕ) : Type 0 where
 abbrev pub StandsAmong : List ℕ → GimliName → Type 0
 StandsAmong texts name = name.first + name.size ≤ length texts
 
--- why a text is refused: it doesn't stand among the bytes; or it does, and has a zero byte, which
--- would end it, or is empty, which would end a table up to version 4
-pub data HasTextFault (version : ℕ) (texts : List ℕ) (name : GimliName) (status : ℕ) : Type 0 where
-  out_of_bounds : status ≡ TEXT_OUT_OF_BOUNDS → length texts < name.first + name.size
-      → HasTextFault version texts name status
-  zero_byte : status ≡ ZERO_IN_TEXT → StandsAmong texts name
-      → Any (λ b. b ≡ 0) (text_handed texts name) → HasTextFault version texts name status
-  empty_text : status ≡ EMPTY_TEXT → StandsAmong texts name → version ≤ 4 → name.size ≡ 0
-      → HasTextFault version texts name status
+-- why a name is refused: it doesn't stand among the bytes; or it does, and has a zero byte, which
+-- would end it, or is empty, which would end a table up to version 4; or it stands in
+-- `.debug_line_str`, and no zero byte ends it there
+pub data HasTextFault (names : Names) (name : GimliName) (status : ℕ) : Type 0 where
+  out_of_bounds : status ≡ TEXT_OUT_OF_BOUNDS → length names.texts < name.first + name.size
+      → HasTextFault names name status
+  zero_byte : status ≡ ZERO_IN_TEXT → StandsAmong names.texts name
+      → Any (λ b. b ≡ 0) (text_handed names.texts name) → HasTextFault names name status
+  empty_text : status ≡ EMPTY_TEXT → StandsAmong names.texts name → names.version ≤ 4
+      → name.size ≡ 0 → HasTextFault names name status
+  no_end : status ≡ TEXT_OUT_OF_BOUNDS → names.shared ≡ true
+      → slice_get names.texts (name.first + name.size) ≢ Some 0 → HasTextFault names name status
 
 -- ---- directories and files
 
@@ -75,28 +80,27 @@ abbrev pub first_index : ℕ → ℕ
 first_index version = if nat_le version 4 then 1 else 0
 
 -- why a file is refused: it has the index of no directory, as those are all below `end`, or its
--- path is refused
-pub data HasFileFault (version : ℕ) (texts : List ℕ) (end : ℕ) (file : GimliFileName) (status : ℕ)
-    : Type 0 where
+-- path is refused, or its source, if the unit has sources
+pub data HasFileFault (names : Names) (end : ℕ) (file : GimliFileName) (status : ℕ) : Type 0 where
   no_directory : status ≡ NO_SUCH_DIRECTORY → end ≤ file.directory
-      → HasFileFault version texts end file status
-  path_fault : HasTextFault version texts file.path status
-      → HasFileFault version texts end file status
+      → HasFileFault names end file status
+  path_fault : HasTextFault names file.path status → HasFileFault names end file status
+  source_fault : names.sources ≡ true → HasTextFault names file.source status
+      → HasFileFault names end file status
 
 -- why the tables are refused: a directory or a file is, or there is none in version 5, which begins
 -- with one of each
-pub data HasTableFault (version : ℕ) (texts : List ℕ) (directories : List GimliName)
-    (files : List GimliFileName) (at : GimliElement) (status : ℕ) : Type 0 where
-  no_source : status ≡ NO_SOURCE_FILE → at ≡ nowhere → 5 ≤ version
-      → (directories ≡ []) ⊎ (files ≡ []) → HasTableFault version texts directories files at status
+pub data HasTableFault (names : Names) (directories : List GimliName) (files : List GimliFileName)
+    (at : GimliElement) (status : ℕ) : Type 0 where
+  no_source : status ≡ NO_SOURCE_FILE → at ≡ nowhere → 5 ≤ names.version
+      → (directories ≡ []) ⊎ (files ≡ []) → HasTableFault names directories files at status
   directory_fault : at.array ≡ 1
-      → HoldsAt (λ n. HasTextFault version texts n status) directories at.index
-      → HasTableFault version texts directories files at status
+      → HoldsAt (λ n. HasTextFault names n status) directories at.index
+      → HasTableFault names directories files at status
   file_fault : at.array ≡ 2
-      → HoldsAt
-      (λ f. HasFileFault version texts (first_index version + length directories) f status)
+      → HoldsAt (λ f. HasFileFault names (first_index names.version + length directories) f status)
       files at.index
-      → HasTableFault version texts directories files at status
+      → HasTableFault names directories files at status
 
 -- ---- rows
 
@@ -142,7 +146,7 @@ HasRowsFault e version files base position (r ∷ rows) (suc i) status =
 -- its first cause
 pub record HasUnitFault (h : Handed) (status : ℕ) : Type 0 where
   pub program : Built
-  pub built : IsBuiltOf h program
+  pub built : IsBuiltOf h [] program
   pub cause : Error
   pub first : first_cause h.is_big program.encoding program no_texts ≡ Some cause
   pub status_is : status ≡ write_status cause
@@ -150,7 +154,7 @@ pub record HasUnitFault (h : Handed) (status : ℕ) : Type 0 where
 -- why what is handed over is refused before anything is written
 pub data HasHandedFault (h : Handed) (at : GimliElement) (status : ℕ) : Type 0 where
   of_encoding : at ≡ nowhere → HasEncodingFault h.encoding status → HasHandedFault h at status
-  of_tables : HasTableFault h.encoding.version h.texts h.directories h.files at status
+  of_tables : HasTableFault (names_handed h) h.directories h.files at status
       → HasHandedFault h at status
   of_rows : at.array ≡ 3
       → HasRowsFault (line_encoding_of h.encoding) h.encoding.version (length h.files) None (0, 0)
@@ -162,15 +166,15 @@ pub data HasCause (h : Handed) (at : GimliElement) (status : ℕ) : Type 0 where
   of_handed : HasHandedFault h at status → HasCause h at status
   of_unit : at ≡ nowhere → HasUnitFault h status → HasCause h at status
 
--- this number says that memory lacks, or has such a cause at this element, and no element before
--- it has a fault
+-- this number says that memory is missing, or has such a cause at this element, and no element
+-- before it has a fault
 abbrev pub IsRefused : Handed → ℕ → GimliElement → Type 0
 IsRefused h = IsRefusedFor (HasCause h) (HasHandedFault h)
 
 -- ---- the call
 
 -- what a call does that copies the unit of what is handed over, and the numbers of its files, to
--- arrays of the caller, by its status; it tells the element that a refusal speaks of
+-- arrays of the caller, by its status; it stores the element that a refusal names
 pub record WritesUnit (h : Handed) (status : ℕ) (old new : List ℕ) (size : ℕ)
     (numbers_old numbers_new : List ℕ) (element : GimliElement) : Type 0 where
   pub ok : status ≡ OK → GivesUnitOf h old new size numbers_old numbers_new

@@ -1,15 +1,16 @@
 -- What C hands over to be written.
-use Rattle.std.specs.Prelude.{◌≡◌, ◌≤◌, ℕ, ◌+◌, ◌-◌, ◌/◌, ◌%◌, Bool, not, nat_eq, nat_le}
+use Rattle.std.specs.Prelude.{◌≡◌, ◌≤◌, ℕ, ◌+◌, ◌-◌, ◌/◌, ◌%◌, Bool, false, not, nat_eq, nat_le}
 use Rattle.std.specs.Prelude.{if◌then◌else◌, List, [], ◌∷◌, ◌++◌, slice_get, Option, Some, None}
 use Rattle.std.specs.Prelude.{unwrap_or}
 use Rattle.std.specs.List.{slice_range}
 use Rattle.gimli_core.specs.declared.common.Encoding.{Encoding}
 use Rattle.gimli_core.specs.declared.common.LineEncoding.{LineEncoding}
 use Rattle.gimli_core.specs.declared.common.Format.TheVariants.{Dwarf32, Dwarf64}
+use Rattle.gimli_bytes.specs.Texts.{index_of_text}
 use Rattle.gimli_bytes.specs.declared.address.Address.{Address}
 use Rattle.gimli_bytes.specs.declared.address.Address.TheVariants.{Constant, Symbol}
 use Rattle.gimli_build.specs.Built.{Built}
-use Rattle.gimli_build.specs.LineText.{LineText, Inline}
+use Rattle.gimli_build.specs.LineText.{LineText, Inline, InLineStrings}
 use Rattle.gimli_build.specs.Tables.{File, FileKey, Details, with_directory, index_of_directory}
 use Rattle.gimli_build.specs.Tables.{with_file, index_of_file}
 use Rattle.gimli_build.specs.declared.built.row.LineRow.{LineRow}
@@ -51,11 +52,36 @@ line_encoding_of e = record {
 abbrev pub text_handed : List ℕ → GimliName → List ℕ
 text_handed texts name = slice_range texts name.first (name.first + name.size)
 
--- ---- rows
-
--- a flag of a row
+-- a flag among others, each a bit of its own
 abbrev pub has_flag : ℕ → ℕ → Bool
 has_flag bit flags = nat_eq (flags / bit % 2) 1
+
+-- the names of a unit, and how the unit stores them
+pub record Names : Type 0 where
+  pub version : ℕ
+  -- the bytes that the names stand among
+  pub texts : List ℕ
+  -- these are the section `.debug_line_str`, to which the unit refers (DW_FORM_line_strp)
+  pub shared : Bool
+  -- the unit has the sources of files
+  pub sources : Bool
+
+-- up to version 4 the unit itself has its strings, and no sources
+abbrev pub names_of : ℕ → ℕ → Bool → List ℕ → Names
+names_of version details line_strings texts = record {
+  version = version;
+  texts = texts;
+  shared = if nat_le version 4 then false else line_strings;
+  sources = if nat_le version 4 then false else has_flag 8 details;
+}
+
+-- a name as a text of the program: by itself, or by its index among the texts of a table
+unfoldable pub text_of : Names → List (List ℕ) → GimliName → LineText
+text_of names table name =
+    if names.shared then InLineStrings (index_of_text table (text_handed names.texts name))
+    else Inline (text_handed names.texts name)
+
+-- ---- rows
 
 -- the row ends a sequence
 abbrev pub ends : GimliRow → Bool
@@ -131,40 +157,44 @@ items_handed version ids symbols sequence base (r ∷ rows) =
 -- ---- tables
 
 -- the directories once these texts were added, one after the other
-abbrev pub directories_handed : List LineText → List (List ℕ) → List LineText
+abbrev pub directories_handed : List LineText → List LineText → List LineText
 directories_handed directories [] = directories
 directories_handed directories (t ∷ texts) =
-    directories_handed (with_directory directories (Inline t)) texts
+    directories_handed (with_directory directories t) texts
 
 -- their ids
-abbrev pub ids_of_directories : List LineText → List (List ℕ) → List ℕ
+abbrev pub ids_of_directories : List LineText → List LineText → List ℕ
 ids_of_directories directories [] = []
 ids_of_directories directories (t ∷ texts) =
-    index_of_directory directories (Inline t)
-    ∷ ids_of_directories (with_directory directories (Inline t)) texts
+    index_of_directory directories t ∷ ids_of_directories (with_directory directories t) texts
 
--- a file: its path and its directory, by the ids of these
-abbrev pub key_handed : List ℕ → List ℕ → GimliFileName → FileKey
-key_handed texts ids f =
-    (Inline (text_handed texts f.path), unwrap_or (slice_get ids f.directory) 0)
+-- by the names of a unit, and the texts of a table
+module _ (names : Names) (table : List (List ℕ)) where
+  -- a file: its path and its directory, by the ids of these
+  abbrev pub key_handed : List ℕ → GimliFileName → FileKey
+  key_handed ids f = (text_of names table f.path, unwrap_or (slice_get ids f.directory) 0)
 
--- what else is known of a file
-abbrev pub details_handed : GimliFileName → Details
-details_handed f = record { timestamp = f.timestamp; size = f.size; md5 = f.md5; source = None }
+  -- what else is known of it; its source, if the unit has sources
+  abbrev pub details_handed : GimliFileName → Details
+  details_handed f = record {
+    timestamp = f.timestamp;
+    size = f.size;
+    md5 = f.md5;
+    source = if names.sources then Some (text_of names table f.source) else None;
+  }
 
--- the files once these were added, one after the other
-abbrev pub files_handed : List ℕ → List ℕ → List File → List GimliFileName → List File
-files_handed texts ids files [] = files
-files_handed texts ids files (f ∷ more) =
-    files_handed texts ids (with_file files (key_handed texts ids f) (Some (details_handed f))) more
+  -- the files once these were added, one after the other
+  abbrev pub files_handed : List ℕ → List File → List GimliFileName → List File
+  files_handed ids files [] = files
+  files_handed ids files (f ∷ more) =
+      files_handed ids (with_file files (key_handed ids f) (Some (details_handed f))) more
 
--- their ids
-abbrev pub ids_of_files : List ℕ → List ℕ → List File → List GimliFileName → List ℕ
-ids_of_files texts ids files [] = []
-ids_of_files texts ids files (f ∷ more) =
-    index_of_file files (key_handed texts ids f)
-    ∷ ids_of_files texts ids (with_file files (key_handed texts ids f) (Some (details_handed f)))
-    more
+  -- their ids
+  abbrev pub ids_of_files : List ℕ → List File → List GimliFileName → List ℕ
+  ids_of_files ids files [] = []
+  ids_of_files ids files (f ∷ more) =
+      index_of_file files (key_handed ids f)
+      ∷ ids_of_files ids (with_file files (key_handed ids f) (Some (details_handed f))) more
 
 -- ---- the program that is built
 
@@ -174,14 +204,14 @@ first_ids version = if nat_le version 4 then 0 ∷ [] else []
 
 -- a program has these directories more, and is else what it was; these are the ids of all by their
 -- indices
-pub record AddsDirectories (old new : Built) (texts : List (List ℕ)) (ids : List ℕ) : Type 0 where
+pub record AddsDirectories (old new : Built) (texts : List LineText) (ids : List ℕ) : Type 0 where
   pub directories_are : new.directories ≡ directories_handed old.directories texts
   pub ids_are : ids ≡ first_ids old.encoding.version ++ ids_of_directories old.directories texts
   pub others : new ≡ record old { directories = new.directories }
 
 -- a program has these files more, and is else what it was; these are their ids
-pub record AddsFiles (old new : Built) (texts ids : List ℕ) (files : List GimliFileName)
-    (file_ids : List ℕ) : Type 0 where
-  pub files_are : new.files ≡ files_handed texts ids old.files files
-  pub ids_are : file_ids ≡ ids_of_files texts ids old.files files
+pub record AddsFiles (old new : Built) (names : Names) (table : List (List ℕ)) (ids : List ℕ)
+    (files : List GimliFileName) (file_ids : List ℕ) : Type 0 where
+  pub files_are : new.files ≡ files_handed names table ids old.files files
+  pub ids_are : file_ids ≡ ids_of_files names table ids old.files files
   pub others : new ≡ record old { files = new.files }

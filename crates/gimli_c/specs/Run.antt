@@ -45,7 +45,7 @@ pub record HasEvents (p : Location) (h : Header) (events : List Event) : Type 0 
   pub given : Events (layout_at p) h h.program events
 
 -- the rows of the unit at the location, from the skip-th on, stand in an array of the caller, with
--- their whole number beside it; and the status is that of their first fault
+-- their whole number next to it; and the status is that of their first fault
 pub record GivesRows (p : Location) (skip : ℕ) (old new : List GimliRow) (count status : ℕ)
     : Type 0 where
   pub header : Header

@@ -27,7 +27,7 @@ pub record NeedsRoomFor (Is : List ℕ → Type 0) (old : List ℕ) (size : ℕ)
   pub size_is : size ≡ length whole
 
 -- what a call does that copies bytes of which this holds to an array of the caller, by its status:
--- they stand there; or they are longer, and only their size is told; or there is a reason for the
+-- they stand there; or they are longer, and only their size is stored; or there is a reason for the
 -- status, and nothing is written
 pub record Copies (Is : List ℕ → Type 0) (IsReason : ℕ → Type 0) (status : ℕ) (old new : List ℕ)
     (size_old size_new : ℕ) : Type 0 where
@@ -37,6 +37,6 @@ pub record Copies (Is : List ℕ → Type 0) (IsReason : ℕ → Type 0) (status
   pub kept : status ≢ OK → new ≡ old
   pub no_size : status ≢ OK → status ≢ NO_ROOM → size_new ≡ size_old
 
--- a reason for a status, unless memory lacks
+-- a reason for a status, unless memory is missing
 abbrev pub MemoryAside : (ℕ → Type 0) → ℕ → Type 0
 MemoryAside IsReason status = status ≢ OUT_OF_MEMORY → IsReason status

@@ -6,16 +6,17 @@ ghost use Rattle.gimli_c.specs.Causes.{HasFileFault, HasTableFault, HasTextFault
 ghost use Rattle.gimli_c.specs.Causes.{IsRefusedFor, first_index, nowhere};
 ghost use Rattle.gimli_c.specs.Handed.{IsRefusal};
 ghost use Rattle.gimli_c.specs.inside.Causes.{HasNone, IsFirstOf, refusal_of};
+ghost use Rattle.gimli_c.specs.inside.Handed.{names_seen};
 
 use crate::status::{NO_SOURCE_FILE, NO_SUCH_DIRECTORY, OUT_OF_MEMORY};
 use crate::tables::GimliFileName;
-use crate::text::{GimliName, text_fault};
+use crate::text::{GimliName, Names, text_fault};
 
-/// The element that a refusal speaks of.
+/// The element that a refusal names.
 #[repr(C)]
 #[derive(Clone, Copy)]
 pub struct GimliElement {
-    /// `NO_ARRAY`, where it is no element, `DIRECTORIES`, `FILES` or `ROWS`.
+    /// `DIRECTORIES`, `FILES` or `ROWS`; `NO_ARRAY` if there is no element.
     pub array: u64,
     /// Its index in the array.
     pub index: u64,
@@ -40,11 +41,11 @@ pub(crate) const NOWHERE: GimliElement = GimliElement {
 pub(crate) struct Refusal {
     /// The number.
     pub status: u32,
-    /// What it speaks of.
+    /// The element that it names.
     pub at: GimliElement,
 }
 
-/// A refusal that speaks of no element.
+/// A refusal that names no element.
 pub(crate) fn refusal_of(status: u32) -> Refusal
     ensures { result ≡ refusal_of status }
 {
@@ -54,7 +55,7 @@ pub(crate) fn refusal_of(status: u32) -> Refusal
     }
 }
 
-/// A refusal for an element; one for lack of memory speaks of none.
+/// A refusal that names an element; if memory is missing, it names none.
 pub(crate) fn refusal_at(status: u32, array: u64, index: usize) -> Refusal
     ensures status { result.status ≡ status }
     ensures memory { status ≡ OUT_OF_MEMORY → result.at ≡ nowhere }
@@ -82,34 +83,33 @@ fn lacks_source(version: u16, directories: &[GimliName], files: &[GimliFileName]
 
 /// Refuses tables by the first element that has a fault, directories first.
 pub(crate) fn check_tables(
-    version: u16,
-    texts: &[u8],
+    names: &Names<'_>,
     directories: &[GimliName],
     files: &[GimliFileName],
 ) -> Result<(), Refusal>
     ensures well { OnOk result ((at : GimliElement) → HasNone
-        (HasTableFault version texts.now directories.now files.now at)) }
+        (HasTableFault (names_seen names.now) directories.now files.now at)) }
     ensures refusal { IfErr result (λ r. IsRefusedFor
-        (HasTableFault version texts.now directories.now files.now)
-        (HasTableFault version texts.now directories.now files.now) r.status r.at) }
+        (HasTableFault (names_seen names.now) directories.now files.now)
+        (HasTableFault (names_seen names.now) directories.now files.now) r.status r.at) }
 {
-    if lacks_source(version, directories, files) {
+    if lacks_source(names.version, directories, files) {
         return Err(refusal_of(NO_SOURCE_FILE));
     }
-    check_directories(version, texts, directories)?;
-    check_files(version, texts, directories.len(), files)?;
+    check_directories(names, directories)?;
+    check_files(names, directories.len(), files)?;
     Ok(())
 }
 
-/// Refuses directories by the first whose text has a fault.
-fn check_directories(version: u16, texts: &[u8], names: &[GimliName]) -> Result<(), Refusal>
+/// Refuses directories by the first that has a fault.
+fn check_directories(names: &Names<'_>, directories: &[GimliName]) -> Result<(), Refusal>
     ensures well { (i s : ℕ) → OnOk result
-        (HoldsAt (λ n. HasTextFault version texts.now n s) names.now i → ⊥) }
+        (HoldsAt (λ n. HasTextFault (names_seen names.now) n s) directories.now i → ⊥) }
     ensures refusal { IfErr result (IsFirstOf 1
-        (λ i s. HoldsAt (λ n. HasTextFault version texts.now n s) names.now i)) }
+        (λ i s. HoldsAt (λ n. HasTextFault (names_seen names.now) n s) directories.now i)) }
 {
-    for (index, name) in names.iter().enumerate() {
-        match text_fault(version, texts, *name) {
+    for (index, name) in directories.iter().enumerate() {
+        match text_fault(names, *name) {
             Some(status) => return Err(refusal_at(status, DIRECTORIES, index)),
             None => {}
         }
@@ -117,20 +117,16 @@ fn check_directories(version: u16, texts: &[u8], names: &[GimliName]) -> Result<
     Ok(())
 }
 
-/// Refuses files by the first that has a fault. There are so many directories.
-fn check_files(
-    version: u16,
-    texts: &[u8],
-    count: usize,
-    files: &[GimliFileName],
-) -> Result<(), Refusal>
-    ensures well { (i s : ℕ) → OnOk result (HoldsAt (λ f. HasFileFault version texts.now
-        (first_index version + count) f s) files.now i → ⊥) }
-    ensures refusal { IfErr result (IsFirstOf 2 (λ i s. HoldsAt (λ f. HasFileFault version texts.now
-        (first_index version + count) f s) files.now i)) }
+/// Refuses files by the first that has a fault. The unit has `count` directories.
+fn check_files(names: &Names<'_>, count: usize, files: &[GimliFileName]) -> Result<(), Refusal>
+    ensures well { (i s : ℕ) → OnOk result (HoldsAt (λ f. HasFileFault (names_seen names.now)
+        (first_index (names_seen names.now).version + count) f s) files.now i → ⊥) }
+    ensures refusal { IfErr result (IsFirstOf 2 (λ i s. HoldsAt (λ f. HasFileFault
+        (names_seen names.now) (first_index (names_seen names.now).version + count) f s)
+        files.now i)) }
 {
     for (index, file) in files.iter().enumerate() {
-        match file_fault(version, texts, count, file) {
+        match file_fault(names, count, file) {
             Some(status) => return Err(refusal_at(status, FILES, index)),
             None => {}
         }
@@ -139,20 +135,26 @@ fn check_files(
 }
 
 /// Why a file is refused, by its number; none where it isn't.
-fn file_fault(version: u16, texts: &[u8], count: usize, file: &GimliFileName) -> Option<u32>
-    ensures some { IfSome result
-        (HasFileFault version texts.now (first_index version + count) file.now) }
+fn file_fault(names: &Names<'_>, count: usize, file: &GimliFileName) -> Option<u32>
+    ensures some { IfSome result (HasFileFault (names_seen names.now)
+        (first_index (names_seen names.now).version + count) file.now) }
     ensures number { IfSome result IsRefusal }
-    ensures none { IfNone result
-        (HasNone (HasFileFault version texts.now (first_index version + count) file.now)) }
+    ensures none { IfNone result (HasNone (HasFileFault (names_seen names.now)
+        (first_index (names_seen names.now).version + count) file.now)) }
 {
-    if is_past(version, count as u64, file.directory) {
+    if is_past(names.version, count as u64, file.directory) {
         return Some(NO_SUCH_DIRECTORY);
     }
-    text_fault(version, texts, file.path)
+    if let Some(status) = text_fault(names, file.path) {
+        return Some(status);
+    }
+    if names.sources {
+        return text_fault(names, file.source);
+    }
+    None
 }
 
-/// Whether no directory has an index, where there are so many.
+/// Whether no directory has an index, in a unit with `count` directories.
 fn is_past(version: u16, count: u64, index: u64) -> bool
     ensures yes { result ≡ true → first_index version + count ≤ index }
     ensures no { result ≡ false → index < first_index version + count }

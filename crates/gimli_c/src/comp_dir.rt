@@ -1,4 +1,4 @@
-//! The directory of a compilation, which `.debug_info` has, and whole paths go on from.
+//! The directory of a compilation, from `.debug_info`, in which whole paths begin.
 
 ghost use Rattle.std.specs.Prelude.{◌≡◌, ◌++◌, ◌^◌, ℕ, IfErr, IfOk, List, OnOk, option_map};
 ghost use Rattle.std.specs.List.{AllZip};
@@ -39,7 +39,7 @@ pub(crate) fn sections_in<'s>(
     }
 }
 
-/// Tells the directory of the compilation whose line program begins at an offset. Each status is
+/// Copies the directory of the compilation whose line program begins at an offset. Each status is
 /// that of `gimli_line_comp_dir` in `include/gimli_line.h`.
 #[unsafe(no_mangle)]
 pub extern "C" fn gimli_line_proved_comp_dir(
@@ -89,7 +89,7 @@ pub struct GimliCompDir {
     pub status: u32,
 }
 
-/// What is answered to an offset. Fails only with `OUT_OF_MEMORY`.
+/// The result for an offset. Fails only with `OUT_OF_MEMORY`.
 fn comp_dir_listed<'s>(
     texts: &mut Vec<u8>,
     compilations: &Compilations<EndianSlice<'s, RunTimeEndian>>,
@@ -114,7 +114,7 @@ fn comp_dir_listed<'s>(
     })
 }
 
-/// Answers each of these, and returns the texts. Fails only with `OUT_OF_MEMORY`.
+/// Fills in each of these, and returns the texts. Fails only with `OUT_OF_MEMORY`.
 fn list_comp_dirs<'s>(
     alloc: Global,
     compilations: &Compilations<EndianSlice<'s, RunTimeEndian>>,
@@ -133,7 +133,7 @@ fn list_comp_dirs<'s>(
     Ok(texts)
 }
 
-/// Tells the directories of many compilations in one pass: that of `directories[0].offset` and so
+/// Copies the directories of many compilations in one pass: that of `directories[0].offset` and so
 /// on, as `gimli_line_comp_dirs` of `include/gimli_line.h` says.
 #[unsafe(no_mangle)]
 pub extern "C" fn gimli_line_proved_comp_dirs(

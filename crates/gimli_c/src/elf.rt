@@ -1,4 +1,4 @@
-//! The sections of an ELF file, made whole.
+//! The sections of an ELF file, decompressed and relocated.
 
 ghost use Rattle.std.specs.Prelude.{◌≡◌, ◌≢◌, IfErr, IfOk};
 ghost use Rattle.elf_sections.specs.Elf.{file_of};
@@ -46,8 +46,8 @@ fn lowest_in(elf: &Elf<'_>) -> u64
     }
 }
 
-/// Tells what an ELF file says of itself. `NO_ELF` where the bytes are none that can be read; then
-/// nothing is written. Takes no memory.
+/// Stores what an ELF file says of itself. If the bytes are no ELF file that can be read, returns
+/// `NO_ELF` and writes nothing. Takes no memory.
 #[unsafe(no_mangle)]
 pub extern "C" fn gimli_line_proved_elf_open(file: &[u8], found: &mut GimliElf) -> u32
     ensures found { result ≡ OK → SeesElf file.now found.new }
@@ -82,7 +82,7 @@ fn section_status(error: ElfError) -> u32
 
 /// Copies what the first section of a name of an ELF file holds, decompressed, and relocated as if
 /// all sections stood at 0. At `NO_ROOM` `size` is how many bytes there are, and nothing is
-/// decompressed for that. Else a status other than 0 leaves `bytes` and `size` as they were.
+/// decompressed for that. Any other status but 0 leaves `bytes` and `size` as they were.
 #[unsafe(no_mangle)]
 pub extern "C" fn gimli_line_proved_elf_section(
     alloc: Global,

@@ -57,7 +57,7 @@ pub struct GimliFile {
     pub source: GimliText,
     /// The number of the directory.
     pub directory_number: u64,
-    /// When the file was last changed, in a measure of the producer's own; 0 where it isn't known.
+    /// When the file was last changed, as the producer counts; 0 if unknown.
     pub timestamp: u64,
     /// The size in bytes; 0 where it isn't known.
     pub size: u64,

@@ -1,8 +1,8 @@
-//! Indexes: an index of lines that is bytes (`docs/reference/INDEX.md`), made once and asked as it
-//! lies there.
+//! Indexes: an index of lines that is bytes (`docs/reference/INDEX.md`), made once and queried in
+//! place.
 //!
-//! No call that asks takes memory, and none writes but its answer: so any number of threads may ask
-//! one index at once, and so may a signal handler.
+//! A query takes no memory and writes only its result: any number of threads may query an index at
+//! once, and so may a signal handler.
 
 mod ask;
 mod header;

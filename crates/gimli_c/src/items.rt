@@ -3,9 +3,7 @@
 ghost use Rattle.std.specs.Prelude.{◌≡◌, ◌≢◌, ◌<◌, ◌≤◌, ◌+◌, ◌-◌, ◌^◌, [], ◌∷◌, false, true};
 ghost use Rattle.std.specs.Prelude.{ℕ, length, IfErr};
 ghost use Rattle.std.specs.Prelude.{IfNone, IfOk, IfSome, OnOk, None, slice_get, unwrap_or};
-ghost use Rattle.gimli_bytes.specs.Texts.{no_texts};
 ghost use Rattle.gimli_build.specs.declared.built.items.BuiltItem.{BuiltItem};
-ghost use Rattle.gimli_build.specs.Conditions.{CanWrite};
 ghost use Rattle.gimli_build.specs.Built.{previous_position};
 ghost use Rattle.gimli_c.specs.Causes.{CanStand, HasRowFault, HasRowsFault, LacksFile};
 ghost use Rattle.gimli_c.specs.Causes.{position_after};
@@ -33,16 +31,15 @@ pub struct GimliSymbol {
     pub addend: i64,
 }
 
-/// Adds rows in order. Each sequence begins at its symbol, and where it has none at the address of
-/// its first row. Requires a program that can be written, and leaves one.
+/// Adds rows in order. Each sequence begins at its symbol, or if it has none at the address of its
+/// first row. Requires a program that isn't a placeholder.
 pub(crate) fn add_rows(
     program: &mut LineProgram,
     ids: &[FileId],
     symbols: &[GimliSymbol],
     rows: &[GimliRow],
 ) -> Result<(), Refusal>
-    requires { CanWrite program.old no_texts }
-    ensures can { CanWrite program.new no_texts }
+    requires { program.old.is_none ≡ false }
     ensures ok { OnOk result (AddsItems program.old program.new
         (items_handed program.old.encoding.version ids.now symbols.now 0 None rows.now)) }
     ensures well { previous_position program.old.items ≡ (0, 0) → OnOk result ((i : ℕ) → HasNone
@@ -64,7 +61,7 @@ pub(crate) fn add_rows(
     Ok(())
 }
 
-/// The symbol of a sequence, where it has one.
+/// The symbol of a sequence, if it has one.
 fn symbol_at(symbols: &[GimliSymbol], sequence: usize) -> Option<GimliSymbol>
     ensures { result ≡ slice_get symbols.now sequence }
 {
@@ -84,7 +81,7 @@ fn sequence_after(sequence: usize, row: &GimliRow) -> usize
 }
 
 /// Adds a row or an end, and returns the address of the sequence that the next row belongs to.
-/// Requires a program that can be written.
+/// Requires a program that isn't a placeholder.
 fn add_row(
     program: &mut LineProgram,
     ids: &[FileId],
@@ -92,8 +89,7 @@ fn add_row(
     base: Option<u64>,
     row: &GimliRow,
 ) -> Result<Option<u64>, u32>
-    requires { CanWrite program.old no_texts }
-    ensures can { CanWrite program.new no_texts }
+    requires { program.old.is_none ≡ false }
     ensures ok { OnOk result (AddsItems program.old program.new
         (items_of_row program.old.encoding.version ids.now symbol base row.now)) }
     ensures after { IfOk result (λ after. after ≡ base_after base row.now) }
@@ -122,16 +118,16 @@ fn add_row(
     }
 }
 
-/// The address that rows of the sequence are counted from: that of its first row. Where it begins,
-/// its symbol is set, or that address where it has none. Requires a program that can be written.
+/// The address that rows of the sequence count from: that of its first row. If the sequence begins
+/// here, sets its symbol, or that address if it has none. Requires a program that isn't a
+/// placeholder.
 fn begin(
     program: &mut LineProgram,
     symbol: Option<GimliSymbol>,
     base: Option<u64>,
     address: u64,
 ) -> Result<u64, u32>
-    requires { CanWrite program.old no_texts }
-    ensures can { CanWrite program.new no_texts }
+    requires { program.old.is_none ≡ false }
     ensures start { IfOk result (λ start. start ≡ unwrap_or base address) }
     ensures ok { OnOk result
         (AddsItems program.old program.new (items_of_start symbol base address)) }
@@ -162,12 +158,11 @@ fn start_of(symbol: Option<GimliSymbol>, address: u64) -> Address
     }
 }
 
-/// Ends a sequence that begins at an address. Requires a program that can be written, and a row
-/// that isn't below it.
+/// Ends a sequence that begins at an address. Requires a program that isn't a placeholder,
+/// and a row that isn't below it.
 fn add_end(program: &mut LineProgram, start: u64, row: &GimliRow) -> Result<(), u32>
-    requires can { CanWrite program.old no_texts }
+    requires program { program.old.is_none ≡ false }
     requires above { start ≤ row.now.address }
-    ensures can { CanWrite program.new no_texts }
     ensures ok { OnOk result (AddsItems program.old program.new
         (BuiltItem.End (row.now.address - start) row.now.op_index ∷ [])) }
     ensures well { ends row.now ≡ true → OnOk result
@@ -189,17 +184,16 @@ fn add_end(program: &mut LineProgram, start: u64, row: &GimliRow) -> Result<(), 
     }
 }
 
-/// Adds a row to a sequence that begins at an address. Requires a program that can be written, and
-/// a row that isn't below it.
+/// Adds a row to a sequence that begins at an address. Requires a program that isn't a
+/// placeholder, and a row that isn't below it.
 fn add_line(
     program: &mut LineProgram,
     ids: &[FileId],
     start: u64,
     row: &GimliRow,
 ) -> Result<(), u32>
-    requires can { CanWrite program.old no_texts }
+    requires program { program.old.is_none ≡ false }
     requires above { start ≤ row.now.address }
-    ensures can { CanWrite program.new no_texts }
     ensures ok { OnOk result (AddsItems program.old program.new
         (BuiltItem.Row (row_handed program.old.encoding.version ids.now start row.now) ∷ [])) }
     ensures stands { OnOk result

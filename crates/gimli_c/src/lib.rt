@@ -1,7 +1,7 @@
 //! Line number programs of DWARF, versions 2 to 5, for programs in C and in Rust.
 //!
 //! Each call takes the bytes of a section or of an index, and numbers, and returns a number of
-//! [`status`]; what it found goes into places of the caller. Nothing is kept after a call.
+//! [`status`]; it stores what it found in variables of the caller. It keeps nothing.
 //! `include/gimli_line.h` declares all of it.
 #![tactic(auto)]
 
@@ -26,6 +26,7 @@ mod row;
 mod rows;
 mod run;
 pub mod status;
+mod strings;
 mod tables;
 mod text;
 mod unit;
@@ -54,7 +55,9 @@ pub use items::GimliSymbol;
 pub use listed::{GimliListedFile, gimli_line_proved_read_files};
 pub use path::gimli_line_proved_read_path;
 pub use place::gimli_line_proved_place;
-pub use relocatable::{GimliRelocation, gimli_line_proved_write_relocatable};
+pub use relocatable::{
+    GimliRelocation, OF_DEBUG_LINE_STR, OF_SYMBOL, gimli_line_proved_write_relocatable,
+};
 pub use row::{BASIC_BLOCK, END_SEQUENCE, EPILOGUE_BEGIN, GimliRow, IS_STMT, PROLOGUE_END};
 pub use rows::gimli_line_proved_read_rows;
 pub use tables::GimliFileName;

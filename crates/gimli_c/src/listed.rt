@@ -32,7 +32,7 @@ type Slice<'s> = EndianSlice<'s, RunTimeEndian>;
 pub struct GimliListedFile {
     /// The number that is asked for.
     pub number: u64,
-    /// What is said of the file.
+    /// What the unit says of the file.
     pub file: GimliFile,
     /// Where its whole path begins among the texts; 0 where it has none.
     pub path: usize,
@@ -86,7 +86,7 @@ fn add_path<'s>(
     }
 }
 
-/// What is answered to the number of a file of a header. Fails only with `OUT_OF_MEMORY`.
+/// The result for the number of a file of a header. Fails only with `OUT_OF_MEMORY`.
 fn file_listed<'s>(
     alloc: Global,
     texts: &mut Vec<u8>,
@@ -116,7 +116,7 @@ fn file_listed<'s>(
     })
 }
 
-/// Answers each of these, and returns the texts of their paths. Fails only with `OUT_OF_MEMORY`.
+/// Fills in each of these, and returns the texts of their paths. Fails only with `OUT_OF_MEMORY`.
 fn list_files<'s>(
     alloc: Global,
     sections: StringSections<Slice<'s>>,
@@ -136,7 +136,7 @@ fn list_files<'s>(
     Ok(texts)
 }
 
-/// Answers each of these files of the unit at an offset, and returns the texts of their paths.
+/// Fills in each of these files of the unit at an offset, and returns the texts of their paths.
 fn files_of<'s>(
     alloc: Global,
     section: &'s [u8],

@@ -10,8 +10,8 @@ use gimli_core::{DebugLineOffset, EndianSlice, RunTimeEndian};
 use gimli_line::{DebugLine, IncompleteLineProgram};
 use std::alloc::Global;
 
-/// The program of the unit at an offset, or the number of a refusal. No directory and no name is
-/// handed in.
+/// The program of the unit at an offset, or the number of a refusal. It gets no directory and no
+/// name.
 pub(crate) fn program_at<'s>(
     alloc: Global,
     section: &'s [u8],

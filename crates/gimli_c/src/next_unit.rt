@@ -39,7 +39,7 @@ fn bytes_from<R: Reader>(section: R, offset: R::Offset) -> R
     rest
 }
 
-/// Lets the unit in front go, whatever its content is; all bytes where they begin with none.
+/// Skips the unit in front, whatever its content is; skips all bytes if they begin with none.
 fn skip_unit<R: Reader>(input: &mut R)
     ensures { (R.seen input.new).bytes
         ≡ after_unit

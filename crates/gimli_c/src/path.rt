@@ -35,7 +35,7 @@ pub(crate) fn path_status(error: PathError) -> u32
     }
 }
 
-/// The whole path of a file of a header, or `UNKNOWN_PATH` where it can't be told.
+/// The whole path of a file of a header, or `UNKNOWN_PATH` if a string of it can't be read.
 pub(crate) fn path_in_header<'s>(
     alloc: Global,
     texts: StringSections<Slice<'s>>,
@@ -95,7 +95,7 @@ fn path_of<'s>(
     path_in_header(alloc, texts, header, entry, comp_dir)
 }
 
-/// Tells the whole path of the file of a number, as rows have it. Each status is that of
+/// Copies the whole path of the file of a number, as rows have it. Each status is that of
 /// `gimli_line_read_path` in `include/gimli_line.h`.
 #[unsafe(no_mangle)]
 pub extern "C" fn gimli_line_proved_read_path(

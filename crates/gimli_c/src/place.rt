@@ -1,4 +1,4 @@
-//! From an address to its place, without an index.
+//! The place of an address, without an index.
 
 ghost use Rattle.std.specs.Prelude.{◌≡◌, ◌≢◌, ◌^◌, true, false};
 ghost use Rattle.gimli_core.specs.Numbers.{is_address_size};

@@ -1,8 +1,8 @@
 //! A unit whose sequences begin at symbols, and its relocations.
 
-ghost use Rattle.std.specs.Prelude.{◌≡◌, IfOk, IsTrue, map};
+ghost use Rattle.std.specs.Prelude.{◌≡◌, [], IfOk, IsTrue, OnOk, map};
 ghost use Rattle.gimli_bytes.specs.Relocations.{are_inside};
-ghost use Rattle.gimli_bytes.specs.Texts.{no_texts};
+ghost use Rattle.gimli_bytes.specs.Texts.{texts_in};
 ghost use Rattle.gimli_build.specs.Conditions.{CanWrite};
 ghost use Rattle.gimli_c.specs.Handing.{handed_of};
 ghost use Rattle.gimli_c.specs.Relocated.{addends_of, relocation_seen, section_seen, target_seen};
@@ -16,12 +16,14 @@ use crate::items::GimliSymbol;
 use crate::location::order;
 use crate::row::GimliRow;
 use crate::status::{NO_ROOM, OK};
+use crate::strings::moved_places;
 use crate::tables::GimliFileName;
 use crate::text::GimliName;
 use crate::write::{built, copy_numbers, write_status};
 use gimli_build::LineProgram;
 use gimli_bytes::{
-    Addends, DebugLine, LineStringTable, RelocatableVec, Relocation, RelocationTarget, StringTable,
+    Addends, DebugLine, Error, LineStringTable, RelocatableVec, Relocation, RelocationTarget,
+    StringTable,
 };
 use gimli_core::{RunTimeEndian, SectionId};
 use std::alloc::Global;
@@ -38,9 +40,14 @@ pub struct GimliRelocation {
     pub addend: i64,
     /// The number of bytes of the place.
     pub size: u32,
-    /// 0 where the target is a symbol, else the number of the section.
+    /// What the addend is added to: `OF_SYMBOL`, or the number of a section.
     pub section: u32,
 }
+
+/// The address of the symbol.
+pub const OF_SYMBOL: u32 = 0;
+/// The address of the section `.debug_line_str`.
+pub const OF_DEBUG_LINE_STR: u32 = 4;
 
 /// The number of a section.
 fn section_seen(section: SectionId) -> u32
@@ -50,7 +57,7 @@ fn section_seen(section: SectionId) -> u32
         SectionId::DebugInfo => 1,
         SectionId::DebugLine => 2,
         SectionId::DebugStr => 3,
-        SectionId::DebugLineStr => 4,
+        SectionId::DebugLineStr => OF_DEBUG_LINE_STR,
     }
 }
 
@@ -59,7 +66,7 @@ fn target_seen(target: RelocationTarget) -> (usize, u32)
     ensures { result ≡ target_seen target }
 {
     match target {
-        RelocationTarget::OfSymbol(symbol) => (symbol, 0),
+        RelocationTarget::OfSymbol(symbol) => (symbol, OF_SYMBOL),
         RelocationTarget::OfSection(section) => (0, section_seen(section)),
     }
 }
@@ -101,29 +108,29 @@ fn addends_of(in_place: bool) -> Addends
     }
 }
 
-/// The unit of a program whose texts all stand in it, and its relocations. Requires one that can be
-/// written.
+/// The unit of a program, whose texts stand in it or in a table, and its relocations. Requires one
+/// that can be written.
 fn relocatable_of(
     alloc: Global,
     program: &LineProgram,
+    table: &mut LineStringTable,
     is_big: bool,
     addends: Addends,
 ) -> gimli_bytes::Result<RelocatableVec<RunTimeEndian>>
-    requires { CanWrite program.now no_texts }
+    requires { CanWrite program.now (texts_in [] table.old) }
     ensures order { IfOk result (λ section. section.is_big ≡ is_big) }
-    ensures unit { IfOk result (IsUnitOnceLinked is_big program.now) }
+    ensures unit { IfOk result (IsUnitOnceLinked is_big program.now table.old) }
     ensures inside { IfOk result (λ section. IsTrue (are_inside section)) }
+    ensures kept { OnOk result (table.new ≡ table.old) }
 {
     let section = RelocatableVec::new(alloc, order(is_big), addends);
     let mut section = DebugLine::from(section);
     let mut strings = StringTable::default(alloc);
-    let mut line_strings = LineStringTable::default(alloc);
-    program.write(
-        &mut section,
-        program.encoding(),
-        &mut line_strings,
-        &mut strings,
-    )?;
+    let count = table.count();
+    program.write(&mut section, program.encoding(), table, &mut strings)?;
+    if table.count() > count {
+        return Err(Error::OutOfMemory);
+    }
     Ok(section.0)
 }
 
@@ -136,6 +143,7 @@ pub extern "C" fn gimli_line_proved_write_relocatable(
     is_big: bool,
     details: u64,
     in_place: bool,
+    line_strings: bool,
     texts: &[u8],
     directories: &[GimliName],
     files: &[GimliFileName],
@@ -148,17 +156,19 @@ pub extern "C" fn gimli_line_proved_write_relocatable(
     numbers: &mut [u64],
     element: &mut GimliElement,
 ) -> u32
-    ensures { WritesRelocatable (handed_of encoding.now is_big details texts.now directories.now
-        files.now rows.now symbols.now) result unit.old unit.new size.new relocations.old
+    ensures { WritesRelocatable (handed_of encoding.now is_big details line_strings texts.now
+        directories.now files.now rows.now symbols.now) result unit.old unit.new size.new
+        relocations.old
         relocations.new count.new numbers.old numbers.new element.new }
 {
     *size = 0;
     *count = 0;
     *element = NOWHERE;
-    let made = match built(
+    let (program, file_ids, mut table, firsts) = match built(
         alloc,
         encoding,
         details,
+        line_strings,
         texts,
         directories,
         files,
@@ -171,19 +181,23 @@ pub extern "C" fn gimli_line_proved_write_relocatable(
             return why.status;
         }
     };
-    let section = match relocatable_of(alloc, &made.0, is_big, addends_of(in_place)) {
+    let addends = addends_of(in_place && !line_strings);
+    let section = match relocatable_of(alloc, &program, &mut table, is_big, addends) {
         Ok(section) => section,
         Err(e) => return write_status(e),
     };
+    let places = match moved_places(alloc, &table, firsts.as_slice(), section.relocations()) {
+        Ok(places) => places,
+        Err(e) => return write_status(e),
+    };
     let bytes = section.slice();
-    let places = section.relocations();
     *size = bytes.len();
     *count = places.len();
     if bytes.len() > unit.len() || places.len() > relocations.len() {
         return NO_ROOM;
     }
     copy_bytes(bytes, unit);
-    copy_relocations(places, relocations);
-    copy_numbers(encoding.version, made.1.as_slice(), numbers);
+    copy_relocations(places.as_slice(), relocations);
+    copy_numbers(encoding.version, file_ids.as_slice(), numbers);
     OK
 }

@@ -47,7 +47,7 @@ pub const NO_ROW: u32 = 18;
 pub const UNSUPPORTED_OFFSET_SIZE: u32 = 19;
 /// Rows can't be written by this line encoding.
 pub const UNSUPPORTED_LINE_ENCODING: u32 = 20;
-/// A text stands past the end of the texts.
+/// A text stands past the end of the texts, or in `.debug_line_str` no zero byte follows it.
 pub const TEXT_OUT_OF_BOUNDS: u32 = 21;
 /// A text has a zero byte.
 pub const ZERO_IN_TEXT: u32 = 22;
@@ -69,7 +69,7 @@ pub const NEED_VERSION_4: u32 = 29;
 pub const UNIT_TOO_LONG: u32 = 30;
 /// What is written is longer than the room for it.
 pub const NO_ROOM: u32 = 31;
-/// A string of a path can't be told, or a file's directory isn't there.
+/// A string of a path can't be read, or a file's directory isn't there.
 pub const UNKNOWN_PATH: u32 = 33;
 /// The bytes don't begin as an index does.
 pub const NO_INDEX: u32 = 34;
@@ -85,7 +85,7 @@ pub const INDEX_DISORDERED: u32 = 38;
 pub const INDEX_PATH_OUTSIDE: u32 = 39;
 /// No line from the one that is asked for on has code.
 pub const NO_CODE: u32 = 41;
-/// No unit of `.debug_info` that can be read tells the directory of the compilation.
+/// No unit of `.debug_info` that can be read has the directory of the compilation.
 pub const NO_COMP_DIR: u32 = 42;
 /// Options have a size that this library doesn't know.
 pub const UNKNOWN_OPTIONS: u32 = 43;

@@ -1,20 +1,21 @@
 //! The directories and the files of a unit that is written.
 
-ghost use Rattle.std.specs.Prelude.{◌≡◌, ◌<◌, [], All, IfSome, None, Some, false, length, map};
-ghost use Rattle.std.specs.Prelude.{option_map, slice_get};
-ghost use Rattle.gimli_bytes.specs.Texts.{no_texts};
-ghost use Rattle.gimli_build.specs.Conditions.{Accepts, CanWrite};
+ghost use Rattle.std.specs.Prelude.{◌≡◌, [], IfSome, None, Some, false, map, option_map};
+ghost use Rattle.std.specs.Prelude.{slice_get};
+ghost use Rattle.gimli_build.specs.Conditions.{Accepts};
 ghost use Rattle.gimli_build.specs.Built.{empty_built};
 ghost use Rattle.gimli_build.specs.FirstTables.{first_directories, first_files};
-ghost use Rattle.gimli_build.specs.LineText.{line_text, Inline};
+ghost use Rattle.gimli_build.specs.LineText.{line_text, HasNoZero, Inline};
+ghost use Rattle.gimli_build.specs.TableFields.{details};
 ghost use Rattle.gimli_build.specs.Tables.{index_of_file, with_file};
 ghost use Rattle.gimli_c.specs.Handed.{AddsDirectories, AddsFiles, details_handed, first_ids};
-ghost use Rattle.gimli_c.specs.Handed.{key_handed, text_handed};
-ghost use Rattle.gimli_c.specs.inside.Handed.{IsInline};
+ghost use Rattle.gimli_c.specs.Handed.{key_handed, text_of};
+ghost use Rattle.gimli_c.specs.inside.Handed.{names_seen};
 ghost use Rattle.gimli_c.specs.Start.{start_program};
 
-use crate::text::{GimliName, text_of};
+use crate::text::{GimliName, Names, text_of};
 use gimli_build::{DirectoryId, FileId, FileInfo, LineProgram, LineString};
+use gimli_bytes::LineStringTable;
 use gimli_core::{Encoding, LineEncoding};
 use std::alloc::Global;
 
@@ -27,12 +28,14 @@ pub struct GimliFileName {
     /// The index of the directory: up to version 4 from 1 on, where 0 is the directory of the
     /// compilation; in version 5 from 0 on.
     pub directory: u64,
-    /// When the file was last changed, in a measure of the producer's own; 0 where it isn't known.
+    /// When the file was last changed, as the producer counts; 0 if unknown.
     pub timestamp: u64,
     /// The size in bytes; 0 where it isn't known.
     pub size: u64,
     /// The MD5 digest; zeros where it isn't known.
     pub md5: [u8; 16],
+    /// The text of the file, for a unit that has sources.
+    pub source: GimliName,
 }
 
 /// A program without rows. In version 5 its first directory and its first file are those that are
@@ -40,25 +43,26 @@ pub struct GimliFileName {
 /// tables are refused.
 pub(crate) fn empty_built(
     alloc: Global,
+    names: &Names<'_>,
+    table: &mut LineStringTable,
     encoding: Encoding,
     lines: LineEncoding,
-    texts: &[u8],
     directories: &[GimliName],
     files: &[GimliFileName],
 ) -> Option<LineProgram>
-    requires { Accepts encoding lines }
-    ensures can { IfSome result (λ program. CanWrite program no_texts) }
-    ensures start { IfSome result (λ program. program
-        ≡ start_program encoding lines texts.now directories.now files.now) }
+    requires accepts { Accepts encoding lines }
+    requires version { names.now.version ≡ encoding.version }
+    ensures start { IfSome result (λ program. program ≡ start_program (names_seen names.now)
+        table.old encoding lines directories.now files.now) }
+    ensures kept { IfSome result (λ _. table.new ≡ table.old) }
 {
-    let version = encoding.version;
-    if version <= 4 {
+    if names.version <= 4 {
         return new_program(alloc, encoding, lines, empty(alloc), None, empty(alloc));
     }
-    let working = text_of(alloc, version, texts, *directories.first()?)?;
+    let working = text_of(alloc, names, table, *directories.first()?)?;
     let file = files.first()?;
-    let own = text_of(alloc, version, texts, name_at(directories, file.directory)?)?;
-    let path = text_of(alloc, version, texts, file.path)?;
+    let own = text_of(alloc, names, table, name_at(directories, file.directory)?)?;
+    let path = text_of(alloc, names, table, file.path)?;
     new_program(alloc, encoding, lines, working, Some(own), path)
 }
 
@@ -73,11 +77,10 @@ fn new_program(
     path: LineString,
 ) -> Option<LineProgram>
     requires accepts { Accepts encoding lines }
-    requires working { IsInline (line_text working) }
-    requires own { IfSome own (λ own. IsInline (line_text own)) }
-    requires path { IsInline (line_text path) }
-    ensures can { IfSome result (λ program. CanWrite program no_texts) }
-    ensures program { IfSome result (λ program. program ≡ empty_built false encoding lines
+    requires working { HasNoZero (line_text working) }
+    requires own { IfSome own (λ own. HasNoZero (line_text own)) }
+    requires path { HasNoZero (line_text path) }
+    ensures { IfSome result (λ program. program ≡ empty_built false encoding lines
         (first_directories encoding.version (line_text working) (option_map line_text own))
         (first_files encoding.version (line_text working) (option_map line_text own)
         (line_text path) None)) }
@@ -104,25 +107,22 @@ fn name_at(names: &[GimliName], index: u64) -> Option<GimliName>
 }
 
 /// Adds directories in order, and returns the ids of all by their indices; none where memory lacks,
-/// or a text is refused. Requires a program that can be written, and leaves one.
+/// or one is refused.
 pub(crate) fn add_directories(
     alloc: Global,
+    names: &Names<'_>,
+    table: &mut LineStringTable,
     program: &mut LineProgram,
-    texts: &[u8],
-    names: &[GimliName],
+    directories: &[GimliName],
 ) -> Option<Vec<DirectoryId>>
-    requires { CanWrite program.old no_texts }
-    ensures can { IfSome result (λ _. CanWrite program.new no_texts) }
-    ensures within { IfSome result (λ ids.
-        All (λ id. id < length program.new.directories) ids.items) }
-    ensures ok { IfSome result (λ ids.
-        AddsDirectories program.old program.new (map (text_handed texts.now) names.now) ids.items) }
+    ensures ok { IfSome result (λ ids. AddsDirectories program.old program.new
+        (map (text_of (names_seen names.now) table.old) directories.now) ids.items) }
+    ensures kept { IfSome result (λ _. table.new ≡ table.old) }
 {
-    let version = program.version();
     let mut ids = first_ids(alloc, program)?;
-    for name in names {
-        let text = text_of(alloc, version, texts, *name)?;
-        let id = match program.add_directory(text) {
+    for name in directories {
+        let text = text_of(alloc, names, table, *name)?;
+        let id = match program.try_add_directory(text) {
             Ok(id) => id,
             Err(_) => return None,
         };
@@ -133,13 +133,10 @@ pub(crate) fn add_directories(
     Some(ids)
 }
 
-/// Up to version 4 the id of the directory of the compilation, whose index is 0. Requires a program
-/// that can be written. None where memory lacks.
+/// Up to version 4 the id of the directory of the compilation, whose index is 0. None where memory
+/// lacks.
 fn first_ids(alloc: Global, program: &LineProgram) -> Option<Vec<DirectoryId>>
-    requires { CanWrite program.now no_texts }
-    ensures ids { IfSome result (λ ids. ids.items ≡ first_ids program.now.encoding.version) }
-    ensures within { IfSome result (λ ids.
-        All (λ id. id < length program.now.directories) ids.items) }
+    ensures { IfSome result (λ ids. ids.items ≡ first_ids program.now.encoding.version) }
 {
     let mut ids = Vec::new(alloc);
     if program.version() <= 4 {
@@ -151,24 +148,22 @@ fn first_ids(alloc: Global, program: &LineProgram) -> Option<Vec<DirectoryId>>
 }
 
 /// Adds files in order, and returns their ids; none where memory lacks, or a file is refused. The
-/// directories are those of these ids. Requires a program that can be written and has these
-/// directories, and leaves one.
+/// directories are those of these ids.
 pub(crate) fn add_files(
     alloc: Global,
+    names: &Names<'_>,
+    table: &mut LineStringTable,
     program: &mut LineProgram,
-    texts: &[u8],
     ids: &[DirectoryId],
     files: &[GimliFileName],
 ) -> Option<Vec<FileId>>
-    requires can { CanWrite program.old no_texts }
-    requires within { All (λ id. id < length program.old.directories) ids.now }
-    ensures can { IfSome result (λ _. CanWrite program.new no_texts) }
-    ensures ok { IfSome result (λ file_ids.
-        AddsFiles program.old program.new texts.now ids.now files.now file_ids.items) }
+    ensures ok { IfSome result (λ file_ids. AddsFiles program.old program.new
+        (names_seen names.now) table.old ids.now files.now file_ids.items) }
+    ensures kept { IfSome result (λ _. table.new ≡ table.old) }
 {
     let mut file_ids = Vec::new(alloc);
     for file in files {
-        let id = add_file(alloc, program, texts, ids, file)?;
+        let id = add_file(alloc, names, table, program, ids, file)?;
         if file_ids.push(id).is_err() {
             return None;
         }
@@ -176,37 +171,55 @@ pub(crate) fn add_files(
     Some(file_ids)
 }
 
-/// Adds a file, and returns its id. Requires what `add_files` does.
+/// Adds a file, and returns its id.
 fn add_file(
     alloc: Global,
+    names: &Names<'_>,
+    table: &mut LineStringTable,
     program: &mut LineProgram,
-    texts: &[u8],
     ids: &[DirectoryId],
     file: &GimliFileName,
 ) -> Option<FileId>
-    requires can { CanWrite program.old no_texts }
-    requires within { All (λ id. id < length program.old.directories) ids.now }
-    ensures can { IfSome result (λ _. CanWrite program.new no_texts) }
     ensures ok { IfSome result (λ _. program.new ≡ record program.old {
       files =
-          with_file program.old.files (key_handed texts.now ids.now file.now)
-          (Some (details_handed file.now));
+          with_file program.old.files (key_handed (names_seen names.now) table.old ids.now file.now)
+          (Some (details_handed (names_seen names.now) table.old file.now));
     }) }
-    ensures id { IfSome result (λ id.
-        id ≡ index_of_file program.old.files (key_handed texts.now ids.now file.now)) }
+    ensures id { IfSome result (λ id. id ≡ index_of_file program.old.files
+        (key_handed (names_seen names.now) table.old ids.now file.now)) }
+    ensures kept { IfSome result (λ _. table.new ≡ table.old) }
 {
     let directory = directory_at(ids, file.directory)?;
-    let path = text_of(alloc, program.version(), texts, file.path)?;
-    let info = FileInfo {
-        timestamp: file.timestamp,
-        size: file.size,
-        md5: file.md5,
-        source: None,
-    };
-    match program.add_file(path, directory, Some(info)) {
+    let path = text_of(alloc, names, table, file.path)?;
+    let info = info_of(alloc, names, table, file)?;
+    match program.try_add_file(path, directory, Some(info)) {
         Ok(id) => Some(id),
         Err(_) => None,
     }
+}
+
+/// What else is known of a file; none where memory lacks, or its source is refused.
+fn info_of(
+    alloc: Global,
+    names: &Names<'_>,
+    table: &mut LineStringTable,
+    file: &GimliFileName,
+) -> Option<FileInfo>
+    ensures ok { IfSome result (λ info.
+        details info ≡ details_handed (names_seen names.now) table.old file.now) }
+    ensures kept { IfSome result (λ _. table.new ≡ table.old) }
+{
+    let source = if names.sources {
+        Some(text_of(alloc, names, table, file.source)?)
+    } else {
+        None
+    };
+    Some(FileInfo {
+        timestamp: file.timestamp,
+        size: file.size,
+        md5: file.md5,
+        source,
+    })
 }
 
 /// The id at an index. No index wraps.

@@ -179,7 +179,7 @@ static void write_unit(size_t offset, const gimli_line_unit *unit) {
         gimli_line_file file;
         is(file_path_in(offset, i + first, room_in(ARRAY, AREA), AREA, &file) == GIMLI_LINE_OK, "a file");
         snprintf(texts + 1 + 3 * i, 3, "%02d", (int)i);
-        files[i] = (gimli_line_file_name){{1 + 3 * i, 2}, first, file.timestamp, file.size, {0}};
+        files[i] = (gimli_line_file_name){{1 + 3 * i, 2}, first, file.timestamp, file.size, {0}, {0, 0}};
         memcpy(files[i].md5, file.md5, sizeof file.md5);
         contents.details = file.details;
     }
@@ -212,7 +212,7 @@ static void write_symbols(bool in_place) {
                                           {0, 0, 1, 8, 0, 0, 0, GIMLI_LINE_IS_STMT},
                                           {6, 0, 0, 0, 0, 0, 0, GIMLI_LINE_END_SEQUENCE}};
     static const gimli_line_symbol symbols[] = {{5, 0x1122334455667788}, {9, -1}};
-    static const gimli_line_file_name file = {{0, 1}, 0, 0, 0, {0}};
+    static const gimli_line_file_name file = {{0, 1}, 0, 0, 0, {0}, {0, 0}};
     gimli_line_contents contents = {.struct_size = sizeof contents,
                                     .encoding = GIMLI_LINE_ENCODING(4),
                                     .texts = "f",
@@ -238,7 +238,7 @@ static void write_symbols(bool in_place) {
             is(is_untouched(unit + written, room - written) && is_untouched(places + filled, (slots - filled) * sizeof *places),
                "beside the unit");
             for (size_t i = 0; i < filled; i++) {
-                is(places[i].symbol == symbols[i].symbol && places[i].size == 8 && places[i].section == 0 &&
+                is(places[i].symbol == symbols[i].symbol && places[i].size == 8 && places[i].target == GIMLI_LINE_OF_SYMBOL &&
                        places[i].addend == (in_place ? 0 : symbols[i].addend),
                    "a relocation");
                 uint64_t there = in_place ? (uint64_t)symbols[i].addend : 0;
@@ -250,6 +250,81 @@ static void write_symbols(bool in_place) {
     contents.encoding.version = 6;
     is(gimli_line_write_relocatable(&contents, NULL, 0, size, NULL, 0, count) == GIMLI_LINE_UNKNOWN_VERSION && *size == 0 && *count == 0,
        "a refused version");
+}
+
+/* A unit of version 5 whose strings stand in a section of the caller: its tables are these bytes, worked out by hand, and it is read back
+ * beside the section. */
+static void write_strings(bool big, bool in_place) {
+    static const char strings[] = "x\0/w\0f\0int\0/w"; /* the last `/w` is that of the second directory */
+    static const gimli_line_name directories[] = {{2, 2}, {11, 2}};
+    gimli_line_row rows[] = {{0, 0, 0, 3, 0, 0, 0, GIMLI_LINE_IS_STMT}, {6, 0, 0, 0, 0, 0, 0, GIMLI_LINE_END_SEQUENCE}};
+    gimli_line_file_name file = {{5, 1}, 1, 0, 0, {0}, {7, 3}};
+    gimli_line_element *element = room_in(ANOTHER, sizeof *element);
+    gimli_line_contents contents = {.struct_size = sizeof contents,
+                                    .encoding = GIMLI_LINE_ENCODING(5),
+                                    .big = big,
+                                    .in_place = in_place,
+                                    .line_strings = true,
+                                    .details = GIMLI_LINE_HAS_SOURCE,
+                                    .texts = strings,
+                                    .text_length = sizeof strings,
+                                    .directories = directories,
+                                    .directory_count = 2,
+                                    .files = &file,
+                                    .file_count = 1,
+                                    .rows = rows,
+                                    .row_count = 2,
+                                    .refused = element};
+    /* One directory, since both have the same string: the formats (path, line_strp), the number, an offset. One file: the formats (path,
+     * line_strp; directory index, udata; source 0x2001, line_strp), the number, an offset, directory 0, an offset. */
+    static const uint8_t tables[] = {1, 1, 0x1f, 1, 0, 0, 0, 0, 3, 1, 0x1f, 2, 0x0f, 0x81, 0x40, 0x1f, 1, 0, 0, 0, 0, 0, 0, 0, 0, 0};
+    static const size_t offsets[] = {34, 47, 52}; /* the tables begin after 30 bytes */
+    static const uint8_t firsts[] = {2, 5, 7};
+    size_t *size = room_in(BESIDE, sizeof *size), count = 0;
+    is(gimli_line_write_relocatable(&contents, NULL, 0, size, NULL, 0, &count) == GIMLI_LINE_NO_ROOM && count == 3, "the room for strings");
+    uint8_t *unit = room_in(ARRAY, *size);
+    gimli_line_relocation *places = room_in(INPUT, count * sizeof *places);
+    is(gimli_line_write_relocatable(&contents, unit, *size, size, places, count, &count) == GIMLI_LINE_OK, "a unit with strings");
+    for (size_t i = 0; i < count; i++) {
+        uint8_t *place = unit + offsets[i] + (big ? 3 : 0);
+        is(places[i].offset == offsets[i] && places[i].target == GIMLI_LINE_OF_DEBUG_LINE_STR && places[i].size == 4 &&
+               places[i].symbol == 0 && places[i].addend == (in_place ? 0 : firsts[i]) && *place == (in_place ? firsts[i] : 0),
+           "the place of a string");
+        *place = 0;
+    }
+    is(memcmp(unit + 30, tables, sizeof tables) == 0, "tables of strings");
+    for (size_t i = 0; i < count; i++) unit[offsets[i] + (big ? 3 : 0)] = firsts[i];
+    gimli_line_sections sections = GIMLI_LINE_SECTIONS;
+    sections.line = unit;
+    sections.line_size = *size;
+    sections.line_strings = strings;
+    sections.line_strings_size = sizeof strings;
+    sections.big = big;
+    char path[8];
+    gimli_line_file seen;
+    size_t length = 0;
+    is(gimli_line_read_path(&sections, 0, 0, NULL, 0, path, sizeof path, &length) == GIMLI_LINE_OK && length == 4 &&
+           memcmp(path, "/w/f", 4) == 0,
+       "a path of strings");
+    is(gimli_line_read_file(&sections, 0, 0, &seen, NULL, 0, NULL, 0) == GIMLI_LINE_OK && seen.source.first == 7 &&
+           seen.source.kind == GIMLI_LINE_TEXT_DEBUG_LINE_STR,
+       "a source of strings");
+    /* No byte follows the last name, or none that is zero; and a unit without relocations has no such strings. */
+    contents.text_length--;
+    is(gimli_line_write_relocatable(&contents, NULL, 0, size, NULL, 0, &count) == GIMLI_LINE_TEXT_OUT_OF_BOUNDS && *size == 0 && count == 0 &&
+           element->array == GIMLI_LINE_DIRECTORIES && element->index == 1,
+       "a name that ends with the texts");
+    contents.text_length++;
+    file.source.size = 2;
+    is(gimli_line_write_relocatable(&contents, NULL, 0, size, NULL, 0, &count) == GIMLI_LINE_TEXT_OUT_OF_BOUNDS &&
+           element->array == GIMLI_LINE_FILES && element->index == 0,
+       "a source that no zero byte follows");
+    is(gimli_line_write(&contents, NULL, 0, size) == GIMLI_LINE_UNKNOWN_OPTIONS, "strings without relocations");
+    /* Up to version 4 the unit has them itself, and no source. */
+    contents.encoding.version = 4;
+    file.directory = 2;
+    rows[0].file = 1;
+    is(gimli_line_write_relocatable(&contents, NULL, 0, size, NULL, 0, &count) == GIMLI_LINE_NO_ROOM && count == 0, "strings of version 4");
 }
 
 /* A unit with one fault at a time, in each element of its arrays: the element is told, and after it one that has the same fault isn't. */
@@ -266,7 +341,7 @@ static void write_refused(uint16_t version) {
             gimli_line_row rows[COUNT];
             for (uint64_t i = 0; i < COUNT; i++) {
                 directories[i] = (gimli_line_name){0, 1};
-                files[i] = (gimli_line_file_name){{1, 1}, i + first, 0, 0, {0}};
+                files[i] = (gimli_line_file_name){{1, 1}, i + first, 0, 0, {0}, {0, 0}};
                 rows[i] = (gimli_line_row){i, 0, i + first, 1, 0, 0, 0, 0};
             }
             gimli_line_contents contents = {.struct_size = sizeof contents,
@@ -324,6 +399,7 @@ int main(int argc, char **argv) {
     make_index();
     write_symbols(false);
     write_symbols(true);
+    for (int i = 0; i < 4; i++) write_strings(i % 2 != 0, i / 2 != 0);
     write_refused(4);
     write_refused(5);
     printf("%lu\n", atomic_load(&answers));

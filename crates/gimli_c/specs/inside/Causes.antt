@@ -11,11 +11,11 @@ use Rattle.gimli_c.specs.Handing.{Handed}
 abbrev pub HasNone : (ℕ → Type 0) → Type 0
 HasNone HasFault = (status : ℕ) → HasFault status → ⊥
 
--- the refusal that speaks of no element
+-- the refusal that names no element
 abbrev pub refusal_of : ℕ → Refusal
 refusal_of status = record { status = status; at = nowhere }
 
--- a refusal for the first element of an array that has a fault, or for lack of memory
+-- a refusal for the first element of an array that has a fault, or for missing memory
 pub record IsFirstOf (array : ℕ) (Fault : ℕ → ℕ → Type 0) (r : Refusal) : Type 0 where
   pub number : IsRefusal r.status
   pub cause : r.status ≢ OUT_OF_MEMORY → (r.at.array ≡ array) × Fault r.at.index r.status

@@ -1,4 +1,4 @@
-//! Asking an index.
+//! Queries of an index.
 
 ghost use Rattle.std.specs.Prelude.{◌≡◌, ◌≢◌, MatchOption};
 ghost use Rattle.gimli_index.specs.Spans.{StandsIn};
@@ -22,7 +22,7 @@ fn place_in(stored: &[u8], index: &LineIndex<'_>, address: u64) -> Option<GimliP
     Some(place_seen(index, address, place))
 }
 
-/// Tells where the code at an address comes from, by an index. Each status is that of
+/// Stores where the code at an address comes from, by an index. Each status is that of
 /// `include/gimli_line.h`. Takes no memory.
 #[unsafe(no_mangle)]
 pub extern "C" fn gimli_line_index_find(stored: &[u8], address: u64, place: &mut GimliPlace) -> u32
@@ -44,7 +44,7 @@ pub extern "C" fn gimli_line_index_find(stored: &[u8], address: u64, place: &mut
     }
 }
 
-/// What is answered to an address.
+/// The result for an address.
 fn answer_in(stored: &[u8], index: &LineIndex<'_>, address: u64) -> GimliPlace
     requires stored { IsIndex stored.now (index_of index.now) }
     requires stands { StandsIn stored.now (index_of index.now) }
@@ -56,7 +56,7 @@ fn answer_in(stored: &[u8], index: &LineIndex<'_>, address: u64) -> GimliPlace
     }
 }
 
-/// Answers each of these.
+/// Fills in each of these.
 fn answer_all(stored: &[u8], index: &LineIndex<'_>, places: &mut [GimliPlace])
     requires stored { IsIndex stored.now (index_of index.now) }
     requires stands { StandsIn stored.now (index_of index.now) }

@@ -59,8 +59,8 @@ pub(crate) fn index_in(stored: &[u8]) -> Result<LineIndex<'_>, u32>
     }
 }
 
-/// Tells what an index says of itself, by its header and its length alone. Bytes after the index
-/// aren't looked at. Where another number than 0 is returned, nothing is written. Takes no memory.
+/// Stores what an index says of itself, by its header and its length alone. Ignores bytes after the
+/// index. If it returns another number than 0, it writes nothing. Takes no memory.
 #[unsafe(no_mangle)]
 pub extern "C" fn gimli_line_index_open(stored: &[u8], found: &mut GimliIndex) -> u32
     ensures found { result ≡ OK → SeesIndex stored.now found.new }
@@ -81,9 +81,9 @@ pub extern "C" fn gimli_line_index_open(stored: &[u8], found: &mut GimliIndex) -
     }
 }
 
-/// Checks an index that nobody vouches for: that its ranges ascend, that each path is inside it,
-/// and that its statements are in order. Looks at each range, each path and each statement. Takes
-/// no memory.
+/// Checks an index that comes from somewhere else: that its ranges ascend, that each path is inside
+/// it, and that its statements are in order. Looks at each range, each path and each statement.
+/// Takes no memory.
 #[unsafe(no_mangle)]
 pub extern "C" fn gimli_line_index_check(stored: &[u8]) -> u32
     ensures sound { result ≡ OK → IsSoundIndex stored.now }

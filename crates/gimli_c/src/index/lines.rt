@@ -20,8 +20,8 @@ fn put_address(address: u64, slot: usize, room: &mut [u64])
     }
 }
 
-/// Puts addresses into an array, as far as there is room, and tells how many there are. Requires at
-/// most so many.
+/// Puts addresses into an array, as far as there is room, and returns how many there are. Requires
+/// at most `most` of them.
 fn put_addresses(found: Addresses<'_, '_>, most: usize, room: &mut [u64]) -> usize
     requires { length (addresses_left found) ≤ most }
     ensures put { room.new ≡ slots_with (addresses_left found.entry) room.old }
@@ -37,7 +37,7 @@ fn put_addresses(found: Addresses<'_, '_>, most: usize, room: &mut [u64]) -> usi
     most
 }
 
-/// Tells the addresses for a breakpoint at a line of the files that a path names, by an index, in
+/// Stores the addresses for a breakpoint at a line of the files that a path names, by an index, in
 /// ascending order, each once. Each status is that of `gimli_line_index_addresses_of` in
 /// `include/gimli_line.h`. Takes no memory.
 #[unsafe(no_mangle)]

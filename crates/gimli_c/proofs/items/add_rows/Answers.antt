@@ -8,7 +8,6 @@ use Rattle.gimli_c.proofs.items.add_rows.Goals as goal
 
 pub loop-index-init : goal.loop-index-init
 loop-index-init c = record {
-  can = first_of (search rules, grind (arith, common_steps));
   items = first_of (search rules, grind (arith, common_steps));
   few = first_of (search rules, grind (arith, common_steps));
   start = first_of (search rules, grind (arith, common_steps));
@@ -53,7 +52,6 @@ loop-index-preserved c =
     let so_far = c.loop-index.invariant in
     let index = c.loop-index.index in
     record {
-      can = first_of (search rules, grind (arith, common_steps));
       items =
           items_left old c.loop-index.program c.add_row.new.program c.args.ids.now c.args.symbols.now
           c.loop-index.sequence

@@ -1,6 +1,4 @@
 use Rattle.std.proofs.Common.{◌≡◌, ◌≤◌, ℕ, ◌+◌, ◌++◌, None, length, drop}
-use Rattle.gimli_bytes.specs.Texts.{no_texts}
-use Rattle.gimli_build.specs.Conditions.{CanWrite}
 use Rattle.gimli_build.specs.Built.{previous_position}
 use Rattle.gimli_c.specs.Causes.{HasRowsFault}
 use Rattle.gimli_c.specs.Handed.{items_handed}
@@ -12,7 +10,6 @@ abbrev pub invariant-loop-index : goal.invariant-loop-index
 invariant-loop-index l =
     let version = l.fn.program.encoding.version in
     record {
-      can : CanWrite l.program no_texts;
       items : l.program.items ++ items_handed version l.ids l.symbols l.sequence l.base (drop l.index l.rows)
           ≡ l.fn.program.items ++ items_handed version l.ids l.symbols 0 None l.rows;
       few : l.sequence ≤ l.index;

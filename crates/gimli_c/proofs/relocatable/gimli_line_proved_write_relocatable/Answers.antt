@@ -6,6 +6,7 @@ use Rattle.gimli_c.specs.Handing.{numbers_of}
 use Rattle.gimli_c.specs.Written.{slots_with}
 use Rattle.gimli_c.specs.declared.status.TheConstants.{NO_ROOM, OK}
 use Rattle.gimli_c.proofs.Copied.{apart}
+use Rattle.gimli_c.proofs.MovedStrings.{as_many, count_of, lead_to, places_of}
 use Rattle.gimli_c.proofs.relocatable.gimli_line_proved_write_relocatable.Goals.{
   then-bytes-unit-via-then-bytes-unit,
   then-bytes-unit-via-else-bytes-unit+then-places-relocations,
@@ -14,6 +15,12 @@ use Rattle.gimli_c.proofs.relocatable.gimli_line_proved_write_relocatable.Goals 
 
 pub relocatable_of-requires : goal.relocatable_of-requires
 relocatable_of-requires c = (c.in-Ok.ensures.ok c.args.is_big).built.can
+
+pub moved_places-requires : goal.moved_places-requires
+moved_places-requires c =
+    ap (λ (xs : List (List ℕ)). length xs) c.in-Ok-relocatable_of.ensures.kept
+    ∙ as_many c.args.texts.now _ _ c.in-Ok.ensures.stand
+    ∙ sym (ap (λ (xs : List ℕ). length xs) c.as_slice.ensures.value)
 
 pub returns-in-Err : goal.returns-in-Err
 returns-in-Err c =
@@ -53,14 +60,37 @@ returns-in-Err-relocatable_of c = record {
   none = λ _ _. (refl, refl);
 }
 
+pub returns-in-Err-moved_places : goal.returns-in-Err-moved_places
+returns-in-Err-moved_places c = record {
+  ok = first_of (search rules, grind (arith, common_steps));
+  room = first_of (search rules, grind (arith, common_steps));
+  fault = first_of (search rules, grind (arith, common_steps));
+  bad_lines = first_of (search rules, grind (arith, common_steps));
+  cause = λ _ _. record {
+    number = c.write_status-in-Err-moved_places.ensures.err;
+    cause = λ _. inr (refl, c.in-Err-moved_places.e, c.write_status-in-Err-moved_places.ensures.number);
+    memory = λ _. refl;
+    first = λ other s fault. absurd (c.in-Ok.ensures.well c.args.is_big other s fault);
+  };
+  refused = λ _ _ _. c.write_status-in-Err-moved_places.ensures.err;
+  no_element = λ _. refl;
+  kept = λ _. (refl, refl, refl);
+  none = λ _ _. (refl, refl);
+}
+
 pub returns-then-bytes-unit : goal.returns-then-bytes-unit
 returns-then-bytes-unit c =
     let bytes = ap (λ (xs : List ℕ). length xs) c.slice-bytes.ensures in
-    let places = ap (λ (xs : List Relocation). length xs) c.relocations-places.ensures in
+    let places =
+    count_of _ _ _ _ _ _ _ c.in-Ok-moved_places.ensures c.in-Ok-relocatable_of.ensures.kept c.as_slice.ensures.value
+    c.relocations.ensures in
     record {
       ok = λ ok. absurd (apart NO_ROOM OK refl ok);
       room = λ _. record {
         program = c.in-Ok.made.0;
+        table = c.in-Ok.made.2;
+        firsts = c.in-Ok.made.3.items;
+        lead = lead_to c.args.texts.now _ _ c.in-Ok.ensures.stand;
         built = (c.in-Ok.ensures.ok c.args.is_big).built;
         section = c.in-Ok-relocatable_of.section;
         order = c.in-Ok-relocatable_of.ensures.order;
@@ -87,10 +117,15 @@ returns-then-bytes-unit c =
 pub returns : goal.returns
 returns c =
     let bytes = ap (λ (xs : List ℕ). length xs) c.slice-bytes.ensures in
-    let places = ap (λ (xs : List Relocation). length xs) c.relocations-places.ensures in
+    let places =
+    count_of _ _ _ _ _ _ _ c.in-Ok-moved_places.ensures c.in-Ok-relocatable_of.ensures.kept c.as_slice.ensures.value
+    c.relocations.ensures in
     record {
       ok = λ _. record {
         program = c.in-Ok.made.0;
+        table = c.in-Ok.made.2;
+        firsts = c.in-Ok.made.3.items;
+        lead = lead_to c.args.texts.now _ _ c.in-Ok.ensures.stand;
         built = (c.in-Ok.ensures.ok c.args.is_big).built;
         section = c.in-Ok-relocatable_of.section;
         order = c.in-Ok-relocatable_of.ensures.order;
@@ -104,12 +139,14 @@ returns c =
         relocations_are =
             c.copy_relocations.ensures
             ∙ ap (λ (xs : List Relocation). slots_with (map relocation_seen xs) c.args.relocations.now)
-            c.relocations-places.ensures;
+            (c.as_slice-2.ensures.value
+            ∙ places_of _ _ _ _ _ _ _ c.in-Ok-moved_places.ensures c.in-Ok-relocatable_of.ensures.kept
+            c.as_slice.ensures.value c.relocations.ensures);
         count_is = places;
         numbers_are =
             c.copy_numbers.ensures
             ∙ ap (λ (xs : List ℕ). slots_with (numbers_of c.args.encoding.now.version xs) c.args.numbers.now)
-            (c.as_slice.ensures.value ∙ sym (c.in-Ok.ensures.ok c.args.is_big).ids_are);
+            (c.as_slice-3.ensures.value ∙ sym (c.in-Ok.ensures.ok c.args.is_big).ids_are);
       };
       room = λ no_room. absurd (apart OK NO_ROOM refl no_room);
       fault = first_of (search rules, grind (arith, common_steps));

@@ -1,66 +1,68 @@
-use Rattle.std.proofs.Common.{List, ℕ, length, map, refl, ap, subst, ◌∙◌}
+use Rattle.std.proofs.Common.{◌≡◌, Bool, true, false, List, ℕ, if◌then◌else◌, nat_le, refl, sym, ap, subst, ◌∙◌}
 use Rattle.std.proofs.lemmas.Result.{err_from_is_err_and}
 use Rattle.gimli_build.specs.Advance.{CanEncode}
-use Rattle.gimli_build.specs.Built.{Built, previous_position}
-use Rattle.gimli_core.specs.declared.common.Encoding.{Encoding}
-use Rattle.gimli_core.specs.declared.common.LineEncoding.{LineEncoding}
-use Rattle.gimli_c.specs.Start.{start_program}
+use Rattle.gimli_build.specs.Built.{Built}
+use Rattle.gimli_c.specs.declared.check.GimliElement.{GimliElement}
+use Rattle.gimli_c.specs.declared.tables.GimliFileName.{GimliFileName}
+use Rattle.gimli_c.specs.declared.text.GimliName.{GimliName}
+use Rattle.gimli_c.specs.Causes.{HasTableFault, IsRefusedFor}
 use Rattle.gimli_c.specs.Handing.{handed_of}
-use Rattle.gimli_c.specs.Handed.{encoding_of, AddsDirectories, AddsFiles, text_handed}
-use Rattle.gimli_c.proofs.CauseLemmas.{encoding_refused, file_ids, handed_is_well, memory_refused, rows_refused}
+use Rattle.gimli_c.specs.Handed.{Names}
+use Rattle.gimli_c.specs.inside.Causes.{HasNone}
+use Rattle.gimli_c.specs.inside.Handed.{Fills, StandAt, names_seen}
+use Rattle.gimli_c.proofs.CauseLemmas.{encoding_refused, handed_is_well, memory_refused, rows_refused}
 use Rattle.gimli_c.proofs.CauseLemmas.{rows_well, tables_refused}
-use Rattle.gimli_c.proofs.Handings.{items_built, can_with}
+use Rattle.gimli_c.proofs.Handings.{built_of}
 use Rattle.gimli_c.proofs.write.built.Goals as goal
 
-pub add_directories-requires : goal.add_directories-requires
-add_directories-requires c =
-    rw c.with_details-program.ensures (can_with c.args.details c.in-Some.start c.in-Some.ensures.can)
+-- the names of the code are those that are handed over
+same_tables : (names given : Names) (directories : List GimliName) (files : List GimliFileName) → names ≡ given
+    → ((at : GimliElement) → HasNone (HasTableFault names directories files at))
+    → (at : GimliElement) → HasNone (HasTableFault given directories files at)
+same_tables names given directories files is well =
+    subst (λ (n : Names). (at : GimliElement) → HasNone (HasTableFault n directories files at)) is well
+
+same_refusal : (names given : Names) (directories : List GimliName) (files : List GimliFileName) (status : ℕ)
+    (at : GimliElement) → names ≡ given
+    → IsRefusedFor (HasTableFault names directories files) (HasTableFault names directories files) status at
+    → IsRefusedFor (HasTableFault given directories files) (HasTableFault given directories files) status at
+same_refusal names given directories files status at is refused =
+    subst
+    (λ (n : Names). IsRefusedFor (HasTableFault n directories files) (HasTableFault n directories files) status at)
+    is refused
 
 pub returns-clause-ok : goal.returns-clause-ok
 returns-clause-ok c = λ is_big.
-    let between = c.add_directories.new.program in
-    let after = c.add_files.new.program in
-    let encoding = ap (λ (q : Built). q.encoding) c.in-Some.ensures.start ∙ c.in_ok-units.ensures.encoding in
-    let directories =
-    subst (λ (q : Built).
-    AddsDirectories q between (map (text_handed c.args.texts.now) c.args.directories.now)
-    c.in-Some-add_directories.ids.items)
-    c.with_details-program.ensures c.in-Some-add_directories.ensures.ok in
-    let files =
-    subst (λ (ids : List ℕ).
-    AddsFiles between after c.args.texts.now ids c.args.files.now c.in-Some-add_files.file_ids.items)
-    c.as_slice.ensures.value c.in-Some-add_files.ensures.ok in
-    record {
-      built = record {
-        start = c.in-Some.start;
-        is_start = record {
-          program_is = c.in-Some.ensures.start
-              ∙ ap (λ (e : Encoding).
-              start_program e c.in_ok-units.lines c.args.texts.now c.args.directories.now c.args.files.now)
-              c.in_ok-units.ensures.encoding
-              ∙ ap (λ (l : LineEncoding).
-              start_program (encoding_of c.args.encoding.now) l c.args.texts.now c.args.directories.now
-              c.args.files.now)
-              c.in_ok-units.ensures.lines;
-          can = c.in-Some.ensures.can;
-        };
-        directory_ids = c.in-Some-add_directories.ids.items;
-        file_ids = c.in-Some-add_files.file_ids.items;
-        between = between;
-        after = after;
-        directories = directories;
-        files = files;
-        items =
-            items_built c.args.details c.args.encoding.now c.in-Some.start between after c.add_rows.new.program _ _
-            _ _ _ _ c.as_slice-2.result.now
-            c.args.symbols.now c.args.rows.now
-            (ap (λ (q : Built). q.items) c.in-Some.ensures.start) encoding directories files
-            c.as_slice-2.ensures.value c.in_ok-add_rows.ensures.ok;
-        others = c.in_ok-add_rows.ensures.ok.others;
-        can = c.in_ok-add_rows.ensures.can;
-      };
-      ids_are = refl;
-    }
+    built_of
+    (handed_of c.args.encoding.now is_big c.args.details c.args.line_strings c.args.texts.now c.args.directories.now
+    c.args.files.now c.args.rows.now c.args.symbols.now)
+    (names_seen c.new-names.result) c.in-Some.strings.0 c.empty_built.new.table c.fill.new.table c.in_ok-units.units
+    c.in_ok-units.lines c.in-Some-empty_built.start c.fill.new.program c.in-Ok.file_ids.items c.new-names.ensures
+    c.in-Some-empty_built.ensures.kept c.in-Ok.ensures.kept c.in_ok-units.ensures.encoding c.in_ok-units.ensures.lines
+    c.in-Some-empty_built.ensures.start
+    (subst
+    (λ (q : Built). Fills q c.fill.new.program (names_seen c.new-names.result) c.empty_built.new.table
+    c.args.directories.now c.args.files.now c.args.rows.now c.args.symbols.now c.in-Ok.file_ids.items)
+    c.with_details-program.ensures c.in-Ok.ensures.ok)
+
+pub returns-clause-stand : goal.returns-clause-stand
+returns-clause-stand c =
+    let kept = c.in-Ok.ensures.kept ∙ c.in-Some-empty_built.ensures.kept in
+    subst (λ (t : List (List ℕ)). StandAt c.args.texts.now t c.in-Some.strings.1.items) (sym kept)
+    (subst (λ (n : Names). StandAt n.texts c.in-Some.strings.0 c.in-Some.strings.1.items) c.new-names.ensures
+    c.in-Some.ensures.stand)
+
+pub returns-clause-alone : goal.returns-clause-alone
+returns-clause-alone c = λ alone.
+    c.in-Ok.ensures.kept ∙ c.in-Some-empty_built.ensures.kept
+    ∙ c.in-Some.ensures.none
+    (ap (λ (n : Names). n.shared) c.new-names.ensures
+    ∙ ap (λ (b : Bool). if nat_le c.args.encoding.now.version 4 then false else b) alone
+    ∙ never (nat_le c.args.encoding.now.version 4))
+  where
+    never : (b : Bool) → (if b then false else false) ≡ false
+    never true = refl
+    never false = refl
 
 pub returns-in_err-units-clause-refusal : goal.returns-in_err-units-clause-refusal
 returns-in_err-units-clause-refusal c = λ is_big.
@@ -74,68 +76,37 @@ returns-in_err-check_tables-clause-refusal c = λ is_big.
     err_from_is_err_and c.from_residual-in_err-check_tables.result c.from_residual-in_err-check_tables.ensures.1 in
     let e = c.in_ok-units.ensures in
     rw (p.1, p.2)
-    (tables_refused _ _ _ e.well (subst CanEncode e.lines e.accepts.lines) c.in_err-check_tables.ensures.refusal)
+    (tables_refused _ _ _ e.well (subst CanEncode e.lines e.accepts.lines)
+    (same_refusal _ _ _ _ _ _ c.new-names.ensures c.in_err-check_tables.ensures.refusal))
 
 pub returns-in-None-clause-refusal : goal.returns-in-None-clause-refusal
 returns-in-None-clause-refusal c = λ is_big. rw c.refusal_of.ensures (memory_refused _)
 
-pub returns-in-None-add_directories-clause-refusal : goal.returns-in-None-add_directories-clause-refusal
-returns-in-None-add_directories-clause-refusal c = λ is_big.
-    rw c.refusal_of-in-None-add_directories.ensures (memory_refused _)
+pub returns-in-Err-clause-err : goal.returns-in-Err-clause-err
+returns-in-Err-clause-err c = c.in-Err.ensures.err.number
 
-pub returns-in-None-add_files-clause-refusal : goal.returns-in-None-add_files-clause-refusal
-returns-in-None-add_files-clause-refusal c = λ is_big. rw c.refusal_of-in-None-add_files.ensures (memory_refused _)
-
-pub returns-in_err-add_rows-clause-refusal : goal.returns-in_err-add_rows-clause-refusal
-returns-in_err-add_rows-clause-refusal c = λ is_big.
-    let p = err_from_is_err_and c.from_residual-in_err-add_rows.result c.from_residual-in_err-add_rows.ensures.1 in
+pub returns-in-Err-clause-refusal : goal.returns-in-Err-clause-refusal
+returns-in-Err-clause-refusal c = λ is_big.
     let e = c.in_ok-units.ensures in
-    let directories = c.in-Some-add_directories.ensures.ok.others in
-    let files = c.in-Some-add_files.ensures.ok.others in
     let details = c.with_details-program.ensures in
-    let start = c.in-Some.ensures.start in
-    let lines =
-    ap (λ (q : Built). q.line_encoding) files ∙ ap (λ (q : Built). q.line_encoding) directories
-    ∙ ap (λ (q : Built). q.line_encoding) details
-    ∙ ap (λ (q : Built). q.line_encoding) start ∙ e.lines in
-    let encoding =
-    ap (λ (q : Built). q.encoding) files ∙ ap (λ (q : Built). q.encoding) directories
-    ∙ ap (λ (q : Built). q.encoding) details
-    ∙ ap (λ (q : Built). q.encoding) start ∙ e.encoding in
-    let none =
-    ap (λ (q : Built). q.items) files ∙ ap (λ (q : Built). q.items) directories ∙ ap (λ (q : Built). q.items) details
-    ∙ ap (λ (q : Built). q.items) start in
-    let ids =
-    ap (λ (xs : List ℕ). length xs) c.as_slice-2.ensures.value
-    ∙ file_ids _ _ _ _ _ _ c.in-Some-add_files.ensures.ok in
-    rw (p.1, p.2)
-    (rows_refused _ _ c.add_files.new.program _ lines encoding ids e.well (subst CanEncode e.lines e.accepts.lines)
-    c.in_ok-check_tables.ensures.well (c.in_err-add_rows.ensures.cause (ap previous_position none)))
+    let start = c.in-Some-empty_built.ensures.start in
+    rows_refused _ _ c.with_details-program.result _
+    (ap (λ (q : Built). q.line_encoding) details ∙ ap (λ (q : Built). q.line_encoding) start ∙ e.lines)
+    (ap (λ (q : Built). q.encoding) details ∙ ap (λ (q : Built). q.encoding) start ∙ e.encoding)
+    refl e.well (subst CanEncode e.lines e.accepts.lines)
+    (same_tables _ _ _ _ c.new-names.ensures c.in_ok-check_tables.ensures.well) c.in-Err.ensures.err
 
 pub returns-clause-well : goal.returns-clause-well
 returns-clause-well c = λ is_big at.
     let h =
-    handed_of c.args.encoding.now is_big c.args.details c.args.texts.now c.args.directories.now c.args.files.now
-    c.args.rows.now c.args.symbols.now in
+    handed_of c.args.encoding.now is_big c.args.details c.args.line_strings c.args.texts.now c.args.directories.now
+    c.args.files.now c.args.rows.now c.args.symbols.now in
     let e = c.in_ok-units.ensures in
-    let directories = c.in-Some-add_directories.ensures.ok.others in
-    let files = c.in-Some-add_files.ensures.ok.others in
     let details = c.with_details-program.ensures in
-    let start = c.in-Some.ensures.start in
-    let lines =
-    ap (λ (q : Built). q.line_encoding) files ∙ ap (λ (q : Built). q.line_encoding) directories
-    ∙ ap (λ (q : Built). q.line_encoding) details
-    ∙ ap (λ (q : Built). q.line_encoding) start ∙ e.lines in
-    let encoding =
-    ap (λ (q : Built). q.encoding) files ∙ ap (λ (q : Built). q.encoding) directories
-    ∙ ap (λ (q : Built). q.encoding) details
-    ∙ ap (λ (q : Built). q.encoding) start ∙ e.encoding in
-    let none =
-    ap (λ (q : Built). q.items) files ∙ ap (λ (q : Built). q.items) directories ∙ ap (λ (q : Built). q.items) details
-    ∙ ap (λ (q : Built). q.items) start in
-    let ids =
-    ap (λ (xs : List ℕ). length xs) c.as_slice-2.ensures.value
-    ∙ file_ids _ _ _ _ _ _ c.in-Some-add_files.ensures.ok in
-    handed_is_well h e.well (subst CanEncode e.lines e.accepts.lines) c.in_ok-check_tables.ensures.well
-    (rows_well h c.add_files.new.program _ lines encoding ids
-    (c.in_ok-add_rows.ensures.well (ap previous_position none))) at
+    let start = c.in-Some-empty_built.ensures.start in
+    handed_is_well h e.well (subst CanEncode e.lines e.accepts.lines)
+    (same_tables _ _ _ _ c.new-names.ensures c.in_ok-check_tables.ensures.well)
+    (rows_well h c.with_details-program.result _
+    (ap (λ (q : Built). q.line_encoding) details ∙ ap (λ (q : Built). q.line_encoding) start ∙ e.lines)
+    (ap (λ (q : Built). q.encoding) details ∙ ap (λ (q : Built). q.encoding) start ∙ e.encoding)
+    refl c.in-Ok.ensures.well) at

@@ -1,4 +1,4 @@
-use Rattle.std.proofs.Common.{List, ℕ, length, inl, inr, refl, sym, ap, rules, ◌∙◌, arith}
+use Rattle.std.proofs.Common.{◌≡◌, List, [], ℕ, length, inl, inr, refl, sym, ap, subst, rules, ◌∙◌, arith}
 use Rattle.std.proofs.lemmas.Grind.{common_steps}
 use Rattle.gimli_c.specs.Causes.HasCause.{of_handed, of_unit}
 use Rattle.gimli_c.specs.Handing.{numbers_of, write_status}
@@ -6,14 +6,19 @@ use Rattle.gimli_c.specs.Written.{slots_with}
 use Rattle.gimli_c.specs.declared.status.TheConstants.{NO_ROOM, OK}
 use Rattle.gimli_c.proofs.Copied.{apart}
 use Rattle.gimli_c.proofs.SamePrograms.{no_cause}
-use Rattle.gimli_c.proofs.Handings.{appended, built_source}
+use Rattle.gimli_c.proofs.Handings.{appended}
+use Rattle.gimli_build.specs.Built.{Built}
+use Rattle.gimli_c.specs.Handing.{Handed, IsBuiltWith}
 use Rattle.gimli_c.proofs.write.gimli_line_proved_write.Goals as goal
 
-pub section_of-requires-clause-can : goal.section_of-requires-clause-can
-section_of-requires-clause-can c = (c.in-Ok.ensures.ok c.args.is_big).built.can
+-- without strings in a section of the caller the table is empty
+built : (h : Handed) (table : List (List ℕ)) (p : Built) (ids : List ℕ) → table ≡ [] → IsBuiltWith h table p ids
+    → IsBuiltWith h [] p ids
+built h table p ids none is = subst (λ (t : List (List ℕ)). IsBuiltWith h t p ids) none is
 
-pub section_of-requires-clause-source : goal.section_of-requires-clause-source
-section_of-requires-clause-source c = built_source _ c.in-Ok.made.0 (c.in-Ok.ensures.ok c.args.is_big).built
+pub section_of-requires : goal.section_of-requires
+section_of-requires c =
+    (built _ _ _ _ (c.in-Ok.ensures.alone refl) (c.in-Ok.ensures.ok c.args.is_big)).built.can
 
 pub returns-in-Err : goal.returns-in-Err
 returns-in-Err c =
@@ -50,7 +55,7 @@ returns-in-Err-section_of c =
               | inl memory ↦ absurd (other (number ∙ ap write_status memory))
               | inr first ↦ of_unit refl (record {
                 program = c.in-Ok.made.0;
-                built = (c.in-Ok.ensures.ok c.args.is_big).built;
+                built = (built _ _ _ _ (c.in-Ok.ensures.alone refl) (c.in-Ok.ensures.ok c.args.is_big)).built;
                 cause = c.in-Err-section_of.e;
                 first = first;
                 status_is = number;
@@ -72,7 +77,7 @@ returns-then-bytes-unit c =
       ok = λ ok. absurd (apart NO_ROOM OK refl ok);
       room = λ _. record {
         program = c.in-Ok.made.0;
-        built = (c.in-Ok.ensures.ok c.args.is_big).built;
+        built = (built _ _ _ _ (c.in-Ok.ensures.alone refl) (c.in-Ok.ensures.ok c.args.is_big)).built;
         bytes = c.in-Ok-section_of.section.bytes;
         is_unit = record {
           unit = appended _ _ c.in-Ok-section_of.ensures.unit;
@@ -86,7 +91,8 @@ returns-then-bytes-unit c =
       cause = λ _ small. absurd (small refl);
       refused = λ at s cause.
           absurd (no_cause _ c.in-Ok.made.0 at s (c.in-Ok.ensures.well c.args.is_big)
-          (c.in-Ok.ensures.ok c.args.is_big).built c.in-Ok-section_of.ensures.no_cause cause);
+          (built _ _ _ _ (c.in-Ok.ensures.alone refl) (c.in-Ok.ensures.ok c.args.is_big)).built
+          c.in-Ok-section_of.ensures.no_cause cause);
       no_element = λ _. refl;
       kept = λ _. (refl, refl);
       none = λ _ small. absurd (small refl);
@@ -98,7 +104,7 @@ returns c =
     record {
       ok = λ _. record {
         program = c.in-Ok.made.0;
-        built = (c.in-Ok.ensures.ok c.args.is_big).built;
+        built = (built _ _ _ _ (c.in-Ok.ensures.alone refl) (c.in-Ok.ensures.ok c.args.is_big)).built;
         bytes = c.in-Ok-section_of.section.bytes;
         is_unit = record {
           unit = appended _ _ c.in-Ok-section_of.ensures.unit;
@@ -111,7 +117,8 @@ returns c =
         numbers_are =
             c.copy_numbers.ensures
             ∙ ap (λ (xs : List ℕ). slots_with (numbers_of c.args.encoding.now.version xs) c.args.numbers.now)
-            (c.as_slice.ensures.value ∙ sym (c.in-Ok.ensures.ok c.args.is_big).ids_are);
+            (c.as_slice.ensures.value
+            ∙ sym (built _ _ _ _ (c.in-Ok.ensures.alone refl) (c.in-Ok.ensures.ok c.args.is_big)).ids_are);
       };
       room = λ no_room. absurd (apart OK NO_ROOM refl no_room);
       fault = first_of (search rules, grind (arith, common_steps));
@@ -119,7 +126,8 @@ returns c =
       cause = λ some _. absurd (some refl);
       refused = λ at s cause.
           absurd (no_cause _ c.in-Ok.made.0 at s (c.in-Ok.ensures.well c.args.is_big)
-          (c.in-Ok.ensures.ok c.args.is_big).built c.in-Ok-section_of.ensures.no_cause cause);
+          (built _ _ _ _ (c.in-Ok.ensures.alone refl) (c.in-Ok.ensures.ok c.args.is_big)).built
+          c.in-Ok-section_of.ensures.no_cause cause);
       no_element = λ _. refl;
       kept = λ some. absurd (some refl);
       none = λ some _. absurd (some refl);
