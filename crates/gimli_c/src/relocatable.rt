@@ -158,8 +158,7 @@ pub extern "C" fn gimli_line_proved_write_relocatable(
 ) -> u32
     ensures { WritesRelocatable (handed_of encoding.now is_big details line_strings texts.now
         directories.now files.now rows.now symbols.now) result unit.old unit.new size.new
-        relocations.old
-        relocations.new count.new numbers.old numbers.new element.new }
+        relocations.old relocations.new count.new numbers.old numbers.new element.new }
 {
     *size = 0;
     *count = 0;
