@@ -400,7 +400,7 @@ says() {
 }
 says "a word that is no address" "??:0:0" "no function has the name zz" where whole <<<zz
 says "a line that names standard input" "??:0:0" "standard input has the lines; write ./- for a file of this name" where --files <<<"- 1000"
-says "a name that isn't UTF-8" "" "a name that isn't UTF-8 can't be opened; write - in its place" units $'no\xfftext'
+says "a name that isn't UTF-8" "" "a name that isn't UTF-8 can't be opened; use - and redirect the file with <" units $'no\xfftext'
 
 # `units` prints no paths, and doesn't ask for the sections that they need.
 cp whole changed.program
@@ -443,7 +443,7 @@ fi
 # A name of bytes that aren't UTF-8 isn't opened; it is printed by their numbers, and read as standard input.
 name=$(printf 'a\xff\033b')
 cp whole "$name"
-refused "a name of bytes" "$name" 'lines: a\xff\x1bb: ' "write - in its place"
+refused "a name of bytes" "$name" 'lines: a\xff\x1bb: ' "use - and redirect the file with <"
 if LC_ALL=C grep -q "$(printf '\033')" told; then wrong "the message on a name of bytes"; else right; fi
 if ask units - <"$name" >found 2>told && ask units whole >wanted_text && cmp -s found wanted_text; then right; else wrong "a name of bytes, as standard input"; fi
 if ask where whole --relative-to "$name" <asked 2>told | sed 's/:[0-9]*$//; s/^??$/??:0/' | cmp -s - wanted; then right; else wrong "a directory of bytes"; fi
