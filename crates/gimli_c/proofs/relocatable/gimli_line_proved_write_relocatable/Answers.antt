@@ -9,7 +9,7 @@ use Rattle.gimli_c.proofs.Copied.{apart}
 use Rattle.gimli_c.proofs.MovedStrings.{as_many, count_of, lead_to, places_of}
 use Rattle.gimli_c.proofs.relocatable.gimli_line_proved_write_relocatable.Goals.{
   then-bytes-unit-via-then-bytes-unit,
-  then-bytes-unit-via-else-bytes-unit+then-places-relocations,
+  then-bytes-unit-via-else-bytes-unit+then-len-relocations,
 }
 use Rattle.gimli_c.proofs.relocatable.gimli_line_proved_write_relocatable.Goals as goal
 
@@ -99,8 +99,8 @@ returns-then-bytes-unit c =
         passes =
             elim c.then-bytes-unit.branch [
               | then-bytes-unit-via-then-bytes-unit w ↦ inl (omega (arith, bytes, w.if-bytes-unit.true))
-              | then-bytes-unit-via-else-bytes-unit+then-places-relocations w ↦
-                  inr (omega (arith, places, w.if-places-relocations.true))
+              | then-bytes-unit-via-else-bytes-unit+then-len-relocations w ↦
+                  inr (omega (arith, places, w.if-len-relocations.true))
             ];
         size_is = bytes;
         count_is = places;
