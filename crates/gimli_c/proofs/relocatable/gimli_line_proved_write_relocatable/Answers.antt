@@ -100,10 +100,10 @@ returns-then-bytes-unit c =
             elim c.then-bytes-unit.branch [
               | then-bytes-unit-via-then-bytes-unit w ↦ inl (omega (arith, bytes, w.if-bytes-unit.true))
               | then-bytes-unit-via-else-bytes-unit+then-len-relocations w ↦
-                  inr (omega (arith, places, w.if-len-relocations.true))
+                  inr (omega (arith, places, w.len-else-bytes-unit.ensures, w.if-len-relocations.true))
             ];
         size_is = bytes;
-        count_is = places;
+        count_is = c.len.ensures ∙ places;
       };
       fault = first_of (search rules, grind (arith, common_steps));
       bad_lines = first_of (search rules, grind (arith, common_steps));
@@ -135,14 +135,14 @@ returns c =
         written_is =
             c.copy_bytes.ensures ∙ ap (λ (xs : List ℕ). slots_with xs c.args.unit.now) c.slice-bytes.ensures;
         size_is = bytes;
-        few = omega (arith, places);
+        few = omega (arith, places, c.len-else-bytes-unit.ensures, c.if-len-relocations.false);
         relocations_are =
             c.copy_relocations.ensures
             ∙ ap (λ (xs : List Relocation). slots_with (map relocation_seen xs) c.args.relocations.now)
             (c.as_slice-2.ensures.value
             ∙ places_of _ _ _ _ _ _ _ c.in-Ok-moved_places.ensures c.in-Ok-relocatable_of.ensures.kept
             c.as_slice.ensures.value c.relocations.ensures);
-        count_is = places;
+        count_is = c.len.ensures ∙ places;
         numbers_are =
             c.copy_numbers.ensures
             ∙ ap (λ (xs : List ℕ). slots_with (numbers_of c.args.encoding.now.version xs) c.args.numbers.now)
