@@ -103,7 +103,7 @@ returns-then-bytes-unit c =
                   inr (omega (arith, places, w.len-else-bytes-unit.ensures, w.if-len-relocations.true))
             ];
         size_is = bytes;
-        count_is = c.len.ensures ∙ places;
+        count_is = omega (arith, places, c.len.ensures);
       };
       fault = first_of (search rules, grind (arith, common_steps));
       bad_lines = first_of (search rules, grind (arith, common_steps));
@@ -142,7 +142,7 @@ returns c =
             (c.as_slice-2.ensures.value
             ∙ places_of _ _ _ _ _ _ _ c.in-Ok-moved_places.ensures c.in-Ok-relocatable_of.ensures.kept
             c.as_slice.ensures.value c.relocations.ensures);
-        count_is = c.len.ensures ∙ places;
+        count_is = omega (arith, places, c.len.ensures);
         numbers_are =
             c.copy_numbers.ensures
             ∙ ap (λ (xs : List ℕ). slots_with (numbers_of c.args.encoding.now.version xs) c.args.numbers.now)
